@@ -1,0 +1,110 @@
+ghost use Rattle.std.specs.Prelude.{◌≡◌, IfOk, IsUtf8};
+
+use crate::copied::{Copied, Key};
+use std::alloc::{AllocError, Global};
+use std::cmp::Ordering;
+use std::marker::Model;
+
+/// A text of its own. Contracts see its bytes, which are always UTF-8; equality and order go by them.
+#[derive(Debug, Drop)]
+pub struct Text {
+    text: String,
+}
+
+impl Model for Text {
+    ghost use Rattle.std.specs.Prelude.{List, ℕ, string_bytes, IsUtf8};
+
+    ghost Value = { List ℕ };
+
+    ghost view = { λ a. string_bytes a.text };
+
+    ghost invariant = { λ a. IsUtf8 (string_bytes a.text) };
+}
+
+impl Text {
+    /// A text with these bytes, where there is memory.
+    pub fn new(alloc: Global, text: &str) -> Result<Text, AllocError>
+        ensures { IfOk result (λ made. made ≡ text.now) }
+    {
+        Ok(Text {
+            text: String::from_str(alloc, text)?,
+        })
+    }
+
+    /// The bytes as a text.
+    pub fn as_str(&self) -> &str
+        ensures bytes { result.now ≡ self.now }
+        ensures utf8 { IsUtf8 self.now }
+    {
+        let _bytes = self.text.as_bytes();
+        self.text.as_str()
+    }
+}
+
+impl PartialEq for Text {
+    ghost use Rattle.std.specs.Str.{bytes_eq};
+    ghost use Rattle.std.specs.Cmp.{partial_equiv_from_equiv};
+    ghost use Rattle.std.proofs.lemmas.Cmp.{nat_list_eq_equiv};
+
+    ghost eq = { bytes_eq };
+
+    ghost laws = { partial_equiv_from_equiv nat_list_eq_equiv };
+
+    fn eq(&self, other: &Text) -> bool {
+        self.as_str() == other.as_str()
+    }
+}
+
+impl Eq for Text {
+    ghost use Rattle.std.proofs.lemmas.Cmp.{nat_list_eq_equiv};
+
+    ghost laws = { nat_list_eq_equiv };
+}
+
+impl Ord for Text {
+    ghost use Rattle.std.proofs.Common.{rules};
+    ghost use Rattle.std.specs.Ordering.{nat_cmp};
+    ghost use Rattle.std.specs.Cmp.Lexicographic.{slice_cmp};
+    ghost use Rattle.std.specs.Cmp.Rules.{comparing};
+    ghost use Rattle.std.proofs.lemmas.Cmp.{nat_list_cmp_total};
+
+    ghost cmp = { slice_cmp nat_cmp };
+
+    ghost total = { nat_list_cmp_total };
+
+    ghost matches_partial_cmp = { Prim.search (comparing, rules) };
+
+    ghost matches_eq = { Prim.search (comparing, rules) };
+
+    fn cmp(&self, other: &Text) -> Ordering {
+        self.as_str().cmp(other.as_str())
+    }
+}
+
+impl PartialOrd for Text {
+    ghost use Rattle.std.proofs.Common.{rules};
+    ghost use Rattle.std.specs.Ordering.{nat_cmp, as_partial_cmp};
+    ghost use Rattle.std.specs.Cmp.Lexicographic.{slice_cmp};
+    ghost use Rattle.std.specs.Cmp.{partial_order_from_own_ties};
+    ghost use Rattle.std.specs.Cmp.Rules.{comparing};
+
+    ghost partial_cmp = { as_partial_cmp (slice_cmp nat_cmp) };
+
+    ghost laws = { partial_order_from_own_ties (Prim.search (comparing, rules)) (Prim.search (comparing, rules)) };
+
+    fn partial_cmp(&self, other: &Text) -> Option<Ordering> {
+        Some(self.cmp(other))
+    }
+}
+
+impl Copied for Text {
+    fn copied(&self, alloc: Global) -> Result<Self, AllocError> {
+        Text::new(alloc, self.as_str())
+    }
+}
+
+impl Key for Text {
+    ghost use Rattle.std.proofs.lemmas.Map.Lookups.{exact_bytes};
+
+    ghost exact = { exact_bytes };
+}
