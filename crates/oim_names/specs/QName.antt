@@ -41,3 +41,7 @@ local_part t = after_first is_colon t
 -- the form of a name; a text with no colon has an empty local part
 abbrev pub is_name : List ℕ → Bool
 is_name t = is_part (prefix_part t) && is_part (local_part t)
+
+-- the form of an entity, whose identifier is any text but the empty one
+abbrev pub is_entity : List ℕ → Bool
+is_entity t = is_part (prefix_part t) && not (length (local_part t) == 0)

@@ -1,8 +1,8 @@
 ghost use Rattle.std.specs.Prelude.{◌≡◌, ◌≢◌, ◌↔◌, [], ◌++◌, ◌∷◌, ◌⊎◌, IsTrue, IfOk, IfErr, IfSome, OnOk, OnErr};
 ghost use Rattle.std.specs.Option.{option_copied};
-ghost use Rattle.oim_names.specs.QName.{is_name, is_part};
+ghost use Rattle.oim_names.specs.QName.{is_name, is_entity, is_part};
 ghost use Rattle.oim_names.specs.Bindings.{AreBindings, uri_of, prefix_of, bound, is_refused_binding};
-ghost use Rattle.oim_names.specs.Expansion.{Expands, IsNoName, reserved_uri};
+ghost use Rattle.oim_names.specs.Expansion.{Expands, ExpandsEntity, NamesNothing, IsNotNamed, reserved_uri};
 
 use crate::binding::Binding;
 use crate::form::{is_part, split};
@@ -108,12 +108,40 @@ impl Aliases {
         ensures uri { IfOk result (λ name. name.uri ≢ []) }
         ensures allowed { IfOk result (λ name. name.uri ≢ reserved_uri) }
         ensures local { IfOk result (λ name. IsTrue (is_part name.local_part)) }
-        ensures errors { IfErr result (IsNoName self.now text.now) }
+        ensures errors { IfErr result (NamesNothing is_name self.now text.now) }
     {
         let (prefix, local) = split(text);
         if !is_part(prefix.as_bytes()) || !is_part(local.as_bytes()) {
             return Err(Reason::NameForm);
         }
+        self.named(prefix, local)
+    }
+
+    /// The entity that the text stands for: a bound prefix for the URI of its scheme, a colon and an
+    /// identifier, which may be any text but the empty one (xBRL-JSON 1.0, section 3.1.4).
+    ///
+    /// Errors, the first that holds: `NameForm`, `UnboundPrefix`, `ReservedNamespace`; `OutOfMemory`.
+    pub fn expand_entity(&self, text: &str) -> Result<Name, Reason>
+        ensures ok { IfOk result (ExpandsEntity self.now text.now) }
+        ensures uri { IfOk result (λ entity. entity.uri ≢ []) }
+        ensures allowed { IfOk result (λ entity. entity.uri ≢ reserved_uri) }
+        ensures identifier { IfOk result (λ entity. entity.local_part ≢ []) }
+        ensures errors { IfErr result (NamesNothing is_entity self.now text.now) }
+    {
+        let (prefix, identifier) = split(text);
+        if !is_part(prefix.as_bytes()) || identifier.is_empty() {
+            return Err(Reason::NameForm);
+        }
+        self.named(prefix, identifier)
+    }
+
+    fn named(&self, prefix: &str, local: &str) -> Result<Name, Reason>
+        ensures uri { IfOk result (λ name. uri_of self.now prefix.now ≡ Some name.uri) }
+        ensures filled { IfOk result (λ name. name.uri ≢ []) }
+        ensures allowed { IfOk result (λ name. name.uri ≢ reserved_uri) }
+        ensures local { IfOk result (λ name. name.local_part ≡ local.now) }
+        ensures errors { IfErr result (IsNotNamed (uri_of self.now prefix.now)) }
+    {
         let Some(uri) = self.uri(prefix) else {
             return Err(Reason::UnboundPrefix);
         };
