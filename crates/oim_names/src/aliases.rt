@@ -2,7 +2,7 @@ ghost use Rattle.std.specs.Prelude.{◌≡◌, ◌≢◌, ◌↔◌, [], ◌++�
 ghost use Rattle.std.specs.Option.{option_copied};
 ghost use Rattle.oim_names.specs.QName.{is_name, is_entity, is_part};
 ghost use Rattle.oim_names.specs.Bindings.{AreBindings, uri_of, prefix_of, bound, is_refused_binding};
-ghost use Rattle.oim_names.specs.Expansion.{Expands, ExpandsEntity, NamesNothing, IsNotNamed, reserved_uri};
+ghost use Rattle.oim_names.specs.Expansion.{Expands, ExpandsEntity, NamesNothing, IsNotNamed, name_refusal, reserved_uri};
 
 use crate::binding::Binding;
 use crate::form::{is_part, split};
@@ -115,6 +115,22 @@ impl Aliases {
             return Err(Reason::NameForm);
         }
         self.named(prefix, local)
+    }
+
+    /// Why the text is no name under these bindings, the first that holds: `NameForm`,
+    /// `UnboundPrefix`, `ReservedNamespace`. It is the test for `expand`, and takes no memory.
+    pub fn name_refusal(&self, text: &str) -> Option<Reason>
+        ensures { result ≡ name_refusal self.now text.now }
+    {
+        let (prefix, local) = split(text);
+        if !(is_part(prefix.as_bytes()) && is_part(local.as_bytes())) {
+            return Some(Reason::NameForm);
+        }
+        match self.uri(prefix) {
+            None => Some(Reason::UnboundPrefix),
+            Some(uri) if uri == RESERVED => Some(Reason::ReservedNamespace),
+            Some(_) => None,
+        }
     }
 
     /// The entity that the text stands for: a bound prefix for the URI of its scheme, a colon and an
