@@ -132,3 +132,49 @@ plain_is_plain m short =
     (lone_zero q (omega arith))
     (without_trailing-without_trailing (padded 18 (decimal r)))
     value
+
+-- ---- a plain text is the plain text
+
+own : IsNumeralModel (λ ds. list_all is_ascii_digit ds ≡ true) (digits_value 10)
+own = numerals_by_value _ (search rules)
+
+no_pos : (j x : ℕ) → 0 < j → neg_ℤ (pos j) ≡ pos x → ⊥
+no_pos zero x some e = omega arith
+no_pos (suc j) x some e = cc
+
+sign_of_denoted : (m : ℤ) (b : Bool) (k x : ℕ) → 0 < k → (b ≡ true → m <ℤ pos 0) → m *ℤ pos k ≡ signed b x → b ≡ below_zero m
+sign_of_denoted (pos n) true k x some below e = let h = below refl in absurd (omega (arith, ints))
+sign_of_denoted (pos n) false k x some below e = refl
+sign_of_denoted (negsuc n) true k x some below e = refl
+sign_of_denoted (negsuc n) false k x some below e = absurd (no_pos (suc n * k) x (let more : k ≤ suc n * k = grind arith in omega arith) e)
+
+cond-below_zero : (m : ℤ) → cond (below_zero m) (45 ∷ []) [] ≡ sign_text m
+cond-below_zero (pos n) = refl
+cond-below_zero (negsuc n) = refl
+
+size_denoted : (m : ℤ) (b : Bool) (k x : ℕ) → m *ℤ pos k ≡ signed b x → unsigned_abs m * k ≡ x
+size_denoted m b k x e = sym (unsigned_abs-mul m (pos k)) ∙ (ap unsigned_abs e ∙ unsigned_abs-signed b x)
+
+places : (s q r d p v w : ℕ) → q * d + r ≡ s → s * p ≡ d * (v * p + w) → q * (d * p) + r * p ≡ v * (d * p) + w * d
+places s q r d p v w e f = let g = rw (← e) at f in omega (arith, g)
+
+pub plain_is_one : PlainIsOne
+plain_is_one m t short plain_text =
+    let i : List ℕ = integer_part t in
+    let f : List ℕ = fraction_part t in
+    let s : ℕ = unsigned_abs m in
+    let q : ℕ = s / 10 ^ 18 in
+    let r : ℕ = s % 10 ^ 18 in
+    let small_q : q < 2 ^ 60 = whole_small s (short_bound m short) in
+    let small_r : r < 10 ^ 18 = mod_below s (10 ^ 18) (omega arith) in
+    let digits = parts_of_numeral i f plain_text.denotes.form in
+    let sign : is_negative t ≡ below_zero m = sign_of_denoted m (is_negative t) (10 ^ length f) _ (ten_some (length f)) plain_text.negative plain_text.denotes.value in
+    let size : s * 10 ^ length f ≡ 10 ^ 18 * (digits_value_after 10 0 i * 10 ^ length f + digits_value_after 10 0 f) = size_denoted m (is_negative t) (10 ^ length f) _ plain_text.denotes.value ∙ ap (λ v. 10 ^ 18 * v) (value_append i f) in
+    let split = same_from_place q (r * 10 ^ length f) (digits_value_after 10 0 i) (digits_value_after 10 0 f * 10 ^ 18) (10 ^ 18 * 10 ^ length f)
+      (below_product r (10 ^ 18) (10 ^ length f) small_r (ten_some (length f)))
+      (turned (digits_value_after 10 0 f) (10 ^ 18) (10 ^ length f) (value_lt f digits.1) (omega arith))
+      (places s q r (10 ^ 18) (10 ^ length f) _ _ (div-add-mod' s (10 ^ 18)) size) in
+    let integer : i ≡ integer_digits s = sym (decimal-digits_value own i digits.0 plain_text.some_integer plain_text.no_leading_zero (rw (← split.0) (omega arith))) ∙ ap decimal (sym split.0) in
+    let fraction : f ≡ fraction_digits s = sym plain_text.no_trailing_zero ∙ same_fraction f (padded 18 (decimal r)) digits.1 (fraction_digits_are r small_r) (rw (fraction_length r small_r, fraction_value r small_r) (sym split.1)) in
+    let rest : unsigned t ≡ i ++ with_point f = point_apart (unsigned t) (λ h. plain_text.point.0 (has_point-unsigned t h)) in
+    sign_apart t plain_text.no_plus ∙ (λ j. (ap (λ b. cond b (45 ∷ []) []) sign ∙ cond-below_zero m) j ++ (rest ∙ (λ k. integer k ++ with_point (fraction k))) j)
