@@ -3,4 +3,5 @@ pub mod Numerals
 pub mod PlainLaws
 pub mod PlainLemmas
 pub mod Shapes
+pub mod ShortLaws
 pub mod Units

@@ -1,13 +1,13 @@
 -- A text as its sign, its integer digits, and its fraction digits after a point.
-use Rattle.std.proofs.Common.{◌≡◌, ◌≢◌, ℕ, zero, suc, ◌+◌, ◌<◌, ◌≤◌, Bool, true, false, cond, eqb, List, [], ◌∷◌, ◌++◌, length, get_or, take, drop, refl, sym, ap, ◌∙◌, arith, inl, inr}
+use Rattle.std.proofs.Common.{◌≡◌, ◌≢◌, ℕ, ◌+◌, ◌<◌, Bool, true, false, cond, eqb, List, [], ◌∷◌, ◌++◌, length, get_or, take, drop, refl, sym, ap, ◌∙◌, arith, inl, inr}
 use Rattle.std.specs.Prelude.{ℤ, pos, negsuc}
-use mathlib.Core.Bool.{◌&&◌, ◌||◌, false≢true}
+use mathlib.Core.Bool.{◌||◌, false≢true}
 use Rattle.std.proofs.lemmas.Bool.{cases_lt}
 use Rattle.std.proofs.lemmas.Bool.Decides.{nat_tests}
 use Rattle.std.proofs.lemmas.List.{append-nil, take_at, drop_at, take_all, drop_all, drop-drop}
 use Rattle.std.proofs.lemmas.List.Sums.{split_at_first, passes_at_first}
 use Rattle.std.specs.Char.{is_ascii_digit}
-use Rattle.std.specs.List.{list_all, list_any, before_first, after_first, position_or_len}
+use Rattle.std.specs.List.{list_all, before_first, after_first, position_or_len}
 use Rattle.oim_value.specs.Number.{is_negative, is_point, unsigned}
 use Rattle.oim_value.specs.Plain.{has_point, sign_text, with_point}
 use Rattle.oim_value.proofs.Numerals.{both_true}
@@ -128,13 +128,13 @@ with_point_some (f ∷ fs) h = refl
 
 pub point_apart : (u : List ℕ) → (has_point u ≡ true → 0 < length (after_first is_point u)) → u ≡ before_first is_point u ++ with_point (after_first is_point u)
 point_apart u h = elim (cases_lt (position_or_len is_point u) (length u)) [
-      | inl inside ↦
-        let at_point : get_or u (position_or_len is_point u) 0 ≡ 46 = (let e = passes_at_first is_point u 0 inside in grind (arith, nat_tests)) in
-        let split : u ≡ before_first is_point u ++ 46 ∷ after_first is_point u = split_at_first is_point u 0 inside ∙ ap (λ c. before_first is_point u ++ c ∷ after_first is_point u) at_point in
-        let some = h (ap has_point split ∙ has_point_here (before_first is_point u) (after_first is_point u)) in
-        split ∙ ap (λ r. before_first is_point u ++ r) (sym (with_point_some (after_first is_point u) some))
-      | inr past ↦
-        let all : before_first is_point u ≡ u = take_all (position_or_len is_point u) u past in
-        let none : after_first is_point u ≡ [] = drop_all (position_or_len is_point u + 1) u (omega arith) in
-        sym (append-nil u) ∙ (λ i. sym all i ++ with_point (sym none i))
-    ]
+  | inl inside ↦
+      let at_point : get_or u (position_or_len is_point u) 0 ≡ 46 = (let e = passes_at_first is_point u 0 inside in grind (arith, nat_tests)) in
+      let split : u ≡ before_first is_point u ++ 46 ∷ after_first is_point u = split_at_first is_point u 0 inside ∙ ap (λ c. before_first is_point u ++ c ∷ after_first is_point u) at_point in
+      let some = h (ap has_point split ∙ has_point_here (before_first is_point u) (after_first is_point u)) in
+      split ∙ ap (λ r. before_first is_point u ++ r) (sym (with_point_some (after_first is_point u) some))
+  | inr past ↦
+      let all : before_first is_point u ≡ u = take_all (position_or_len is_point u) u past in
+      let none : after_first is_point u ≡ [] = drop_all (position_or_len is_point u + 1) u (omega arith) in
+      sym (append-nil u) ∙ (λ i. sym all i ++ with_point (sym none i))
+]

@@ -1,9 +1,9 @@
 -- The one text by which a number is written (own).
-use Rattle.std.specs.Prelude.{◌≡◌, ◌≢◌, ◌↔◌, IsTrue, Bool, slice_index, ◌<◌, ◌<ℤ◌, ℕ, ◌-◌, ◌/◌, ◌%◌, ◌^◌, ℤ, pos, negsuc, unsigned_abs, List, [], ◌∷◌, ◌++◌, length, replicate}
+use Rattle.std.specs.Prelude.{◌≡◌, ◌≢◌, ◌↔◌, IsTrue, Bool, slice_index, ◌<◌, ◌<ℤ◌, ℕ, ◌-◌, ◌/◌, ◌%◌, ◌^◌, ℤ, pos, negsuc, unsigned_abs, List, [], ◌∷◌, ◌++◌, length, replicate, None}
 use Rattle.std.specs.Fmt.{decimal}
 use Rattle.oim_value.specs.declared.limits.TheConstants.{UNIT_PLACES}
 use Rattle.std.specs.List.{list_any}
-use Rattle.oim_value.specs.Number.{is_negative, is_point, integer_part, fraction_part, without_trailing, Denotes, IsShort}
+use Rattle.oim_value.specs.Number.{is_negative, is_point, integer_part, fraction_part, number_refusal, without_trailing, Denotes, IsShort}
 
 -- a numeral with zeros on the left, up to a width
 abbrev pub padded : ℕ → List ℕ → List ℕ
@@ -50,3 +50,15 @@ PlainIsPlain = (units : ℤ) → IsShort units → IsPlain (plain units) units
 
 abbrev pub PlainIsOne : Type 0
 PlainIsOne = (units : ℤ) (t : List ℕ) → IsShort units → IsPlain t units → t ≡ plain units
+
+-- the plain text of a number that is kept is read as that number
+pub record IsReadAs (t : List ℕ) (units : ℤ) : Type 0 where
+  pub denotes : Denotes t units
+  pub accepted : number_refusal t ≡ None
+
+abbrev pub PlainReadsBack : Type 0
+PlainReadsBack = (units : ℤ) → IsShort units → IsReadAs (plain units) units
+
+-- and as no other
+abbrev pub PlainTellsApart : Type 0
+PlainTellsApart = (m n : ℤ) → IsShort m → IsShort n → plain m ≡ plain n → m ≡ n

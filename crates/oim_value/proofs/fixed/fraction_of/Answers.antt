@@ -1,6 +1,6 @@
-use Rattle.std.proofs.Common.{◌≡◌, ◌<◌, ◌^◌, ◌%◌, ℕ, List, take, length, ap, arith, ◌∙◌, false, []}
+use Rattle.std.proofs.Common.{◌≡◌, ◌^◌, ◌%◌, length, ap, arith, ◌∙◌}
 use Rattle.std.specs.Prelude.{string_bytes}
-use Rattle.std.specs.Fmt.{decimal, padded_integral, styled_decimal}
+use Rattle.std.specs.Fmt.{decimal}
 use Rattle.oim_value.specs.Number.{without_trailing}
 use Rattle.oim_value.specs.Plain.{padded}
 use Rattle.oim_value.proofs.PlainLemmas.{padded_integral-zeros, take-without_trailing, IsAscii-padded}
