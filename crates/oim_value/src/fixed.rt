@@ -135,16 +135,3 @@ fn point_before(fraction: &str) -> &'static str
 {
     if fraction.is_empty() { "" } else { "." }
 }
-
-#[cfg(test)]
-mod tests {
-    use super::*;
-
-    #[test]
-    fn numbers_are_written_plain(rt: HostRuntime) {
-        let alloc = rt.alloc();
-        let n = read_fixed("-1.050").expect(&rt, "number");
-        let t = write_fixed(alloc, n).expect(&rt, "memory");
-        assert_eq!(rt; t.as_str(), "-1.05");
-    }
-}

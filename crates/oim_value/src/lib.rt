@@ -6,6 +6,8 @@ mod digits;
 mod fixed;
 pub mod laws;
 mod limits;
+#[cfg(test)]
+mod tests;
 mod value;
 
 pub use decimals::Decimals;
