@@ -1,9 +1,10 @@
-ghost use Rattle.std.specs.Prelude.{◌≡◌};
+ghost use Rattle.std.specs.Prelude.{◌≡◌, None};
 ghost use Rattle.oim_value.specs.declared.value.Value.{Value as Seen};
 ghost use Rattle.oim_value.specs.Number.{DenotesOne, ShortIsKept};
 ghost use Rattle.oim_value.specs.Plain.{PlainIsOne, PlainIsPlain, PlainReadsBack, PlainTellsApart};
 ghost use Rattle.oim_value.specs.ValueOrder.{value_cmp};
 
+use crate::decimals::Decimals;
 use crate::value::Value;
 
 /// A text denotes one number at most.
@@ -36,3 +37,10 @@ pub fn plain_tells_apart()
 pub fn values_are_ordered()
     ensures { (x y : Seen) → ⟦<Value as Ord>⟧.cmp x y ≡ value_cmp x y }
 {}
+
+/// `INFINITE` is no finite number.
+pub fn infinite_is_no_number() -> Decimals
+    ensures { result ≡ None }
+{
+    Decimals::INFINITE
+}

@@ -1,5 +1,5 @@
 use crate::{Decimals, Fixed, Value, read_fixed, write_fixed};
-use oim_names::{Copied, Reason, Text};
+use oim_names::{Aliases, Copied, Name, Reason, Text};
 use std::alloc::{AllocError, Global};
 use std::test::Fail;
 
@@ -18,6 +18,23 @@ fn written(alloc: Global, number: Fixed) -> Result<Text, AllocError> {
     match write_fixed(alloc, number) {
         Ok(text) => Ok(text),
         Err(_) => write_fixed(alloc, number),
+    }
+}
+
+fn bind(aliases: &mut Aliases, prefix: &str, uri: &str) -> Result<(), Reason> {
+    match aliases.add(prefix, uri) {
+        Ok(()) => Ok(()),
+        Err(_) => aliases.add(prefix, uri),
+    }
+}
+
+fn name_of(alloc: Global, text: &str) -> Result<Name, Reason> {
+    let mut aliases = Aliases::new(alloc);
+    bind(&mut aliases, "b", "http://a.org")?;
+    bind(&mut aliases, "a", "http://b.org")?;
+    match aliases.expand(text) {
+        Ok(name) => Ok(name),
+        Err(_) => aliases.expand(text),
     }
 }
 
@@ -119,6 +136,13 @@ fn number(text: &str, decimals: Decimals) -> Value {
     }
 }
 
+fn name(alloc: Global, text: &str) -> Value {
+    match name_of(alloc, text) {
+        Ok(name) => Value::Name(name),
+        Err(_) => Value::Nil,
+    }
+}
+
 fn finite(number: i64) -> Decimals {
     match Decimals::finite(number) {
         Ok(decimals) => decimals,
@@ -141,6 +165,9 @@ fn values_are_in_order(rt: HostRuntime) -> Result<(), Fail> {
         Value::Text(text_of(rt.alloc(), "10")?),
         Value::Text(text_of(rt.alloc(), "9")?),
         Value::Text(text_of(rt.alloc(), "é")?),
+        name(rt.alloc(), "b:y"),
+        name(rt.alloc(), "b:z"),
+        name(rt.alloc(), "a:x"),
     ];
     for i in 0..rising.len() {
         for j in 0..rising.len() {
@@ -156,6 +183,7 @@ fn values_are_copied(rt: HostRuntime) -> Result<(), Fail> {
         Value::Nil,
         number("1", finite(2)),
         Value::Text(text_of(rt.alloc(), "ab")?),
+        name(rt.alloc(), "a:x"),
     ];
     for value in &rows {
         match value.copied(rt.alloc()) {
