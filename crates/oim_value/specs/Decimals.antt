@@ -1,5 +1,5 @@
 -- To how many places a number is known (OIM Common, section 3.2.3: `decimals`; the range is own).
-use Rattle.std.specs.Prelude.{ℕ, ℤ, Bool, ◌&&◌, nat_le, unsigned_abs, ◌≡◌, Option, Some, None, refl}
+use Rattle.std.specs.Prelude.{ℤ, Bool, nat_le, unsigned_abs, ◌≡◌, Option, Some, None, refl}
 use Rattle.oim_value.specs.declared.limits.TheConstants.{MOST_DECIMALS}
 use Rattle.oim_value.specs.declared.decimals.Places.{Places}
 use Rattle.oim_value.specs.declared.decimals.Places.TheVariants.{Finite, Infinite}

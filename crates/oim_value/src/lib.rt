@@ -6,8 +6,10 @@ mod digits;
 mod fixed;
 pub mod laws;
 mod limits;
+#[cfg(test)]
+mod tests;
 mod value;
 
 pub use decimals::Decimals;
-pub use fixed::{Fixed, read_fixed};
+pub use fixed::{Fixed, read_fixed, write_fixed};
 pub use value::Value;
