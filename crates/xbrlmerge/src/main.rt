@@ -1,6 +1,8 @@
 //! Merges xBRL-JSON reports.
 #![tactic(auto)]
 
+#[cfg(test)]
+mod devices;
 mod encoded;
 mod pieces;
 mod read_all;
@@ -9,6 +11,8 @@ mod sink;
 mod source;
 mod std_sink;
 mod std_source;
+#[cfg(test)]
+mod tests_io;
 mod write_fault;
 
 fn main() {}
