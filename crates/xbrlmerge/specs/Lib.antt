@@ -1,2 +1,5 @@
-pub mod Fact
 pub mod Document
+pub mod Fact
+pub mod Pieces
+pub mod Sink
+pub mod Source
