@@ -1,2 +1,3 @@
 pub mod Numerals
+pub mod PlainLemmas
 pub mod Units

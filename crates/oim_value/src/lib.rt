@@ -9,5 +9,5 @@ mod limits;
 mod value;
 
 pub use decimals::Decimals;
-pub use fixed::{Fixed, read_fixed};
+pub use fixed::{Fixed, read_fixed, write_fixed};
 pub use value::Value;
