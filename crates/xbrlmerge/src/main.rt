@@ -3,5 +3,6 @@
 
 mod document;
 mod fact;
+pub mod laws;
 
 fn main() {}
