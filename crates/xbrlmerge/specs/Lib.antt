@@ -1,3 +1,4 @@
 pub mod Body
 pub mod Document
 pub mod Fact
+pub mod Sets
