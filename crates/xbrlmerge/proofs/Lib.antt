@@ -1,3 +1,4 @@
 pub mod Bodies
 pub mod FactOrder
 pub mod Members
+pub mod Merged

@@ -1,6 +1,7 @@
 //! Consolidates xBRL-JSON reports.
 #![tactic(auto)]
 
+mod base;
 mod document;
 mod fact;
 pub mod laws;
