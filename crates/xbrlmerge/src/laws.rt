@@ -1,6 +1,7 @@
 //! Laws of the definitions, each the contract of a function that does nothing.
 ghost use Rattle.std.specs.Prelude.{◌≡◌};
 ghost use Rattle.xbrlmerge.specs.Body.{BodyIgnoresOrder, BodyIsSetOfFacts, BodyOfBoth};
+ghost use Rattle.xbrlmerge.specs.Bytes.{BytesIgnoreOrder};
 ghost use Rattle.xbrlmerge.specs.Fact.{fact_cmp};
 ghost use Rattle.xbrlmerge.specs.declared.fact.Fact.{Fact as FactValue};
 
@@ -24,4 +25,9 @@ pub fn body_ignores_order()
 /// The body of one list of documents after another is the union of their bodies.
 pub fn body_of_both()
     ensures { BodyOfBoth }
+{}
+
+/// Documents in any order, each as often as one likes, are written by the same bytes.
+pub fn bytes_ignore_order()
+    ensures { BytesIgnoreOrder }
 {}
