@@ -1,8 +1,9 @@
 -- Bodies by membership.
-use Rattle.std.proofs.Common.{◌≡◌, List, [], ◌∷◌, ◌++◌, Bool, true, false, refl, sym, ap, ◌∙◌}
+use Rattle.std.proofs.Common.{◌≡◌, List, [], ◌∷◌, ◌++◌, append-nil, Bool, true, refl, sym, ap, ◌∙◌}
 use mathlib.Core.Bool.{◌||◌}
 use Rattle.std.specs.Prelude.{flat_map, Contains}
 use Rattle.std.specs.List.{list_any}
+use Rattle.std.specs.List.Sorted.{IsStrictlySortedBy}
 use Rattle.std.specs.Ordering.{eq_by_cmp}
 use Rattle.std.specs.Cmp.{both_ways, Equal-is, eq_by_cmp_equiv}
 use Rattle.std.proofs.lemmas.List.Folds.{list_any-append}
@@ -14,7 +15,7 @@ use Rattle.xbrlmerge.specs.Fact.{fact_cmp}
 use Rattle.xbrlmerge.specs.Sets.{set_of}
 use Rattle.xbrlmerge.specs.declared.fact.Fact.{Fact}
 use Rattle.xbrlmerge.proofs.FactOrder.{fact_cmp_total, fact_cmp_exact}
-use Rattle.xbrlmerge.proofs.Members.{passes_there, sorted-set_of, has-set_of, set_of-same, set_of-both}
+use Rattle.xbrlmerge.proofs.Members.{passes_there, sorted-set_of, has-set_of, set_of-same, set_of-sorted, set_of-both}
 
 same : (f g : Fact) → eq_by_cmp fact_cmp f g ≡ true → f ≡ g
 same f g e = fact_cmp_exact f g ((Equal-is (fact_cmp f g)).0 e)
@@ -43,3 +44,9 @@ pub body_of_both : BodyOfBoth
 body_of_both ds es =
     ap (set_of fact_cmp) (flat_map-append (λ d. d.facts) ds es)
     ∙ set_of-both fact_cmp_total fact_cmp_exact (all_facts ds) (all_facts es)
+
+-- a base with a document's facts put to it
+pub set_of-taken : (old : List Fact) (document : Document) → IsStrictlySortedBy fact_cmp old → set_of fact_cmp (old ++ document.facts) ≡ union old (body (document ∷ []))
+set_of-taken old document rises =
+    set_of-both fact_cmp_total fact_cmp_exact old document.facts
+    ∙ (λ i. set_of fact_cmp (set_of-sorted fact_cmp_total fact_cmp_exact old rises i ++ set_of fact_cmp (sym (append-nil document.facts) i)))

@@ -44,3 +44,6 @@ fact_cmp_total = subst IsTotalOrder (λ i f g. fact_cmp_is f g i) total-law
 
 pub fact_cmp_exact : (f g : Fact) → fact_cmp f g ≡ Equal → f ≡ g
 fact_cmp_exact f g h = exact-law f g (fact_cmp_is f g ∙ h)
+
+pub derived_order_is : fact.ghosts.cmp ≡ fact_cmp
+derived_order_is i f g = fact_cmp_is f g i

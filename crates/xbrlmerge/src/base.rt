@@ -5,6 +5,7 @@ ghost use Rattle.xbrlmerge.specs.Fact.{fact_cmp};
 
 use crate::document::Document;
 use crate::fact::Fact;
+use crate::sets::make_set;
 use std::alloc::{AllocError, Global};
 use std::marker::Model;
 
@@ -44,11 +45,10 @@ impl Base {
     {
         let before = self.facts.len();
         self.facts.append(&mut document.into_facts())?;
-        if let Err(refused) = self.facts.sort() {
+        if let Err(refused) = make_set(&mut self.facts) {
             self.facts.truncate(before);
             return Err(refused);
         }
-        self.facts.dedup();
         Ok(())
     }
 

@@ -5,5 +5,6 @@ mod base;
 mod document;
 mod fact;
 pub mod laws;
+mod sets;
 
 fn main() {}
