@@ -1,4 +1,5 @@
 pub mod Bodies
+pub mod Digits
 pub mod FactOrder
 pub mod Members
 pub mod Merged

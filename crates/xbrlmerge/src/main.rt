@@ -5,6 +5,7 @@ mod base;
 mod document;
 mod fact;
 pub mod laws;
+mod ranked;
 mod sets;
 
 fn main() {}
