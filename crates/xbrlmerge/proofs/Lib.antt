@@ -1,2 +1,7 @@
+pub mod Bodies
+pub mod Digits
+pub mod FactOrder
 pub mod Filling
+pub mod Members
+pub mod Merged
 pub mod Passing

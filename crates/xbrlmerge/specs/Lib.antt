@@ -1,5 +1,10 @@
+pub mod Body
+pub mod Bytes
 pub mod Document
 pub mod Fact
 pub mod Pieces
+pub mod Rank
+pub mod Sets
 pub mod Sink
 pub mod Source
+pub mod Tree

@@ -1,12 +1,16 @@
 //! Consolidates xBRL-JSON reports.
 #![tactic(auto)]
 
+mod base;
 mod document;
 mod encoded;
 mod fact;
+pub mod laws;
 mod pieces;
+mod ranked;
 mod read_all;
 mod read_fault;
+mod sets;
 mod sink;
 mod source;
 mod std_sink;
