@@ -1,4 +1,5 @@
 pub mod Body
+pub mod Bundle
 pub mod Bytes
 pub mod Document
 pub mod Fact
