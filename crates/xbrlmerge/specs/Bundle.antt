@@ -13,9 +13,13 @@ abbrev pub pieces : List ℕ → List (List ℕ)
 pieces bytes = slice_split is_line_end bytes
 
 -- the first piece
-abbrev pub sheet_of : List ℕ → List ℕ
-sheet_of bytes = before_first is_line_end bytes
+abbrev pub sheet_piece : List ℕ → List ℕ
+sheet_piece bytes = before_first is_line_end bytes
+
+-- the pieces that have a byte
+abbrev pub filled_pieces : List ℕ → List (List ℕ)
+filled_pieces bytes = filter is_filled (pieces bytes)
 
 -- each later piece that has a byte
-abbrev pub reports_of : List ℕ → List (List ℕ)
-reports_of bytes = filter is_filled (drop 1 (pieces bytes))
+abbrev pub report_pieces : List ℕ → List (List ℕ)
+report_pieces bytes = filter is_filled (drop 1 (pieces bytes))
