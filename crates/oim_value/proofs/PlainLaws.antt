@@ -7,19 +7,21 @@ use Rattle.std.proofs.lemmas.Bool.Decides.{nat_tests}
 use Rattle.std.proofs.lemmas.Int.{ints, unsigned_abs-mul}
 use Rattle.std.proofs.lemmas.List.Folds.{list_all-append}
 use Rattle.std.proofs.lemmas.Nat.{same_from_place, div-add-mod', mod_below, div_below}
-use Rattle.std.proofs.lemmas.Fmt.{length-decimal-le_wide, first_decimal, decimal-digits_value, decimal_nonempty, decimal_digit}
+use Rattle.std.proofs.lemmas.Fmt.{IsAscii-decimal_wide, length-decimal-le_wide, first_decimal, decimal-digits_value, decimal_nonempty, decimal_digit}
 use Rattle.std.proofs.lemmas.Str.Parse.{IsNumeralModel, numerals_by_value}
 use Rattle.std.specs.Char.{is_ascii_digit}
 use Rattle.std.specs.List.{list_all, before_first, after_first}
 use Rattle.std.specs.Fmt.{decimal}
+use Rattle.std.specs.Str.{IsAscii}
+use Rattle.std.proofs.lemmas.Str.{IsAscii-append, IsAscii-take}
 use Rattle.std.specs.Str.Parse.{digits_value, digits_value_after}
 use Rattle.oim_value.specs.declared.limits.TheConstants.{MOST_DIGITS, UNIT_PLACES}
 use Rattle.oim_value.specs.Number.{onto_digit, is_point, without_trailing, signed, is_numeral, is_negative, integer_part, fraction_part, unsigned}
-use Rattle.oim_value.specs.Plain.{padded, plain, sign_text, with_point, integer_digits, fraction_digits, has_point, IsPlain, PlainIsPlain, PlainIsOne}
+use Rattle.oim_value.specs.Plain.{padded, plain, sign_text, with_point, integer_digits, fraction_digits, has_point, IsPlain, PlainIsPlain, PlainIsOne, PlainIsAscii}
 use Rattle.oim_value.proofs.Numerals.{value_without_trailing, digits_without_trailing, parts_of_numeral}
 use Rattle.oim_value.proofs.Fractions.{value_append, value_lt, same_fraction, ten_some, below_product, turned}
 use Rattle.oim_value.proofs.Shapes.{below_zero, unsigned-sign_text, is_negative-sign_text, no_plus-sign_text, before_first-digits, after_first-digits, has_point-text, point_some, some_point, sign_apart, has_point-unsigned, point_apart}
-use Rattle.oim_value.proofs.PlainLemmas.{decimal_digits, decimal_value, zeros_digits, zeros_value, padded_length}
+use Rattle.oim_value.proofs.PlainLemmas.{decimal_digits, decimal_value, zeros_digits, zeros_value, padded_length, take-without_trailing, IsAscii-padded}
 use Rattle.oim_value.proofs.Units.{short_bound, signed_times, unsigned_abs-signed}
 
 -- ---- the fraction digits of r units
@@ -173,3 +175,32 @@ plain_is_one m t short plain_text =
     let fraction : f ≡ fraction_digits s = sym plain_text.no_trailing_zero ∙ same_fraction f (padded UNIT_PLACES (decimal r)) digits.1 (fraction_digits_are r small_r) (rw (fraction_length r small_r, fraction_value r small_r) (sym split.1)) in
     let rest : unsigned t ≡ i ++ with_point f = point_apart (unsigned t) (λ h. plain_text.point.0 (has_point-unsigned t h)) in
     sign_apart t plain_text.no_plus ∙ (λ j. (ap (λ b. cond b (45 ∷ []) []) sign ∙ cond-below_zero m) j ++ (rest ∙ (λ k. integer k ++ with_point (fraction k))) j)
+
+-- ---- the plain text is ASCII
+
+IsAscii-cons : (c : ℕ) (cs : List ℕ) → c < 128 → IsAscii cs → IsAscii (c ∷ cs)
+IsAscii-cons c cs small h zero = small
+IsAscii-cons c cs small h (suc i) = h i
+
+IsAscii-nil : IsAscii []
+IsAscii-nil i = omega arith
+
+IsAscii-sign_text : (m : ℤ) → IsAscii (sign_text m)
+IsAscii-sign_text (pos n) = IsAscii-nil
+IsAscii-sign_text (negsuc n) = IsAscii-cons 45 [] (omega arith) IsAscii-nil
+
+IsAscii-with_point : (fs : List ℕ) → IsAscii fs → IsAscii (with_point fs)
+IsAscii-with_point [] h = IsAscii-nil
+IsAscii-with_point (f ∷ fs) h = IsAscii-cons 46 (f ∷ fs) (omega arith) h
+
+IsAscii-fraction : (r : ℕ) → r < 10 ^ 64 → IsAscii (without_trailing (padded UNIT_PLACES (decimal r)))
+IsAscii-fraction r h = rw (← take-without_trailing (padded UNIT_PLACES (decimal r))) (IsAscii-take (padded UNIT_PLACES (decimal r)) (length (without_trailing (padded UNIT_PLACES (decimal r)))) (IsAscii-padded UNIT_PLACES r h))
+
+pub plain_is_ascii : PlainIsAscii
+plain_is_ascii m short =
+    let s : ℕ = unsigned_abs m in
+    let small_q : s / 10 ^ UNIT_PLACES < 2 ^ 60 = whole_small s (short_bound m short) in
+    let small_r : s % 10 ^ UNIT_PLACES < 10 ^ UNIT_PLACES = mod_below s (10 ^ UNIT_PLACES) (omega arith) in
+    IsAscii-append (sign_text m) (integer_digits s ++ with_point (fraction_digits s)) (IsAscii-sign_text m)
+    (IsAscii-append (integer_digits s) (with_point (fraction_digits s)) (IsAscii-decimal_wide (s / 10 ^ UNIT_PLACES) (omega arith))
+    (IsAscii-with_point (fraction_digits s) (IsAscii-fraction (s % 10 ^ UNIT_PLACES) (omega arith))))

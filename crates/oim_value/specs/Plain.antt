@@ -1,6 +1,7 @@
 -- The one text by which a number is written (own).
 use Rattle.std.specs.Prelude.{◌≡◌, ◌≢◌, ◌↔◌, IsTrue, Bool, slice_index, ◌<◌, ◌<ℤ◌, ℕ, ◌-◌, ◌/◌, ◌%◌, ◌^◌, ℤ, pos, negsuc, unsigned_abs, List, [], ◌∷◌, ◌++◌, length, replicate, None}
 use Rattle.std.specs.Fmt.{decimal}
+use Rattle.std.specs.Str.{IsAscii}
 use Rattle.oim_value.specs.declared.limits.TheConstants.{UNIT_PLACES}
 use Rattle.std.specs.List.{list_any}
 use Rattle.oim_value.specs.Number.{is_negative, is_point, integer_part, fraction_part, number_refusal, without_trailing, Denotes, IsShort}
@@ -62,3 +63,7 @@ PlainReadsBack = (units : ℤ) → IsShort units → IsReadAs (plain units) unit
 -- and as no other
 abbrev pub PlainTellsApart : Type 0
 PlainTellsApart = (m n : ℤ) → IsShort m → IsShort n → plain m ≡ plain n → m ≡ n
+
+-- and is ASCII
+abbrev pub PlainIsAscii : Type 0
+PlainIsAscii = (units : ℤ) → IsShort units → IsAscii (plain units)
