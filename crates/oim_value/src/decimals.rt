@@ -1,6 +1,6 @@
-ghost use Rattle.std.specs.Prelude.{◌≡◌, IsTrue, IfErr, IfOk, Some};
+ghost use Rattle.std.specs.Prelude.{◌≡◌, IsTrue, IfErr, Some};
 ghost use Rattle.std.specs.Result.{OkIff};
-ghost use Rattle.oim_value.specs.Decimals.{is_in_range};
+ghost use Rattle.oim_value.specs.Decimals.{is_finite_decimals};
 
 use crate::limits::MOST_DECIMALS;
 use oim_names::{Copied, Key, Reason};
@@ -14,7 +14,7 @@ enum Places {
     Infinite,
 }
 
-/// How precisely a number is reported (OIM Common, `decimals`): right to so many places after the
+/// How precisely a number is reported (Open Information Model, `decimals`): right to so many places after the
 /// point, or before it where the number is negative, or exactly. Contracts see the number of
 /// places, or None where the number is exact. Finite decimals are ordered by number, and infinite
 /// ones come last.
@@ -25,7 +25,6 @@ pub struct Decimals {
 
 impl Model for Decimals {
     ghost use Rattle.std.specs.Prelude.{ℤ, Option};
-    ghost use Rattle.std.proofs.Common.{ap};
     ghost use Rattle.oim_value.specs.Decimals.{finite_of, places_of, places_of-finite_of};
 
     ghost Value = { Option ℤ };
@@ -48,7 +47,7 @@ impl Decimals {
     /// Errors: `DecimalsRange` where the number is less than `-MOST_DECIMALS` or more than
     /// `MOST_DECIMALS`.
     pub fn finite(number: i64) -> Result<Decimals, Reason>
-        ensures made { OkIff result (IsTrue (is_in_range number)) (Some number) }
+        ensures made { OkIff result (IsTrue (is_finite_decimals number)) (Some number) }
         ensures refused { IfErr result (λ e. e ≡ Reason.DecimalsRange) }
     {
         match i8::try_from(number) {
