@@ -1,2 +1,11 @@
-pub mod Fact
+pub mod Body
+pub mod Bundle
+pub mod Bytes
 pub mod Document
+pub mod Fact
+pub mod Pieces
+pub mod Rank
+pub mod Sets
+pub mod Sink
+pub mod Source
+pub mod Tree
