@@ -12,14 +12,15 @@ use Rattle.std.specs.Char.{is_ascii_digit}
 use Rattle.std.specs.List.{list_all}
 use Rattle.std.specs.Str.{IsAscii}
 use Rattle.std.specs.Fmt.{decimal, padded_integral, format_spec, char_count}
+use Rattle.oim_value.specs.declared.limits.TheConstants.{UNIT_PLACES}
 use Rattle.oim_value.specs.Number.{onto_digit, without_trailing}
 use Rattle.oim_value.specs.Plain.{padded}
 
 -- what `{:0width$}` writes
-pub padded_integral-zeros : (ds : List ℕ) → padded_integral (format_spec 32 0 4 18 (2 ^ 64 - 1)) false [] ds ≡ padded 18 ds
+pub padded_integral-zeros : (ds : List ℕ) → padded_integral (format_spec 32 0 4 UNIT_PLACES (2 ^ 64 - 1)) false [] ds ≡ padded UNIT_PLACES ds
 unfolding padded_integral char_count
 padded_integral-zeros ds =
-    let same : 18 - length ds - 0 - 0 ≡ 18 - length ds = omega arith in
+    let same : UNIT_PLACES - length ds - 0 - 0 ≡ UNIT_PLACES - length ds = omega arith in
     rw (append-nil ds) (ap (λ n. replicate n 48 ++ ds) same)
 
 -- what is left without trailing zeros is a front part

@@ -1,8 +1,9 @@
 -- The one text by which a number is written (own).
-use Rattle.std.specs.Prelude.{◌≡◌, ◌≢◌, ◌↔◌, IsTrue, Bool, slice_index, ◌<◌, ◌<ℤ◌, ℕ, ◌-◌, ◌/◌, ◌%◌, ◌^◌, ℤ, pos, negsuc, unsigned_abs, List, [], ◌∷◌, ◌++◌, length, replicate, None}
-use Rattle.std.specs.Fmt.{decimal}
-use Rattle.oim_value.specs.declared.limits.TheConstants.{UNIT_PLACES}
+use Rattle.std.specs.Prelude.{◌≡◌, ◌≢◌, ◌↔◌, ℕ, ◌-◌, ◌/◌, ◌%◌, ◌^◌, ◌<◌, ℤ, pos, negsuc, ◌<ℤ◌, unsigned_abs, Bool, IsTrue, List, [], ◌∷◌, ◌++◌, length, replicate, slice_index, None}
 use Rattle.std.specs.List.{list_any}
+use Rattle.std.specs.Fmt.{decimal}
+use Rattle.std.specs.Str.{IsAscii}
+use Rattle.oim_value.specs.declared.limits.TheConstants.{UNIT_PLACES}
 use Rattle.oim_value.specs.Number.{is_negative, is_point, integer_part, fraction_part, number_refusal, without_trailing, Denotes, IsShort}
 
 -- a numeral with zeros on the left, up to a width
@@ -44,21 +45,27 @@ pub record IsPlain (t : List ℕ) (units : ℤ) : Type 0 where
   pub point : IsTrue (has_point t) ↔ (0 < length (fraction_part t))
   pub no_trailing_zero : without_trailing (fraction_part t) ≡ fraction_part t
 
--- each number that is kept has a plain text, and no second one
+-- a number that is kept has a plain text,
 abbrev pub PlainIsPlain : Type 0
 PlainIsPlain = (units : ℤ) → IsShort units → IsPlain (plain units) units
 
+-- has no second one,
 abbrev pub PlainIsOne : Type 0
 PlainIsOne = (units : ℤ) (t : List ℕ) → IsShort units → IsPlain t units → t ≡ plain units
 
--- the plain text of a number that is kept is read as that number
+-- and that text is ASCII
+abbrev pub PlainIsAscii : Type 0
+PlainIsAscii = (units : ℤ) → IsShort units → IsAscii (plain units)
+
+-- the text is read as so many units
 pub record IsReadAs (t : List ℕ) (units : ℤ) : Type 0 where
   pub denotes : Denotes t units
   pub accepted : number_refusal t ≡ None
 
+-- the plain text of a number that is kept is read as that number,
 abbrev pub PlainReadsBack : Type 0
 PlainReadsBack = (units : ℤ) → IsShort units → IsReadAs (plain units) units
 
--- and as no other
+-- and is no other number's
 abbrev pub PlainTellsApart : Type 0
 PlainTellsApart = (m n : ℤ) → IsShort m → IsShort n → plain m ≡ plain n → m ≡ n

@@ -1,7 +1,7 @@
 ghost use Rattle.std.specs.Prelude.{◌≡◌, None};
 ghost use Rattle.oim_value.specs.declared.value.Value.{Value as Seen};
 ghost use Rattle.oim_value.specs.Number.{DenotesOne, ShortIsKept};
-ghost use Rattle.oim_value.specs.Plain.{PlainIsOne, PlainIsPlain, PlainReadsBack, PlainTellsApart};
+ghost use Rattle.oim_value.specs.Plain.{PlainIsAscii, PlainIsOne, PlainIsPlain, PlainReadsBack, PlainTellsApart};
 ghost use Rattle.oim_value.specs.ValueOrder.{value_cmp};
 
 use crate::decimals::Decimals;
@@ -17,10 +17,11 @@ pub fn short_is_kept()
     ensures { ShortIsKept }
 {}
 
-/// A number that is kept has one plain text, which `plain` gives.
+/// A number that is kept has one plain text, which `plain` gives. It is ASCII.
 pub fn plain_is_the_text()
     ensures plain { PlainIsPlain }
     ensures one { PlainIsOne }
+    ensures ascii { PlainIsAscii }
 {}
 
 /// Reading `plain` gives the number back.

@@ -12,4 +12,5 @@ mod value;
 
 pub use decimals::Decimals;
 pub use fixed::{Fixed, read_fixed, write_fixed};
+pub use limits::{MOST_DECIMALS, MOST_DIGITS, UNIT_PLACES};
 pub use value::Value;
