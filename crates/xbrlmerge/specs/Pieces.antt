@@ -17,9 +17,12 @@ pub record Passes (old new : Option (List ℕ)) (before after : Pending) (text :
   pub front : List ℕ
   pub whole : before.bytes ++ text ≡ front ++ after.bytes
   pub appended : Appends old new front
-  pub count : after.written ≡ counted (before.written + length front)
+  pub count : counted after.written ≡ counted (before.written + length front)
 
--- the text was to come behind what waits, and a fault left it with a front taken, whose bytes were counted on to `written`
-abbrev pub Breaks : Option (List ℕ) → Option (List ℕ) → Pending → List ℕ → ℕ → Type 0
-Breaks old new before text written =
-    (rest : List ℕ) × Passes old new before (record { written = written; bytes = rest }) text
+-- the text was to come behind what waited: the sink took a front of both before a fault, which tells what is written
+pub record Breaks (old new : Option (List ℕ)) (before : Pending) (text : List ℕ) (written : ℕ) : Type 0 where
+  pub front : List ℕ
+  pub rest : List ℕ
+  pub whole : before.bytes ++ text ≡ front ++ rest
+  pub appended : Appends old new front
+  pub count : written ≡ counted (before.written + length front)
