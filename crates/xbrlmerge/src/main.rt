@@ -29,6 +29,8 @@ mod std_sink;
 mod std_source;
 #[cfg(test)]
 mod tests_io;
+#[cfg(test)]
+mod tests_run;
 mod write_fault;
 mod writer;
 
