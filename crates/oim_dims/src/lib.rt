@@ -1,0 +1,6 @@
+//! Periods, units, languages and the dimensions of facts.
+#![tactic(auto)]
+
+mod moment;
+
+pub use moment::Moment;
