@@ -84,10 +84,10 @@ two_digits n = (48 + n / 10) ∷ (48 + n % 10) ∷ []
 abbrev pub four_digits : ℕ → List ℕ
 four_digits n = two_digits (n / 100) ++ two_digits (n % 100)
 
-abbrev pub date_text : ℤ → List ℕ
+unfoldable pub date_text : ℤ → List ℕ
 date_text d = four_digits (year_of d) ++ 45 ∷ two_digits (month_of d) ++ 45 ∷ two_digits (day_of d)
 
-abbrev pub time_text : ℕ → List ℕ
+unfoldable pub time_text : ℕ → List ℕ
 time_text s = two_digits (s / 3600) ++ 58 ∷ two_digits (s / 60 % 60) ++ 58 ∷ two_digits (s % 60)
 
 -- how a moment is written, with hours from 00 to 23 (own)

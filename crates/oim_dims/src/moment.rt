@@ -2,10 +2,12 @@ ghost use Rattle.std.specs.Prelude.{◌≡◌, ◌-◌, ◌^◌, ◌<◌, ◌≤
 ghost use Rattle.std.specs.List.{list_all};
 ghost use Rattle.std.specs.Char.{is_ascii_digit};
 ghost use Rattle.std.specs.Str.Parse.{digits_value};
-ghost use Rattle.oim_dims.specs.DateTime.{fits, has_picture, has_date, has_time, day_number, second_of_day, moment_of, number, picture, IsMoment};
-ghost use Rattle.jiff.specs.Words.{IsBetween};
+ghost use Rattle.oim_dims.specs.DateTime.{fits, has_picture, has_date, has_time, day_number, second_of_day, moment_of, moment_text, date_text, time_text, number, picture, IsMoment};
+ghost use Rattle.jiff.specs.Words.{IsBetween, date_text as jiff_date_text, time_text as jiff_time_text, iso_datetime_text};
 
-use jiff::civil::Date;
+use jiff::ToSpan;
+use jiff::civil::{Date, DateTime, Time, date};
+use std::fmt;
 use std::marker::Model;
 
 /// How a date-time is written, where `0` stands for any digit.
@@ -39,8 +41,44 @@ impl Moment {
     {
         self.seconds
     }
+
+    #[tactic(auto, unfolding(crate::specs::DateTime::moment_text))]
+    fn date_time(&self) -> DateTime
+        ensures { iso_datetime_text result ≡ moment_text self.now }
+    {
+        let day = self.seconds.div_euclid(86_400);
+        let second = self.seconds.rem_euclid(86_400) as u32;
+        date_of(day).to_datetime(time_of(second))
+    }
 }
 
+
+impl fmt::Display for Moment {
+    ghost output = { λ x. Some (moment_text x) };
+
+    fn fmt<W: fmt::Write>(&self, f: &mut fmt::Formatter<W>) -> fmt::Result {
+        fmt::Display::fmt(&self.date_time(), f)
+    }
+}
+
+// The date with that day number.
+fn date_of(day: i64) -> Date
+    requires { IsBetween (neg_ℤ (pos 719_162)) (pos 2_932_896) day }
+    ensures { jiff_date_text result ≡ date_text day }
+{
+    date(1970, 1, 1).checked_add(day.days()).unwrap()
+}
+
+// The time with that second of the day.
+#[tactic(auto, unfolding(crate::specs::DateTime::time_text))]
+fn time_of(second: u32) -> Time
+    requires { second < 86_400 }
+    ensures { jiff_time_text None result ≡ time_text second }
+{
+    let hour = (second / 3600) as i8;
+    let minute = (second / 60 % 60) as i8;
+    Time::new(hour, minute, (second % 60) as i8, 0).unwrap()
+}
 
 /// The moment of a date-time (XML Schema Part 2, section 3.2.7), or `None` where the text is none.
 pub(crate) fn read_moment(text: &[u8]) -> Option<Moment>
