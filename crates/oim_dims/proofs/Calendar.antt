@@ -15,7 +15,7 @@ use Rattle.jiff_core.proofs.MarchLemmas.{day_count-early}
 use Rattle.jiff_core.proofs.CalendarLemmas.{day_count-lt_year, day_count-last_of_year, days_in_year_bounds, days_from_civil-day_count, day_count_bounds, day_count-day_of_year, day_count-lt_month, day_count-day, days_in_month_bounds, day_count-epoch}
 use Rattle.jiff_core.proofs.SignedLemmas.{signed_arith}
 
-first_day : day_count (pos 1) 1 1 ≡ 3_652_791
+pub first_day : day_count (pos 1) 1 1 ≡ 3_652_791
 first_day = day_count-early (pos 1) 10000 1 1 refl (omega arith) (omega arith) (omega arith)
 
 zero_day : day_count (pos 0) 1 1 ≡ 3_652_425

@@ -1,3 +1,5 @@
 pub mod Digits
 pub mod Picture
 pub mod Calendar
+pub mod DateOfDay
+pub mod MomentText
