@@ -3,3 +3,5 @@ pub mod Picture
 pub mod Calendar
 pub mod DateOfDay
 pub mod MomentText
+pub mod Cuts
+pub mod Periods

@@ -1,9 +1,10 @@
 -- The text of a moment denotes it.
 use Rattle.std.proofs.Common.{◌≡◌, ℕ, ◌+◌, ◌*◌, ◌/◌, ◌%◌, ◌<◌, ◌≤◌, true, List, ◌∷◌, ◌++◌, refl, sym, ap, ◌∙◌, arith, ℤ, pos, negsuc, neg_ℤ, ◌+ℤ◌, ◌*ℤ◌, ◌≤ℤ◌}
-use Rattle.std.specs.Prelude.{Some, unsigned_abs, int_le, nat_le, ◌&&◌}
+use Rattle.std.specs.Prelude.{Bool, false, ◌==◌, Some, unsigned_abs, int_le, nat_le, ◌&&◌}
 use Rattle.std.specs.Int.{int_div_euclid, int_rem_euclid}
 use Rattle.std.proofs.lemmas.Bool.Decides.{nat_tests}
 use Rattle.std.proofs.lemmas.Int.{ints}
+use Rattle.std.specs.List.{list_any}
 use Rattle.std.specs.Char.{is_ascii_digit, digit_value}
 use Rattle.jiff_core.specs.Calendar.{days_from_civil, IsBetween, IsCivilDate}
 use Rattle.jiff_core.proofs.CalendarLemmas.{days_in_month_bounds}
@@ -106,3 +107,14 @@ spelled_back z y m d h n s moment p =
 pub moment_back : (z : ℤ) → IsMoment z → moment_of (moment_text z) ≡ Some z
 unfolding moment_text date_text time_text
 moment_back z h = spelled_back z _ _ _ _ _ _ h (parts z h)
+
+-- a text with digits for its numbers holds no other byte than those of the picture
+abbrev is_slash : ℕ → Bool
+is_slash c = c == 47
+
+not_slash : (k : ℕ) → is_slash (48 + k) ≡ false
+not_slash k = grind (arith, nat_tests)
+
+pub moment_has_no : (z : ℤ) → list_any is_slash (moment_text z) ≡ false
+unfolding moment_text date_text time_text
+moment_has_no z = simp not_slash

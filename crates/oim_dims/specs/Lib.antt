@@ -1,1 +1,2 @@
 pub mod DateTime
+pub mod Period

@@ -2,5 +2,7 @@
 #![tactic(auto)]
 
 mod moment;
+mod period;
 
 pub use moment::Moment;
+pub use period::{Period, read_period, write_period};
