@@ -1,2 +1,4 @@
 pub mod Reasons
 pub mod QName
+pub mod Bindings
+pub mod Expansion

@@ -1,11 +1,15 @@
 //! Names and their prefixes.
 #![tactic(auto)]
 
+mod aliases;
+mod binding;
 mod copied;
+mod form;
 mod name;
 mod reason;
 mod text;
 
+pub use aliases::Aliases;
 pub use copied::{Copied, Key};
 pub use name::Name;
 pub use reason::Reason;

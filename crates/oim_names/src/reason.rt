@@ -1,5 +1,8 @@
 ghost use Rattle.std.specs.Prelude.{◌≡◌, slice_get};
 ghost use Rattle.oim_names.specs.Reasons.{entry_of, reasons};
+ghost use Rattle.oim_names.specs.declared.reason.Reason.TheVariants.{OutOfMemory};
+
+use std::alloc::AllocError;
 
 /// Why a report or a sheet is refused, in the order of the numbers that users see.
 #[derive(Clone, Copy, Debug, PartialEq, Eq, PartialOrd, Ord)]
@@ -120,5 +123,13 @@ impl Reason {
             Reason::DisallowedDuplicates => "DisallowedDuplicates",
             Reason::SheetKind => "SheetKind",
         }
+    }
+}
+
+impl From<AllocError> for Reason {
+    ghost from_gives = { λ _ r. r ≡ OutOfMemory };
+
+    fn from(_: AllocError) -> Reason {
+        Reason::OutOfMemory
     }
 }

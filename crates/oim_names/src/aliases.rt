@@ -1,0 +1,192 @@
+ghost use Rattle.std.specs.Prelude.{◌≡◌, ◌≢◌, ◌↔◌, [], ◌++◌, ◌∷◌, ◌⊎◌, IsTrue, IfOk, IfErr, IfSome, OnOk, OnErr};
+ghost use Rattle.std.specs.Option.{option_copied};
+ghost use Rattle.oim_names.specs.QName.{is_name, is_entity, is_part};
+ghost use Rattle.oim_names.specs.Bindings.{AreBindings, uri_of, prefix_of, bound, is_refused_binding};
+ghost use Rattle.oim_names.specs.Expansion.{Expands, ExpandsEntity, NamesNothing, IsNotNamed, name_refusal, reserved_uri};
+
+use crate::binding::Binding;
+use crate::form::{is_part, split};
+use crate::name::Name;
+use crate::reason::Reason;
+use crate::text::Text;
+use std::alloc::{AllocError, Global};
+use std::marker::Model;
+
+/// The namespace of xBRL's own words, in which no fact has a name.
+const RESERVED: &str = "https://xbrl.org/2021";
+
+/// Prefixes and their URIs. Contracts see the bindings in the order in which they were added.
+#[derive(Debug, Drop)]
+pub struct Aliases {
+    bindings: Vec<Binding>,
+}
+
+impl Model for Aliases {
+    ghost use Rattle.std.specs.Prelude.{List};
+    ghost use Rattle.oim_names.specs.Bindings.{Binding as Bound, AreBindings};
+
+    ghost Value = { List Bound };
+
+    ghost view = { λ a. a.bindings.items };
+
+    ghost invariant = { λ a. AreBindings a.bindings.items };
+}
+
+impl Aliases {
+    /// No bindings. Later calls take their memory from `alloc`.
+    pub fn new(alloc: Global) -> Aliases
+        ensures { result ≡ [] }
+    {
+        Aliases {
+            bindings: Vec::new(alloc),
+        }
+    }
+
+    /// Binds the prefix to the URI. To bind it again to the same URI changes nothing.
+    ///
+    /// Errors: `Namespace` where the prefix is empty or has white space or a colon, where the URI is
+    /// empty, or where the prefix is bound to another URI (XML Namespaces 1.0, section 3; that a
+    /// binding may not change is this project's rule); `OutOfMemory`.
+    pub fn add(&mut self, prefix: &str, uri: &str) -> Result<(), Reason>
+        ensures ok { OnOk result (self.new ≡ bound self.old prefix.now uri.now) }
+        ensures refused { (result ≡ Err Reason.Namespace) ↔ IsTrue (is_refused_binding self.old prefix.now uri.now) }
+        ensures errors { IfErr result (λ e. (e ≡ Reason.Namespace) ⊎ (e ≡ Reason.OutOfMemory)) }
+        ensures err { OnErr result (self.new ≡ self.old) }
+    {
+        if !is_part(prefix.as_bytes()) || uri.is_empty() {
+            return Err(Reason::Namespace);
+        }
+        match self.uri(prefix) {
+            Some(known) if known == uri => Ok(()),
+            Some(_) => Err(Reason::Namespace),
+            None => self.append(prefix, uri),
+        }
+    }
+
+    fn append(&mut self, prefix: &str, uri: &str) -> Result<(), Reason>
+        requires prefix { IsTrue (is_part prefix.now) }
+        requires uri { uri.now ≢ [] }
+        requires free { uri_of self.old prefix.now ≡ None }
+        ensures ok { OnOk result (self.new ≡ self.old ++ (record { prefix = prefix.now; uri = uri.now }) ∷ []) }
+        ensures errors { IfErr result (λ e. e ≡ Reason.OutOfMemory) }
+        ensures err { OnErr result (self.new ≡ self.old) }
+    {
+        let binding = Binding::new(*self.bindings.allocator(), prefix, uri)?;
+        match self.bindings.push(binding) {
+            Ok(()) => Ok(()),
+            Err(_) => Err(Reason::OutOfMemory),
+        }
+    }
+
+    /// The URI that the prefix is bound to.
+    pub fn uri(&self, prefix: &str) -> Option<&str>
+        ensures found { option_copied result ≡ uri_of self.now prefix.now }
+        ensures filled { IfSome result (λ uri. uri.now ≢ []) }
+    {
+        self.bindings
+            .iter()
+            .find(|binding| binding.prefix() == prefix)
+            .map(|binding| binding.uri())
+    }
+
+    /// The prefix that was bound to the URI first.
+    pub fn prefix_of(&self, uri: &str) -> Option<&str>
+        ensures { option_copied result ≡ prefix_of self.now uri.now }
+    {
+        self.bindings
+            .iter()
+            .find(|binding| binding.uri() == uri)
+            .map(|binding| binding.prefix())
+    }
+
+    /// The name that the text stands for: a bound prefix, a colon and a local part
+    /// (XML Namespaces 1.0, section 4).
+    ///
+    /// Errors, the first that holds: `NameForm`, `UnboundPrefix`, `ReservedNamespace`; `OutOfMemory`.
+    pub fn expand(&self, text: &str) -> Result<Name, Reason>
+        ensures ok { IfOk result (Expands self.now text.now) }
+        ensures uri { IfOk result (λ name. name.uri ≢ []) }
+        ensures allowed { IfOk result (λ name. name.uri ≢ reserved_uri) }
+        ensures local { IfOk result (λ name. IsTrue (is_part name.local_part)) }
+        ensures errors { IfErr result (NamesNothing is_name self.now text.now) }
+    {
+        let (prefix, local) = split(text);
+        if !is_part(prefix.as_bytes()) || !is_part(local.as_bytes()) {
+            return Err(Reason::NameForm);
+        }
+        self.named(prefix, local)
+    }
+
+    /// Why the text is no name under these bindings, the first that holds: `NameForm`,
+    /// `UnboundPrefix`, `ReservedNamespace`. It is the test for `expand`, and takes no memory.
+    pub fn name_refusal(&self, text: &str) -> Option<Reason>
+        ensures { result ≡ name_refusal self.now text.now }
+    {
+        let (prefix, local) = split(text);
+        if !(is_part(prefix.as_bytes()) && is_part(local.as_bytes())) {
+            return Some(Reason::NameForm);
+        }
+        match self.uri(prefix) {
+            None => Some(Reason::UnboundPrefix),
+            Some(uri) if uri == RESERVED => Some(Reason::ReservedNamespace),
+            Some(_) => None,
+        }
+    }
+
+    /// The entity that the text stands for: a bound prefix for the URI of its scheme, a colon and an
+    /// identifier, which may be any text but the empty one (xBRL-JSON 1.0, section 3.1.4).
+    ///
+    /// Errors, the first that holds: `NameForm`, `UnboundPrefix`, `ReservedNamespace`; `OutOfMemory`.
+    pub fn expand_entity(&self, text: &str) -> Result<Name, Reason>
+        ensures ok { IfOk result (ExpandsEntity self.now text.now) }
+        ensures uri { IfOk result (λ entity. entity.uri ≢ []) }
+        ensures allowed { IfOk result (λ entity. entity.uri ≢ reserved_uri) }
+        ensures identifier { IfOk result (λ entity. entity.local_part ≢ []) }
+        ensures errors { IfErr result (NamesNothing is_entity self.now text.now) }
+    {
+        let (prefix, identifier) = split(text);
+        if !is_part(prefix.as_bytes()) || identifier.is_empty() {
+            return Err(Reason::NameForm);
+        }
+        self.named(prefix, identifier)
+    }
+
+    fn named(&self, prefix: &str, local: &str) -> Result<Name, Reason>
+        ensures uri { IfOk result (λ name. uri_of self.now prefix.now ≡ Some name.uri) }
+        ensures filled { IfOk result (λ name. name.uri ≢ []) }
+        ensures allowed { IfOk result (λ name. name.uri ≢ reserved_uri) }
+        ensures local { IfOk result (λ name. name.local_part ≡ local.now) }
+        ensures errors { IfErr result (IsNotNamed (uri_of self.now prefix.now)) }
+    {
+        let Some(uri) = self.uri(prefix) else {
+            return Err(Reason::UnboundPrefix);
+        };
+        if uri == RESERVED {
+            return Err(Reason::ReservedNamespace);
+        }
+        let alloc = *self.bindings.allocator();
+        Ok(Name::new(Text::new(alloc, uri)?, Text::new(alloc, local)?))
+    }
+
+    /// The name as a text: the prefix, a colon and the local part, whether the prefix is bound or not.
+    pub fn spell(&self, prefix: &str, name: &Name) -> Result<Text, AllocError>
+        ensures text { IfOk result (λ text. text ≡ prefix.now ++ 58 ∷ name.now.local_part) }
+        ensures back {
+            uri_of self.now prefix.now ≡ Some name.now.uri →
+            name.now.uri ≢ reserved_uri →
+            IsTrue (is_part name.now.local_part) →
+            IfOk result (λ text. Expands self.now text name.now)
+        }
+    {
+        joined(*self.bindings.allocator(), prefix, name.local())
+    }
+}
+
+fn joined(alloc: Global, prefix: &str, local: &str) -> Result<Text, AllocError>
+    ensures { IfOk result (λ text. text ≡ prefix.now ++ 58 ∷ local.now) }
+{
+    let mut text = String::from_str(alloc, prefix)?;
+    text.push_str(":")?;
+    text.push_str(local)?;
+    Text::new(alloc, text.as_str())
+}

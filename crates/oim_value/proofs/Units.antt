@@ -1,0 +1,43 @@
+-- Numbers of few digits, in units.
+use Rattle.std.proofs.Common.{◌≡◌, ℕ, List, ◌++◌, length, length-append, ◌+◌, ◌*◌, ◌-◌, ◌^◌, ◌<◌, ◌≤◌, Bool, true, false, zero, suc, refl, sym, ap, ◌∙◌, arith}
+use Rattle.std.specs.Prelude.{ℤ, pos, negsuc, ◌*ℤ◌, unsigned_abs, IsTrue}
+use Rattle.std.proofs.Math.Nat.{pow-le-pow_right, mul-le-mul_left}
+use Rattle.std.proofs.Math.IntN.{neg_ℤ}
+use Rattle.std.specs.Str.Parse.{digits_value_after}
+use Rattle.oim_value.proofs.Numerals.{whole_value}
+use Rattle.oim_value.specs.Number.{signed, integer_part, fraction_part, is_negative, is_number, without_leading, without_trailing, Denotes, IsShort}
+
+-- a number of at most 18 digits with at most 18 zeros after it
+pub size_bound : (n e : ℕ) → n < 10 ^ 18 → e ≤ 18 → n * 10 ^ e ≤ 10 ^ 36
+size_bound n e few within =
+    let p : 10 ^ e ≤ 10 ^ 18 = pow-le-pow_right (omega arith) within in
+    let q : n * 10 ^ e ≤ n * 10 ^ 18 = mul-le-mul_left n p in
+    omega arith
+
+pub short_bound : (z : ℤ) → IsShort z → unsigned_abs z ≤ 10 ^ 36
+short_bound z h = rw h.is (size_bound h.number (18 - h.places) h.few (omega arith))
+
+pub unsigned_abs-signed : (b : Bool) (n : ℕ) → unsigned_abs (signed b n) ≡ n
+unsigned_abs-signed true zero = refl
+unsigned_abs-signed true (suc n) = refl
+unsigned_abs-signed false n = refl
+
+pub signed_times : (b : Bool) (m k n : ℕ) → m * k ≡ n → signed b m *ℤ pos k ≡ signed b n
+signed_times true zero k n e =
+    let none : 0 * k ≡ 0 = omega arith in
+    ap pos none ∙ ap (λ m. neg_ℤ (pos m)) (sym none ∙ e)
+signed_times true (suc m) k n e = ap (λ m. neg_ℤ (pos m)) e
+signed_times false m k n e = ap pos e
+
+pub short_signed : (b : Bool) (n p : ℕ) → n < 10 ^ 18 → p ≤ 18 → IsShort (signed b (n * 10 ^ (18 - p)))
+short_signed b n p few within = record { number = n; places = p; few = few; within = within; is = unsigned_abs-signed b (n * 10 ^ (18 - p)) }
+
+pub ten_to : (i j : ℕ) → i ≤ j → 10 ^ i ≤ 10 ^ j
+ten_to i j h = pow-le-pow_right {n = 10} (omega arith) {i = i} {j = j} h
+
+-- what the digits that count write, moved to its place, is denoted
+pub denotes_from : (t i f : List ℕ) (n p : ℕ) (z : ℤ) → i ≡ integer_part t → f ≡ fraction_part t → IsTrue (is_number t) → n ≡ digits_value_after 10 0 (without_leading i ++ without_trailing f) → p ≡ length (without_trailing f) → p ≤ 18 → z ≡ signed (is_negative t) (n * 10 ^ (18 - p)) → Denotes t z
+denotes_from t i f n p z ei ef form en ep le ez = record {
+  form = form;
+  value = rw (ez, en) (signed_times (is_negative t) _ _ _ (rw (← ei, ← ef) (whole_value i f (18 - p) (omega arith))));
+}

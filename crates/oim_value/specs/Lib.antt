@@ -1,0 +1,5 @@
+pub mod Decimals
+pub mod Number
+pub mod Plain
+pub mod Ties
+pub mod ValueOrder

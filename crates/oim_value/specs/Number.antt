@@ -1,0 +1,86 @@
+-- Decimal numbers as texts (XML Schema Part 2, section 3.2.3, `decimal`). In bytes, `+` is 43, `-` 45, `.` 46, `0` 48.
+use Rattle.std.specs.Prelude.{◌≡◌, ℕ, ◌+◌, ◌-◌, ◌*◌, ◌^◌, ◌<◌, ◌≤◌, nat_lt, nat_le, ℤ, pos, ◌*ℤ◌, unsigned_abs, Bool, true, false, ◌&&◌, ◌||◌, not, ◌==◌, if◌then◌else◌, IsTrue, List, [], ◌∷◌, ◌++◌, length, Option, Some, None}
+use Rattle.std.specs.List.{before_first, after_first, list_all}
+use Rattle.std.specs.Char.{is_ascii_digit}
+use Rattle.std.specs.Str.Parse.{digits_value}
+use Rattle.oim_names.specs.declared.reason.Reason.{Reason}
+use Rattle.oim_names.specs.declared.reason.Reason.TheVariants.{NumberForm, NumberDigits}
+use Rattle.oim_value.specs.declared.limits.TheConstants.{MOST_DIGITS, UNIT_PLACES}
+use lib.IntN.{neg_ℤ}
+
+-- whether a text begins with `-`
+abbrev pub is_negative : List ℕ → Bool
+is_negative [] = false
+is_negative (c ∷ cs) = c == 45
+
+-- a text without its sign
+abbrev pub unsigned : List ℕ → List ℕ
+unsigned [] = []
+unsigned (c ∷ cs) = if c == 43 || c == 45 then cs else c ∷ cs
+
+abbrev pub is_point : ℕ → Bool
+is_point c = c == 46
+
+-- what stands before the point, after it, and on both sides of it
+abbrev pub integer_part : List ℕ → List ℕ
+integer_part t = before_first is_point (unsigned t)
+
+abbrev pub fraction_part : List ℕ → List ℕ
+fraction_part t = after_first is_point (unsigned t)
+
+abbrev pub both_parts : List ℕ → List ℕ
+both_parts t = integer_part t ++ fraction_part t
+
+-- digits, and at least one
+abbrev pub is_numeral : List ℕ → Bool
+is_numeral ds = nat_lt 0 (length ds) && list_all is_ascii_digit ds
+
+-- an optional sign, digits, and optionally a point and digits; at least one digit
+abbrev pub is_number : List ℕ → Bool
+is_number t = is_numeral (both_parts t)
+
+-- a number, or its negative
+abbrev pub signed : Bool → ℕ → ℤ
+signed true n = neg_ℤ (pos n)
+signed false n = pos n
+
+-- the text denotes so many units: units / 10^UNIT_PLACES is the number of all digits / 10^(how many stand after the point)
+pub record Denotes (t : List ℕ) (units : ℤ) : Type 0 where
+  pub form : IsTrue (is_number t)
+  pub value : units *ℤ pos (10 ^ length (fraction_part t)) ≡ signed (is_negative t) (10 ^ UNIT_PLACES * digits_value 10 (both_parts t))
+
+-- digits without leading zeros
+abbrev pub without_leading : List ℕ → List ℕ
+without_leading [] = []
+without_leading (c ∷ cs) = if c == 48 then without_leading cs else c ∷ cs
+
+-- a digit before digits without trailing zeros: a lone zero goes too
+abbrev pub onto_digit : ℕ → List ℕ → List ℕ
+onto_digit c [] = if c == 48 then [] else c ∷ []
+onto_digit c (d ∷ ds) = c ∷ d ∷ ds
+
+-- digits without trailing zeros
+abbrev pub without_trailing : List ℕ → List ℕ
+without_trailing [] = []
+without_trailing (c ∷ cs) = onto_digit c (without_trailing cs)
+
+-- how many digits count
+abbrev pub counted : List ℕ → ℕ
+counted t = length (without_leading (integer_part t)) + length (without_trailing (fraction_part t))
+
+-- no more digits count than are kept (own)
+abbrev pub is_short : List ℕ → Bool
+is_short t = nat_le (counted t) MOST_DIGITS
+
+-- why a text is refused as a number, where it is (own)
+abbrev pub number_refusal : List ℕ → Option Reason
+number_refusal t =
+    if not (is_number t) then Some NumberForm else (if not (is_short t) then Some NumberDigits else None)
+
+-- units of which no more digits count than are kept (own): a number of so many digits, so many of them after the point
+pub record IsShort (units : ℤ) : Type 0 where
+  pub number : ℕ
+  pub places : ℕ
+  pub few : number < 10 ^ MOST_DIGITS
+  pub within : places ≤ MOST_DIGITS
+  pub is : unsigned_abs units ≡ number * 10 ^ (UNIT_PLACES - places)

@@ -1,0 +1,34 @@
+-- The order of values (own).
+use Rattle.std.specs.Prelude.{ℕ, ℤ, Option, Some, None}
+use Rattle.std.specs.declared.cmp.Ordering.{Ordering}
+use Rattle.std.specs.declared.cmp.Ordering.TheVariants.{Less, Equal, Greater}
+use Rattle.std.specs.Ordering.{nat_cmp, int_cmp, ordering_then}
+use Rattle.std.specs.Cmp.Lexicographic.{slice_cmp}
+use Rattle.oim_names.specs.QName.{QName}
+use Rattle.oim_value.specs.declared.value.Value.{Value}
+use Rattle.oim_value.specs.declared.value.Value.TheVariants.{Nil, Number, Text as AText, Name as AName}
+
+-- finite decimals by number, then infinite
+abbrev pub decimals_cmp : Option ℤ → Option ℤ → Ordering
+decimals_cmp (Some d) (Some e) = int_cmp d e
+decimals_cmp (Some d) None = Less
+decimals_cmp None (Some e) = Greater
+decimals_cmp None None = Equal
+
+-- by URI, then by local part
+abbrev pub name_cmp : QName → QName → Ordering
+name_cmp m n = ordering_then (slice_cmp nat_cmp m.uri n.uri) (slice_cmp nat_cmp m.local_part n.local_part)
+
+-- nil, numbers, texts, names
+abbrev pub kind_of : Value → ℕ
+kind_of Nil = 0
+kind_of (Number m d) = 1
+kind_of (AText t) = 2
+kind_of (AName n) = 3
+
+-- by kind; then numbers by units and decimals, texts by bytes, names by their parts
+abbrev pub value_cmp : Value → Value → Ordering
+value_cmp (Number m d) (Number n e) = ordering_then (int_cmp m n) (decimals_cmp d e)
+value_cmp (AText s) (AText t) = slice_cmp nat_cmp s t
+value_cmp (AName m) (AName n) = name_cmp m n
+value_cmp x y = nat_cmp (kind_of x) (kind_of y)

@@ -1,0 +1,84 @@
+ghost use Rattle.std.specs.Prelude.{◌≡◌, IsTrue, IfErr, IfOk, Some};
+ghost use Rattle.std.specs.Result.{OkIff};
+ghost use Rattle.oim_value.specs.Decimals.{is_in_range};
+
+use crate::limits::MOST_DECIMALS;
+use oim_names::{Copied, Key, Reason};
+use std::alloc::{AllocError, Global};
+use std::marker::Model;
+
+// The order of the variants is the order of decimals.
+#[derive(Clone, Copy, Debug, PartialEq, Eq, PartialOrd, Ord)]
+enum Places {
+    Finite(i8),
+    Infinite,
+}
+
+/// To how many places after the point a number is known (before it, where negative), or that it
+/// is exact. Finite ones are ordered by number and stand before infinite. Contracts see the
+/// finite number, or None where infinite.
+#[derive(Clone, Copy, Debug, PartialEq, Eq, PartialOrd, Ord)]
+pub struct Decimals {
+    places: Places,
+}
+
+impl Model for Decimals {
+    ghost use Rattle.std.specs.Prelude.{ℤ, Option};
+    ghost use Rattle.std.proofs.Common.{ap};
+    ghost use Rattle.oim_value.specs.Decimals.{finite_of, places_of, places_of-finite_of};
+
+    ghost Value = { Option ℤ };
+
+    ghost view = { λ a. finite_of a.places };
+
+    ghost inverse = { λ d. record { places = places_of d } };
+
+    ghost inverse_ok = { λ a h. λ i. record { places = places_of-finite_of a.places i } };
+}
+
+impl Decimals {
+    /// An exact number's.
+    pub const INFINITE: Decimals = Decimals {
+        places: Places::Infinite,
+    };
+
+    /// Finite decimals, from -12 to 12; `DecimalsRange` for any other number.
+    pub fn finite(number: i64) -> Result<Decimals, Reason>
+        ensures made { OkIff result (IsTrue (is_in_range number)) (Some number) }
+        ensures refused { IfErr result (λ e. e ≡ Reason.DecimalsRange) }
+    {
+        match i8::try_from(number) {
+            Ok(places) if -MOST_DECIMALS <= places && places <= MOST_DECIMALS => Ok(Decimals {
+                places: Places::Finite(places),
+            }),
+            _ => Err(Reason::DecimalsRange),
+        }
+    }
+
+    /// The finite number, or None where infinite.
+    pub fn get(&self) -> Option<i8>
+        ensures { result ≡ self.now }
+    {
+        match self.places {
+            Places::Finite(places) => Some(places),
+            Places::Infinite => None,
+        }
+    }
+}
+
+impl Copied for Decimals {
+    fn copied(&self, _alloc: Global) -> Result<Self, AllocError> {
+        Ok(*self)
+    }
+}
+
+impl Key for Decimals {
+    ghost use Rattle.std.specs.Prelude.{Some, None, refl};
+    ghost use Rattle.std.proofs.Common.{ap};
+    ghost use Rattle.std.proofs.lemmas.Map.Lookups.{exact_signed};
+
+    ghost exact = { elim [
+      | Some d ↦ elim [ Some e ↦ λ h. ap Some (exact_signed d e h) | None ↦ λ h. Prim.cc ]
+      | None ↦ elim [ Some e ↦ λ h. Prim.cc | None ↦ λ h. refl ]
+    ] };
+}

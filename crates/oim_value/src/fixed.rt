@@ -1,0 +1,97 @@
+ghost use Rattle.std.specs.Prelude.{◌≡◌, ◌++◌, ◌+◌, ◌-◌, ◌*◌, ◌^◌, ◌<◌, ◌≤◌, pos, true, length, unsigned_abs, IfOk, IfErr};
+ghost use Rattle.std.specs.Result.{result_err};
+ghost use Rattle.std.specs.List.{list_all};
+ghost use Rattle.std.specs.Char.{is_ascii_digit};
+ghost use Rattle.std.specs.Str.Parse.{digits_value_after};
+ghost use Rattle.oim_value.specs.Number.{Denotes, IsShort, number_refusal, signed};
+
+use crate::digits::{
+    append_digits, are_digits, skip_leading_zeros, skip_trailing_zeros, split_point, split_sign,
+};
+use crate::limits::{MOST_DIGITS, UNIT_PLACES};
+use oim_names::Reason;
+use std::marker::Model;
+
+/// A number of at most 18 digits that count. Contracts see it in units of 10^-18.
+#[derive(Clone, Copy, Debug, PartialEq, Eq, PartialOrd, Ord)]
+pub struct Fixed {
+    units: i128,
+}
+
+impl Model for Fixed {
+    ghost use Rattle.std.specs.Prelude.{ℤ};
+    ghost use Rattle.oim_value.specs.Number.{IsShort};
+
+    ghost Value = { ℤ };
+
+    ghost view = { λ a. a.units };
+
+    ghost invariant = { λ a. IsShort a.units };
+
+    ghost inverse = { λ z. record { units = z } };
+}
+
+impl Fixed {
+    /// The number in units of 10^-18.
+    pub fn units(&self) -> i128
+        ensures value { result ≡ self.now }
+        ensures short { IsShort self.now }
+        ensures bound { unsigned_abs self.now ≤ 10 ^ 36 }
+    {
+        self.units
+    }
+}
+
+/// Reads a decimal number (XML Schema Part 2, section 3.2.3). `NumberForm` where the text is not
+/// one, `NumberDigits` where more than 18 of its digits count.
+pub fn read_fixed(text: &str) -> Result<Fixed, Reason>
+    ensures denoted { IfOk result (Denotes text.now) }
+    ensures refused { result_err result ≡ number_refusal text.now }
+{
+    let (negative, body) = split_sign(text.as_bytes());
+    let (integer, fraction) = split_point(body);
+    if !are_digits(integer, fraction) {
+        return Err(Reason::NumberForm);
+    }
+    let integer = skip_leading_zeros(integer);
+    let fraction = skip_trailing_zeros(fraction);
+    if integer.len() + fraction.len() > MOST_DIGITS {
+        return Err(Reason::NumberDigits);
+    }
+    let number = number_of(integer, fraction);
+    Ok(scaled(number, fraction.len() as u32, negative))
+}
+
+// The number that the digits of both parts write.
+fn number_of(integer: &[u8], fraction: &[u8]) -> u64
+    requires integer { list_all is_ascii_digit integer.now ≡ true }
+    requires fraction { list_all is_ascii_digit fraction.now ≡ true }
+    requires few { length integer.now + length fraction.now ≤ MOST_DIGITS }
+    ensures value { result ≡ digits_value_after 10 0 (integer.now ++ fraction.now) }
+    ensures bound { result < 10 ^ MOST_DIGITS }
+{
+    append_digits(append_digits(0, integer), fraction)
+}
+
+// A number whose last digits, `places` of them, stand after the point.
+fn scaled(number: u64, places: u32, negative: bool) -> Fixed
+    requires few { number < 10 ^ MOST_DIGITS }
+    requires places { places ≤ MOST_DIGITS }
+    ensures { result ≡ signed negative (number * 10 ^ (UNIT_PLACES - places)) }
+{
+    let size = size_of(number, UNIT_PLACES - places);
+    if negative {
+        Fixed { units: -size }
+    } else {
+        Fixed { units: size }
+    }
+}
+
+fn size_of(number: u64, zeros: u32) -> i128
+    requires few { number < 10 ^ MOST_DIGITS }
+    requires zeros { zeros ≤ UNIT_PLACES }
+    ensures value { result ≡ pos (number * 10 ^ zeros) }
+    ensures bound { number * 10 ^ zeros ≤ 10 ^ 36 }
+{
+    (u128::from(number) * 10u128.pow(zeros)) as i128
+}

@@ -1,0 +1,48 @@
+ghost use Rattle.std.specs.Prelude.{◌≡◌, IfOk};
+
+use crate::decimals::Decimals;
+use crate::fixed::Fixed;
+use oim_names::{Copied, Key, Name, Text};
+use std::alloc::{AllocError, Global};
+
+/// A fact's value. Values are ordered by kind as they stand here; numbers by units and then
+/// decimals, texts by bytes.
+#[derive(Debug, Drop, PartialEq, Eq, PartialOrd, Ord)]
+pub enum Value {
+    /// Nothing is reported.
+    Nil,
+    /// A number, and to how many places it is known.
+    Number(Fixed, Decimals),
+    /// A text as it was spelled.
+    Text(Text),
+    /// An expanded name.
+    Name(Name),
+}
+
+impl Copied for Value {
+    fn copied(&self, alloc: Global) -> Result<Self, AllocError> {
+        Ok(match self {
+            Value::Nil => Value::Nil,
+            Value::Number(number, decimals) => Value::Number(*number, *decimals),
+            Value::Text(text) => Value::Text(text.copied(alloc)?),
+            Value::Name(name) => Value::Name(name.copied(alloc)?),
+        })
+    }
+}
+
+impl Key for Value {
+    ghost use Rattle.std.specs.Prelude.{refl};
+    ghost use Rattle.std.proofs.Common.{ap};
+    ghost use Rattle.std.proofs.lemmas.Map.Lookups.{exact_signed, exact_bytes};
+    ghost use Rattle.oim_names.specs.QName.{exact_name};
+    ghost use Rattle.oim_value.specs.Ties.{both_tie};
+    ghost use Rattle.oim_value.specs.contracts.decimals.DecimalsKey.TheImpl.Laws.{exact-law as exact_decimals};
+    ghost use Rattle.oim_value.specs.declared.value.Value.TheVariants.{Nil, Number, Text as AText, Name as AName};
+
+    ghost exact = { elim [
+      | Nil ↦ elim [ Nil ↦ λ h. refl | Number m q ↦ λ h. Prim.cc | AText t ↦ λ h. Prim.cc | AName n ↦ λ h. Prim.cc ]
+      | Number n p ↦ elim [ Nil ↦ λ h. Prim.cc | Number m q ↦ λ h. let e = both_tie _ _ h in λ i. Number (exact_signed n m e.0 i) (exact_decimals p q e.1 i) | AText t ↦ λ h. Prim.cc | AName n ↦ λ h. Prim.cc ]
+      | AText s ↦ elim [ Nil ↦ λ h. Prim.cc | Number m q ↦ λ h. Prim.cc | AText t ↦ λ h. ap AText (exact_bytes s t h) | AName n ↦ λ h. Prim.cc ]
+      | AName m ↦ elim [ Nil ↦ λ h. Prim.cc | Number m q ↦ λ h. Prim.cc | AText t ↦ λ h. Prim.cc | AName n ↦ λ h. ap AName (exact_name m n h) ]
+    ] };
+}

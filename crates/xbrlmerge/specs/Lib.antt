@@ -1,0 +1,2 @@
+pub mod Fact
+pub mod Document

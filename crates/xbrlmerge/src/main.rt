@@ -1,0 +1,7 @@
+//! Consolidates xBRL-JSON reports.
+#![tactic(auto)]
+
+mod document;
+mod fact;
+
+fn main() {}
