@@ -1,2 +1,3 @@
 pub mod DateTime
 pub mod Period
+pub mod Language

@@ -1,8 +1,10 @@
 //! Periods, units, languages and the dimensions of facts.
 #![tactic(auto)]
 
+mod language;
 mod moment;
 mod period;
 
+pub use language::read_language;
 pub use moment::Moment;
 pub use period::{Period, read_period, write_period};
