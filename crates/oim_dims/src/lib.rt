@@ -2,9 +2,12 @@
 #![tactic(auto)]
 
 mod language;
+mod list;
+mod member;
 mod moment;
 mod period;
 
 pub use language::read_language;
+pub use member::Member;
 pub use moment::Moment;
 pub use period::{Period, read_period, write_period};
