@@ -1,3 +1,5 @@
 pub mod DateTime
 pub mod Period
 pub mod Language
+pub mod Unit
+pub mod Ties

@@ -6,8 +6,10 @@ mod list;
 mod member;
 mod moment;
 mod period;
+mod unit;
 
 pub use language::read_language;
 pub use member::Member;
 pub use moment::Moment;
+pub use unit::Unit;
 pub use period::{Period, read_period, write_period};
