@@ -1,5 +1,5 @@
 -- Texts that are cut at their first separator.
-use Rattle.std.proofs.Common.{◌≡◌, ℕ, suc, ◌+◌, Bool, true, false, cond, List, [], ◌∷◌, ◌++◌, length, take, drop, refl, sym, ap, ◌∙◌, arith}
+use Rattle.std.proofs.Common.{◌≡◌, ℕ, suc, ◌+◌, ◌<◌, Bool, true, false, cond, List, [], ◌∷◌, ◌++◌, length, take, drop, refl, sym, ap, ◌∙◌, arith}
 use mathlib.Core.Bool.{not, ◌||◌}
 use Rattle.std.specs.List.{position_or_len, before_first, after_first, list_any}
 use Rattle.std.proofs.Math.Seq.{take-append_seam}
@@ -52,3 +52,11 @@ cut p xs ys c none here =
       before = rw place (take-append_seam xs (c ∷ ys));
       after = rw place (drop_past xs ys c);
     }
+
+pub some_passes : (p : ℕ → Bool) (xs : List ℕ) → (position_or_len p xs < length xs) → list_any p xs ≡ true
+some_passes p [] h = absurd (omega arith)
+some_passes p (x ∷ xs) h =
+    elim (p x) as (λ b. p x ≡ b → list_any p (x ∷ xs) ≡ true) [
+      | true ↦ λ e. rw e refl
+      | false ↦ λ e. let more : 1 + position_or_len p xs < length (x ∷ xs) = rw e at h in rw e (some_passes p xs (omega (arith, more)))
+    ] refl

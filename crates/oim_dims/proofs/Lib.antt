@@ -5,3 +5,4 @@ pub mod DateOfDay
 pub mod MomentText
 pub mod Cuts
 pub mod Periods
+pub mod Sides

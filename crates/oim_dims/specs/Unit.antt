@@ -2,13 +2,14 @@
 use Rattle.std.specs.Prelude.{◌≡◌, ◌≢◌, ℕ, ◌-◌, Bool, false, not, ◌&&◌, ◌||◌, ◌==◌, if◌then◌else◌, List, [], ◌∷◌, ◌++◌, length, slice_index, slice_range, map, Option, Some, None, All, IsTrue, codes}
 use Rattle.std.specs.List.{AllZip, list_all, list_any, slice_split, before_first, after_first, join_with_byte}
 use Rattle.std.specs.List.Sorted.{IsPermutation, IsSorted}
-use Rattle.std.specs.Option.{unwrap_or}
+use Rattle.std.specs.Option.{option_map_or, unwrap_or}
 use Rattle.std.specs.Ordering.{nat_cmp, ordering_then}
 use Rattle.std.specs.Cmp.Lexicographic.{slice_cmp}
 use Rattle.std.specs.declared.cmp.Ordering.{Ordering}
-use Rattle.oim_names.specs.QName.{QName, is_name, is_part}
+use Rattle.oim_names.specs.QName.{QName, is_part}
 use Rattle.oim_names.specs.Bindings.{Binding, prefix_of}
-use Rattle.oim_names.specs.Expansion.{Expands, is_unbound, is_reserved, reserved_uri}
+use Rattle.oim_names.specs.Expansion.{Expands, name_refusal, reserved_uri}
+use Rattle.oim_names.specs.Reasons.{entry_of}
 use Rattle.oim_names.specs.declared.reason.Reason.{Reason}
 use Rattle.oim_names.specs.declared.reason.Reason.TheVariants.{UnitForm, NameForm, UnboundPrefix, ReservedNamespace}
 
@@ -37,8 +38,12 @@ numerator_pieces t = pieces (before_first is_slash t)
 unfoldable pub denominator_pieces : List ℕ → List (List ℕ)
 denominator_pieces t = if list_any is_slash t then pieces (after_first is_slash t) else []
 
-abbrev pub all_pieces : List ℕ → List (List ℕ)
-all_pieces t = numerator_pieces t ++ denominator_pieces t
+-- a test of each piece of both sides, and of some piece
+abbrev pub each_piece : (List ℕ → Bool) → List ℕ → Bool
+each_piece p t = list_all p (numerator_pieces t) && list_all p (denominator_pieces t)
+
+abbrev pub some_piece : (List ℕ → Bool) → List ℕ → Bool
+some_piece p t = list_any p (numerator_pieces t) || list_any p (denominator_pieces t)
 
 -- some characters, none of which a unit is built with
 abbrev pub is_piece : List ℕ → Bool
@@ -46,7 +51,7 @@ is_piece p = not (length p == 0) && not (list_any is_mark p)
 
 -- the form of a unit: a side, or two with one `/`, and sides of pieces with `*` between them (own: with or without parentheses)
 abbrev pub is_unit_text : List ℕ → Bool
-is_unit_text t = list_all is_piece (all_pieces t)
+is_unit_text t = each_piece is_piece t
 
 -- the measures of a unit, as multisets: each list has them in any order
 pub record Measures : Type 0 where
@@ -76,13 +81,17 @@ abbrev pub UnitOf : List Binding → List ℕ → Option Measures → Type 0
 UnitOf bs t None = HasMeasures bs t pure_alone
 UnitOf bs t (Some m) = HasMeasures bs t m × (m ≢ pure_alone)
 
+-- whether this is why a piece is no name
+abbrev pub is_refused : List Binding → Reason → List ℕ → Bool
+is_refused bs r p = option_map_or (λ e. (entry_of e).number == (entry_of r).number) (name_refusal bs p) false
+
 -- why a text is no unit, the first that holds: its form, and then of any piece its form, its prefix, its namespace
 abbrev pub unit_refusal : List Binding → List ℕ → Option Reason
 unit_refusal bs t =
     if not (is_unit_text t) then Some UnitForm else (
-    if list_any (λ p. not (is_name p)) (all_pieces t) then Some NameForm else (
-    if list_any (is_unbound bs) (all_pieces t) then Some UnboundPrefix else (
-    if list_any (is_reserved bs) (all_pieces t) then Some ReservedNamespace else None)))
+    if some_piece (is_refused bs NameForm) t then Some NameForm else (
+    if some_piece (is_refused bs UnboundPrefix) t then Some UnboundPrefix else (
+    if some_piece (is_refused bs ReservedNamespace) t then Some ReservedNamespace else None)))
 
 -- names by URI, then by local part
 abbrev pub name_cmp : QName → QName → Ordering
