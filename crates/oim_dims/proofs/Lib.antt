@@ -6,3 +6,4 @@ pub mod MomentText
 pub mod Cuts
 pub mod Periods
 pub mod Sides
+pub mod Naming

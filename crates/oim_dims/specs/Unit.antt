@@ -107,6 +107,7 @@ pub record IsMeasure (n : QName) : Type 0 where
 pub record IsUnit (m : Measures) : Type 0 where
   pub numerators : IsSorted name_cmp m.numerators
   pub denominators : IsSorted name_cmp m.denominators
-  pub measures : All IsMeasure (m.numerators ++ m.denominators)
+  pub multiplied : All IsMeasure m.numerators
+  pub divided : All IsMeasure m.denominators
   pub some : m.numerators ≢ []
   pub unit : m ≢ pure_alone

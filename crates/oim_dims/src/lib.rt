@@ -6,12 +6,14 @@ mod list;
 mod member;
 mod moment;
 mod period;
+mod measures;
 mod unit;
 mod unit_text;
 
 pub use language::read_language;
 pub use member::Member;
 pub use moment::Moment;
+pub use measures::read_unit;
 pub use unit::Unit;
 pub use unit_text::unit_refusal;
 pub use period::{Period, read_period, write_period};

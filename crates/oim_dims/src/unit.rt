@@ -1,4 +1,6 @@
-ghost use Rattle.std.specs.Prelude.{◌≡◌, IfOk};
+ghost use Rattle.std.specs.Prelude.{◌≡◌, ◌≢◌, [], ◌∷◌, All};
+ghost use Rattle.std.specs.List.Sorted.{IsSorted};
+ghost use Rattle.oim_dims.specs.Unit.{IsMeasure, name_cmp, pure_name};
 
 use crate::list::Sequence;
 use oim_names::{Copied, Key, Name};
@@ -27,6 +29,21 @@ impl Model for Unit {
 }
 
 impl Unit {
+    pub(crate) fn new(numerators: Sequence<Name>, denominators: Sequence<Name>) -> Unit
+        requires numerators { IsSorted name_cmp numerators }
+        requires denominators { IsSorted name_cmp denominators }
+        requires measures { All IsMeasure numerators × All IsMeasure denominators }
+        requires some { numerators ≢ [] }
+        requires unit { ¬ ((numerators ≡ pure_name ∷ []) × (denominators ≡ [])) }
+        ensures numerators { result.numerators ≡ numerators }
+        ensures denominators { result.denominators ≡ denominators }
+    {
+        Unit {
+            numerators,
+            denominators,
+        }
+    }
+
     /// The measures that are multiplied, sorted.
     pub fn numerators(&self) -> &[Name]
         ensures { result.now ≡ self.now.numerators }
