@@ -7,3 +7,4 @@ pub mod Cuts
 pub mod Periods
 pub mod Sides
 pub mod Naming
+pub mod Places

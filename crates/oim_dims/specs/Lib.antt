@@ -3,3 +3,4 @@ pub mod Period
 pub mod Language
 pub mod Unit
 pub mod Ties
+pub mod DimensionSet

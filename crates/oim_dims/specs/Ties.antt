@@ -13,3 +13,4 @@ pub exact_measures : (x y : Measures) → ordering_then (slice_cmp name_cmp x.nu
 exact_measures x y h =
     let e = both_tie _ _ h in
     λ i. record { numerators = slice_cmp-IsAntisymmetric exact_name x.numerators y.numerators e.0 i; denominators = slice_cmp-IsAntisymmetric exact_name x.denominators y.denominators e.1 i }
+

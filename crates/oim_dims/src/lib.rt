@@ -2,6 +2,7 @@
 #![tactic(auto)]
 
 mod language;
+mod dimensions;
 mod list;
 mod member;
 mod moment;
@@ -10,6 +11,7 @@ mod measures;
 mod unit;
 mod unit_text;
 
+pub use dimensions::Dimensions;
 pub use language::read_language;
 pub use member::Member;
 pub use moment::Moment;

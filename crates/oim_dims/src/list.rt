@@ -1,4 +1,5 @@
-ghost use Rattle.std.specs.Prelude.{◌≡◌, IfOk};
+ghost use Rattle.std.specs.Prelude.{◌≡◌, ◌≤◌, length, IfOk, OnOk, OnErr};
+ghost use Rattle.std.specs.List.{insert};
 
 use oim_names::{Copied, Key};
 use std::alloc::{AllocError, Global};
@@ -20,16 +21,28 @@ impl<T: Key> Model for Sequence<T> {
 }
 
 impl<T: Key> Sequence<T> {
+    /// The items, in their order.
     pub fn new(items: Vec<T>) -> Self
         ensures { result ≡ items.items }
     {
         Sequence { items }
     }
 
+    /// The items as a slice.
     pub fn as_slice(&self) -> &[T]
         ensures { result.now ≡ self.now }
     {
         self.items.as_slice()
+    }
+
+    /// Puts an item before the one at `place`, or at the end.
+    pub(crate) fn insert(&mut self, place: usize, item: T) -> Result<(), AllocError>
+        requires { place ≤ length self.old }
+        ensures ok { OnOk result (self.new ≡ insert self.old place item) }
+        ensures err { OnErr result (self.new ≡ self.old) }
+    {
+        self.items.insert(place, item)?;
+        Ok(())
     }
 }
 
