@@ -178,3 +178,28 @@ impl Copied for Dimensions {
     }
 }
 
+impl Key for Dimensions {
+    ghost use Rattle.std.specs.FinMap.{slice_cmp-IsAntisymmetric};
+    ghost use Rattle.std.proofs.lemmas.Map.Lookups.{exact_pairs, exact_bytes};
+    ghost use Rattle.oim_names.specs.Exact.{exact_option};
+    ghost use Rattle.oim_names.specs.QName.{exact_name};
+    ghost use Rattle.oim_value.specs.Ties.{both_tie};
+    ghost use Rattle.oim_dims.specs.Ties.{exact_measures};
+    ghost use Rattle.oim_dims.specs.contracts.period.PeriodKey.TheImpl.Laws.{exact-law as exact_period};
+    ghost use Rattle.oim_dims.specs.contracts.member.MemberKey.TheImpl.Laws.{exact-law as exact_member};
+
+    ghost exact = { λ x y h.
+        let concept = both_tie _ _ h in
+        let entity = both_tie _ _ concept.1 in
+        let period = both_tie _ _ entity.1 in
+        let unit = both_tie _ _ period.1 in
+        let language = both_tie _ _ unit.1 in
+        λ i. record {
+          concept = exact_name x.concept y.concept concept.0 i;
+          entity = exact_option exact_name x.entity y.entity entity.0 i;
+          period = exact_period x.period y.period period.0 i;
+          unit = exact_option exact_measures x.unit y.unit unit.0 i;
+          language = exact_option exact_bytes x.language y.language language.0 i;
+          members = slice_cmp-IsAntisymmetric (exact_pairs _ _ exact_name exact_member) x.members y.members language.1 i;
+        } };
+}

@@ -1,6 +1,7 @@
 //! Periods, units, languages and the dimensions of facts.
 #![tactic(auto)]
 
+mod fact;
 mod language;
 mod dimensions;
 mod list;
@@ -12,6 +13,7 @@ mod unit;
 mod unit_text;
 
 pub use dimensions::Dimensions;
+pub use fact::Fact;
 pub use language::read_language;
 pub use member::Member;
 pub use moment::Moment;

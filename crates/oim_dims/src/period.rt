@@ -3,7 +3,7 @@ ghost use Rattle.std.specs.Option.{option_map};
 ghost use Rattle.oim_dims.specs.Period.{from_to, period_of, period_text, IsPeriod};
 
 use crate::moment::{Moment, read_moment};
-use oim_names::{Reason, Text};
+use oim_names::{Copied, Key, Reason, Text};
 use std::alloc::{AllocError, Global};
 use std::cmp::Ordering;
 
@@ -66,4 +66,24 @@ pub fn write_period(alloc: Global, period: &Period) -> Result<Option<Text>, Allo
             Ok(Some(Text::new(alloc, text.as_str())?))
         }
     }
+}
+
+impl Copied for Period {
+    fn copied(&self, _alloc: Global) -> Result<Self, AllocError> {
+        Ok(*self)
+    }
+}
+
+impl Key for Period {
+    ghost use Rattle.std.specs.Prelude.{refl};
+    ghost use Rattle.std.proofs.Common.{ap};
+    ghost use Rattle.std.proofs.lemmas.Map.Lookups.{exact_signed};
+    ghost use Rattle.oim_value.specs.Ties.{both_tie};
+    ghost use Rattle.oim_dims.specs.declared.period.Period.TheVariants.{Forever, Instant, Duration};
+
+    ghost exact = { elim [
+      | Forever ↦ elim [ Forever ↦ λ h. refl | Instant n ↦ λ h. Prim.cc | Duration s e ↦ λ h. Prim.cc ]
+      | Instant m ↦ elim [ Forever ↦ λ h. Prim.cc | Instant n ↦ λ h. ap Instant (exact_signed m n h) | Duration s e ↦ λ h. Prim.cc ]
+      | Duration s e ↦ elim [ Forever ↦ λ h. Prim.cc | Instant n ↦ λ h. Prim.cc | Duration t f ↦ λ h. let b = both_tie _ _ h in λ i. Duration (exact_signed s t b.0 i) (exact_signed e f b.1 i) ]
+    ] };
 }
