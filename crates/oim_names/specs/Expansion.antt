@@ -1,5 +1,5 @@
 -- What a prefixed name stands for.
-use Rattle.std.specs.Prelude.{◌≡◌, ◌≢◌, ℕ, List, [], Bool, false, if◌then◌else◌, not, IsTrue, Option, Some, None, is_none, codes, ⊤}
+use Rattle.std.specs.Prelude.{◌≡◌, ◌≢◌, ℕ, List, Bool, false, if◌then◌else◌, not, IsTrue, Option, Some, None, is_none, codes, ⊤}
 use Rattle.std.specs.Option.{option_map_or}
 use Rattle.std.specs.Str.{bytes_eq}
 use Rattle.oim_names.specs.QName.{QName, is_name, is_entity, prefix_part, local_part}
@@ -44,8 +44,8 @@ is_reserved bs t = option_map_or (λ u. bytes_eq u reserved_uri) (uri_of bs (pre
 abbrev pub name_refusal : List Binding → List ℕ → Option Reason
 name_refusal bs t =
     if not (is_name t) then Some NameForm else (
-        if is_unbound bs t then Some UnboundPrefix else (
-            if is_reserved bs t then Some ReservedNamespace else None))
+    if is_unbound bs t then Some UnboundPrefix else (
+    if is_reserved bs t then Some ReservedNamespace else None))
 
 -- why the text names nothing, the first that holds: its form, its prefix, its namespace; or memory was wanted
 abbrev pub NamesNothing : (List ℕ → Bool) → List Binding → List ℕ → Reason → Type 0

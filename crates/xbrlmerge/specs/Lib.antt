@@ -1,2 +1,14 @@
-pub mod Fact
+pub mod Body
+pub mod Bundle
+pub mod Bytes
 pub mod Document
+pub mod Fact
+pub mod Pieces
+pub mod Outcome
+pub mod Rank
+pub mod Run
+pub mod Sets
+pub mod Sheet
+pub mod Sink
+pub mod Source
+pub mod Tree

@@ -1,0 +1,10 @@
+pub mod Bodies
+pub mod Bundles
+pub mod Digits
+pub mod FactOrder
+pub mod Filling
+pub mod LinePieces
+pub mod Members
+pub mod Merged
+pub mod Passing
+pub mod Reports
