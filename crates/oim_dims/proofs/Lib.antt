@@ -8,3 +8,4 @@ pub mod Periods
 pub mod Sides
 pub mod Naming
 pub mod Places
+pub mod Products

@@ -11,7 +11,7 @@ use Rattle.std.proofs.lemmas.List.{drop_all, take_more, take_all}
 use Rattle.oim_names.specs.QName.{QName}
 use Rattle.oim_names.specs.contracts.name.NameOrd.TheImpl.Laws.{total-law as name_total}
 use Rattle.oim_dims.specs.declared.member.Member.{Member}
-use Rattle.oim_dims.specs.Unit.{name_cmp}
+use Rattle.oim_value.specs.ValueOrder.{name_cmp}
 use Rattle.oim_dims.specs.DimensionSet.{is_below, rises, has_name, with_member}
 use Rattle.oim_dims.proofs.Digits.{both_true}
 

@@ -5,7 +5,8 @@ use Rattle.std.specs.Ordering.{is_lt, is_eq}
 use Rattle.oim_names.specs.QName.{QName}
 use Rattle.oim_dims.specs.declared.member.Member.{Member}
 use Rattle.oim_dims.specs.declared.period.Period.{Period}
-use Rattle.oim_dims.specs.Unit.{Measures, name_cmp}
+use Rattle.oim_value.specs.ValueOrder.{name_cmp}
+use Rattle.oim_dims.specs.Unit.{Measures}
 
 -- whether the name is below those of all
 abbrev pub is_below : QName → List (QName × Member) → Bool

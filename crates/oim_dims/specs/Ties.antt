@@ -6,7 +6,8 @@ use Rattle.std.specs.Cmp.Lexicographic.{slice_cmp}
 use Rattle.std.specs.FinMap.{slice_cmp-IsAntisymmetric}
 use Rattle.oim_names.specs.QName.{QName, exact_name}
 use Rattle.oim_value.specs.Ties.{both_tie}
-use Rattle.oim_dims.specs.Unit.{Measures, name_cmp}
+use Rattle.oim_value.specs.ValueOrder.{name_cmp}
+use Rattle.oim_dims.specs.Unit.{Measures}
 
 -- units whose lists of measures tie are one unit
 pub exact_measures : (x y : Measures) → ordering_then (slice_cmp name_cmp x.numerators y.numerators) (slice_cmp name_cmp x.denominators y.denominators) ≡ Equal → x ≡ y

@@ -3,14 +3,12 @@ use Rattle.std.specs.Prelude.{◌≡◌, ◌≢◌, ℕ, ◌-◌, Bool, false, n
 use Rattle.std.specs.List.{AllZip, list_all, list_any, slice_split, before_first, after_first, join_with_byte}
 use Rattle.std.specs.List.Sorted.{IsPermutation, IsSorted}
 use Rattle.std.specs.Option.{option_map_or, unwrap_or}
-use Rattle.std.specs.Ordering.{nat_cmp, ordering_then}
-use Rattle.std.specs.Cmp.Lexicographic.{slice_cmp}
-use Rattle.std.specs.declared.cmp.Ordering.{Ordering}
 use Rattle.oim_names.specs.QName.{QName, is_part}
 use Rattle.oim_names.specs.Bindings.{Binding, prefix_of}
 use Rattle.oim_names.specs.Expansion.{Expands, name_refusal, reserved_uri}
 use Rattle.oim_names.specs.Reasons.{entry_of}
 use Rattle.oim_names.specs.declared.reason.Reason.{Reason}
+use Rattle.oim_value.specs.ValueOrder.{name_cmp}
 use Rattle.oim_names.specs.declared.reason.Reason.TheVariants.{UnitForm, NameForm, UnboundPrefix, ReservedNamespace}
 
 -- the characters that a unit is built with: ( ) * /
@@ -93,10 +91,6 @@ unit_refusal bs t =
     if some_piece (is_refused bs UnboundPrefix) t then Some UnboundPrefix else (
     if some_piece (is_refused bs ReservedNamespace) t then Some ReservedNamespace else None)))
 
--- names by URI, then by local part
-abbrev pub name_cmp : QName → QName → Ordering
-name_cmp x y = ordering_then (slice_cmp nat_cmp x.uri y.uri) (slice_cmp nat_cmp x.local_part y.local_part)
-
 -- a measure that a unit can be spelled with
 pub record IsMeasure (n : QName) : Type 0 where
   pub allowed : n.uri ≢ reserved_uri
@@ -111,3 +105,27 @@ pub record IsUnit (m : Measures) : Type 0 where
   pub divided : All IsMeasure m.denominators
   pub some : m.numerators ≢ []
   pub unit : m ≢ pure_alone
+
+-- whether a measure can be written: its URI has a prefix, and the first of them has no character that a unit is built with
+abbrev pub is_writable : List Binding → QName → Bool
+is_writable bs n = option_map_or (λ p. not (list_any is_mark p)) (prefix_of bs n.uri) false
+
+abbrev pub can_write : List Binding → Measures → Bool
+can_write bs m = list_all (is_writable bs) m.numerators && list_all (is_writable bs) m.denominators
+
+-- a measure, and measures with `*` between them
+abbrev pub measure_text : List Binding → QName → List ℕ
+measure_text bs n = unwrap_or (prefix_of bs n.uri) [] ++ 58 ∷ n.local_part
+
+abbrev pub product_text : List Binding → List QName → List ℕ
+product_text bs ns = join_with_byte 42 (map (measure_text bs) ns)
+
+-- a side beside another, in parentheses where it has several measures
+abbrev pub side_text : List Binding → List QName → List ℕ
+side_text bs ns = if length ns == 1 then product_text bs ns else 40 ∷ product_text bs ns ++ 41 ∷ []
+
+-- how a unit is written (xBRL-JSON 1.0)
+unfoldable pub unit_text : List Binding → Measures → List ℕ
+unit_text bs m =
+    if length m.denominators == 0 then product_text bs m.numerators
+    else side_text bs m.numerators ++ 47 ∷ side_text bs m.denominators

@@ -11,6 +11,7 @@ mod period;
 mod measures;
 mod unit;
 mod unit_text;
+mod unit_writing;
 
 pub use dimensions::Dimensions;
 pub use fact::Fact;
@@ -20,4 +21,5 @@ pub use moment::Moment;
 pub use measures::read_unit;
 pub use unit::Unit;
 pub use unit_text::unit_refusal;
+pub use unit_writing::{can_write_unit, write_unit};
 pub use period::{Period, read_period, write_period};

@@ -2,7 +2,8 @@ ghost use Rattle.std.specs.Prelude.{◌≡◌, ◌≢◌, ◌⊎◌, ◌↔◌, 
 ghost use Rattle.std.specs.List.{AllZip, list_all, slice_split};
 ghost use Rattle.std.specs.List.Sorted.{IsSorted};
 ghost use Rattle.oim_names.specs.Expansion.{Expands, name_refusal};
-ghost use Rattle.oim_dims.specs.Unit.{UnitOf, NamesEach, IsMeasure, name_cmp, is_star, is_piece, unit_refusal, pure_name};
+ghost use Rattle.oim_value.specs.ValueOrder.{name_cmp};
+ghost use Rattle.oim_dims.specs.Unit.{UnitOf, NamesEach, IsMeasure, is_star, is_piece, unit_refusal, pure_name};
 
 use crate::list::Sequence;
 use crate::unit::Unit;

@@ -1,6 +1,7 @@
 ghost use Rattle.std.specs.Prelude.{◌≡◌, ◌≢◌, [], ◌∷◌, All};
 ghost use Rattle.std.specs.List.Sorted.{IsSorted};
-ghost use Rattle.oim_dims.specs.Unit.{IsMeasure, name_cmp, pure_name};
+ghost use Rattle.oim_value.specs.ValueOrder.{name_cmp};
+ghost use Rattle.oim_dims.specs.Unit.{IsMeasure, pure_name};
 
 use crate::list::Sequence;
 use oim_names::{Copied, Key, Name};
