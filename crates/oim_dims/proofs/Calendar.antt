@@ -1,5 +1,5 @@
 -- The day numbers of the years 0001 to 9999.
-use Rattle.std.proofs.Common.{◌≡◌, ℕ, ◌+◌, ◌-◌, ◌<◌, ◌≤◌, refl, sym, ap, ◌∙◌, inl, inr, arith, rules,  ℤ, pos, negsuc, neg_ℤ, ◌≤ℤ◌, to_z, w8, w16}
+use Rattle.std.proofs.Common.{◌≡◌, ℕ, ◌<◌, ◌≤◌, refl, sym, ap, ◌∙◌, inl, inr, arith, rules, ℤ, pos, negsuc, neg_ℤ, ◌≤ℤ◌, to_z, w8, w16}
 use Rattle.std.specs.Prelude.{nat_le, int_le, unsigned_abs, ◌&&◌, Bool, true, false, zero, suc, ◌<ℤ◌}
 use Rattle.std.proofs.lemmas.Bool.{cases_lt}
 use Rattle.oim_dims.specs.DateTime.{greatest, year_of, month_of, day_of, date_text}

@@ -1,10 +1,10 @@
 -- Each day of the years 0001 to 9999 has its date.
-use Rattle.std.proofs.Common.{◌≡◌, ℕ, zero, suc, ◌+◌, ◌-◌, ◌<◌, ◌≤◌, ◌⊎◌, Bool, true, false, refl, sym, ap, ◌∙◌, inl, inr, arith, ℤ, pos, negsuc, neg_ℤ, ◌+ℤ◌, ◌≤ℤ◌, ◌<ℤ◌}
+use Rattle.std.proofs.Common.{◌≡◌, ℕ, zero, suc, ◌+◌, ◌<◌, ◌≤◌, Bool, true, false, refl, sym, ◌∙◌, inl, inr, arith, ℤ, pos, neg_ℤ, ◌+ℤ◌, ◌≤ℤ◌, ◌<ℤ◌}
 use Rattle.std.specs.Prelude.{int_le}
 use Rattle.std.proofs.lemmas.Bool.{cases_lt, false≢true}
 use Rattle.std.proofs.lemmas.Int.{ints}
-use Rattle.jiff_core.specs.Calendar.{day_count, days_from_civil, days_in_month, days_in_year, IsCivilDate, IsBetween}
-use Rattle.jiff_core.proofs.CalendarLemmas.{day_count-next_year, day_count-next_month, day_count-last_of_year, day_count-day, day_count-year_bounds, days_in_month_bounds, days_in_year_bounds, days_from_civil-day_count, day_count-end}
+use Rattle.jiff_core.specs.Calendar.{days_from_civil, days_in_month, days_in_year, IsCivilDate, IsBetween}
+use Rattle.jiff_core.proofs.CalendarLemmas.{day_count-next_year, day_count-next_month, day_count-last_of_year, day_count-day, days_in_month_bounds, days_from_civil-day_count, day_count-end}
 use Rattle.jiff_core.proofs.SignedLemmas.{signed_arith}
 use Rattle.oim_dims.specs.DateTime.{greatest, year_of, month_of, day_of}
 use Rattle.oim_dims.proofs.Calendar.{first_day}
@@ -34,9 +34,9 @@ greatest_passes p (suc n) k low high here =
     elim (p (suc n)) as (λ b. p (suc n) ≡ b → IsGreatest p (suc n) k (greatest p (suc n))) [
       | true ↦ λ e. rw e (record { low = high; high = omega arith; here = e; above = λ j more within. absurd (omega arith) })
       | false ↦ λ e. elim (cases_lt k (suc n)) [
-          | inl lt ↦ rw e (grown p n k (greatest p n) e (greatest_passes p n k low (omega arith) here))
-          | inr le ↦ let same : k ≡ suc n = omega arith in let passes = rw same at here in absurd (false≢true (sym e ∙ passes))
-        ]
+        | inl lt ↦ rw e (grown p n k (greatest p n) e (greatest_passes p n k low (omega arith) here))
+        | inr le ↦ let same : k ≡ suc n = omega arith in let passes = rw same at here in absurd (false≢true (sym e ∙ passes))
+      ]
     ] refl
 
 -- tests of an order, read back
@@ -81,11 +81,11 @@ day_holds y m z within n g =
     let few = days_in_month_bounds (pos y) m in
     elim (cases_lt n 31) [
       | inl lt ↦
-        let past : z <ℤ days_from_civil (pos y) m (n + 1) = lt_is _ _ (g.above (n + 1) (omega arith) (omega arith)) in
-        let same : days_from_civil (pos y) m n ≡ z = omega (arith, signed_arith, past, here, number, days_from_civil-day_count (pos y) m (n + 1), day_count-day (pos y) m (n + 1) n (omega arith) g.low) in
-        (omega (arith, signed_arith, same, number, first, from_first, within), same)
+          let past : z <ℤ days_from_civil (pos y) m (n + 1) = lt_is _ _ (g.above (n + 1) (omega arith) (omega arith)) in
+          let same : days_from_civil (pos y) m n ≡ z = omega (arith, signed_arith, past, here, number, days_from_civil-day_count (pos y) m (n + 1), day_count-day (pos y) m (n + 1) n (omega arith) g.low) in
+          (omega (arith, signed_arith, same, number, first, from_first, within), same)
       | inr le ↦
-        (omega (arith, signed_arith, here, number, first, from_first, within), omega (arith, signed_arith, here, number, first, from_first, within, few, g.high))
+          (omega (arith, signed_arith, here, number, first, from_first, within), omega (arith, signed_arith, here, number, first, from_first, within, few, g.high))
     ]
 
 -- the date of a day

@@ -1,14 +1,11 @@
 -- The measures that the pieces of a unit name.
-use Rattle.std.proofs.Common.{◌≡◌, ◌≢◌, ℕ, zero, suc, ◌+◌, ◌<◌, Bool, true, false, cond, List, [], ◌∷◌, ◌++◌, length, map, drop, get_or, refl, sym, ap, ◌∙◌, inl, inr, arith}
-use Rattle.std.specs.Prelude.{Option, Some, None, All, IsTrue, not, ◌&&◌, ◌||◌, if◌then◌else◌, ◌==◌}
-use mathlib.Core.Bool.{false≢true}
+use Rattle.std.proofs.Common.{◌≡◌, ◌≢◌, ℕ, zero, suc, ◌<◌, Bool, true, false, cond, List, [], ◌∷◌, length, drop, get_or, refl, sym, ap, arith}
+use Rattle.std.specs.Prelude.{Option, Some, None, All, IsTrue, not, ◌||◌, if◌then◌else◌, ◌==◌}
 use Rattle.std.proofs.lemmas.Bool.Decides.{nat_tests}
 use Rattle.std.specs.Option.{option_map_or}
 use Rattle.std.specs.List.{AllZip, list_all, list_any, slice_split, onto_first}
-use Rattle.std.specs.List.Sorted.{IsPermutation}
-use Rattle.std.proofs.lemmas.List.Elements.{All-cons, All-from_get_or}
-use Rattle.std.proofs.lemmas.List.Sorted.{All-permutation}
-use Rattle.oim_names.specs.QName.{QName, is_name, is_part, prefix_part, local_part, is_colon}
+use Rattle.std.proofs.lemmas.List.Elements.{All-cons}
+use Rattle.oim_names.specs.QName.{QName, is_name, is_part, prefix_part, local_part}
 use Rattle.oim_names.specs.Bindings.{Binding}
 use Rattle.oim_names.specs.Reasons.{entry_of}
 use Rattle.oim_names.specs.Expansion.{Expands, NamesNothing, name_refusal, is_unbound, is_reserved}

@@ -1,15 +1,13 @@
 -- Texts of periods.
-use Rattle.std.proofs.Common.{◌≡◌, ℕ, ◌+◌, ◌<◌, ◌/◌, ◌%◌, true, false, List, ◌∷◌, ◌++◌, length, refl, sym, subst, ◌∙◌, arith, ℤ, ◌<ℤ◌}
+use Rattle.std.proofs.Common.{◌≡◌, ℕ, true, false, List, ◌∷◌, ◌++◌, length, refl, sym, subst, arith, ℤ, ◌<ℤ◌}
 use Rattle.std.specs.Prelude.{Option, Some, Ok, int_lt, IfSome}
 use Rattle.std.specs.List.{position_or_len, list_any}
-use Rattle.std.specs.Ordering.{int_eq}
 use Rattle.std.proofs.lemmas.List.{take_all}
 use Rattle.std.proofs.lemmas.Int.{ints}
-use Rattle.std.proofs.lemmas.Bool.Decides.{nat_tests}
 use Rattle.oim_dims.specs.declared.period.Period.{Period}
 use Rattle.oim_dims.specs.declared.period.Period.TheVariants.{Forever, Instant, Duration}
-use Rattle.oim_dims.specs.DateTime.{moment_of, moment_text, date_text, time_text, IsMoment}
-use Rattle.oim_dims.specs.Period.{is_slash, start_part, end_part, from_to, period_of, period_text, IsPeriod}
+use Rattle.oim_dims.specs.DateTime.{moment_of, moment_text, IsMoment}
+use Rattle.oim_dims.specs.Period.{is_slash, start_part, period_of, period_text, IsPeriod}
 use Rattle.oim_dims.proofs.Cuts.{none_passes, no_place, cut}
 use Rattle.oim_dims.proofs.MomentText.{moment_back, moment_has_no}
 

@@ -1,13 +1,11 @@
 -- Where a member goes among members in the order of names.
-use Rattle.std.proofs.Common.{◌≡◌, ℕ, suc, ◌+◌, ◌<◌, ◌≤◌, Bool, true, false, List, [], ◌∷◌, ◌++◌, length, get_or, take, drop, refl, sym, ap, ◌∙◌, add-one, append_assoc, arith}
-use Rattle.std.specs.Prelude.{◌&&◌, if◌then◌else◌, Result, Ok, Err, OnOk, OnErr}
-use Rattle.std.specs.List.{list_any, insert}
-use Rattle.std.specs.Ordering.{is_lt, is_eq, ordering_reverse}
+use Rattle.std.proofs.Common.{◌≡◌, ℕ, suc, ◌<◌, Bool, true, false, List, [], ◌∷◌, ◌++◌, length, get_or, take, drop, refl, sym, ap, ◌∙◌}
+use Rattle.std.specs.Prelude.{if◌then◌else◌, Result, Ok, Err, OnOk, OnErr}
+use Rattle.std.specs.List.{insert}
+use Rattle.std.specs.Ordering.{is_lt, ordering_reverse}
 use Rattle.std.specs.declared.cmp.Ordering.{Ordering}
 use Rattle.std.specs.declared.cmp.Ordering.TheVariants.{Less, Equal, Greater}
-use Rattle.std.specs.Cmp.{IsTotalOrder}
 use Rattle.std.proofs.Math.Seq.{drop-cons}
-use Rattle.std.proofs.lemmas.List.{drop_all, take_more, take_all}
 use Rattle.oim_names.specs.QName.{QName}
 use Rattle.oim_names.specs.contracts.name.NameOrd.TheImpl.Laws.{total-law as name_total}
 use Rattle.oim_dims.specs.declared.member.Member.{Member}
@@ -66,8 +64,8 @@ rises_with n m (e ∷ es) h none =
       | Less ↦ λ o. rw o (rw (o, b.0, b.1, below_all n e.0 es o b.0) refl)
       | Equal ↦ λ o. absurd (cc (rw o at none))
       | Greater ↦ λ o.
-        let back : name_cmp e.0 n ≡ Less = name_total.antisymm e.0 n ∙ ap ordering_reverse o in
-        rw (o, below_with e.0 n m es back b.0, rises_with n m es b.1 (rw o at none)) refl
+          let back : name_cmp e.0 n ≡ Less = name_total.antisymm e.0 n ∙ ap ordering_reverse o in
+          rw (o, below_with e.0 n m es back b.0, rises_with n m es b.1 (rw o at none)) refl
     ] refl
 
 not_there : (b : Bool) → (b ≡ true → ⊥) → b ≡ false

@@ -1,11 +1,11 @@
 -- The sides of a unit's text.
-use Rattle.std.proofs.Common.{◌≡◌, ◌≢◌, ℕ, suc, ◌+◌, ◌-◌, ◌<◌, ◌≤◌, Bool, true, false, eqb, List, [], ◌∷◌, ◌++◌, length, take, drop, get_or, length-append, refl, sym, ap, ◌∙◌, arith}
-use Rattle.std.specs.Prelude.{slice_index, if◌then◌else◌, ◌==◌}
-use Rattle.std.specs.List.{position_or_len, before_first, after_first, list_any, slice_split}
-use Rattle.std.proofs.lemmas.List.{take_more, take_all, take-append-le}
+use Rattle.std.proofs.Common.{◌≡◌, ◌≢◌, ℕ, suc, ◌+◌, ◌-◌, ◌<◌, true, false, List, [], ◌∷◌, ◌++◌, length, take, get_or, length-append, refl, sym, ap, ◌∙◌, arith}
+use Rattle.std.specs.Prelude.{if◌then◌else◌, ◌==◌}
+use Rattle.std.specs.List.{position_or_len, before_first, after_first}
+use Rattle.std.proofs.lemmas.List.{take_more, take_all}
 use Rattle.std.proofs.Math.Seq.{take-append_seam, get_or-append_seam}
 use Rattle.std.proofs.lemmas.Bool.Decides.{nat_tests}
-use Rattle.oim_dims.specs.Unit.{inner, is_slash, is_star, pieces, numerator_pieces, denominator_pieces}
+use Rattle.oim_dims.specs.Unit.{inner, is_slash, pieces, numerator_pieces, denominator_pieces}
 use Rattle.oim_dims.proofs.Cuts.{none_passes, some_passes}
 
 -- a list is its front and its last element

@@ -1,5 +1,5 @@
 -- Moments, as texts and as seconds (XML Schema Part 2, section 3.2.7, `dateTime`).
-use Rattle.std.specs.Prelude.{ℕ, zero, suc, ◌+◌, ◌*◌, ◌/◌, ◌%◌, ℤ, pos, neg_ℤ, ◌+ℤ◌, ◌*ℤ◌, Bool, ◌&&◌, ◌==◌, nat_le, int_lt, int_le, if◌then◌else◌, List, [], ◌∷◌, ◌++◌, length, slice_range, unsigned_abs, Option, Some, None, codes}
+use Rattle.std.specs.Prelude.{ℕ, zero, suc, ◌+◌, ◌*◌, ◌/◌, ◌%◌, ℤ, pos, neg_ℤ, ◌+ℤ◌, ◌*ℤ◌, Bool, ◌&&◌, ◌==◌, nat_le, int_le, if◌then◌else◌, List, [], ◌∷◌, ◌++◌, length, slice_range, unsigned_abs, Option, Some, None, codes}
 use Rattle.std.specs.List.{list_all, zip}
 use Rattle.std.specs.Int.{is_in_range, int_div_euclid, int_rem_euclid}
 use Rattle.std.specs.Char.{is_ascii_digit}

@@ -52,7 +52,6 @@ impl Moment {
     }
 }
 
-
 impl fmt::Display for Moment {
     ghost output = { λ x. Some (moment_text x) };
 

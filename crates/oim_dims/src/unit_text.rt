@@ -94,7 +94,8 @@ fn some_is_refused(aliases: &Aliases, reason: Reason, text: &str) -> bool
 fn is_refused_in(aliases: &Aliases, reason: Reason, side: &str) -> bool
     ensures { result ≡ list_any (is_refused aliases.now reason) (slice_split is_star side.now) }
 {
-    side.split('*').any(|piece| is_refused(aliases, reason, piece))
+    side.split('*')
+        .any(|piece| is_refused(aliases, reason, piece))
 }
 
 fn is_refused(aliases: &Aliases, reason: Reason, piece: &str) -> bool

@@ -1,4 +1,4 @@
-use Rattle.std.proofs.Common.{◌≡◌, ◌∙◌, ap, sym, arith, lit<, map, [], ◌∷◌, ◌++◌, Some, None, get_or, subst, true, List, ℕ}
+use Rattle.std.proofs.Common.{◌≡◌, sym, lit<, [], ◌∷◌, None, subst, true, List, ℕ}
 use Rattle.std.specs.Prelude.{is_ok}
 use Rattle.std.proofs.lemmas.Result.{err_from_is_err_and}
 use Rattle.std.proofs.lemmas.List.{map-append}

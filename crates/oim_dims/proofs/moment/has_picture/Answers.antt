@@ -1,5 +1,4 @@
-use Rattle.std.proofs.Common.{◌≡◌, ◌∙◌, arith, sym, false, get_or}
-use Rattle.oim_dims.specs.DateTime.{picture}
+use Rattle.std.proofs.Common.{◌∙◌, arith, sym}
 use Rattle.oim_dims.proofs.Picture.{fit_so_far, unfit}
 use Rattle.oim_dims.proofs.moment.has_picture.Goals as goal
 

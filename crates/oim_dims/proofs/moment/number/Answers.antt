@@ -1,4 +1,4 @@
-use Rattle.std.proofs.Common.{arith, rules}
+use Rattle.std.proofs.Common.{rules}
 use Rattle.oim_dims.proofs.Picture.{pictured_length, pictured_digits}
 use Rattle.oim_dims.proofs.moment.number.Goals as goal
 

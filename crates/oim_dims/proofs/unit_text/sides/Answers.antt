@@ -1,4 +1,4 @@
-use Rattle.std.proofs.Common.{◌≡◌, ◌<◌, length, arith, ◌∙◌, sym, ap}
+use Rattle.std.proofs.Common.{◌≡◌, length, arith, ◌∙◌, sym, ap}
 use Rattle.std.specs.List.{position_or_len, slice_split}
 use Rattle.oim_dims.specs.Unit.{is_slash, is_star, inner}
 use Rattle.oim_dims.proofs.Sides.{one_side, two_sides}

@@ -1,4 +1,3 @@
-use Rattle.std.proofs.Common.{◌≡◌, sym}
 use Rattle.oim_dims.proofs.Places.{still_rises}
 use Rattle.oim_dims.proofs.dimensions.Dimensions.add.Goals as goal
 
