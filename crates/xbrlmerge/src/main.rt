@@ -3,5 +3,8 @@
 
 mod document;
 mod fact;
+mod json;
+mod place;
+mod refusal;
 
 fn main() {}
