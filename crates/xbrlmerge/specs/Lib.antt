@@ -1,3 +1,5 @@
 pub mod Fact
 pub mod Document
 pub mod Json
+pub mod Refusals
+pub mod Names

@@ -1,7 +1,8 @@
-ghost use Rattle.std.specs.Prelude.{◌≡◌, ◌⊎◌, Some, None, IfOk, IfErr, option_map};
-ghost use Rattle.serde_json.specs.Find.{get};
-ghost use Rattle.serde_json.specs.View.{view, members_view};
-ghost use Rattle.xbrlmerge.specs.Json.{without_mark, json, object_at, text_at, has_colon, is_object, is_no_object, is_no_array, is_text};
+ghost use Rattle.std.specs.Prelude.{◌≡◌, ◌⊎◌, Some, None, IfOk, IfErr, map, option_map, bytes_eq};
+ghost use Rattle.std.specs.List.{list_any};
+ghost use Rattle.serde_json.specs.Data.{null};
+ghost use Rattle.serde_json.specs.View.{view, members_view, items_view};
+ghost use Rattle.xbrlmerge.specs.Json.{without_mark, json, object_at, array_at, text_at, within, any_member, has_member, has_item, has_colon, is_unknown, is_no_object, is_no_array, is_no_text};
 
 use oim_names::Reason;
 use serde_json::{Map, Value};
@@ -13,7 +14,8 @@ use std::alloc::Global;
 /// most 127); `OutOfMemory`.
 pub(crate) fn read_json(alloc: Global, bytes: &[u8]) -> Result<Value, Reason>
     ensures value { IfOk result (λ v. json bytes.now ≡ Some (view v)) }
-    ensures refused { IfErr result (λ r. (r ≡ Reason.OutOfMemory) ⊎ ((r ≡ Reason.NotJson) × (json bytes.now ≡ None))) }
+    ensures refused { IfErr result
+        (λ r. (r ≡ Reason.OutOfMemory) ⊎ ((r ≡ Reason.NotJson) × (json bytes.now ≡ None))) }
 {
     match Value::from_slice(alloc, after_mark(bytes)) {
         Ok(value) => Ok(value),
@@ -33,29 +35,91 @@ fn after_mark(bytes: &[u8]) -> &[u8]
 
 /// The object at a key.
 pub(crate) fn object_at<'a>(value: &'a Value, key: &str) -> Option<&'a Map<String, Value>>
-    ensures { option_map (λ m. members_view m.now.entries) result ≡ object_at key.now (view value.now) }
+    ensures { option_map (λ m. members_view m.now.entries) result
+        ≡ object_at key.now (view value.now) }
 {
-    match value.get(key) {
-        Some(member) => member.as_object(),
-        None => None,
-    }
+    value.get(key).and_then(Value::as_object)
+}
+
+/// The array at a key.
+pub(crate) fn array_at<'a>(value: &'a Value, key: &str) -> Option<&'a Vec<Value>>
+    ensures { option_map (λ v. items_view v.now.items) result ≡ array_at key.now (view value.now) }
+{
+    value.get(key).and_then(Value::as_array)
 }
 
 /// The text at a key.
 pub(crate) fn text_at<'a>(value: &'a Value, key: &str) -> Option<&'a str>
     ensures { option_map (λ s. s.now) result ≡ text_at key.now (view value.now) }
 {
-    match value.get(key) {
-        Some(member) => member.as_str(),
+    value.get(key).and_then(Value::as_str)
+}
+
+/// The member at `key` of the object at `outer`.
+pub(crate) fn within<'a>(value: &'a Value, outer: &str, key: &str) -> Option<&'a Value>
+    ensures { option_map (λ v. view v.now) result ≡ within outer.now key.now (view value.now) }
+{
+    match value.get(outer) {
+        Some(object) => object.get(key),
         None => None,
     }
 }
 
-/// Whether the key is an extension's.
+/// Whether there is an object that has a member.
+pub(crate) fn has_member(object: Option<&Map<String, Value>>) -> bool
+    ensures { result ≡ has_member (option_map (λ m. members_view m.now.entries) object.entry) }
+{
+    match object {
+        Some(members) => !members.is_empty(),
+        None => false,
+    }
+}
+
+/// Whether there is an array that has an item.
+pub(crate) fn has_item(array: Option<&Vec<Value>>) -> bool
+    ensures { result ≡ has_item (option_map (λ v. items_view v.now.items) array.entry) }
+{
+    match array {
+        Some(items) => !items.is_empty(),
+        None => false,
+    }
+}
+
+/// Whether a key is an extension's.
 pub(crate) fn has_colon(key: &str) -> bool
     ensures { result ≡ has_colon key.now }
 {
     key.as_bytes().iter().any(|byte| *byte == b':')
+}
+
+/// Whether some key is no extension's, and none of these.
+pub(crate) fn has_unknown_key(members: &Map<String, Value>, known: &[&str]) -> bool
+    ensures { result
+        ≡ any_member (is_unknown (map (λ s. s.now) known.now)) (members_view members.now.entries) }
+{
+    for (key, _value) in members.iter() {
+        if is_unknown_key(key.as_str(), known) {
+            return true;
+        }
+    }
+    false
+}
+
+fn is_unknown_key(key: &str, known: &[&str]) -> bool
+    ensures { result ≡ is_unknown (map (λ s. s.now) known.now) key.now null }
+{
+    !has_colon(key) && !is_one_of(key, known)
+}
+
+fn is_one_of(key: &str, known: &[&str]) -> bool
+    ensures { result ≡ list_any (λ k. bytes_eq k key.now) (map (λ s. s.now) known.now) }
+{
+    for name in known {
+        if *name == key {
+            return true;
+        }
+    }
+    false
 }
 
 /// Whether there is a value, and it is no object.
@@ -78,12 +142,12 @@ pub(crate) fn is_no_array(member: Option<&Value>) -> bool
     }
 }
 
-/// Whether the value is this text.
-pub(crate) fn is_text(value: &Value, text: &str) -> bool
-    ensures { result ≡ is_text text.now (view value.now) }
+/// Whether there is a value, and it is no text.
+pub(crate) fn is_no_text(member: Option<&Value>) -> bool
+    ensures { result ≡ is_no_text (option_map (λ v. view v.now) member.entry) }
 {
-    match value.as_str() {
-        Some(found) => found == text,
+    match member {
+        Some(value) => !value.is_string(),
         None => false,
     }
 }

@@ -4,6 +4,8 @@
 mod document;
 mod fact;
 mod json;
+mod name_faults;
+mod namespaces;
 mod place;
 mod refusal;
 
