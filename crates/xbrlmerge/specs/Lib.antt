@@ -3,3 +3,4 @@ pub mod Document
 pub mod Json
 pub mod Refusals
 pub mod Names
+pub mod Sheet

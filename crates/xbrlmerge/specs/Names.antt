@@ -29,6 +29,9 @@ lacks_binding bs t = is_name t && is_unbound bs t
 abbrev pub lies_in_reserved : List Binding → List ℕ → Bool
 lies_in_reserved bs t = is_name t && is_reserved bs t
 
+abbrev pub is_refused : List Binding → List ℕ → Bool
+is_refused bs t = lacks_form t || (lacks_binding bs t || lies_in_reserved bs t)
+
 -- the name that a text stands for, where it is a name
 abbrev pub named : List Binding → List ℕ → QName
 named bs t = record { uri = unwrap_or (uri_of bs (prefix_part t)) []; local_part = local_part t }
@@ -37,6 +40,6 @@ named bs t = record { uri = unwrap_or (uri_of bs (prefix_part t)) []; local_part
 abbrev pub of_key : (List ℕ → Bool) → List ℕ → Data → Bool
 of_key test key d = test key
 
--- the conditions on some names: whether one lacks the form, one its binding, one lies in the reserved namespace
-abbrev pub names_refused : Bool → Bool → Bool → List Condition
-names_refused form prefix namespace = (form, NameForm) ∷ (prefix, UnboundPrefix) ∷ (namespace, ReservedNamespace) ∷ []
+-- the conditions on names, where `some test` is whether some name passes the test
+abbrev pub name_conditions : ((List ℕ → Bool) → Bool) → List Binding → List Condition
+name_conditions some bs = (some lacks_form, NameForm) ∷ (some (lacks_binding bs), UnboundPrefix) ∷ (some (lies_in_reserved bs), ReservedNamespace) ∷ []

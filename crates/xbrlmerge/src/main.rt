@@ -1,6 +1,7 @@
 //! Consolidates xBRL-JSON reports.
 #![tactic(auto)]
 
+mod concept_kind;
 mod document;
 mod fact;
 mod json;
@@ -8,5 +9,6 @@ mod name_faults;
 mod namespaces;
 mod place;
 mod refusal;
+mod sheet;
 
 fn main() {}

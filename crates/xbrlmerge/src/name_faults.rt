@@ -3,7 +3,7 @@ ghost use Rattle.std.specs.Result.{result_err};
 ghost use Rattle.serde_json.specs.View.{members_view};
 ghost use Rattle.xbrlmerge.specs.Json.{any_member};
 ghost use Rattle.xbrlmerge.specs.Refusals.{first_holding};
-ghost use Rattle.xbrlmerge.specs.Names.{lacks_form, lacks_binding, lies_in_reserved, of_key, names_refused};
+ghost use Rattle.xbrlmerge.specs.Names.{lacks_form, lacks_binding, lies_in_reserved, of_key};
 
 use oim_names::{Aliases, Reason};
 use serde_json::{Map, Value};
@@ -56,7 +56,7 @@ impl NameFaults {
 
     /// The least refusal.
     pub(crate) fn check(self) -> Result<(), Reason>
-        ensures { result_err result ≡ first_holding (names_refused self.form self.prefix self.namespace) }
+        ensures { result_err result ≡ first_holding ((self.form, Reason.NameForm) ∷ (self.prefix, Reason.UnboundPrefix) ∷ (self.namespace, Reason.ReservedNamespace) ∷ []) }
     {
         if self.form {
             return Err(Reason::NameForm);
