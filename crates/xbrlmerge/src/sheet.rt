@@ -5,7 +5,7 @@ ghost use Rattle.serde_json.specs.View.{view, members_view};
 ghost use Rattle.xbrlmerge.specs.Json.{any_in, any_member, members};
 ghost use Rattle.xbrlmerge.specs.Names.{is_refused, of_key, name_conditions};
 ghost use Rattle.xbrlmerge.specs.Refusals.{first_holding};
-ghost use Rattle.xbrlmerge.specs.Sheet.{form_conditions, kind_conditions, is_no_kind, some_key, listed, sheet_outcome};
+ghost use Rattle.xbrlmerge.specs.Sheet.{form_conditions, kind_conditions, is_no_kind, some_key, listed, sheet_of, sheet_outcome};
 
 use crate::concept_kind::ConceptKind;
 use crate::json::{
@@ -44,7 +44,54 @@ impl Sheet {
         self.concepts.get(name).copied()
     }
 
-    fn listed(alloc: Global, aliases: &Aliases, concepts: &Map<String, Value>) -> Result<Sheet, Reason>
+    /// The sheet that these bytes say: a JSON object of the members `namespaces`, `concepts` and
+    /// `dimensions`, each an object or absent (own).
+    ///
+    /// Errors, the first that holds: `NotJson`; `MemberForm` where the root or a member is no object;
+    /// `UnknownMember` for another key without a colon; `Namespace`; `NameForm`, `UnboundPrefix` and
+    /// `ReservedNamespace` for the keys of `concepts` and `dimensions`; `SheetKind` where a concept's
+    /// kind is not `numeric`, or a dimension is listed; `OutOfMemory`.
+    pub fn read(alloc: Global, bytes: &[u8]) -> Result<Sheet, Reason>
+        ensures ok { IfOk result (λ s. sheet_outcome bytes.now ≡ Ok s) }
+        ensures errors { IfErr result (λ r. (r ≡ Reason.OutOfMemory) ⊎ (sheet_outcome bytes.now ≡ Err r)) }
+    {
+        let tree = read_json(alloc, bytes)?;
+        Sheet::from_tree(alloc, &tree)
+    }
+
+    fn from_tree(alloc: Global, tree: &Value) -> Result<Sheet, Reason>
+        ensures ok { IfOk result (λ s. sheet_of (Some (view tree.now)) ≡ Ok s) }
+        ensures errors { IfErr result (λ r. (r ≡ Reason.OutOfMemory) ⊎ (sheet_of (Some (view tree.now)) ≡ Err r)) }
+    {
+        check_form(tree)?;
+        let aliases = read_namespaces(alloc, object_at(tree, "namespaces"))?;
+        check_names(&aliases, tree)?;
+        check_kinds(tree)?;
+        Sheet::listed(alloc, &aliases, object_at(tree, "concepts"))
+    }
+
+    fn listed(
+        alloc: Global,
+        aliases: &Aliases,
+        concepts: Option<&Map<String, Value>>,
+    ) -> Result<Sheet, Reason>
+        requires { any_in (of_key (is_refused aliases.now)) (option_map (λ m. members_view m.now.entries) concepts) ≡ false }
+        ensures listed { IfOk result (λ s. s.concepts ≡ map.from_entries (listed aliases.now (members (option_map (λ m. members_view m.now.entries) concepts.entry)))) }
+        ensures errors { IfErr result (λ r. r ≡ Reason.OutOfMemory) }
+    {
+        match concepts {
+            Some(members) => Sheet::list_all(alloc, aliases, members),
+            None => Ok(Sheet {
+                concepts: BTreeMap::new(alloc),
+            }),
+        }
+    }
+
+    fn list_all(
+        alloc: Global,
+        aliases: &Aliases,
+        concepts: &Map<String, Value>,
+    ) -> Result<Sheet, Reason>
         requires { any_member (of_key (is_refused aliases.now)) (members_view concepts.now.entries) ≡ false }
         ensures listed { IfOk result (λ s. s.concepts ≡ map.from_entries (listed aliases.now (members_view concepts.now.entries))) }
         ensures errors { IfErr result (λ r. r ≡ Reason.OutOfMemory) }

@@ -8,7 +8,7 @@ use Rattle.xbrlmerge.specs.Names.{is_refused, named}
 use Rattle.xbrlmerge.specs.Sheet.{listed}
 use Rattle.xbrlmerge.proofs.Concepts.{listed_after, listed_all, entry_more}
 use Rattle.xbrlmerge.proofs.Named.{expands_named, only_memory, none_of_keys, on_ok}
-use Rattle.xbrlmerge.proofs.sheet.Sheet.listed.Goals as goal
+use Rattle.xbrlmerge.proofs.sheet.Sheet.list_all.Goals as goal
 
 pub returns-in_err-name-clause-errors : goal.returns-in_err-name-clause-errors
 returns-in_err-name-clause-errors c =

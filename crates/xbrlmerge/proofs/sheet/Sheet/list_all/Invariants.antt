@@ -5,7 +5,7 @@ use Rattle.oim_value.specs.ValueOrder.{name_cmp}
 use Rattle.xbrlmerge.specs.Json.{any_member}
 use Rattle.xbrlmerge.specs.Names.{is_refused, of_key}
 use Rattle.xbrlmerge.proofs.Concepts.{listed_after}
-use Rattle.xbrlmerge.proofs.sheet.Sheet.listed.Given as goal
+use Rattle.xbrlmerge.proofs.sheet.Sheet.list_all.Given as goal
 
 abbrev pub invariant-loop-key : goal.invariant-loop-key
 invariant-loop-key l = record {
