@@ -89,4 +89,4 @@ is_no_text d = option_map_or (λ v. not (is_some (as_str v))) d false
 
 -- whether there is a text, and it is this one
 abbrev pub is_text : List ℕ → Option (List ℕ) → Bool
-is_text t found = option_map_or (bytes_eq t) found false
+is_text t found = option_map_or (λ u. bytes_eq u t) found false

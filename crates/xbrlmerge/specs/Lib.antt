@@ -4,3 +4,5 @@ pub mod Json
 pub mod Refusals
 pub mod Names
 pub mod Sheet
+pub mod Conditions
+pub mod Outcome

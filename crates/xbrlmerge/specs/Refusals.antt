@@ -15,3 +15,7 @@ first_holding (c ∷ cs) = if c.0 then Some c.1 else first_holding cs
 abbrev pub unless : {A : Type 0} → Option Reason → A → Result A Reason
 unless None a = Ok a
 unless (Some reason) a = Err reason
+
+abbrev pub map_ok : {A B E : Type 0} → (A → B) → Result A E → Result B E
+map_ok f (Ok a) = Ok (f a)
+map_ok f (Err e) = Err e

@@ -2,7 +2,7 @@ ghost use Rattle.std.specs.Prelude.{◌≡◌, ◌⊎◌, Some, None, IfOk, IfEr
 ghost use Rattle.std.specs.List.{list_any};
 ghost use Rattle.serde_json.specs.Data.{null};
 ghost use Rattle.serde_json.specs.View.{view, members_view, items_view};
-ghost use Rattle.xbrlmerge.specs.Json.{without_mark, json, object_at, array_at, text_at, within, any_member, has_member, has_item, has_colon, is_unknown, is_no_object, is_no_array, is_no_text};
+ghost use Rattle.xbrlmerge.specs.Json.{without_mark, json, object_at, array_at, text_at, within, any_member, any_in, has_member, has_item, has_colon, is_unknown, is_no_object, is_no_array, is_no_text};
 
 use oim_names::Reason;
 use serde_json::{Map, Value};
@@ -92,8 +92,18 @@ pub(crate) fn has_colon(key: &str) -> bool
     key.as_bytes().iter().any(|byte| *byte == b':')
 }
 
-/// Whether some key is no extension's, and none of these.
-pub(crate) fn has_unknown_key(members: &Map<String, Value>, known: &[&str]) -> bool
+/// Whether there is an object, and some key of it is no extension's and none of these.
+pub(crate) fn has_unknown_in(object: Option<&Map<String, Value>>, known: &[&str]) -> bool
+    ensures { result
+        ≡ any_in (is_unknown (map (λ s. s.now) known.now)) (option_map (λ m. members_view m.now.entries) object.entry) }
+{
+    match object {
+        Some(members) => has_unknown_key(members, known),
+        None => false,
+    }
+}
+
+fn has_unknown_key(members: &Map<String, Value>, known: &[&str]) -> bool
     ensures { result
         ≡ any_member (is_unknown (map (λ s. s.now) known.now)) (members_view members.now.entries) }
 {
@@ -111,7 +121,8 @@ fn is_unknown_key(key: &str, known: &[&str]) -> bool
     !has_colon(key) && !is_one_of(key, known)
 }
 
-fn is_one_of(key: &str, known: &[&str]) -> bool
+/// Whether a key is one of these.
+pub(crate) fn is_one_of(key: &str, known: &[&str]) -> bool
     ensures { result ≡ list_any (λ k. bytes_eq k key.now) (map (λ s. s.now) known.now) }
 {
     for name in known {

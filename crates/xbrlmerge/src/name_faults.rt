@@ -1,10 +1,12 @@
 ghost use Rattle.std.specs.Prelude.{◌≡◌, ◌||◌, ◌∷◌, [], false};
 ghost use Rattle.std.specs.Result.{result_err};
 ghost use Rattle.serde_json.specs.View.{members_view};
+ghost use Rattle.xbrlmerge.specs.Conditions.{of_defined};
 ghost use Rattle.xbrlmerge.specs.Json.{any_member};
 ghost use Rattle.xbrlmerge.specs.Refusals.{first_holding};
 ghost use Rattle.xbrlmerge.specs.Names.{lacks_form, lacks_binding, lies_in_reserved, of_key};
 
+use crate::json::has_colon;
 use oim_names::{Aliases, Reason};
 use serde_json::{Map, Value};
 
@@ -50,6 +52,25 @@ impl NameFaults {
         let mut faults = self;
         for (key, _value) in members.iter() {
             faults = faults.and_of(aliases, key.as_str());
+        }
+        faults
+    }
+
+    /// These, and why the keys of taxonomy-defined dimensions are refused.
+    pub(crate) fn and_of_defined(
+        self,
+        aliases: &Aliases,
+        dimensions: &Map<String, Value>,
+    ) -> NameFaults
+        ensures form { result.form ≡ (self.form || any_member (of_defined lacks_form) (members_view dimensions.now.entries)) }
+        ensures prefix { result.prefix ≡ (self.prefix || any_member (of_defined (lacks_binding aliases.now)) (members_view dimensions.now.entries)) }
+        ensures namespace { result.namespace ≡ (self.namespace || any_member (of_defined (lies_in_reserved aliases.now)) (members_view dimensions.now.entries)) }
+    {
+        let mut faults = self;
+        for (key, _value) in dimensions.iter() {
+            if has_colon(key.as_str()) {
+                faults = faults.and_of(aliases, key.as_str());
+            }
         }
         faults
     }

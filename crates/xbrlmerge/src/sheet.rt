@@ -9,7 +9,7 @@ ghost use Rattle.xbrlmerge.specs.Sheet.{form_conditions, kind_conditions, is_no_
 
 use crate::concept_kind::ConceptKind;
 use crate::json::{
-    has_member, has_unknown_key, is_no_object, object_at, read_json,
+    has_member, has_unknown_in, is_no_object, object_at, read_json,
 };
 use crate::name_faults::NameFaults;
 use crate::namespaces::read_namespaces;
@@ -159,10 +159,11 @@ fn check_form(tree: &Value) -> Result<(), Reason>
     {
         return Err(Reason::MemberForm);
     }
-    if let Some(members) = tree.as_object() {
-        if has_unknown_key(members, &["namespaces", "concepts", "dimensions"]) {
-            return Err(Reason::UnknownMember);
-        }
+    if has_unknown_in(
+        tree.as_object(),
+        &["namespaces", "concepts", "dimensions"],
+    ) {
+        return Err(Reason::UnknownMember);
     }
     Ok(())
 }
