@@ -55,5 +55,5 @@ tree_outcome sheet None = Err (at AtDocument NotJson)
 tree_outcome sheet (Some tree) = unless_refused (first_holding (document_conditions tree)) (map_ok (λ facts. record { facts = facts }) (facts_outcome sheet tree))
 
 -- the document that the bytes say under the sheet, or the first refusal: the document's, then the first fact's
-abbrev pub outcome : Sheet → List ℕ → Result Document Refusal
+unfoldable pub outcome : Sheet → List ℕ → Result Document Refusal
 outcome sheet bytes = tree_outcome sheet (json bytes)

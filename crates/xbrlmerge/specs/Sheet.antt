@@ -71,7 +71,7 @@ sheet_of None = Err NotJson
 sheet_of (Some tree) = unless (first_holding (sheet_conditions tree)) (said_sheet tree)
 
 -- the sheet that the bytes say, or why they are refused
-abbrev pub sheet_outcome : List ℕ → Result Sheet Reason
+unfoldable pub sheet_outcome : List ℕ → Result Sheet Reason
 sheet_outcome bytes = sheet_of (json bytes)
 
 -- ---- sheets as the values of a type: a code tells them apart

@@ -23,6 +23,7 @@ use std::alloc::Global;
 ///
 /// Errors, the first that holds: a refusal of the document, by the order of the refusals; then that
 /// of the first fact with one, in byte order of the identifiers; `OutOfMemory`, at the document.
+#[tactic(auto, unfolding(crate::specs::Outcome::outcome))]
 pub fn read_report(alloc: Global, sheet: &Sheet, bytes: &[u8]) -> Result<Document, Refusal>
     ensures ok { IfOk result (λ d. outcome sheet.now bytes.now ≡ Ok d) }
     ensures errors { IfErr result

@@ -51,6 +51,7 @@ impl Sheet {
     /// `UnknownMember` for another key without a colon; `Namespace`; `NameForm`, `UnboundPrefix` and
     /// `ReservedNamespace` for the keys of `concepts` and `dimensions`; `SheetKind` where a concept's
     /// kind is not `numeric`, or a dimension is listed; `OutOfMemory`.
+    #[tactic(auto, unfolding(crate::specs::Sheet::sheet_outcome))]
     pub fn read(alloc: Global, bytes: &[u8]) -> Result<Sheet, Reason>
         ensures ok { IfOk result (λ s. sheet_outcome bytes.now ≡ Ok s) }
         ensures errors { IfErr result (λ r. (r ≡ Reason.OutOfMemory) ⊎ (sheet_outcome bytes.now ≡ Err r)) }
