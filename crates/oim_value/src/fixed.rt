@@ -1,18 +1,21 @@
-ghost use Rattle.std.specs.Prelude.{◌≡◌, ◌++◌, ◌+◌, ◌-◌, ◌*◌, ◌^◌, ◌<◌, ◌≤◌, pos, true, length, unsigned_abs, IfOk, IfErr};
+ghost use Rattle.std.specs.Prelude.{◌≡◌, ◌+◌, ◌-◌, ◌*◌, ◌^◌, ◌<◌, ◌≤◌, ◌++◌, pos, unsigned_abs, true, length, string_bytes, IfOk};
 ghost use Rattle.std.specs.Result.{result_err};
 ghost use Rattle.std.specs.List.{list_all};
 ghost use Rattle.std.specs.Char.{is_ascii_digit};
 ghost use Rattle.std.specs.Str.Parse.{digits_value_after};
 ghost use Rattle.oim_value.specs.Number.{Denotes, IsShort, number_refusal, signed};
+ghost use Rattle.oim_value.specs.Plain.{fraction_digits, plain, sign_text, with_point};
 
 use crate::digits::{
     append_digits, are_digits, skip_leading_zeros, skip_trailing_zeros, split_point, split_sign,
 };
 use crate::limits::{MOST_DIGITS, UNIT_PLACES};
-use oim_names::Reason;
+use oim_names::{Reason, Text};
+use std::alloc::{AllocError, Global};
 use std::marker::Model;
 
-/// A number of at most 18 digits that count. Contracts see it in units of 10^-18.
+/// A decimal number of which at most `MOST_DIGITS` digits count. Contracts see it in units of 10 to
+/// the power of minus `UNIT_PLACES`.
 #[derive(Clone, Copy, Debug, PartialEq, Eq, PartialOrd, Ord)]
 pub struct Fixed {
     units: i128,
@@ -32,18 +35,22 @@ impl Model for Fixed {
 }
 
 impl Fixed {
-    /// The number in units of 10^-18.
+    /// The number in units of 10 to the power of minus `UNIT_PLACES`.
     pub fn units(&self) -> i128
         ensures value { result ≡ self.now }
         ensures short { IsShort self.now }
-        ensures bound { unsigned_abs self.now ≤ 10 ^ 36 }
+        ensures bound { unsigned_abs self.now ≤ 10 ^ (MOST_DIGITS + UNIT_PLACES) }
     {
         self.units
     }
 }
 
-/// Reads a decimal number (XML Schema Part 2, section 3.2.3). `NumberForm` where the text is not
-/// one, `NumberDigits` where more than 18 of its digits count.
+/// Reads a decimal number: an optional sign, digits, and optionally a point and digits (XML Schema
+/// Part 2, section 3.2.3). Leading zeros of the integer digits and trailing zeros of the fraction
+/// digits do not count.
+///
+/// Errors: `NumberForm` where the text is no number; `NumberDigits` where more than `MOST_DIGITS`
+/// of its digits count.
 pub fn read_fixed(text: &str) -> Result<Fixed, Reason>
     ensures denoted { IfOk result (Denotes text.now) }
     ensures refused { result_err result ≡ number_refusal text.now }
@@ -91,7 +98,48 @@ fn size_of(number: u64, zeros: u32) -> i128
     requires few { number < 10 ^ MOST_DIGITS }
     requires zeros { zeros ≤ UNIT_PLACES }
     ensures value { result ≡ pos (number * 10 ^ zeros) }
-    ensures bound { number * 10 ^ zeros ≤ 10 ^ 36 }
+    ensures bound { number * 10 ^ zeros ≤ 10 ^ (MOST_DIGITS + UNIT_PLACES) }
 {
     (u128::from(number) * 10u128.pow(zeros)) as i128
+}
+
+/// Writes a number as its one plain text: `-` below zero, the integer digits without leading zeros
+/// (`0` where there are none), and a point and the fraction digits without trailing zeros where
+/// there are any.
+///
+/// Errors: want of memory.
+pub fn write_fixed(alloc: Global, value: Fixed) -> Result<Text, AllocError>
+    ensures { IfOk result (λ text. text ≡ plain value) }
+{
+    let units = value.units();
+    let size = units.unsigned_abs();
+    let sign = sign_of(units);
+    let integer = size / 10u128.pow(UNIT_PLACES);
+    let fraction = fraction_of(alloc, size)?;
+    let point = point_before(&fraction);
+    let text = format!(in alloc; "{sign}{integer}{point}{fraction}")?;
+    Text::new(alloc, &text)
+}
+
+fn sign_of(units: i128) -> &'static str
+    ensures { result.now ≡ sign_text units }
+{
+    if units < 0 { "-" } else { "" }
+}
+
+fn fraction_of(alloc: Global, size: u128) -> Result<String, AllocError>
+    ensures { IfOk result (λ digits. string_bytes digits ≡ fraction_digits size) }
+{
+    let rest = size % 10u128.pow(UNIT_PLACES);
+    let width = UNIT_PLACES as usize;
+    let mut digits = format!(in alloc; "{rest:0width$}")?;
+    let kept = skip_trailing_zeros(digits.as_bytes()).len();
+    digits.truncate(kept);
+    Ok(digits)
+}
+
+fn point_before(fraction: &str) -> &'static str
+    ensures { result.now ++ fraction.now ≡ with_point fraction.now }
+{
+    if fraction.is_empty() { "" } else { "." }
 }

@@ -6,7 +6,7 @@ use Rattle.xbrlmerge.specs.declared.fact.Fact.{Fact}
 use Rattle.xbrlmerge.specs.declared.place.Place.TheVariants.{Fact as AtFact}
 use Rattle.xbrlmerge.specs.declared.refusal.Refusal.{Refusal}
 use Rattle.xbrlmerge.specs.Outcome.{at, all_or_first}
-use Rattle.xbrlmerge.specs.Refusals.{map_ok}
+use Rattle.xbrlmerge.specs.Refusal.{map_ok}
 
 abbrev pub facts_step : ℕ → List Fact → Result Fact Reason → (ℕ → List Fact → Result (List Fact) Refusal) → Result (List Fact) Refusal
 facts_step n done (Ok fact) more = more (n + 1) (done ++ fact ∷ [])

@@ -7,7 +7,7 @@ use Rattle.oim_names.specs.declared.reason.Reason.TheVariants.{OutOfMemory, Name
 use Rattle.serde_json.specs.Data.{Data, Members, no_members, member}
 use Rattle.xbrlmerge.specs.Json.{any_member, any_in}
 use Rattle.xbrlmerge.specs.Names.{of_key, lacks_form, lacks_binding, lies_in_reserved, is_refused, name_conditions}
-use Rattle.xbrlmerge.specs.Refusals.{Condition, first_holding, unless}
+use Rattle.xbrlmerge.specs.Refusal.{Condition, first_holding, unless}
 use Rattle.xbrlmerge.proofs.Named.{both_false}
 
 pub passes_on : (cs ds : List Condition) → None ≡ first_holding cs → first_holding (cs ++ ds) ≡ first_holding ds

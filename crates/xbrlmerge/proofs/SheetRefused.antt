@@ -5,7 +5,7 @@ use Rattle.oim_names.specs.declared.reason.Reason.TheVariants.{Namespace}
 use Rattle.serde_json.specs.Data.{Data}
 use Rattle.xbrlmerge.specs.Json.{any_in, members}
 use Rattle.xbrlmerge.specs.Names.{binds_nothing, bindings_in, name_conditions}
-use Rattle.xbrlmerge.specs.Refusals.{Condition, first_holding}
+use Rattle.xbrlmerge.specs.Refusal.{Condition, first_holding}
 use Rattle.xbrlmerge.specs.Sheet.{form_conditions, kind_conditions, namespaces_of, some_key, said_sheet, sheet_conditions, sheet_of}
 use Rattle.xbrlmerge.proofs.Refused.{passes_on, stops, one_passes, refused}
 

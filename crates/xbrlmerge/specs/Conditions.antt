@@ -7,14 +7,14 @@ use Rattle.std.specs.FinMap as map
 use Rattle.oim_names.specs.Bindings.{Binding}
 use Rattle.oim_names.specs.declared.reason.Reason.TheVariants.{MemberForm, UnknownMember, DocumentType, Namespace, TaxonomyUrl, Links, Notes, DimensionsMissing, MissingConcept, UnknownConcept, UnknownDimension, ValueForm, NumberForm, NumberDigits, DecimalsForm, DecimalsRange}
 use Rattle.oim_value.specs.Number.{is_number, is_short}
-use Rattle.oim_value.specs.Decimals.{is_in_range}
+use Rattle.oim_value.specs.Decimals.{is_finite_decimals}
 use Rattle.serde_json.specs.Data.{Data, Items, Members}
 use Rattle.serde_json.specs.Find.{get, as_str, as_number, as_i64, as_u64, as_array, as_object}
 use Rattle.xbrlmerge.specs.declared.concept_kind.ConceptKind.{ConceptKind}
 use Rattle.xbrlmerge.specs.declared.concept_kind.ConceptKind.TheVariants.{Numeric, Text, Name}
 use Rattle.xbrlmerge.specs.Json.{object_at, text_at, within, members, any_in, has_member, has_item, has_colon, is_unknown, is_object, is_no_object, is_no_array, is_no_text, is_text}
 use Rattle.xbrlmerge.specs.Names.{binds_nothing, bindings_in, named, name_conditions}
-use Rattle.xbrlmerge.specs.Refusals.{Condition}
+use Rattle.xbrlmerge.specs.Refusal.{Condition}
 use Rattle.xbrlmerge.specs.Sheet.{Sheet}
 
 -- ---- a document
@@ -142,7 +142,7 @@ whole_number d = option_and_then as_i64 (as_number d)
 abbrev pub decimals_conditions : Option Data → List Condition
 decimals_conditions decimals =
     (option_map_or (λ d. not (is_whole d)) decimals false, DecimalsForm)
-    ∷ (option_map_or (λ d. not (option_map_or is_in_range (whole_number d) false)) decimals false, DecimalsRange)
+    ∷ (option_map_or (λ d. not (option_map_or is_finite_decimals (whole_number d) false)) decimals false, DecimalsRange)
     ∷ []
 
 -- the conditions of a fact, in the order in which they are answered

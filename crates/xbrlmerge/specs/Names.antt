@@ -7,7 +7,7 @@ use Rattle.oim_names.specs.Expansion.{is_unbound, is_reserved}
 use Rattle.oim_names.specs.declared.reason.Reason.TheVariants.{NameForm, UnboundPrefix, ReservedNamespace}
 use Rattle.serde_json.specs.Data.{Data, Members, no_members, member}
 use Rattle.serde_json.specs.Find.{as_str}
-use Rattle.xbrlmerge.specs.Refusals.{Condition}
+use Rattle.xbrlmerge.specs.Refusal.{Condition}
 
 -- whether an entry of `namespaces` binds nothing: its key is no prefix, or its value is no text or the empty one
 -- (XML Namespaces 1.0, sections 2.2 and 3)

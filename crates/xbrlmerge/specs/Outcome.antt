@@ -16,7 +16,7 @@ use Rattle.xbrlmerge.specs.Conditions.{bindings_of, facts_of, concept_of, value_
 use Rattle.xbrlmerge.specs.Document.{Document}
 use Rattle.xbrlmerge.specs.Json.{json, values}
 use Rattle.xbrlmerge.specs.Names.{named}
-use Rattle.xbrlmerge.specs.Refusals.{first_holding, unless, map_ok}
+use Rattle.xbrlmerge.specs.Refusal.{first_holding, unless, map_ok}
 use Rattle.xbrlmerge.specs.Sheet.{Sheet}
 
 abbrev pub at : Place → Reason → Refusal

@@ -14,7 +14,7 @@ use Rattle.xbrlmerge.specs.declared.concept_kind.ConceptKind.{ConceptKind}
 use Rattle.xbrlmerge.specs.declared.concept_kind.ConceptKind.TheVariants.{Numeric, Text, Name}
 use Rattle.xbrlmerge.specs.Json.{json, object_at, members, any_in, has_member, is_unknown, is_object, is_no_object, is_text}
 use Rattle.xbrlmerge.specs.Names.{binds_nothing, bindings_in, named, of_key, name_conditions}
-use Rattle.xbrlmerge.specs.Refusals.{Condition, first_holding, unless}
+use Rattle.xbrlmerge.specs.Refusal.{Condition, first_holding, unless}
 
 -- the concepts, each with its kind
 pub record Sheet : Type 0 where

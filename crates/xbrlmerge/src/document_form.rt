@@ -4,11 +4,9 @@ ghost use Rattle.serde_json.specs.Find.{as_object, as_str};
 ghost use Rattle.serde_json.specs.View.{view};
 ghost use Rattle.xbrlmerge.specs.Conditions.{bindings_of, document_conditions, has_other_parts, root_keys, info_keys, document_type, info, shape_conditions};
 ghost use Rattle.xbrlmerge.specs.Json.{any_in, is_unknown, is_text, object_at};
-ghost use Rattle.xbrlmerge.specs.Refusals.{first_holding};
+ghost use Rattle.xbrlmerge.specs.Refusal.{first_holding};
 
-use crate::json::{
-    has_item, has_unknown_in, is_no_array, is_no_object, object_at, within,
-};
+use crate::json::{has_item, has_unknown_in, is_no_array, is_no_object, object_at, within};
 use crate::namespaces::read_namespaces;
 use oim_names::{Aliases, Reason};
 use serde_json::Value;

@@ -6,7 +6,7 @@ ghost use Rattle.serde_json.specs.View.{view, members_view};
 ghost use Rattle.xbrlmerge.specs.Conditions.{has_other_members, fact_keys, dimension_keys, dimensions_of, form_conditions, concept_of, some_name, of_defined, is_other_dimension};
 ghost use Rattle.xbrlmerge.specs.Json.{any_in, any_member, is_unknown, object_at};
 ghost use Rattle.xbrlmerge.specs.Names.{named, name_conditions, lacks_form, lacks_binding, lies_in_reserved, is_refused};
-ghost use Rattle.xbrlmerge.specs.Refusals.{first_holding};
+ghost use Rattle.xbrlmerge.specs.Refusal.{first_holding};
 
 use crate::json::{
     has_colon, has_member, has_unknown_in, is_no_object, is_no_text, is_one_of, object_at, within,
@@ -50,11 +50,13 @@ fn has_other_members(fact: &Value) -> bool
 fn has_unknown_member(fact: &Value) -> bool
     ensures { result ≡ (any_in (is_unknown fact_keys) (as_object (view fact.now)) || any_in (is_unknown dimension_keys) (dimensions_of (view fact.now))) }
 {
-    has_unknown_in(fact.as_object(), &["value", "decimals", "dimensions", "links"])
-        || has_unknown_in(
-            object_at(fact, "dimensions"),
-            &["concept", "entity", "period", "unit", "language", "noteId"],
-        )
+    has_unknown_in(
+        fact.as_object(),
+        &["value", "decimals", "dimensions", "links"],
+    ) || has_unknown_in(
+        object_at(fact, "dimensions"),
+        &["concept", "entity", "period", "unit", "language", "noteId"],
+    )
 }
 
 /// Whether no name of a fact is refused.

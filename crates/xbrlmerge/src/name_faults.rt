@@ -3,7 +3,7 @@ ghost use Rattle.std.specs.Result.{result_err};
 ghost use Rattle.serde_json.specs.View.{members_view};
 ghost use Rattle.xbrlmerge.specs.Conditions.{of_defined};
 ghost use Rattle.xbrlmerge.specs.Json.{any_member};
-ghost use Rattle.xbrlmerge.specs.Refusals.{first_holding};
+ghost use Rattle.xbrlmerge.specs.Refusal.{first_holding};
 ghost use Rattle.xbrlmerge.specs.Names.{lacks_form, lacks_binding, lies_in_reserved, of_key};
 
 use crate::json::has_colon;

@@ -4,13 +4,11 @@ ghost use Rattle.std.specs.FinMap as map;
 ghost use Rattle.serde_json.specs.View.{view, members_view};
 ghost use Rattle.xbrlmerge.specs.Json.{any_in, any_member, members};
 ghost use Rattle.xbrlmerge.specs.Names.{is_refused, of_key, name_conditions};
-ghost use Rattle.xbrlmerge.specs.Refusals.{first_holding};
+ghost use Rattle.xbrlmerge.specs.Refusal.{first_holding};
 ghost use Rattle.xbrlmerge.specs.Sheet.{form_conditions, kind_conditions, is_no_kind, some_key, listed, sheet_of, sheet_outcome};
 
 use crate::concept_kind::ConceptKind;
-use crate::json::{
-    has_member, has_unknown_in, is_no_object, object_at, read_json,
-};
+use crate::json::{has_member, has_unknown_in, is_no_object, object_at, read_json};
 use crate::name_faults::NameFaults;
 use crate::namespaces::read_namespaces;
 use oim_names::{Aliases, Name, Reason};
@@ -160,10 +158,7 @@ fn check_form(tree: &Value) -> Result<(), Reason>
     {
         return Err(Reason::MemberForm);
     }
-    if has_unknown_in(
-        tree.as_object(),
-        &["namespaces", "concepts", "dimensions"],
-    ) {
+    if has_unknown_in(tree.as_object(), &["namespaces", "concepts", "dimensions"]) {
         return Err(Reason::UnknownMember);
     }
     Ok(())

@@ -17,8 +17,8 @@ returns-in_err-add-clause-refused c =
     let p = err_from_is_err_and c.from_residual.result c.from_residual.ensures.1 in
     rw (p.1, p.2) (⊎_elim
     (λ same.
-      let refused = c.in_err-add.ensures.refused.0 (ap Err same) in
-      inr (same, all_refused c.args.entries.now.entries c.iter-prefix-items.ensures.ordered (sym c.loop-prefix.invariant ∙ refused_at c.loop-prefix.aliases c.loop-prefix.prefix-iterator c.next.new.self (c.in-Some.prefix.now, c.in-Some.uri.now) c.in-Some-as_str.uri.now c.in-Some.ensures.steps text (subst (λ k. is_refused_binding c.loop-prefix.aliases k c.in-Some-as_str.uri.now ≡ true) c.as_str-in-loop-prefix.ensures.value refused))))
+    let refused = c.in_err-add.ensures.refused.0 (ap Err same) in
+    inr (same, all_refused c.args.entries.now.entries c.iter-prefix-items.ensures.ordered (sym c.loop-prefix.invariant ∙ refused_at c.loop-prefix.aliases c.loop-prefix.prefix-iterator c.next.new.self (c.in-Some.prefix.now, c.in-Some.uri.now) c.in-Some-as_str.uri.now c.in-Some.ensures.steps text (subst (λ k. is_refused_binding c.loop-prefix.aliases k c.in-Some-as_str.uri.now ≡ true) c.as_str-in-loop-prefix.ensures.value refused))))
     inl c.in_err-add.ensures.errors)
 
 pub returns-clause-bound : goal.returns-clause-bound

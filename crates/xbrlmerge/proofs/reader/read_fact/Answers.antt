@@ -4,7 +4,7 @@ use Rattle.serde_json.specs.Find.{get}
 use Rattle.serde_json.specs.View.{view}
 use Rattle.xbrlmerge.specs.Conditions.{concept_of, kind_of, is_numeric, is_other_dimension, dimensions_of, decimals_conditions}
 use Rattle.xbrlmerge.specs.Json.{any_in}
-use Rattle.xbrlmerge.specs.Refusals.{first_holding}
+use Rattle.xbrlmerge.specs.Refusal.{first_holding}
 use Rattle.xbrlmerge.proofs.FactRefused.{by_form, by_names, by_other_dimension, by_number, by_decimals, is_kind_of}
 use Rattle.xbrlmerge.proofs.reader.read_fact.Goals as goal
 

@@ -13,13 +13,13 @@ returns-in-Err-clause-errors c =
     ⊎_elim
     (λ memory. inl (c.of_fact.ensures.memory memory))
     (λ refused. ⊎_elim inl
-      (λ here. inr
-        (sym (all_facts read (values (members_view c.args.objects.now.entries)))
-            ∙ sym l.invariant.0
-            ∙ ap (λ es. facts_after read l.place l.facts.items (values (members_view es))) c.in-Some.ensures.steps
-            ∙ ap (λ o. facts_step l.place l.facts.items o (λ m more. facts_after read m more (values (members_view c.next.new.self)))) refused
-            ∙ ap Err (sym here)))
-      c.of_fact.ensures.place)
+    (λ here. inr
+    (sym (all_facts read (values (members_view c.args.objects.now.entries)))
+    ∙ sym l.invariant.0
+    ∙ ap (λ es. facts_after read l.place l.facts.items (values (members_view es))) c.in-Some.ensures.steps
+    ∙ ap (λ o. facts_step l.place l.facts.items o (λ m more. facts_after read m more (values (members_view c.next.new.self)))) refused
+    ∙ ap Err (sym here)))
+    c.of_fact.ensures.place)
     c.in-Err.ensures.errors
 
 pub returns-clause-ok : goal.returns-clause-ok

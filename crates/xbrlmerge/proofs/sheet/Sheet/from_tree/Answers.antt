@@ -3,7 +3,7 @@ use Rattle.std.proofs.lemmas.Result.{err_from_is_err_and}
 use Rattle.serde_json.specs.View.{view}
 use Rattle.xbrlmerge.specs.Json.{any_in, members}
 use Rattle.xbrlmerge.specs.Names.{is_refused, of_key, binds_nothing, bindings_in, name_conditions, lacks_form, lacks_binding, lies_in_reserved}
-use Rattle.xbrlmerge.specs.Refusals.{first_holding}
+use Rattle.xbrlmerge.specs.Refusal.{first_holding}
 use Rattle.xbrlmerge.specs.Sheet.{concepts_of, dimensions_of, some_key}
 use Rattle.xbrlmerge.proofs.Named.{both_false}
 use Rattle.xbrlmerge.proofs.Refused.{no_name_refused, no_key_refused_in}
@@ -21,8 +21,8 @@ returns-in_err-check_names-clause-errors c =
     let same = ap (λ ms. bindings_in (members ms)) c.object_at.ensures in
     let p = err_from_is_err_and c.from_residual-in_err-check_names.result c.from_residual-in_err-check_names.ensures.1 in
     rw (p.1, p.2) (inr (by_names tree c.in_err-check_names.field-0.0 c.in_ok-check_form.ensures
-      (ap (any_in binds_nothing) (sym c.object_at.ensures) ∙ c.in_ok-aliases.ensures.bound.1)
-      (c.in_err-check_names.ensures ∙ ap (λ b. first_holding (name_conditions (some_key tree) b)) (c.in_ok-aliases.ensures.bound.0 ∙ same))))
+    (ap (any_in binds_nothing) (sym c.object_at.ensures) ∙ c.in_ok-aliases.ensures.bound.1)
+    (c.in_err-check_names.ensures ∙ ap (λ b. first_holding (name_conditions (some_key tree) b)) (c.in_ok-aliases.ensures.bound.0 ∙ same))))
 
 pub returns-in_err-check_kinds-clause-errors : goal.returns-in_err-check_kinds-clause-errors
 returns-in_err-check_kinds-clause-errors c =
@@ -30,9 +30,9 @@ returns-in_err-check_kinds-clause-errors c =
     let same = ap (λ ms. bindings_in (members ms)) c.object_at.ensures in
     let p = err_from_is_err_and c.from_residual-in_err-check_kinds.result c.from_residual-in_err-check_kinds.ensures.1 in
     rw (p.1, p.2) (inr (by_kinds tree c.in_err-check_kinds.field-0.0 c.in_ok-check_form.ensures
-      (ap (any_in binds_nothing) (sym c.object_at.ensures) ∙ c.in_ok-aliases.ensures.bound.1)
-      (c.in_ok-check_names.ensures ∙ ap (λ b. first_holding (name_conditions (some_key tree) b)) (c.in_ok-aliases.ensures.bound.0 ∙ same))
-      c.in_err-check_kinds.ensures))
+    (ap (any_in binds_nothing) (sym c.object_at.ensures) ∙ c.in_ok-aliases.ensures.bound.1)
+    (c.in_ok-check_names.ensures ∙ ap (λ b. first_holding (name_conditions (some_key tree) b)) (c.in_ok-aliases.ensures.bound.0 ∙ same))
+    c.in_err-check_kinds.ensures))
 
 pub listed-requires : goal.listed-requires
 listed-requires c =

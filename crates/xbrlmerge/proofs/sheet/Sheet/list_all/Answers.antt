@@ -24,9 +24,9 @@ loop-key-preserved c =
     let name : c.in_ok-name.name ≡ named bs (string_bytes c.in-Some.key.now) = expands_named bs c.as_str.result.now c.in_ok-name.name c.in_ok-name.ensures.ok ∙ ap (named bs) c.as_str.ensures.value in
     let more = entry_more c.loop-key.found c.insert.new.self c.in_ok-name.name Numeric (on_ok _ c.insert.result (sym c.is_err.ensures.value ∙ c.if-is_err.false) c.insert.ensures.updates) in record {
       concepts =
-        ap (λ m. listed_after bs m rest) (more ∙ ap (λ n. map.insert (map.from_entries {R = name_cmp} c.loop-key.found.entries) n Numeric) name)
-        ∙ ap (λ es. listed_after bs (map.from_entries {R = name_cmp} c.loop-key.found.entries) (members_view es)) (sym c.in-Some.ensures.steps)
-        ∙ c.loop-key.invariant.concepts;
+          ap (λ m. listed_after bs m rest) (more ∙ ap (λ n. map.insert (map.from_entries {R = name_cmp} c.loop-key.found.entries) n Numeric) name)
+          ∙ ap (λ es. listed_after bs (map.from_entries {R = name_cmp} c.loop-key.found.entries) (members_view es)) (sym c.in-Some.ensures.steps)
+          ∙ c.loop-key.invariant.concepts;
       names = kept.1;
     }
 

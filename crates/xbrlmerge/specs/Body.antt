@@ -1,0 +1,42 @@
+-- What a list of documents says in all (own).
+use Rattle.std.specs.Prelude.{◌≡◌, ◌↔◌, List, ◌++◌, flat_map, Contains}
+use Rattle.std.specs.List.Sorted.{IsStrictlySortedBy}
+use Rattle.xbrlmerge.specs.Document.{Document}
+use Rattle.xbrlmerge.specs.Fact.{fact_cmp}
+use Rattle.xbrlmerge.specs.Sets.{set_of}
+use Rattle.xbrlmerge.specs.declared.fact.Fact.{Fact}
+
+-- a finite set of facts: the rising list of its members
+abbrev pub Body : Type 0
+Body = List Fact
+
+-- the facts of each document, one document after another
+abbrev pub all_facts : List Document → List Fact
+all_facts docs = flat_map (λ d. d.facts) docs
+
+-- the set of the facts of all documents
+abbrev pub body : List Document → Body
+body docs = set_of fact_cmp (all_facts docs)
+
+abbrev pub union : Body → Body → Body
+union a b = set_of fact_cmp (a ++ b)
+
+-- a body rises, and has just the facts of its documents
+pub record IsSetOfFacts (docs : List Document) (facts : Body) : Type 0 where
+  pub rises : IsStrictlySortedBy fact_cmp facts
+  pub members : (f : Fact) → Contains facts f ↔ Contains (all_facts docs) f
+
+abbrev pub BodyIsSetOfFacts : Type 0
+BodyIsSetOfFacts = (docs : List Document) → IsSetOfFacts docs (body docs)
+
+-- each document of the one list is in the other
+abbrev pub HaveSameMembers : List Document → List Document → Type 0
+HaveSameMembers ds es = (d : Document) → Contains ds d ↔ Contains es d
+
+-- neither the order of documents nor how often each comes matters
+abbrev pub BodyIgnoresOrder : Type 0
+BodyIgnoresOrder = (ds es : List Document) → HaveSameMembers ds es → body ds ≡ body es
+
+-- documents after documents add their body
+abbrev pub BodyOfBoth : Type 0
+BodyOfBoth = (ds es : List Document) → body (ds ++ es) ≡ union (body ds) (body es)
