@@ -1,11 +1,15 @@
 pub mod Body
 pub mod Bundle
 pub mod Bytes
+pub mod Conditions
 pub mod Document
 pub mod Fact
-pub mod Pieces
+pub mod Json
+pub mod Names
 pub mod Outcome
+pub mod Pieces
 pub mod Rank
+pub mod Refusal
 pub mod Run
 pub mod Sets
 pub mod Sheet

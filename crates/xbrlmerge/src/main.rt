@@ -3,15 +3,22 @@
 
 mod base;
 mod bundle;
+mod concept_kind;
 #[cfg(test)]
 mod devices;
 mod document;
+mod document_form;
 mod encoded;
 mod fact;
+mod fact_form;
+mod fact_value;
 mod fault;
+mod json;
 pub mod laws;
 mod lines;
 mod merging;
+mod name_faults;
+mod namespaces;
 mod pieces;
 mod place;
 mod ranked;
