@@ -5,6 +5,7 @@ mod base;
 mod document;
 mod fact;
 pub mod laws;
+mod prefix_table;
 mod ranked;
 mod sets;
 
