@@ -2,6 +2,7 @@ pub mod Body
 pub mod Bytes
 pub mod Document
 pub mod Fact
+pub mod Parts
 pub mod Prefixes
 pub mod Rank
 pub mod Sets

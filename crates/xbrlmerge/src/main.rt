@@ -4,6 +4,7 @@
 mod base;
 mod document;
 mod fact;
+mod fact_text;
 pub mod laws;
 mod prefix_table;
 mod ranked;

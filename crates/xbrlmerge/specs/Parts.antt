@@ -1,0 +1,26 @@
+-- The canonical text part by part: what is written at a time (own).
+use Rattle.std.specs.Prelude.{◌≡◌, ℕ, ℤ, List, [], ◌∷◌, ◌++◌, Option, Some, None, codes, Bool, true}
+use Rattle.std.specs.Fmt.{signed_decimal}
+use Rattle.json.specs.Print.{quoted}
+use Rattle.json.specs.Token.{Token, key, number}
+use Rattle.json.specs.Tree.{json_tokens}
+use Rattle.json.specs.Written.{Written}
+use Rattle.serde_json.specs.Data.{Data}
+use Rattle.serde_json.specs.Written.{comma_if, compact_text, outline}
+
+-- the tokens were written behind what stood there
+pub record Adds (old new : Written) (further : List Token) : Type 0 where
+  pub tokens : new.tokens ≡ old.tokens ++ further
+  pub before : new.before ≡ old.before
+
+-- a value's tokens were
+abbrev pub AddsValue : Written → Written → Data → Type 0
+AddsValue old new d = Adds old new (json_tokens (outline d))
+
+abbrev pub decimals_tokens : Option ℤ → List Token
+decimals_tokens None = []
+decimals_tokens (Some d) = key (codes "decimals") ∷ number (signed_decimal d) ∷ []
+
+-- a member of an object, behind a comma where it is not the first
+abbrev pub part : Bool → List ℕ → Data → List ℕ
+part later name d = comma_if later ++ (quoted name ++ 58 ∷ compact_text d)
