@@ -4,12 +4,17 @@ use Rattle.std.specs.Prelude.{count_by, nat_lt}
 use Rattle.std.specs.List.Sorted.{IsPartitionPoint, IsPartitionedBy, IsStrictlySortedBy}
 use Rattle.std.specs.declared.cmp.Ordering.{Ordering}
 use Rattle.std.specs.declared.cmp.Ordering.TheVariants.{Less, Equal, Greater}
-use Rattle.std.specs.Ordering.{is_lt}
-use Rattle.std.specs.Cmp.{IsTotalOrder}
+use Rattle.std.specs.Ordering.{is_lt, ordering_reverse}
+use Rattle.std.specs.Cmp.{IsTotalOrder, tied_itself}
+use Rattle.xbrlmerge.specs.Rank.{rank}
 use Rattle.std.proofs.lemmas.Bool.{cases_Bool}
 use Rattle.std.proofs.lemmas.Bool.Decides.{nat_tests}
+use Rattle.std.proofs.lemmas.List.{get_or_default}
 use Rattle.std.proofs.lemmas.List.Sums.{sum_by-cons}
 use Rattle.std.proofs.lemmas.Map.Keys.{Less-from_sorted}
+
+add_one : (n : ℕ) → suc n ≡ n + 1
+add_one n = omega arith
 
 one_more : (b : Bool) (n m : ℕ) → b ≡ true → n ≡ m → cond b 1 0 + n ≡ suc m
 one_more true n m e h = omega arith
@@ -41,3 +46,21 @@ parted {R = R} o xs x rises i j d h below e = ⊎_elim
         ap is_lt (o.trans (get_or xs i d) (get_or xs j d) x (Less-from_sorted R xs i j d rises apart below) (less _ e)))
     (λ not_before. let same : i ≡ j = grind (arith, nat_tests) in ap (λ k. is_lt (R (get_or xs k d) x)) same ∙ e)
     (cases_Bool (nat_lt i j))
+
+before : {K : Type 0} (R : K → K → Ordering) (xs : List K) (i j : ℕ) (d e : K) → IsStrictlySortedBy R xs → i < j → j < length xs → R (get_or xs i d) (get_or xs j e) ≡ Less
+before R xs i j d e rises apart within = ap (λ x. R x (get_or xs j e)) (get_or_default xs i d e (omega arith)) ∙ Less-from_sorted R xs i j e rises apart within
+
+not_after : {K : Type 0} {R : K → K → Ordering} (o : IsTotalOrder R) (xs : List K) (i j : ℕ) (d e : K) → IsStrictlySortedBy R xs → i ≤ j → j < length xs → is_lt (R (get_or xs j e) (get_or xs i d)) ≡ false
+not_after {R = R} o xs i j d e rises order within = ⊎_elim
+    (λ more. let apart : i < j = grind (arith, nat_tests) in
+        ap is_lt (o.antisymm (get_or xs j e) (get_or xs i d) ∙ ap ordering_reverse (before R xs i j d e rises apart within)))
+    (λ not_more. let same : j ≡ i = grind (arith, nat_tests) in
+        ap is_lt (ap (λ x. R x (get_or xs i d)) (ap (λ k. get_or xs k e) same ∙ get_or_default xs i e d (omega arith)) ∙ tied_itself o (get_or xs i d)))
+    (cases_Bool (nat_lt i j))
+
+-- in a set the member at a place has the rank of the place, from 1
+pub rank_at : {K : Type 0} {R : K → K → Ordering} (o : IsTotalOrder R) (xs : List K) (i : ℕ) (d : K) → IsStrictlySortedBy R xs → i < length xs → rank R (get_or xs i d) xs ≡ i + 1
+rank_at {R = R} o xs i d rises h =
+    let place : count_by (λ y. is_lt (R y (get_or xs i d))) xs ≡ i = count_at (λ y. is_lt (R y (get_or xs i d))) xs i (omega arith)
+        ((λ k e low high. ap is_lt (before R xs k i e d rises high h)), (λ k e low high. not_after o xs i k d e rises low high)) in
+    ap suc place ∙ add_one i

@@ -9,5 +9,6 @@ pub mod laws;
 mod prefix_table;
 mod ranked;
 mod sets;
+pub mod writer;
 
 fn main() {}

@@ -1,0 +1,16 @@
+use Rattle.std.proofs.Common.{[], ◌∷◌, ◌++◌, codes, append_assoc, sym, ap, ◌∙◌, false}
+use Rattle.serde_json.specs.Written.{members_text}
+use Rattle.xbrlmerge.specs.Parts.{namespace_members}
+use Rattle.xbrlmerge.proofs.writer.head.Goals as goal
+
+pub returns : goal.returns
+returns c =
+    let rest = codes ",\"taxonomy\":[]},\"facts\":{" in
+    let members = members_text false (namespace_members c.args.table.now c.args.table.now) in
+    c.in_ok-extend_from_slice-3.ensures.items
+    ∙ sym (append_assoc c.append_namespaces.new.text.items (125 ∷ []) rest)
+    ∙ ap (λ t. t ++ rest) (c.in_ok-append_namespaces.ensures
+        ∙ ap (λ t. t ++ members) (c.in_ok-extend_from_slice-2.ensures.items
+            ∙ ap (λ t. t ++ codes "\"namespaces\":{") (c.in_ok-extend_from_slice.ensures.items
+                ∙ ap (λ t. t ++ codes "{\"documentInfo\":{\"documentType\":\"https://xbrl.org/2021/xbrl-json\",") c.new-text.ensures.items)))
+    ∙ append_assoc (codes "{\"documentInfo\":{\"documentType\":\"https://xbrl.org/2021/xbrl-json\",\"namespaces\":{") members rest
