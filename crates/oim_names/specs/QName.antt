@@ -1,5 +1,5 @@
 -- Names, as texts and in a namespace.
-use Rattle.std.specs.Prelude.{◌≡◌, ℕ, List, length, Bool, not, ◌&&◌, ◌||◌, ◌==◌, codes}
+use Rattle.std.specs.Prelude.{◌≡◌, ℕ, List, length, Bool, not, ◌&&◌, ◌||◌, ◌==◌}
 use Rattle.std.proofs.Common.{ap}
 use Rattle.std.specs.List.{list_all, before_first, after_first}
 use Rattle.std.specs.Ordering.{nat_cmp, ordering_then}

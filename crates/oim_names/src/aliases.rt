@@ -171,12 +171,10 @@ impl Aliases {
     /// The name as a text: the prefix, a colon and the local part, whether the prefix is bound or not.
     pub fn spell(&self, prefix: &str, name: &Name) -> Result<Text, AllocError>
         ensures text { IfOk result (λ text. text ≡ prefix.now ++ 58 ∷ name.now.local_part) }
-        ensures back {
-            uri_of self.now prefix.now ≡ Some name.now.uri →
+        ensures back { uri_of self.now prefix.now ≡ Some name.now.uri →
             name.now.uri ≢ reserved_uri →
             IsTrue (is_part name.now.local_part) →
-            IfOk result (λ text. Expands self.now text name.now)
-        }
+            IfOk result (λ text. Expands self.now text name.now) }
     {
         joined(*self.bindings.allocator(), prefix, name.local())
     }

@@ -7,6 +7,8 @@ mod copied;
 mod form;
 mod name;
 mod reason;
+#[cfg(test)]
+mod tests;
 mod text;
 
 pub use aliases::Aliases;

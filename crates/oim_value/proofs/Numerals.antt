@@ -1,5 +1,5 @@
 -- Digits and their numbers.
-use Rattle.std.proofs.Common.{◌≡◌, ℕ, suc, ◌+◌, ◌*◌, ◌-◌, ◌^◌, ◌<◌, ◌≤◌, Bool, true, false, cond, eqb, List, [], ◌∷◌, ◌++◌, length, get_or, take, drop, length-append, refl, sym, ap, ◌∙◌, arith}
+use Rattle.std.proofs.Common.{◌≡◌, ℕ, ◌+◌, ◌*◌, ◌^◌, ◌<◌, ◌≤◌, Bool, true, false, cond, eqb, List, [], ◌∷◌, ◌++◌, length, get_or, take, drop, length-append, refl, sym, ap, ◌∙◌, arith}
 use Rattle.std.specs.Prelude.{nat_lt}
 use mathlib.Core.Bool.{◌&&◌, false≢true}
 use Rattle.std.proofs.lemmas.Bool.Decides.{nat_tests}
@@ -11,6 +11,7 @@ use Rattle.std.proofs.lemmas.List.Folds.{list_all-append}
 use Rattle.std.specs.Char.{digit_value, is_ascii_digit}
 use Rattle.std.specs.List.{list_all}
 use Rattle.std.specs.Str.Parse.{digits_value_after}
+use Rattle.oim_value.specs.declared.limits.TheConstants.{MOST_DIGITS, UNIT_PLACES}
 use Rattle.oim_value.specs.Number.{is_numeral, without_leading, without_trailing, onto_digit}
 
 -- further digits never lessen a number
@@ -45,7 +46,7 @@ step_digit v n p q h is = rw is (grind (arith, h))
 step_more : (v n p q a b : ℕ) → v * a ≡ n * p → q ≡ p * 10 → b ≡ a * 10 → v * b ≡ n * q
 step_more v n p q a b h is is' = rw (is, is') (grind (arith, h))
 
-regroup : (v w a p k : ℕ) → v * a ≡ w * p → k * a ≡ 10 ^ 18 → (w * k) * p ≡ 10 ^ 18 * v
+regroup : (v w a p k : ℕ) → v * a ≡ w * p → k * a ≡ 10 ^ UNIT_PLACES → (w * k) * p ≡ 10 ^ UNIT_PLACES * v
 regroup v w a p k h places = rw (← places) (grind (arith, ap (λ x. k * x) h))
 
 -- k digits after n write a number below (n + 1) * 10^k
@@ -122,17 +123,17 @@ no_trailing_zero_at ds i h e = ap without_trailing (take_more ds i 0 h) ∙ (wit
 pub parts_of_numeral : (xs ys : List ℕ) → is_numeral (xs ++ ys) ≡ true → (list_all is_ascii_digit xs ≡ true) × (list_all is_ascii_digit ys ≡ true)
 parts_of_numeral xs ys e = both_true _ _ (rw (list_all-append is_ascii_digit xs ys) at (both_true (nat_lt 0 (length (xs ++ ys))) (list_all is_ascii_digit (xs ++ ys)) e).1)
 
--- at most 18 digits in two pieces
-pub eighteen : (xs ys : List ℕ) → list_all is_ascii_digit xs ≡ true → list_all is_ascii_digit ys ≡ true → length xs + length ys ≤ 18 → digits_value_after 10 0 (xs ++ ys) < 10 ^ 18
-eighteen xs ys dx dy few =
-    let p : 10 ^ length (xs ++ ys) ≤ 10 ^ 18 = pow-le-pow_right {n = 10} (omega arith) {i = length (xs ++ ys)} {j = 18} (omega (arith, length-append xs ys)) in
+-- digits in two pieces, no more than are kept
+pub few_digits : (xs ys : List ℕ) → list_all is_ascii_digit xs ≡ true → list_all is_ascii_digit ys ≡ true → length xs + length ys ≤ MOST_DIGITS → digits_value_after 10 0 (xs ++ ys) < 10 ^ MOST_DIGITS
+few_digits xs ys dx dy few =
+    let p : 10 ^ length (xs ++ ys) ≤ 10 ^ MOST_DIGITS = pow-le-pow_right {n = 10} (omega arith) {i = length (xs ++ ys)} {j = MOST_DIGITS} (omega (arith, length-append xs ys)) in
     omega (arith, after_lt 0 (xs ++ ys) (list_all-append is_ascii_digit xs ys ∙ (ap (λ b. b && list_all is_ascii_digit ys) dx ∙ dy)), p)
 
--- the number of all digits, times 10^18, is what the digits that count write, moved back by all places
-pub whole_value : (i f : List ℕ) (k : ℕ) → k + length (without_trailing f) ≡ 18 → (digits_value_after 10 0 (without_leading i ++ without_trailing f) * 10 ^ k) * 10 ^ length f ≡ 10 ^ 18 * digits_value_after 10 0 (i ++ f)
+-- the number of all digits, in units, is what the digits that count write, moved back by all places
+pub whole_value : (i f : List ℕ) (k : ℕ) → k + length (without_trailing f) ≡ UNIT_PLACES → (digits_value_after 10 0 (without_leading i ++ without_trailing f) * 10 ^ k) * 10 ^ length f ≡ 10 ^ UNIT_PLACES * digits_value_after 10 0 (i ++ f)
 whole_value i f k e =
     let n : ℕ = digits_value_after 10 0 i in
     let same : digits_value_after 10 0 (without_leading i ++ without_trailing f) ≡ digits_value_after 10 n (without_trailing f) = after_append 0 (without_leading i) (without_trailing f) ∙ ap (λ m. digits_value_after 10 m (without_trailing f)) (value_without_leading i) in
     let all : digits_value_after 10 0 (i ++ f) ≡ digits_value_after 10 n f = after_append 0 i f in
-    let places : 10 ^ k * 10 ^ length (without_trailing f) ≡ 10 ^ 18 = sym (pow-add 10 k (length (without_trailing f))) ∙ ap (λ m. 10 ^ m) e in
+    let places : 10 ^ k * 10 ^ length (without_trailing f) ≡ 10 ^ UNIT_PLACES = sym (pow-add 10 k (length (without_trailing f))) ∙ ap (λ m. 10 ^ m) e in
     rw (same, all) (regroup _ _ _ _ _ (value_without_trailing n f) places)

@@ -1,24 +1,26 @@
 -- Lemmas on the plain text.
-use Rattle.std.proofs.Common.{◌≡◌, ℕ, suc, zero, ◌+◌, ◌*◌, ◌-◌, ◌^◌, ◌/◌, ◌%◌, ◌<◌, ◌≤◌, Bool, true, false, cond, eqb, List, [], ◌∷◌, ◌++◌, length, get_or, take, length-append, refl, sym, ap, ◌∙◌, arith, rules}
+use Rattle.std.proofs.Common.{◌≡◌, ℕ, suc, zero, ◌+◌, ◌-◌, ◌^◌, ◌%◌, ◌<◌, ◌≤◌, true, false, cond, eqb, List, [], ◌∷◌, ◌++◌, length, take, length-append, refl, ap, arith}
 use Rattle.std.specs.Prelude.{replicate}
 use Rattle.std.proofs.lemmas.Bool.Decides.{nat_tests}
 use Rattle.std.proofs.lemmas.List.{append-nil, length-replicate}
 use Rattle.std.proofs.lemmas.List.Folds.{list_all-append}
-use Rattle.std.proofs.lemmas.Fmt.{decimal_by_steps_wide, IsAscii-decimal_wide}
+use Rattle.std.proofs.lemmas.Fmt.{decimal_by_steps_wide, decimal_is_IsNumeral_wide, IsAscii-decimal_wide}
+use Rattle.std.proofs.lemmas.Nat.{mod_below}
 use Rattle.std.proofs.lemmas.Str.{IsAscii-append}
+use Rattle.std.specs.Str.Parse.{digits_value_after}
 use Rattle.std.specs.Char.{is_ascii_digit}
 use Rattle.std.specs.List.{list_all}
 use Rattle.std.specs.Str.{IsAscii}
 use Rattle.std.specs.Fmt.{decimal, padded_integral, format_spec, char_count}
-use mathlib.Core.Bool.{◌&&◌}
+use Rattle.oim_value.specs.declared.limits.TheConstants.{UNIT_PLACES}
 use Rattle.oim_value.specs.Number.{onto_digit, without_trailing}
 use Rattle.oim_value.specs.Plain.{padded}
 
 -- what `{:0width$}` writes
-pub padded_integral-zeros : (ds : List ℕ) → padded_integral (format_spec 32 0 4 18 (2 ^ 64 - 1)) false [] ds ≡ padded 18 ds
+pub padded_integral-zeros : (ds : List ℕ) → padded_integral (format_spec 32 0 4 UNIT_PLACES (2 ^ 64 - 1)) false [] ds ≡ padded UNIT_PLACES ds
 unfolding padded_integral char_count
 padded_integral-zeros ds =
-    let same : 18 - length ds - 0 - 0 ≡ 18 - length ds = omega arith in
+    let same : UNIT_PLACES - length ds - 0 - 0 ≡ UNIT_PLACES - length ds = omega arith in
     rw (append-nil ds) (ap (λ n. replicate n 48 ++ ds) same)
 
 -- what is left without trailing zeros is a front part
@@ -37,3 +39,28 @@ IsAscii-replicate (suc n) (suc i) = IsAscii-replicate n i
 
 pub IsAscii-padded : (w n : ℕ) → n < 10 ^ 64 → IsAscii (padded w (decimal n))
 IsAscii-padded w n h = IsAscii-append (replicate (w - length (decimal n)) 48) (decimal n) (IsAscii-replicate (w - length (decimal n))) (IsAscii-decimal_wide n h)
+
+-- ---- numerals, with zeros before them
+
+digit_of : (n : ℕ) → n < 10 → is_ascii_digit (48 + n) ≡ true
+digit_of n h = grind (arith, nat_tests)
+
+push_digit : (n : ℕ) (ds : List ℕ) → list_all is_ascii_digit ds ≡ true → list_all is_ascii_digit (ds ++ (48 + n % 10) ∷ []) ≡ true
+push_digit n ds e = rw (list_all-append is_ascii_digit ds ((48 + n % 10) ∷ []), e, digit_of (n % 10) (mod_below n 10 (omega arith)))
+
+pub decimal_digits : (n : ℕ) → n < 10 ^ 64 → list_all is_ascii_digit (decimal n) ≡ true
+decimal_digits n h = decimal_by_steps_wide (λ k ds. list_all is_ascii_digit ds ≡ true) (λ k small. rw (digit_of k small)) (λ k ds big e. push_digit k ds e) n h
+
+pub decimal_value : (n : ℕ) → n < 10 ^ 64 → digits_value_after 10 0 (decimal n) ≡ n
+decimal_value n h = (decimal_is_IsNumeral_wide n h).1
+
+pub zeros_digits : (k : ℕ) (ds : List ℕ) → list_all is_ascii_digit ds ≡ true → list_all is_ascii_digit (replicate k 48 ++ ds) ≡ true
+zeros_digits zero ds e = e
+zeros_digits (suc k) ds e = zeros_digits k ds e
+
+pub zeros_value : (k : ℕ) (ds : List ℕ) → digits_value_after 10 0 (replicate k 48 ++ ds) ≡ digits_value_after 10 0 ds
+zeros_value zero ds = refl
+zeros_value (suc k) ds = zeros_value k ds
+
+pub padded_length : (w : ℕ) (ds : List ℕ) → length ds ≤ w → length (padded w ds) ≡ w
+padded_length w ds h = omega (arith, length-append (replicate (w - length ds) 48) ds, length-replicate {A = ℕ} (w - length ds) 48)

@@ -1,21 +1,22 @@
 -- Numbers of few digits, in units.
-use Rattle.std.proofs.Common.{◌≡◌, ℕ, List, ◌++◌, length, length-append, ◌+◌, ◌*◌, ◌-◌, ◌^◌, ◌<◌, ◌≤◌, Bool, true, false, zero, suc, refl, sym, ap, ◌∙◌, arith}
-use Rattle.std.specs.Prelude.{ℤ, pos, negsuc, ◌*ℤ◌, unsigned_abs, IsTrue}
+use Rattle.std.proofs.Common.{◌≡◌, ◌+◌, ℕ, List, ◌++◌, length, ◌*◌, ◌-◌, ◌^◌, ◌<◌, ◌≤◌, Bool, true, false, zero, suc, refl, sym, ap, ◌∙◌, arith}
+use Rattle.std.specs.Prelude.{ℤ, pos, ◌*ℤ◌, unsigned_abs, IsTrue}
 use Rattle.std.proofs.Math.Nat.{pow-le-pow_right, mul-le-mul_left}
 use Rattle.std.proofs.Math.IntN.{neg_ℤ}
 use Rattle.std.specs.Str.Parse.{digits_value_after}
+use Rattle.oim_value.specs.declared.limits.TheConstants.{MOST_DIGITS, UNIT_PLACES}
 use Rattle.oim_value.proofs.Numerals.{whole_value}
 use Rattle.oim_value.specs.Number.{signed, integer_part, fraction_part, is_negative, is_number, without_leading, without_trailing, Denotes, IsShort}
 
--- a number of at most 18 digits with at most 18 zeros after it
-pub size_bound : (n e : ℕ) → n < 10 ^ 18 → e ≤ 18 → n * 10 ^ e ≤ 10 ^ 36
+-- a number of few digits with few zeros after it
+pub size_bound : (n e : ℕ) → n < 10 ^ MOST_DIGITS → e ≤ UNIT_PLACES → n * 10 ^ e ≤ 10 ^ (MOST_DIGITS + UNIT_PLACES)
 size_bound n e few within =
-    let p : 10 ^ e ≤ 10 ^ 18 = pow-le-pow_right (omega arith) within in
-    let q : n * 10 ^ e ≤ n * 10 ^ 18 = mul-le-mul_left n p in
+    let p : 10 ^ e ≤ 10 ^ UNIT_PLACES = pow-le-pow_right (omega arith) within in
+    let q : n * 10 ^ e ≤ n * 10 ^ UNIT_PLACES = mul-le-mul_left n p in
     omega arith
 
-pub short_bound : (z : ℤ) → IsShort z → unsigned_abs z ≤ 10 ^ 36
-short_bound z h = rw h.is (size_bound h.number (18 - h.places) h.few (omega arith))
+pub short_bound : (z : ℤ) → IsShort z → unsigned_abs z ≤ 10 ^ (MOST_DIGITS + UNIT_PLACES)
+short_bound z h = rw h.is (size_bound h.number (UNIT_PLACES - h.places) h.few (omega arith))
 
 pub unsigned_abs-signed : (b : Bool) (n : ℕ) → unsigned_abs (signed b n) ≡ n
 unsigned_abs-signed true zero = refl
@@ -29,15 +30,15 @@ signed_times true zero k n e =
 signed_times true (suc m) k n e = ap (λ m. neg_ℤ (pos m)) e
 signed_times false m k n e = ap pos e
 
-pub short_signed : (b : Bool) (n p : ℕ) → n < 10 ^ 18 → p ≤ 18 → IsShort (signed b (n * 10 ^ (18 - p)))
-short_signed b n p few within = record { number = n; places = p; few = few; within = within; is = unsigned_abs-signed b (n * 10 ^ (18 - p)) }
+pub short_signed : (b : Bool) (n p : ℕ) → n < 10 ^ MOST_DIGITS → p ≤ MOST_DIGITS → IsShort (signed b (n * 10 ^ (UNIT_PLACES - p)))
+short_signed b n p few within = record { number = n; places = p; few = few; within = within; is = unsigned_abs-signed b (n * 10 ^ (UNIT_PLACES - p)) }
 
 pub ten_to : (i j : ℕ) → i ≤ j → 10 ^ i ≤ 10 ^ j
 ten_to i j h = pow-le-pow_right {n = 10} (omega arith) {i = i} {j = j} h
 
 -- what the digits that count write, moved to its place, is denoted
-pub denotes_from : (t i f : List ℕ) (n p : ℕ) (z : ℤ) → i ≡ integer_part t → f ≡ fraction_part t → IsTrue (is_number t) → n ≡ digits_value_after 10 0 (without_leading i ++ without_trailing f) → p ≡ length (without_trailing f) → p ≤ 18 → z ≡ signed (is_negative t) (n * 10 ^ (18 - p)) → Denotes t z
+pub denotes_from : (t i f : List ℕ) (n p : ℕ) (z : ℤ) → i ≡ integer_part t → f ≡ fraction_part t → IsTrue (is_number t) → n ≡ digits_value_after 10 0 (without_leading i ++ without_trailing f) → p ≡ length (without_trailing f) → p ≤ MOST_DIGITS → z ≡ signed (is_negative t) (n * 10 ^ (UNIT_PLACES - p)) → Denotes t z
 denotes_from t i f n p z ei ef form en ep le ez = record {
   form = form;
-  value = rw (ez, en) (signed_times (is_negative t) _ _ _ (rw (← ei, ← ef) (whole_value i f (18 - p) (omega arith))));
+  value = rw (ez, en) (signed_times (is_negative t) _ _ _ (rw (← ei, ← ef) (whole_value i f (UNIT_PLACES - p) (omega arith))));
 }

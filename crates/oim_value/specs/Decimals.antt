@@ -1,12 +1,12 @@
--- To how many places a number is known (OIM Common, section 3.2.3: `decimals`; the range is own).
-use Rattle.std.specs.Prelude.{ℕ, ℤ, Bool, ◌&&◌, nat_le, unsigned_abs, ◌≡◌, Option, Some, None, refl}
+-- How precisely a number is reported (Open Information Model, `decimals`; the range is own).
+use Rattle.std.specs.Prelude.{ℤ, Bool, nat_le, unsigned_abs, ◌≡◌, Option, Some, None, refl}
 use Rattle.oim_value.specs.declared.limits.TheConstants.{MOST_DECIMALS}
 use Rattle.oim_value.specs.declared.decimals.Places.{Places}
 use Rattle.oim_value.specs.declared.decimals.Places.TheVariants.{Finite, Infinite}
 
--- what finite decimals may be
-abbrev pub is_in_range : ℤ → Bool
-is_in_range d = nat_le (unsigned_abs d) (unsigned_abs MOST_DECIMALS)
+-- whether there may be so many decimals
+abbrev pub is_finite_decimals : ℤ → Bool
+is_finite_decimals d = nat_le (unsigned_abs d) (unsigned_abs MOST_DECIMALS)
 
 -- contracts see the finite number, or None where infinite
 abbrev pub finite_of : Places → Option ℤ

@@ -84,3 +84,11 @@ pub record IsShort (units : ℤ) : Type 0 where
   pub few : number < 10 ^ MOST_DIGITS
   pub within : places ≤ MOST_DIGITS
   pub is : unsigned_abs units ≡ number * 10 ^ (UNIT_PLACES - places)
+
+-- a text denotes one number at most
+abbrev pub DenotesOne : Type 0
+DenotesOne = (t : List ℕ) (m n : ℤ) → Denotes t m → Denotes t n → m ≡ n
+
+-- what a short text denotes is kept
+abbrev pub ShortIsKept : Type 0
+ShortIsKept = (t : List ℕ) (units : ℤ) → Denotes t units → IsTrue (is_short t) → IsShort units

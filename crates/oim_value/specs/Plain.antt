@@ -1,8 +1,10 @@
 -- The one text by which a number is written (own).
-use Rattle.std.specs.Prelude.{ℕ, ◌-◌, ◌/◌, ◌%◌, ◌^◌, ℤ, pos, negsuc, unsigned_abs, List, [], ◌∷◌, ◌++◌, length, replicate}
+use Rattle.std.specs.Prelude.{◌≡◌, ◌≢◌, ◌↔◌, ℕ, ◌-◌, ◌/◌, ◌%◌, ◌^◌, ◌<◌, ℤ, pos, negsuc, ◌<ℤ◌, unsigned_abs, Bool, IsTrue, List, [], ◌∷◌, ◌++◌, length, replicate, slice_index, None}
+use Rattle.std.specs.List.{list_any}
 use Rattle.std.specs.Fmt.{decimal}
+use Rattle.std.specs.Str.{IsAscii}
 use Rattle.oim_value.specs.declared.limits.TheConstants.{UNIT_PLACES}
-use Rattle.oim_value.specs.Number.{without_trailing}
+use Rattle.oim_value.specs.Number.{is_negative, is_point, integer_part, fraction_part, number_refusal, without_trailing, Denotes, IsShort}
 
 -- a numeral with zeros on the left, up to a width
 abbrev pub padded : ℕ → List ℕ → List ℕ
@@ -27,3 +29,43 @@ sign_text (negsuc n) = 45 ∷ []
 -- so many units as a text: a sign below zero, the digits before the point, and those after it that count
 abbrev pub plain : ℤ → List ℕ
 plain units = sign_text units ++ (integer_digits (unsigned_abs units) ++ with_point (fraction_digits (unsigned_abs units)))
+
+-- whether a text has a point
+abbrev pub has_point : List ℕ → Bool
+has_point t = list_any is_point t
+
+-- the text denotes so many units and has no `+`, a `-` below zero alone, an integer digit, no leading zero but a lone one,
+-- a point exactly where there are fraction digits, and no trailing zero among these
+pub record IsPlain (t : List ℕ) (units : ℤ) : Type 0 where
+  pub denotes : Denotes t units
+  pub no_plus : slice_index t 0 ≢ 43
+  pub negative : IsTrue (is_negative t) → units <ℤ pos 0
+  pub some_integer : 0 < length (integer_part t)
+  pub no_leading_zero : slice_index (integer_part t) 0 ≡ 48 → length (integer_part t) ≡ 1
+  pub point : IsTrue (has_point t) ↔ (0 < length (fraction_part t))
+  pub no_trailing_zero : without_trailing (fraction_part t) ≡ fraction_part t
+
+-- a number that is kept has a plain text,
+abbrev pub PlainIsPlain : Type 0
+PlainIsPlain = (units : ℤ) → IsShort units → IsPlain (plain units) units
+
+-- has no second one,
+abbrev pub PlainIsOne : Type 0
+PlainIsOne = (units : ℤ) (t : List ℕ) → IsShort units → IsPlain t units → t ≡ plain units
+
+-- and that text is ASCII
+abbrev pub PlainIsAscii : Type 0
+PlainIsAscii = (units : ℤ) → IsShort units → IsAscii (plain units)
+
+-- the text is read as so many units
+pub record IsReadAs (t : List ℕ) (units : ℤ) : Type 0 where
+  pub denotes : Denotes t units
+  pub accepted : number_refusal t ≡ None
+
+-- the plain text of a number that is kept is read as that number,
+abbrev pub PlainReadsBack : Type 0
+PlainReadsBack = (units : ℤ) → IsShort units → IsReadAs (plain units) units
+
+-- and is no other number's
+abbrev pub PlainTellsApart : Type 0
+PlainTellsApart = (m n : ℤ) → IsShort m → IsShort n → plain m ≡ plain n → m ≡ n

@@ -1,6 +1,6 @@
-ghost use Rattle.std.specs.Prelude.{◌≡◌, IsTrue, IfErr, IfOk, Some};
+ghost use Rattle.std.specs.Prelude.{◌≡◌, IsTrue, IfErr, Some};
 ghost use Rattle.std.specs.Result.{OkIff};
-ghost use Rattle.oim_value.specs.Decimals.{is_in_range};
+ghost use Rattle.oim_value.specs.Decimals.{is_finite_decimals};
 
 use crate::limits::MOST_DECIMALS;
 use oim_names::{Copied, Key, Reason};
@@ -14,9 +14,10 @@ enum Places {
     Infinite,
 }
 
-/// To how many places after the point a number is known (before it, where negative), or that it
-/// is exact. Finite ones are ordered by number and stand before infinite. Contracts see the
-/// finite number, or None where infinite.
+/// How precisely a number is reported (Open Information Model, `decimals`): right to so many places after the
+/// point, or before it where the number is negative, or exactly. Contracts see the number of
+/// places, or None where the number is exact. Finite decimals are ordered by number, and infinite
+/// ones come last.
 #[derive(Clone, Copy, Debug, PartialEq, Eq, PartialOrd, Ord)]
 pub struct Decimals {
     places: Places,
@@ -24,7 +25,6 @@ pub struct Decimals {
 
 impl Model for Decimals {
     ghost use Rattle.std.specs.Prelude.{ℤ, Option};
-    ghost use Rattle.std.proofs.Common.{ap};
     ghost use Rattle.oim_value.specs.Decimals.{finite_of, places_of, places_of-finite_of};
 
     ghost Value = { Option ℤ };
@@ -37,14 +37,17 @@ impl Model for Decimals {
 }
 
 impl Decimals {
-    /// An exact number's.
+    /// Those of an exact number.
     pub const INFINITE: Decimals = Decimals {
         places: Places::Infinite,
     };
 
-    /// Finite decimals, from -12 to 12; `DecimalsRange` for any other number.
+    /// So many decimals.
+    ///
+    /// Errors: `DecimalsRange` where the number is less than `-MOST_DECIMALS` or more than
+    /// `MOST_DECIMALS`.
     pub fn finite(number: i64) -> Result<Decimals, Reason>
-        ensures made { OkIff result (IsTrue (is_in_range number)) (Some number) }
+        ensures made { OkIff result (IsTrue (is_finite_decimals number)) (Some number) }
         ensures refused { IfErr result (λ e. e ≡ Reason.DecimalsRange) }
     {
         match i8::try_from(number) {
@@ -55,7 +58,7 @@ impl Decimals {
         }
     }
 
-    /// The finite number, or None where infinite.
+    /// How many they are, or None where they are infinite.
     pub fn get(&self) -> Option<i8>
         ensures { result ≡ self.now }
     {

@@ -1,4 +1,4 @@
-ghost use Rattle.std.specs.Prelude.{◌≡◌, string_bytes, ◌++◌, ◌+◌, ◌-◌, ◌*◌, ◌^◌, ◌<◌, ◌≤◌, pos, true, length, unsigned_abs, IfOk, IfErr};
+ghost use Rattle.std.specs.Prelude.{◌≡◌, ◌+◌, ◌-◌, ◌*◌, ◌^◌, ◌<◌, ◌≤◌, ◌++◌, pos, unsigned_abs, true, length, string_bytes, IfOk};
 ghost use Rattle.std.specs.Result.{result_err};
 ghost use Rattle.std.specs.List.{list_all};
 ghost use Rattle.std.specs.Char.{is_ascii_digit};
@@ -14,7 +14,8 @@ use oim_names::{Reason, Text};
 use std::alloc::{AllocError, Global};
 use std::marker::Model;
 
-/// A number of at most 18 digits that count. Contracts see it in units of 10^-18.
+/// A decimal number of which at most `MOST_DIGITS` digits count. Contracts see it in units of 10 to
+/// the power of minus `UNIT_PLACES`.
 #[derive(Clone, Copy, Debug, PartialEq, Eq, PartialOrd, Ord)]
 pub struct Fixed {
     units: i128,
@@ -34,18 +35,22 @@ impl Model for Fixed {
 }
 
 impl Fixed {
-    /// The number in units of 10^-18.
+    /// The number in units of 10 to the power of minus `UNIT_PLACES`.
     pub fn units(&self) -> i128
         ensures value { result ≡ self.now }
         ensures short { IsShort self.now }
-        ensures bound { unsigned_abs self.now ≤ 10 ^ 36 }
+        ensures bound { unsigned_abs self.now ≤ 10 ^ (MOST_DIGITS + UNIT_PLACES) }
     {
         self.units
     }
 }
 
-/// Reads a decimal number (XML Schema Part 2, section 3.2.3). `NumberForm` where the text is not
-/// one, `NumberDigits` where more than 18 of its digits count.
+/// Reads a decimal number: an optional sign, digits, and optionally a point and digits (XML Schema
+/// Part 2, section 3.2.3). Leading zeros of the integer digits and trailing zeros of the fraction
+/// digits do not count.
+///
+/// Errors: `NumberForm` where the text is no number; `NumberDigits` where more than `MOST_DIGITS`
+/// of its digits count.
 pub fn read_fixed(text: &str) -> Result<Fixed, Reason>
     ensures denoted { IfOk result (Denotes text.now) }
     ensures refused { result_err result ≡ number_refusal text.now }
@@ -93,13 +98,16 @@ fn size_of(number: u64, zeros: u32) -> i128
     requires few { number < 10 ^ MOST_DIGITS }
     requires zeros { zeros ≤ UNIT_PLACES }
     ensures value { result ≡ pos (number * 10 ^ zeros) }
-    ensures bound { number * 10 ^ zeros ≤ 10 ^ 36 }
+    ensures bound { number * 10 ^ zeros ≤ 10 ^ (MOST_DIGITS + UNIT_PLACES) }
 {
     (u128::from(number) * 10u128.pow(zeros)) as i128
 }
 
-/// Writes a number as its plain text: `-` below zero, the integer digits, and a point and the
-/// fraction digits where there are any that count.
+/// Writes a number as its one plain text: `-` below zero, the integer digits without leading zeros
+/// (`0` where there are none), and a point and the fraction digits without trailing zeros where
+/// there are any.
+///
+/// Errors: want of memory.
 pub fn write_fixed(alloc: Global, value: Fixed) -> Result<Text, AllocError>
     ensures { IfOk result (λ text. text ≡ plain value) }
 {
@@ -134,17 +142,4 @@ fn point_before(fraction: &str) -> &'static str
     ensures { result.now ++ fraction.now ≡ with_point fraction.now }
 {
     if fraction.is_empty() { "" } else { "." }
-}
-
-#[cfg(test)]
-mod tests {
-    use super::*;
-
-    #[test]
-    fn numbers_are_written_plain(rt: HostRuntime) {
-        let alloc = rt.alloc();
-        let n = read_fixed("-1.050").expect(&rt, "number");
-        let t = write_fixed(alloc, n).expect(&rt, "memory");
-        assert_eq!(rt; t.as_str(), "-1.05");
-    }
 }

@@ -6,8 +6,11 @@ mod digits;
 mod fixed;
 pub mod laws;
 mod limits;
+#[cfg(test)]
+mod tests;
 mod value;
 
 pub use decimals::Decimals;
 pub use fixed::{Fixed, read_fixed, write_fixed};
+pub use limits::{MOST_DECIMALS, MOST_DIGITS, UNIT_PLACES};
 pub use value::Value;

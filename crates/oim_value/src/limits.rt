@@ -1,8 +1,9 @@
 /// How many digits of a number may count (own).
-pub(crate) const MOST_DIGITS: usize = 18;
+pub const MOST_DIGITS: usize = 18;
 
-/// Numbers are kept in units of 10 to the power of minus this (own).
-pub(crate) const UNIT_PLACES: u32 = 18;
+/// A unit of the numbers that are kept is 10 to the power of minus this (own). It is no less than
+/// `MOST_DIGITS`, so that every digit that counts is kept.
+pub const UNIT_PLACES: u32 = 18;
 
-/// Finite decimals are at most this, and at least minus this (own).
-pub(crate) const MOST_DECIMALS: i8 = 12;
+/// Finite decimals go from minus this to this (own).
+pub const MOST_DECIMALS: i8 = 12;

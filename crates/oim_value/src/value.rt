@@ -1,5 +1,3 @@
-ghost use Rattle.std.specs.Prelude.{◌≡◌, IfOk};
-
 use crate::decimals::Decimals;
 use crate::fixed::Fixed;
 use oim_names::{Copied, Key, Name, Text};

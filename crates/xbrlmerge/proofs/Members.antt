@@ -108,12 +108,12 @@ module _ {K : Type 0} {R : K → K → Ordering} (o : IsTotalOrder R) where
       | Equal ↦ λ p.
           let one : x ≡ y = exact x y p in
           let rest : (q : K) → has q xs ≡ has q ys = λ q.
-              elim (eq_by_cmp R q x) as (λ b. eq_by_cmp R q x ≡ b → has q xs ≡ has q ys) [
-                | true ↦ λ t.
-                    let tied : R q x ≡ Equal = (Equal-is (R q x)).0 t in
-                    none_above q xs (all_tied q x xs tied g.0) ∙ sym (none_above q ys (all_tied q y ys (sym (alike_right o x y q p) ∙ tied) h.0))
-                | false ↦ λ t. or_rest (eq_by_cmp R q x) (has q xs) (has q ys) t (is q ∙ ap (λ z. eq_by_cmp R q z || has q ys) (sym one))
-              ] refl in
+          elim (eq_by_cmp R q x) as (λ b. eq_by_cmp R q x ≡ b → has q xs ≡ has q ys) [
+            | true ↦ λ t.
+                let tied : R q x ≡ Equal = (Equal-is (R q x)).0 t in
+                none_above q xs (all_tied q x xs tied g.0) ∙ sym (none_above q ys (all_tied q y ys (sym (alike_right o x y q p) ∙ tied) h.0))
+            | false ↦ λ t. or_rest (eq_by_cmp R q x) (has q xs) (has q ys) t (is q ∙ ap (λ z. eq_by_cmp R q z || has q ys) (sym one))
+          ] refl in
           let tails : xs ≡ ys = same_set xs ys g.1 h.1 rest in
           λ i. one i ∷ tails i
     ] refl

@@ -33,5 +33,5 @@ module _ {K : Type 0} {R : K → K → Ordering} {E : K → K → Bool} (o : IsT
     kept_is_set =
         sym (set_of-sorted o exact kept kept_rises)
         ∙ same_members kept items
-            (λ x h. Contains-permutation sorted items x (IsPermutation-sym items sorted moved) (Contains-from_dedup E sorted x (subst (λ xs. Contains xs x) is h)))
-            (λ x h. subst (λ xs. Contains xs x) (sym is) (Contains-dedup equivalence same sorted x (Contains-permutation items sorted x moved h)))
+        (λ x h. Contains-permutation sorted items x (IsPermutation-sym items sorted moved) (Contains-from_dedup E sorted x (subst (λ xs. Contains xs x) is h)))
+        (λ x h. subst (λ xs. Contains xs x) (sym is) (Contains-dedup equivalence same sorted x (Contains-permutation items sorted x moved h)))

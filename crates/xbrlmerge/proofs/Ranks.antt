@@ -43,7 +43,7 @@ less Greater e = cc
 pub parted : {K : Type 0} {R : K → K → Ordering} (o : IsTotalOrder R) (xs : List K) (x : K) → IsStrictlySortedBy R xs → IsPartitionedBy (λ y. is_lt (R y x)) xs
 parted {R = R} o xs x rises i j d h below e = ⊎_elim
     (λ before. let apart : i < j = grind (arith, nat_tests) in
-        ap is_lt (o.trans (get_or xs i d) (get_or xs j d) x (Less-from_sorted R xs i j d rises apart below) (less _ e)))
+    ap is_lt (o.trans (get_or xs i d) (get_or xs j d) x (Less-from_sorted R xs i j d rises apart below) (less _ e)))
     (λ not_before. let same : i ≡ j = grind (arith, nat_tests) in ap (λ k. is_lt (R (get_or xs k d) x)) same ∙ e)
     (cases_Bool (nat_lt i j))
 
@@ -53,14 +53,14 @@ before R xs i j d e rises apart within = ap (λ x. R x (get_or xs j e)) (get_or_
 not_after : {K : Type 0} {R : K → K → Ordering} (o : IsTotalOrder R) (xs : List K) (i j : ℕ) (d e : K) → IsStrictlySortedBy R xs → i ≤ j → j < length xs → is_lt (R (get_or xs j e) (get_or xs i d)) ≡ false
 not_after {R = R} o xs i j d e rises order within = ⊎_elim
     (λ more. let apart : i < j = grind (arith, nat_tests) in
-        ap is_lt (o.antisymm (get_or xs j e) (get_or xs i d) ∙ ap ordering_reverse (before R xs i j d e rises apart within)))
+    ap is_lt (o.antisymm (get_or xs j e) (get_or xs i d) ∙ ap ordering_reverse (before R xs i j d e rises apart within)))
     (λ not_more. let same : j ≡ i = grind (arith, nat_tests) in
-        ap is_lt (ap (λ x. R x (get_or xs i d)) (ap (λ k. get_or xs k e) same ∙ get_or_default xs i e d (omega arith)) ∙ tied_itself o (get_or xs i d)))
+    ap is_lt (ap (λ x. R x (get_or xs i d)) (ap (λ k. get_or xs k e) same ∙ get_or_default xs i e d (omega arith)) ∙ tied_itself o (get_or xs i d)))
     (cases_Bool (nat_lt i j))
 
 -- in a set the member at a place has the rank of the place, from 1
 pub rank_at : {K : Type 0} {R : K → K → Ordering} (o : IsTotalOrder R) (xs : List K) (i : ℕ) (d : K) → IsStrictlySortedBy R xs → i < length xs → rank R (get_or xs i d) xs ≡ i + 1
 rank_at {R = R} o xs i d rises h =
     let place : count_by (λ y. is_lt (R y (get_or xs i d))) xs ≡ i = count_at (λ y. is_lt (R y (get_or xs i d))) xs i (omega arith)
-        ((λ k e low high. ap is_lt (before R xs k i e d rises high h)), (λ k e low high. not_after o xs i k d e rises low high)) in
+    ((λ k e low high. ap is_lt (before R xs k i e d rises high h)), (λ k e low high. not_after o xs i k d e rises low high)) in
     ap suc place ∙ add_one i

@@ -1,9 +1,16 @@
 pub mod Body
+pub mod Bundle
 pub mod Bytes
 pub mod Document
 pub mod Fact
+pub mod Outcome
 pub mod Parts
+pub mod Pieces
 pub mod Prefixes
 pub mod Rank
+pub mod Run
 pub mod Sets
+pub mod Sheet
+pub mod Sink
+pub mod Source
 pub mod Tree

@@ -62,8 +62,8 @@ dimensions_tree us f = object (member (codes "concept") (string (name_text us f.
 abbrev pub fact_tree : List (List ℕ) → Fact → Data
 fact_tree us f =
     object (with_decimals (decimals_of f.value) (
-        member (codes "dimensions") (dimensions_tree us f) (
-        member (codes "value") (value_tree us f.value) no_members)))
+    member (codes "dimensions") (dimensions_tree us f) (
+    member (codes "value") (value_tree us f.value) no_members)))
 
 -- ---- the whole
 
@@ -78,8 +78,8 @@ namespaces_tree us = object (members_by (prefix us) string us)
 abbrev pub info_tree : List (List ℕ) → Data
 info_tree us =
     object (member (codes "documentType") (string (codes "https://xbrl.org/2021/xbrl-json")) (
-        member (codes "namespaces") (namespaces_tree us) (
-        member (codes "taxonomy") (array no_items) no_members)))
+    member (codes "namespaces") (namespaces_tree us) (
+    member (codes "taxonomy") (array no_items) no_members)))
 
 abbrev pub facts_tree : Body → Data
 facts_tree b = object (members_by (identifier b) (fact_tree (uris b)) b)
@@ -87,4 +87,4 @@ facts_tree b = object (members_by (identifier b) (fact_tree (uris b)) b)
 abbrev pub tree : Body → Data
 tree b =
     object (member (codes "documentInfo") (info_tree (uris b)) (
-        member (codes "facts") (facts_tree b) no_members))
+    member (codes "facts") (facts_tree b) no_members))

@@ -3,6 +3,7 @@ ghost use Rattle.std.specs.Prelude.{◌≡◌};
 ghost use Rattle.xbrlmerge.specs.Body.{BodyIgnoresOrder, BodyIsSetOfFacts, BodyOfBoth};
 ghost use Rattle.xbrlmerge.specs.Bytes.{BytesIgnoreOrder};
 ghost use Rattle.xbrlmerge.specs.Fact.{fact_cmp};
+ghost use Rattle.xbrlmerge.specs.Run.{BundlesIgnoreOrder};
 ghost use Rattle.xbrlmerge.specs.declared.fact.Fact.{Fact as FactValue};
 
 use crate::fact::Fact;
@@ -30,4 +31,10 @@ pub fn body_of_both()
 /// Documents in any order, each as often as one likes, are written by the same bytes.
 pub fn bytes_ignore_order()
     ensures { BytesIgnoreOrder }
+{}
+
+/// Bundles with one sheet whose accepted reports say the same documents, in any order and each as
+/// often as one likes, are written by the same bytes.
+pub fn bundles_ignore_order()
+    ensures { BundlesIgnoreOrder }
 {}

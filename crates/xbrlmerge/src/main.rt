@@ -2,13 +2,56 @@
 #![tactic(auto)]
 
 mod base;
+mod bundle;
+#[cfg(test)]
+mod devices;
 mod document;
+mod encoded;
 mod fact;
 mod fact_text;
+mod fault;
 pub mod laws;
+mod lines;
+mod merging;
+mod parts;
+mod pieces;
+mod place;
 mod prefix_table;
 mod ranked;
+mod read_all;
+mod read_fault;
+mod reader;
+mod refusal;
+mod refusals;
+mod run;
 mod sets;
-pub mod writer;
+mod sheet;
+mod sink;
+mod source;
+mod std_sink;
+mod std_source;
+#[cfg(test)]
+mod tests_io;
+mod write_fault;
+mod writer;
 
-fn main() {}
+use run::run;
+use std::process::ExitCode;
+use std::{env, io};
+
+/// The words after the program's name.
+fn words(rt: &HostRuntime) -> io::Result<Vec<String>> {
+    let mut words = Vec::new(rt.alloc());
+    for word in env::args(rt)?.skip(1) {
+        words.push(word)?;
+    }
+    Ok(words)
+}
+
+fn main(rt: HostRuntime) -> ExitCode {
+    let Ok(words) = words(&rt) else {
+        return ExitCode::from(3);
+    };
+    let alloc = rt.alloc();
+    ExitCode::from(run(alloc, &words, rt.stdin(), rt.stdout(), rt.stderr()))
+}

@@ -88,7 +88,7 @@ fn add_concepts(alloc: Global, uris: &mut Vec<Text>, facts: &[Fact]) -> Result<(
 fn add_values(alloc: Global, uris: &mut Vec<Text>, facts: &[Fact]) -> Result<(), AllocError>
     ensures { OnOk result (set_of (slice_cmp nat_cmp) uris.new.items
         ≡ set_of (slice_cmp nat_cmp)
-            (uris.old.items ++ flat_map (λ f. uris_of_value f.value) facts.now)) }
+        (uris.old.items ++ flat_map (λ f. uris_of_value f.value) facts.now)) }
 {
     for fact in facts {
         if let Value::Name(name) = &fact.value {

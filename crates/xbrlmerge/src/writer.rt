@@ -1,21 +1,21 @@
-ghost use Rattle.std.specs.Prelude.{◌≡◌, [], ◌∷◌, ◌++◌, false, nat_lt, IfOk, OnOk};
+ghost use Rattle.std.specs.Prelude.{◌≡◌, ◌-◌, ◌^◌, ◌<◌, ◌++◌, codes, IfOk, IfErr, OnOk};
+ghost use Rattle.std.specs.Io.KnownBytes.{Appends};
 ghost use Rattle.std.specs.List.Sorted.{IsStrictlySortedBy};
-ghost use Rattle.serde_json.specs.Data.{string};
-ghost use Rattle.serde_json.specs.Written.{comma_if, members_text};
 ghost use Rattle.xbrlmerge.specs.Bytes.{canonical};
 ghost use Rattle.xbrlmerge.specs.Fact.{fact_cmp};
-ghost use Rattle.xbrlmerge.specs.Parts.{fact_members, head_text, namespace_members, part};
-ghost use Rattle.xbrlmerge.specs.Rank.{padded};
-ghost use Rattle.xbrlmerge.specs.Tree.{fact_tree, prefix};
+ghost use Rattle.xbrlmerge.specs.Parts.{facts_text};
+ghost use Rattle.xbrlmerge.specs.Pieces.{Breaks, Passes};
+ghost use Rattle.xbrlmerge.specs.Sink.{AppendsFront, failures_after, written_of};
 
 use crate::base::Base;
 use crate::fact::Fact;
-use crate::fact_text::write_fact;
+use crate::parts::{append_fact, head};
+use crate::pieces::Pieces;
 use crate::prefix_table::PrefixTable;
-use crate::ranked::{label, width_of};
-use json::Writer;
+use crate::ranked::width_of;
+use crate::sink::Sink;
+use crate::write_fault::WriteFault;
 use std::alloc::{AllocError, Global};
-use std::mem;
 
 /// The canonical text of a base.
 pub fn text(alloc: Global, base: &Base) -> Result<Vec<u8>, AllocError>
@@ -28,53 +28,6 @@ pub fn text(alloc: Global, base: &Base) -> Result<Vec<u8>, AllocError>
     Ok(text)
 }
 
-// All that stands before the first fact.
-fn head(alloc: Global, table: &PrefixTable) -> Result<Vec<u8>, AllocError>
-    ensures { IfOk result (λ text. text.items ≡ head_text table.now) }
-{
-    let mut text = Vec::new(alloc);
-    text.extend_from_slice(b"{\"documentInfo\":{\"documentType\":\"https://xbrl.org/2021/xbrl-json\",")?;
-    text.extend_from_slice(b"\"namespaces\":{")?;
-    append_namespaces(alloc, &mut text, table)?;
-    text.extend_from_slice(b"},\"taxonomy\":[]},\"facts\":{")?;
-    Ok(text)
-}
-
-fn append_namespaces(
-    alloc: Global,
-    text: &mut Vec<u8>,
-    table: &PrefixTable,
-) -> Result<(), AllocError>
-    ensures { OnOk result (text.new.items ++ 125 ∷ []
-        ≡ text.old.items ++ members_text false (namespace_members table.now table.now)) }
-{
-    let mut later = false;
-    for uri in table.uris() {
-        append_namespace(alloc, text, table, later, uri.as_str())?;
-        later = true;
-    }
-    Ok(())
-}
-
-// One member of `namespaces`. Where memory is refused, the text is given up.
-fn append_namespace(
-    alloc: Global,
-    text: &mut Vec<u8>,
-    table: &PrefixTable,
-    later: bool,
-    uri: &str,
-) -> Result<(), AllocError>
-    ensures { OnOk result
-        (text.new.items ≡ text.old.items ++ part later (prefix table.now uri.now) (string uri.now)) }
-{
-    append_comma(text, later)?;
-    let mut json = Writer::new(mem::replace(text, Vec::new(alloc)));
-    json.key(&table.prefix(alloc, uri)?)?;
-    json.string(uri)?;
-    *text = json.into_inner();
-    Ok(())
-}
-
 fn append_facts(
     alloc: Global,
     text: &mut Vec<u8>,
@@ -82,8 +35,7 @@ fn append_facts(
     facts: &[Fact],
 ) -> Result<(), AllocError>
     requires { IsStrictlySortedBy fact_cmp facts.now }
-    ensures { OnOk result (text.new.items ++ 125 ∷ []
-        ≡ text.old.items ++ members_text false (fact_members table.now facts.now facts.now)) }
+    ensures { OnOk result (text.new.items ≡ text.old.items ++ facts_text table.now facts.now) }
 {
     let digits = width_of(facts.len());
     for (i, fact) in facts.iter().enumerate() {
@@ -92,32 +44,72 @@ fn append_facts(
     Ok(())
 }
 
-// One member of `facts`, with the identifier of its rank. Where memory is refused, the text is
-// given up.
-fn append_fact(
-    alloc: Global,
-    text: &mut Vec<u8>,
-    table: &PrefixTable,
-    digits: usize,
-    rank: usize,
-    fact: &Fact,
-) -> Result<(), AllocError>
-    ensures { OnOk result (text.new.items ≡ text.old.items
-        ++ part (nat_lt 1 rank) (102 ∷ padded digits rank) (fact_tree table.now fact.now)) }
+/// Appends the canonical text of the base to the sink, in pieces of at least 64 kB but the last.
+/// On a fault the sink has the front of it whose length the fault tells.
+pub fn write_to<S: Sink>(alloc: Global, base: &Base, out: &mut S) -> Result<(), WriteFault>
+    requires { S.failures out.old < 2 ^ 64 - 1 }
+    ensures ok { OnOk result (Appends (S.told out.old) (S.told out.new) (canonical base.now)) }
+    ensures err { IfErr result (λ fault. AppendsFront (S.told out.old) (S.told out.new)
+        (canonical base.now) (written_of fault)) }
+    ensures failures { S.failures out.new ≡ failures_after result (S.failures out.old) }
 {
-    append_comma(text, rank > 1)?;
-    let mut json = Writer::new(mem::replace(text, Vec::new(alloc)));
-    json.key(&label(alloc, "f", digits, rank)?)?;
-    write_fact(alloc, &mut json, table, fact)?;
-    *text = json.into_inner();
-    Ok(())
+    let Ok(table) = PrefixTable::of(alloc, base.facts()) else {
+        return Err(WriteFault::OutOfMemory(0));
+    };
+    let Ok(head) = head(alloc, &table) else {
+        return Err(WriteFault::OutOfMemory(0));
+    };
+    let Ok(mut pieces) = Pieces::new(alloc) else {
+        return Err(WriteFault::OutOfMemory(0));
+    };
+    write_parts(alloc, &mut pieces, out, &head, &table, base.facts())?;
+    pieces.flush(out)
 }
 
-fn append_comma(text: &mut Vec<u8>, later: bool) -> Result<(), AllocError>
-    ensures { OnOk result (text.new.items ≡ text.old.items ++ comma_if later) }
+fn write_parts<S: Sink>(
+    alloc: Global,
+    pieces: &mut Pieces,
+    out: &mut S,
+    head: &[u8],
+    table: &PrefixTable,
+    facts: &[Fact],
+) -> Result<(), WriteFault>
+    requires failures { S.failures out.old < 2 ^ 64 - 1 }
+    requires facts { IsStrictlySortedBy fact_cmp facts.now }
+    ensures ok { OnOk result (Passes (S.told out.old) (S.told out.new) pieces.old pieces.new
+        (head.now ++ (facts_text table.now facts.now ++ codes "}}"))) }
+    ensures err { IfErr result (λ fault. Breaks (S.told out.old) (S.told out.new) pieces.old
+        (head.now ++ (facts_text table.now facts.now ++ codes "}}")) (written_of fault)) }
+    ensures failures { S.failures out.new ≡ failures_after result (S.failures out.old) }
 {
-    if later {
-        text.push(b',')?;
+    pieces.push(out, head)?;
+    write_facts(alloc, pieces, out, table, facts)?;
+    pieces.push(out, b"}}")
+}
+
+fn write_facts<S: Sink>(
+    alloc: Global,
+    pieces: &mut Pieces,
+    out: &mut S,
+    table: &PrefixTable,
+    facts: &[Fact],
+) -> Result<(), WriteFault>
+    requires failures { S.failures out.old < 2 ^ 64 - 1 }
+    requires facts { IsStrictlySortedBy fact_cmp facts.now }
+    ensures ok { OnOk result (Passes (S.told out.old) (S.told out.new) pieces.old pieces.new
+        (facts_text table.now facts.now)) }
+    ensures err { IfErr result (λ fault. Breaks (S.told out.old) (S.told out.new) pieces.old
+        (facts_text table.now facts.now) (written_of fault)) }
+    ensures failures { S.failures out.new ≡ failures_after result (S.failures out.old) }
+{
+    let digits = width_of(facts.len());
+    let mut part = Vec::new(alloc);
+    for (i, fact) in facts.iter().enumerate() {
+        part.clear();
+        let Ok(()) = append_fact(alloc, &mut part, table, digits, i + 1, fact) else {
+            return Err(WriteFault::OutOfMemory(pieces.written()));
+        };
+        pieces.push(out, &part)?;
     }
     Ok(())
 }

@@ -1,6 +1,5 @@
-use Rattle.std.proofs.Common.{◌≡◌, ◌-◌, ◌+◌, ◌<◌, ℕ, List, take, length, eqb, get_or, false, sym, arith, ap, subst, ◌∙◌}
+use Rattle.std.proofs.Common.{◌≡◌, ◌-◌, ◌+◌, ◌<◌, ℕ, List, take, length, eqb, get_or, false, sym, arith, subst, ◌∙◌}
 use Rattle.std.proofs.lemmas.Bool.Decides.{nat_tests}
-use Rattle.std.proofs.lemmas.List.{take_all}
 use Rattle.oim_value.specs.Number.{without_trailing}
 use Rattle.oim_value.proofs.Numerals.{trailing_zero_at, no_trailing_zero_at}
 use Rattle.oim_value.proofs.digits.skip_trailing_zeros.Goals as goal

@@ -1,7 +1,8 @@
-use Rattle.std.proofs.Common.{◌≡◌, ◌-◌, ◌+◌, ◌<◌, ℕ, List, ◌++◌, ◌*◌, ◌^◌, length, true, sym, ap, arith, rules, ◌∙◌}
+use Rattle.std.proofs.Common.{◌≡◌, ◌-◌, ℕ, List, ◌++◌, ◌*◌, ◌^◌, length, true, ap, arith, rules, ◌∙◌}
 use Rattle.std.specs.Prelude.{IsTrue}
 use Rattle.std.specs.Str.Parse.{digits_value_after}
-use Rattle.oim_value.specs.Number.{is_point, integer_part, fraction_part, is_number, is_numeral, unsigned, is_negative, signed}
+use Rattle.oim_value.specs.declared.limits.TheConstants.{UNIT_PLACES}
+use Rattle.oim_value.specs.Number.{is_point, integer_part, fraction_part, is_numeral, unsigned, is_negative, signed}
 use Rattle.std.specs.List.{before_first, after_first}
 use Rattle.oim_value.proofs.Numerals.{parts_of_numeral, digits_without_leading, digits_without_trailing}
 use Rattle.oim_value.proofs.Units.{denotes_from}
@@ -35,4 +36,4 @@ returns-clause-denoted c =
     (c.number_of-number.ensures.value ∙ both c.skip_leading_zeros-integer.ensures c.skip_trailing_zeros-fraction.ensures (digits_value_after 10 0))
     (ap (length {A = ℕ}) c.skip_trailing_zeros-fraction.ensures)
     (omega arith)
-    (c.scaled.ensures ∙ ap (λ b. signed b (c.number_of-number.result * 10 ^ (18 - length c.skip_trailing_zeros-fraction.result.now))) (c.split_sign-negative.ensures.negative ∙ ap is_negative c.as_bytes.ensures.value))
+    (c.scaled.ensures ∙ ap (λ b. signed b (c.number_of-number.result * 10 ^ (UNIT_PLACES - length c.skip_trailing_zeros-fraction.result.now))) (c.split_sign-negative.ensures.negative ∙ ap is_negative c.as_bytes.ensures.value))

@@ -1,10 +1,11 @@
-use Rattle.std.proofs.Common.{◌≡◌, ◌*◌, ◌≤◌, ◌^◌, arith, ap}
+use Rattle.std.proofs.Common.{arith}
 use Rattle.std.proofs.lemmas.Int.{ints}
+use Rattle.oim_value.specs.declared.limits.TheConstants.{UNIT_PLACES}
 use Rattle.oim_value.proofs.Units.{size_bound, ten_to}
 use Rattle.oim_value.proofs.fixed.size_of.Goals as goal
 
 pub pow-requires : goal.pow-requires
-pow-requires c = omega (arith, ten_to c.args.zeros 18 c.requires.zeros)
+pow-requires c = omega (arith, ten_to c.args.zeros UNIT_PLACES c.requires.zeros)
 
 pub overflow_mul-result : goal.overflow_mul-result
 overflow_mul-result c = rw (c.from.ensures, c.pow.ensures) (omega (arith, size_bound c.args.number c.args.zeros c.requires.few c.requires.zeros))

@@ -10,11 +10,11 @@ returns c =
     record {
       tokens =
           behind _ c.in_ok-end_object.ensures.ok (
-            behind _ c.in_ok-write_value.ensures.tokens (
-            behind _ c.in_ok-key-2.ensures.ok (
-            behind _ c.in_ok-write_dimensions.ensures.tokens (
-            behind _ c.in_ok-key.ensures.ok (
-            behind _ c.in_ok-write_decimals.ensures.tokens c.in_ok-begin_object.ensures.ok)))))
+          behind _ c.in_ok-write_value.ensures.tokens (
+          behind _ c.in_ok-key-2.ensures.ok (
+          behind _ c.in_ok-write_dimensions.ensures.tokens (
+          behind _ c.in_ok-key.ensures.ok (
+          behind _ c.in_ok-write_decimals.ensures.tokens c.in_ok-begin_object.ensures.ok)))))
           ∙ written_tokens (decimals_of f.value) (dimensions_tree us f) (value_tree us f.value) c.args.json.now.tokens;
       before =
           c.in_ok-end_object.ensures.room.0

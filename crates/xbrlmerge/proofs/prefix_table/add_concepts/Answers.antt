@@ -13,6 +13,6 @@ loop-fact-preserved c =
     let rest = drop (l.fact-index + 1) c.args.facts.now in
     let here : drop l.fact-index c.args.facts.now ≡ fact ∷ rest = drop_more c.args.facts.now l.fact-index fact (omega arith) ∙ ap (λ f. f ∷ rest) (sym c.fact-item.is) in
     set_of-step l.uris.items c.add.new.uris.items fact.concept.uri (map (λ f. f.concept.uri) rest)
-        (c.in_ok-add.ensures ∙ ap (λ uri. set_of (slice_cmp nat_cmp) (l.uris.items ++ uri ∷ [])) c.uri.ensures)
+    (c.in_ok-add.ensures ∙ ap (λ uri. set_of (slice_cmp nat_cmp) (l.uris.items ++ uri ∷ [])) c.uri.ensures)
     ∙ ap (λ fs. set_of (slice_cmp nat_cmp) (l.uris.items ++ map (λ f. f.concept.uri) fs)) (sym here)
     ∙ l.invariant

@@ -16,13 +16,13 @@ loop-fact-preserved c =
     let rest = drop (l.fact-index + 1) c.args.facts.now in
     let here : drop l.fact-index c.args.facts.now ≡ fact ∷ rest = drop_more c.args.facts.now l.fact-index fact (omega arith) ∙ ap (λ f. f ∷ rest) (sym c.fact-item.is) in
     let now : set_of (slice_cmp nat_cmp) (l.uris.items ++ flat_map (λ f. uris_of_value f.value) (fact ∷ rest)) ≡ set_of (slice_cmp nat_cmp) (c.args.uris.now.items ++ flat_map (λ f. uris_of_value f.value) c.args.facts.now) =
-        ap (λ fs. set_of (slice_cmp nat_cmp) (l.uris.items ++ flat_map (λ f. uris_of_value f.value) fs)) (sym here) ∙ l.invariant in
+    ap (λ fs. set_of (slice_cmp nat_cmp) (l.uris.items ++ flat_map (λ f. uris_of_value f.value) fs)) (sym here) ∙ l.invariant in
     let others = flat_map (λ f. uris_of_value f.value) rest in
     elim c.match-fact.branch [
       | in-Name+in_ok-add w ↦
           ap (λ us. set_of (slice_cmp nat_cmp) (us.items ++ others)) w.uris-is
           ∙ set_of-step l.uris.items w.add.new.uris.items w.in-Name.name.uri others
-              (w.in_ok-add.ensures ∙ ap (λ uri. set_of (slice_cmp nat_cmp) (l.uris.items ++ uri ∷ [])) w.uri.ensures)
+          (w.in_ok-add.ensures ∙ ap (λ uri. set_of (slice_cmp nat_cmp) (l.uris.items ++ uri ∷ [])) w.uri.ensures)
           ∙ ap (λ us. set_of (slice_cmp nat_cmp) (l.uris.items ++ (us ++ others))) (sym (ap uris_of_value w.in-Name.is))
           ∙ now
       | in_default w ↦

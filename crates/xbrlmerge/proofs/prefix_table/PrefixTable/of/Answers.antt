@@ -12,4 +12,4 @@ returns c =
     c.in_ok-make_set.ensures.ok
     ∙ c.in_ok-add_values.ensures
     ∙ set_of-front c.add_concepts.new.uris.items (map (λ f. f.concept.uri) c.args.facts.now) (flat_map (λ f. uris_of_value f.value) c.args.facts.now)
-        (c.in_ok-add_concepts.ensures ∙ ap (λ us. set_of (slice_cmp nat_cmp) (us ++ map (λ f. f.concept.uri) c.args.facts.now)) c.new-uris.ensures.items)
+    (c.in_ok-add_concepts.ensures ∙ ap (λ us. set_of (slice_cmp nat_cmp) (us ++ map (λ f. f.concept.uri) c.args.facts.now)) c.new-uris.ensures.items)

@@ -1,0 +1,195 @@
+use crate::{Decimals, Fixed, Value, read_fixed, write_fixed};
+use oim_names::{Aliases, Copied, Name, Reason, Text};
+use std::alloc::{AllocError, Global};
+use std::test::Fail;
+
+const UNIT: i128 = 1_000_000_000_000_000_000;
+
+// One request for memory of a test may be refused (`rt try --fail-alloc`), so a call that was
+// refused is made again.
+fn text_of(alloc: Global, text: &str) -> Result<Text, AllocError> {
+    match Text::new(alloc, text) {
+        Ok(made) => Ok(made),
+        Err(_) => Text::new(alloc, text),
+    }
+}
+
+fn written(alloc: Global, number: Fixed) -> Result<Text, AllocError> {
+    match write_fixed(alloc, number) {
+        Ok(text) => Ok(text),
+        Err(_) => write_fixed(alloc, number),
+    }
+}
+
+fn bind(aliases: &mut Aliases, prefix: &str, uri: &str) -> Result<(), Reason> {
+    match aliases.add(prefix, uri) {
+        Ok(()) => Ok(()),
+        Err(_) => aliases.add(prefix, uri),
+    }
+}
+
+fn name_of(alloc: Global, text: &str) -> Result<Name, Reason> {
+    let mut aliases = Aliases::new(alloc);
+    bind(&mut aliases, "b", "http://a.org")?;
+    bind(&mut aliases, "a", "http://b.org")?;
+    match aliases.expand(text) {
+        Ok(name) => Ok(name),
+        Err(_) => aliases.expand(text),
+    }
+}
+
+#[test]
+fn numbers_are_read(rt: HostRuntime) {
+    let rows = [
+        ("0", 0),
+        ("-0", 0),
+        ("+0.00", 0),
+        (".0", 0),
+        ("1.", UNIT),
+        ("-1", -UNIT),
+        ("+12.50", 12 * UNIT + UNIT / 2),
+        ("0.1", UNIT / 10),
+        ("0.10000000000000000000", UNIT / 10),
+        ("-0.000000000000000001", -1),
+        ("0.999999999999999999", UNIT - 1),
+        ("999999999999999999", (UNIT - 1) * UNIT),
+        ("000999999999999999999", (UNIT - 1) * UNIT),
+        ("-999999999999999999.000", -(UNIT - 1) * UNIT),
+        (
+            "123456789.012345678",
+            123456789012345678 * (UNIT / 1_000_000_000),
+        ),
+    ];
+    for (text, units) in rows {
+        match read_fixed(text) {
+            Ok(number) => assert_eq!(rt; number.units(), units, "{text}"),
+            Err(_) => panic!(rt; "{text} is refused"),
+        }
+    }
+}
+
+#[test]
+fn other_texts_are_refused(rt: HostRuntime) {
+    let forms = [
+        "", ".", "+", "-", "+.", "--1", "+-1", "1e2", "1E2", "INF", "-INF", "NaN", " 1", "1 ",
+        "1\n", "1 000", "1,5", "1.2.3", "1-", "0x1", "١",
+    ];
+    for text in forms {
+        assert!(rt; read_fixed(text) == Err(Reason::NumberForm), "{text}");
+    }
+    let digits = [
+        "1000000000000000000",
+        "-1000000000000000000.0",
+        "0.0000000000000000001",
+        "0.1234567890123456789",
+        "1234567890.123456789",
+    ];
+    for text in digits {
+        assert!(rt; read_fixed(text) == Err(Reason::NumberDigits), "{text}");
+    }
+}
+
+#[test]
+fn numbers_are_written_plain(rt: HostRuntime) -> Result<(), Fail> {
+    let rows = [
+        ("-0", "0"),
+        ("+0.00", "0"),
+        (".0", "0"),
+        ("1.", "1"),
+        ("-.50", "-0.5"),
+        ("0.10000000000000000000", "0.1"),
+        ("-0.000000000000000001", "-0.000000000000000001"),
+        ("100.25", "100.25"),
+        ("000999999999999999999", "999999999999999999"),
+        ("-123456789.012345678", "-123456789.012345678"),
+    ];
+    for (text, plain) in rows {
+        match read_fixed(text) {
+            Ok(number) => assert_eq!(rt; written(rt.alloc(), number)?.as_str(), plain),
+            Err(_) => panic!(rt; "{text} is refused"),
+        }
+    }
+    Ok(())
+}
+
+#[test]
+fn decimals_have_a_range(rt: HostRuntime) {
+    for number in [i64::MIN, -256, -129, -13, 13, 128, 244, 256, i64::MAX] {
+        assert!(rt;
+            Decimals::finite(number) == Err(Reason::DecimalsRange),
+            "{number}"
+        );
+    }
+    for (number, places) in [(-12, -12i8), (-1, -1), (0, 0), (12, 12)] {
+        match Decimals::finite(number) {
+            Ok(decimals) => assert!(rt; decimals.get() == Some(places)),
+            Err(_) => panic!(rt; "{number} is refused"),
+        }
+    }
+    assert!(rt; Decimals::INFINITE.get() == None);
+}
+
+fn number(text: &str, decimals: Decimals) -> Value {
+    match read_fixed(text) {
+        Ok(number) => Value::Number(number, decimals),
+        Err(_) => Value::Nil,
+    }
+}
+
+fn name(alloc: Global, text: &str) -> Value {
+    match name_of(alloc, text) {
+        Ok(name) => Value::Name(name),
+        Err(_) => Value::Nil,
+    }
+}
+
+fn finite(number: i64) -> Decimals {
+    match Decimals::finite(number) {
+        Ok(decimals) => decimals,
+        Err(_) => Decimals::INFINITE,
+    }
+}
+
+#[test]
+fn values_are_in_order(rt: HostRuntime) -> Result<(), Fail> {
+    let rising = [
+        Value::Nil,
+        number("-2", Decimals::INFINITE),
+        number("-1.5", finite(12)),
+        number("0", finite(-12)),
+        number("0", finite(0)),
+        number("0", finite(12)),
+        number("0", Decimals::INFINITE),
+        number("0.000000000000000001", finite(0)),
+        Value::Text(text_of(rt.alloc(), "")?),
+        Value::Text(text_of(rt.alloc(), "10")?),
+        Value::Text(text_of(rt.alloc(), "9")?),
+        Value::Text(text_of(rt.alloc(), "é")?),
+        name(rt.alloc(), "b:y"),
+        name(rt.alloc(), "b:z"),
+        name(rt.alloc(), "a:x"),
+    ];
+    for i in 0..rising.len() {
+        for j in 0..rising.len() {
+            assert!(rt; rising[i].cmp(&rising[j]) == i.cmp(&j), "{i} {j}");
+        }
+    }
+    Ok(())
+}
+
+#[test]
+fn values_are_copied(rt: HostRuntime) -> Result<(), Fail> {
+    let rows = [
+        Value::Nil,
+        number("1", finite(2)),
+        Value::Text(text_of(rt.alloc(), "ab")?),
+        name(rt.alloc(), "a:x"),
+    ];
+    for value in &rows {
+        match value.copied(rt.alloc()) {
+            Ok(copy) => assert!(rt; copy == *value),
+            Err(_) => assert!(rt; value.copied(rt.alloc())? == *value),
+        }
+    }
+    Ok(())
+}

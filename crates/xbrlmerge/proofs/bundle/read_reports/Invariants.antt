@@ -1,0 +1,18 @@
+use Rattle.std.proofs.Common.{◌≡◌, ◌≤◌, ◌+◌, ◌++◌, List, length}
+use Rattle.xbrlmerge.specs.Body.{body}
+use Rattle.xbrlmerge.specs.Bundle.{filled_pieces}
+use Rattle.xbrlmerge.specs.Document.{Document}
+use Rattle.xbrlmerge.specs.Run.{accepted, refused, refused_from}
+use Rattle.xbrlmerge.proofs.Reports.{HasMerged}
+use Rattle.xbrlmerge.proofs.bundle.read_reports.Given as goal
+
+-- the base is that of some documents, and with those of the lines that are left they are all
+abbrev pub invariant-loop-rest : goal.invariant-loop-rest
+invariant-loop-rest l = record {
+  documents : HasMerged l.sheet l.merging.base (filled_pieces l.rest) (filled_pieces l.lines);
+  refusals : l.merging.refusals ++ refused_from (l.merging.reports + 1) l.sheet (filled_pieces l.rest) ≡ refused l.sheet (filled_pieces l.lines);
+  count : l.merging.reports + length l.rest ≤ length l.lines;
+}
+
+abbrev pub decreases-loop-rest : goal.decreases-loop-rest
+decreases-loop-rest l = length l.rest

@@ -1,0 +1,25 @@
+-- A sheet and reports in one file (own). In bytes, a line end is 10.
+use Rattle.std.specs.Prelude.{ℕ, List, length, drop, filter, Bool, not, ◌==◌}
+use Rattle.std.specs.List.{before_first, slice_split}
+
+abbrev pub is_line_end : ℕ → Bool
+is_line_end c = c == 10
+
+abbrev pub is_filled : List ℕ → Bool
+is_filled piece = not (length piece == 0)
+
+-- the pieces between line ends
+abbrev pub pieces : List ℕ → List (List ℕ)
+pieces bytes = slice_split is_line_end bytes
+
+-- the first piece
+abbrev pub sheet_piece : List ℕ → List ℕ
+sheet_piece bytes = before_first is_line_end bytes
+
+-- the pieces that have a byte
+abbrev pub filled_pieces : List ℕ → List (List ℕ)
+filled_pieces bytes = filter is_filled (pieces bytes)
+
+-- each later piece that has a byte
+abbrev pub report_pieces : List ℕ → List (List ℕ)
+report_pieces bytes = filter is_filled (drop 1 (pieces bytes))

@@ -1,0 +1,88 @@
+ghost use Rattle.std.specs.Prelude.{◌≡◌, ◌-◌, ◌^◌, ◌<◌, IfOk, IfErr};
+ghost use Rattle.std.specs.List.{before_first, after_first, position_or_len};
+ghost use Rattle.xbrlmerge.specs.Body.{body};
+ghost use Rattle.xbrlmerge.specs.Bundle.{is_line_end, filled_pieces};
+ghost use Rattle.xbrlmerge.specs.Run.{accepted, refused, Consolidates, Stops, failures_after_run};
+
+use crate::fault::Fault;
+use crate::merging::Merging;
+use crate::refusals::Refusals;
+use crate::sheet::Sheet;
+use crate::sink::Sink;
+use crate::writer::write_to;
+use oim_names::Reason;
+use std::alloc::{AllocError, Global};
+
+/// Merges a bundle: its first line is a concept sheet, and each further line that is not empty is
+/// a report. The reports that are accepted are merged, and the canonical text of what they say goes
+/// to the sink; the others are answered, by their numbers from 1.
+///
+/// Errors: `Sheet` where the sheet is refused, and then nothing is written; `Device` where the sink
+/// failed; `OutOfMemory`.
+pub fn consolidate_bundle<S: Sink>(
+    alloc: Global,
+    bytes: &[u8],
+    out: &mut S,
+) -> Result<Refusals, Fault>
+    requires { S.failures out.old < 2 ^ 64 - 1 }
+    ensures ok { IfOk result (Consolidates bytes.now (S.told out.old) (S.told out.new)) }
+    ensures err { IfErr result (Stops bytes.now (S.told out.old) (S.told out.new)) }
+    ensures failures { S.failures out.new ≡ failures_after_run result (S.failures out.old) }
+{
+    let (first, rest) = cut_line(bytes);
+    let sheet = match Sheet::read(alloc, first) {
+        Ok(sheet) => sheet,
+        Err(Reason::OutOfMemory) => return Err(Fault::OutOfMemory(0)),
+        Err(reason) => return Err(Fault::Sheet(reason)),
+    };
+    let Ok(merging) = read_reports(alloc, &sheet, rest) else {
+        return Err(Fault::OutOfMemory(0));
+    };
+    match write_to(alloc, &merging.base, out) {
+        Ok(()) => Ok(merging.refusals),
+        Err(fault) => Err(Fault::from(fault)),
+    }
+}
+
+/// The bytes before the first line end, and those behind it.
+fn cut_line(bytes: &[u8]) -> (&[u8], &[u8])
+    ensures line { result.0.now ≡ before_first is_line_end bytes.now }
+    ensures rest { result.1.now ≡ after_first is_line_end bytes.now }
+{
+    let end = line_end(bytes);
+    if end < bytes.len() {
+        (&bytes[..end], &bytes[end + 1..])
+    } else {
+        (bytes, &bytes[bytes.len()..])
+    }
+}
+
+fn line_end(bytes: &[u8]) -> usize
+    ensures { result ≡ position_or_len is_line_end bytes.now }
+{
+    for (i, c) in bytes.iter().enumerate() {
+        if *c == b'\n' {
+            return i;
+        }
+    }
+    bytes.len()
+}
+
+/// Reads each line that is not empty.
+fn read_reports(alloc: Global, sheet: &Sheet, lines: &[u8]) -> Result<Merging, AllocError>
+    ensures base { IfOk result
+        (λ merging. merging.base ≡ body (accepted sheet.now (filled_pieces lines.now))) }
+    ensures refusals { IfOk result
+        (λ merging. merging.refusals ≡ refused sheet.now (filled_pieces lines.now)) }
+{
+    let mut merging = Merging::new(alloc);
+    let mut rest = lines;
+    while !rest.is_empty() {
+        let (line, behind) = cut_line(rest);
+        if !line.is_empty() {
+            merging.read(alloc, sheet, line)?;
+        }
+        rest = behind;
+    }
+    Ok(merging)
+}

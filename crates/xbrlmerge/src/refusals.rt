@@ -1,0 +1,47 @@
+ghost use Rattle.std.specs.Prelude.{◌≡◌, [], ◌++◌, ◌∷◌, OnOk, OnErr};
+
+use crate::refusal::Refusal;
+use std::alloc::{AllocError, Global};
+use std::marker::Model;
+
+/// The refused reports, each by its number from 1, in the order of the reports.
+#[derive(Debug, Drop)]
+pub struct Refusals {
+    entries: Vec<(u64, Refusal)>,
+}
+
+impl Model for Refusals {
+    ghost use Rattle.std.specs.Prelude.{List, ℕ};
+    ghost use Rattle.xbrlmerge.specs.declared.refusal.Refusal.{Refusal as Refused};
+
+    ghost Value = { List (ℕ × Refused) };
+
+    ghost view = { λ r. r.entries.items };
+}
+
+impl Refusals {
+    pub(crate) fn new(alloc: Global) -> Refusals
+        ensures { result ≡ [] }
+    {
+        Refusals {
+            entries: Vec::new(alloc),
+        }
+    }
+
+    pub(crate) fn push(&mut self, report: u64, refusal: Refusal) -> Result<(), AllocError>
+        ensures ok { OnOk result (self.new ≡ self.old ++ (report, refusal) ∷ []) }
+        ensures err { OnErr result (self.new ≡ self.old) }
+    {
+        match self.entries.push((report, refusal)) {
+            Ok(()) => Ok(()),
+            Err(_) => Err(AllocError),
+        }
+    }
+
+    /// The numbers and refusals.
+    pub fn as_slice(&self) -> &[(u64, Refusal)]
+        ensures { result.now ≡ self.now }
+    {
+        self.entries.as_slice()
+    }
+}

@@ -1,0 +1,30 @@
+ghost use Rattle.std.specs.Prelude.{◌≡◌, ℕ, ◌+◌, ◌-◌, ◌^◌, ◌<◌, List, Option, is_ok, if◌then◌else◌};
+ghost use Rattle.std.specs.Io.{ReadsAtMost};
+ghost use Rattle.std.specs.Io.KnownBytes.{ReadConsumes};
+
+/// A source did not give what it was asked for.
+#[derive(Clone, Copy, Debug, PartialEq, Eq)]
+pub struct SourceError;
+
+/// Gives bytes, and counts how often it failed to.
+pub trait Source {
+    /// The bytes that it is yet to give, where it tells them.
+    ghost told: { Self → Option (List ℕ) };
+
+    /// How often it has failed.
+    ghost failures: { Self → ℕ };
+
+    /// Writes its next bytes to the front of the buffer and answers how many. It answers 0 at its
+    /// end, and else only where the buffer is empty. On an error it gives none and has failed once
+    /// more.
+    fn get(&mut self, buffer: &mut [u8]) -> Result<usize, SourceError>
+        requires { failures self.old < 2 ^ 64 - 1 }
+        ensures bytes { ReadConsumes (told self.old) (told self.new) result buffer.new }
+        ensures count { ReadsAtMost result buffer.new }
+        ensures failures { failures self.new ≡
+            (if is_ok result then failures self.old else failures self.old + 1) };
+
+    /// How often it has failed.
+    fn failures(&self) -> u64
+        ensures { result ≡ failures self.now };
+}

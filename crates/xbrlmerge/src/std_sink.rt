@@ -1,0 +1,75 @@
+ghost use Rattle.std.specs.Prelude.{◌≡◌, ◌+◌, ◌-◌, ◌^◌, ◌<◌, ◌≤◌, min, length, IfOk, OnErr, is_ok, if◌then◌else◌};
+ghost use Rattle.std.specs.Io.KnownBytes.{WriteAppends};
+
+use crate::sink::{Sink, SinkError};
+use std::io::Write;
+
+/// A sink over a writer. A write that fails, is interrupted or takes nothing of what it was given
+/// is a failure.
+#[derive(Drop)]
+pub struct StdSink<W: Write> {
+    writer: W,
+    failures: u64,
+    taken: u64,
+}
+
+impl<W: Write> StdSink<W> {
+    /// A sink over this writer, with no failure and nothing taken yet.
+    pub fn new(writer: W) -> StdSink<W>
+        ensures writer { result.writer ≡ writer }
+        ensures failures { result.failures ≡ 0 }
+        ensures taken { result.taken ≡ 0 }
+    {
+        StdSink {
+            writer,
+            failures: 0,
+            taken: 0,
+        }
+    }
+
+    /// How many bytes the writer has taken; a count that has reached the greatest u64 stays there.
+    pub fn taken(&self) -> u64
+        ensures { result ≡ self.now.taken }
+    {
+        self.taken
+    }
+
+    /// The writer.
+    pub fn into_inner(self) -> W
+        ensures { result ≡ self.writer }
+    {
+        self.writer
+    }
+}
+
+impl<W: Write> Sink for StdSink<W> {
+    ghost told = { λ s. W.contents s.writer };
+
+    ghost failures = { λ s. s.failures };
+
+    fn put(&mut self, bytes: &[u8]) -> Result<usize, SinkError>
+        requires { self.old.failures < 2 ^ 64 - 1 }
+        ensures bytes { WriteAppends (W.contents self.old.writer) (W.contents self.new.writer)
+            result bytes.now }
+        ensures count { IfOk result (λ n. (n ≤ length bytes.now) × (0 < length bytes.now → 0 < n)) }
+        ensures failures { self.new.failures ≡
+            (if is_ok result then self.old.failures else self.old.failures + 1) }
+        ensures taken { IfOk result (λ n. self.new.taken ≡ min (self.old.taken + n) (2 ^ 64 - 1)) }
+        ensures none_taken { OnErr result (self.new.taken ≡ self.old.taken) }
+    {
+        match self.writer.write(bytes) {
+            Ok(n) if n > 0 || bytes.is_empty() => {
+                self.taken = self.taken.saturating_add(n as u64);
+                Ok(n)
+            }
+            _ => {
+                self.failures += 1;
+                Err(SinkError)
+            }
+        }
+    }
+
+    fn failures(&self) -> u64 {
+        self.failures
+    }
+}

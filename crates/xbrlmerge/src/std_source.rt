@@ -1,0 +1,51 @@
+ghost use Rattle.std.specs.Prelude.{◌≡◌};
+
+use crate::source::{Source, SourceError};
+use std::io::Read;
+
+/// A source over a reader. A read that fails or is interrupted is a failure.
+#[derive(Drop)]
+pub struct StdSource<R: Read> {
+    reader: R,
+    failures: u64,
+}
+
+impl<R: Read> StdSource<R> {
+    /// A source over this reader, with no failure yet.
+    pub fn new(reader: R) -> StdSource<R>
+        ensures reader { result.reader ≡ reader }
+        ensures failures { result.failures ≡ 0 }
+    {
+        StdSource {
+            reader,
+            failures: 0,
+        }
+    }
+
+    /// The reader.
+    pub fn into_inner(self) -> R
+        ensures { result ≡ self.reader }
+    {
+        self.reader
+    }
+}
+
+impl<R: Read> Source for StdSource<R> {
+    ghost told = { λ s. R.remaining s.reader };
+
+    ghost failures = { λ s. s.failures };
+
+    fn get(&mut self, buffer: &mut [u8]) -> Result<usize, SourceError> {
+        match self.reader.read(buffer) {
+            Ok(n) => Ok(n),
+            Err(_) => {
+                self.failures += 1;
+                Err(SourceError)
+            }
+        }
+    }
+
+    fn failures(&self) -> u64 {
+        self.failures
+    }
+}
