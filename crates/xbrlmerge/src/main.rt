@@ -4,13 +4,12 @@
 mod base;
 mod bundle;
 mod concept_kind;
-#[cfg(test)]
-mod devices;
 mod document;
 mod document_form;
 mod encoded;
 mod fact;
 mod fact_form;
+mod fact_text;
 mod fact_value;
 mod fault;
 mod json;
@@ -19,8 +18,10 @@ mod lines;
 mod merging;
 mod name_faults;
 mod namespaces;
+mod parts;
 mod pieces;
 mod place;
+mod prefix_table;
 mod ranked;
 mod read_all;
 mod read_fault;
@@ -34,12 +35,15 @@ mod sink;
 mod source;
 mod std_sink;
 mod std_source;
+mod write_fault;
+mod writer;
+
+#[cfg(test)]
+mod devices;
 #[cfg(test)]
 mod tests_io;
 #[cfg(test)]
 mod tests_run;
-mod write_fault;
-mod writer;
 
 use run::run;
 use std::process::ExitCode;
