@@ -3,17 +3,25 @@
 
 mod base;
 mod bundle;
-#[cfg(test)]
-mod devices;
+mod concept_kind;
 mod document;
+mod document_form;
 mod encoded;
 mod fact;
+mod fact_form;
+mod fact_text;
+mod fact_value;
 mod fault;
+mod json;
 pub mod laws;
 mod lines;
 mod merging;
+mod name_faults;
+mod namespaces;
+mod parts;
 mod pieces;
 mod place;
+mod prefix_table;
 mod ranked;
 mod read_all;
 mod read_fault;
@@ -27,10 +35,15 @@ mod sink;
 mod source;
 mod std_sink;
 mod std_source;
-#[cfg(test)]
-mod tests_io;
 mod write_fault;
 mod writer;
+
+#[cfg(test)]
+mod devices;
+#[cfg(test)]
+mod tests_io;
+#[cfg(test)]
+mod tests_run;
 
 use run::run;
 use std::process::ExitCode;
