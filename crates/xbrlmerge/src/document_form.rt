@@ -6,7 +6,7 @@ ghost use Rattle.xbrlmerge.specs.Conditions.{bindings_of, document_conditions, h
 ghost use Rattle.xbrlmerge.specs.Json.{any_in, is_unknown, is_text, object_at};
 ghost use Rattle.xbrlmerge.specs.Refusal.{first_holding};
 
-use crate::json::{has_item, has_unknown_in, is_no_array, is_no_object, object_at, within};
+use crate::json_tree::{has_item, has_unknown_in, is_no_array, is_no_object, object_at, within};
 use crate::namespaces::read_namespaces;
 use oim_names::{Aliases, Reason};
 use serde_json::Value;

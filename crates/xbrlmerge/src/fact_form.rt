@@ -8,7 +8,7 @@ ghost use Rattle.xbrlmerge.specs.Json.{any_in, any_member, is_unknown, object_at
 ghost use Rattle.xbrlmerge.specs.Names.{named, name_conditions, lacks_form, lacks_binding, lies_in_reserved, is_refused};
 ghost use Rattle.xbrlmerge.specs.Refusal.{first_holding};
 
-use crate::json::{
+use crate::json_tree::{
     has_colon, has_member, has_unknown_in, is_no_object, is_no_text, is_one_of, object_at, within,
 };
 use crate::name_faults::NameFaults;

@@ -7,7 +7,7 @@ ghost use Rattle.serde_json.specs.View.{view};
 ghost use Rattle.xbrlmerge.specs.Conditions.{value_of, whole_number, number_conditions, decimals_conditions};
 ghost use Rattle.xbrlmerge.specs.Refusal.{first_holding};
 
-use crate::json::text_at;
+use crate::json_tree::text_at;
 use oim_names::Reason;
 use oim_value::{Decimals, Fixed, read_fixed};
 use serde_json::Value;

@@ -4,6 +4,8 @@
 mod base;
 mod bundle;
 mod concept_kind;
+#[cfg(test)]
+mod devices;
 mod document;
 mod document_form;
 mod encoded;
@@ -12,7 +14,7 @@ mod fact_form;
 mod fact_text;
 mod fact_value;
 mod fault;
-mod json;
+mod json_tree;
 pub mod laws;
 mod lines;
 mod merging;
@@ -35,15 +37,12 @@ mod sink;
 mod source;
 mod std_sink;
 mod std_source;
-mod write_fault;
-mod writer;
-
-#[cfg(test)]
-mod devices;
 #[cfg(test)]
 mod tests_io;
 #[cfg(test)]
 mod tests_run;
+mod write_fault;
+mod writer;
 
 use run::run;
 use std::process::ExitCode;

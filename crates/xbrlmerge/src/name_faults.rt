@@ -6,7 +6,7 @@ ghost use Rattle.xbrlmerge.specs.Json.{any_member};
 ghost use Rattle.xbrlmerge.specs.Refusal.{first_holding};
 ghost use Rattle.xbrlmerge.specs.Names.{lacks_form, lacks_binding, lies_in_reserved, of_key};
 
-use crate::json::has_colon;
+use crate::json_tree::has_colon;
 use oim_names::{Aliases, Reason};
 use serde_json::{Map, Value};
 

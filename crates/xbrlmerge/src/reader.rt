@@ -10,7 +10,7 @@ use crate::document_form::read_info;
 use crate::fact::Fact;
 use crate::fact_form::{check_form, check_names, has_other_dimension, read_concept};
 use crate::fact_value::{read_decimals, read_number};
-use crate::json::{object_at, read_json};
+use crate::json_tree::{object_at, read_json};
 use crate::place::Place;
 use crate::refusal::Refusal;
 use crate::sheet::Sheet;

@@ -8,7 +8,7 @@ ghost use Rattle.xbrlmerge.specs.Refusal.{first_holding};
 ghost use Rattle.xbrlmerge.specs.Sheet.{form_conditions, kind_conditions, is_no_kind, some_key, listed, sheet_of, sheet_outcome};
 
 use crate::concept_kind::ConceptKind;
-use crate::json::{has_member, has_unknown_in, is_no_object, object_at, read_json};
+use crate::json_tree::{has_member, has_unknown_in, is_no_object, object_at, read_json};
 use crate::name_faults::NameFaults;
 use crate::namespaces::read_namespaces;
 use oim_names::{Aliases, Name, Reason};
