@@ -4,7 +4,7 @@ use Rattle.std.specs.declared.cmp.Ordering.{Ordering}
 use Rattle.std.specs.declared.cmp.Ordering.TheVariants.{Less, Equal, Greater}
 use Rattle.std.specs.Ordering.{nat_cmp, int_cmp, ordering_then}
 use Rattle.std.specs.Cmp.Lexicographic.{slice_cmp}
-use Rattle.oim_names.specs.QName.{QName}
+pub use Rattle.oim_names.specs.QName.{name_cmp}
 use Rattle.oim_value.specs.declared.value.Value.{Value}
 use Rattle.oim_value.specs.declared.value.Value.TheVariants.{Nil, Number, Text as AText, Name as AName}
 
@@ -14,10 +14,6 @@ decimals_cmp (Some d) (Some e) = int_cmp d e
 decimals_cmp (Some d) None = Less
 decimals_cmp None (Some e) = Greater
 decimals_cmp None None = Equal
-
--- by URI, then by local part
-abbrev pub name_cmp : QName → QName → Ordering
-name_cmp m n = ordering_then (slice_cmp nat_cmp m.uri n.uri) (slice_cmp nat_cmp m.local_part n.local_part)
 
 -- nil, numbers, texts, names
 abbrev pub kind_of : Value → ℕ
