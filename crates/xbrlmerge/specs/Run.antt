@@ -58,6 +58,7 @@ pub record StopsWithin (bytes : List ℕ) (old new : Option (List ℕ)) (written
   pub read : IsSheetOf bytes sheet
   pub front : AppendsFront old new (merged_text bytes sheet) written
 
+-- nothing was appended yet
 abbrev pub StopsBefore : Option (List ℕ) → Option (List ℕ) → ℕ → Type 0
 StopsBefore old new written = (written ≡ 0) × Appends old new []
 

@@ -112,3 +112,17 @@ impl Write for TestWriter {
         Ok(())
     }
 }
+
+/// Takes every byte, and fails to flush.
+#[derive(Clone, Copy)]
+pub struct NeverFlushed;
+
+impl Write for NeverFlushed {
+    fn write(&mut self, bytes: &[u8]) -> io::Result<usize> {
+        Ok(bytes.len())
+    }
+
+    fn flush(&mut self) -> io::Result<()> {
+        Err(fault(Then::Fails))
+    }
+}

@@ -58,8 +58,14 @@ fn words(rt: &HostRuntime) -> io::Result<Vec<String>> {
 }
 
 fn main(rt: HostRuntime) -> ExitCode {
-    let Ok(words) = words(&rt) else {
-        return ExitCode::from(3);
+    let words = match words(&rt) {
+        Ok(words) => words,
+        Err(fault) => {
+            if fault.kind() == io::ErrorKind::OutOfMemory {
+                let _ = eprintln!(rt; "out of memory");
+            }
+            return ExitCode::from(3);
+        }
     };
     let alloc = rt.alloc();
     ExitCode::from(run(alloc, &words, rt.stdin(), rt.stdout(), rt.stderr()))

@@ -1,4 +1,6 @@
-use crate::devices::{TestReader, TestWriter, Then};
+use crate::devices::{NeverFlushed, TestReader, TestWriter, Then};
+use crate::lines::print_read_fault;
+use crate::read_fault::ReadFault;
 use crate::run::run;
 use std::alloc::AllocError;
 use std::test::Fail;
@@ -351,5 +353,54 @@ fn words_are_not_taken_yet(rt: HostRuntime) -> Result<(), Fail> {
     let status = run(rt.alloc(), &[word], input, &mut out, &mut err);
     assert_eq!(rt; status, 3);
     assert!(rt; out.held().is_empty() && err.held().is_empty());
+    Ok(())
+}
+
+#[test]
+fn a_text_that_is_not_flushed_is_a_fault(rt: HostRuntime) -> Result<(), Fail> {
+    let refused = [SHEET, "\n{}\n", INFO, HUNDRED, END];
+    let bundle = joined(&rt, &refused)?;
+    let mut err = writer(&rt, ROOM)?;
+    let input = TestReader::new(&bundle, ROOM, Then::Ends);
+    let mut status = run(rt.alloc(), &[], input, NeverFlushed, &mut err);
+    if err.held() == b"out of memory\n".as_slice() {
+        tell_refused(&rt);
+        err = writer(&rt, ROOM)?;
+        status = run(rt.alloc(), &[], input, NeverFlushed, &mut err);
+    }
+    assert_eq!(rt; status, 3);
+    assert_eq!(rt; err.held(), b"device: 200 bytes written\n".as_slice());
+    Ok(())
+}
+
+#[test]
+fn a_failing_standard_error_is_passed_over(rt: HostRuntime) -> Result<(), Fail> {
+    let bundle = joined(&rt, &[SHEET, "\n{}"])?;
+    let mut out = writer(&rt, ROOM)?;
+    let mut err = writer(&rt, 3)?;
+    let input = TestReader::new(&bundle, ROOM, Then::Ends);
+    let status = run(rt.alloc(), &[], input, &mut out, &mut err);
+    if err.held() == b"out".as_slice() {
+        tell_refused(&rt);
+        return Ok(());
+    }
+    assert_eq!(rt; status, 1);
+    assert_eq!(rt; err.held(), b"rep".as_slice());
+    assert_eq!(rt; out.held().len(), 108);
+    Ok(())
+}
+
+#[test]
+fn files_that_are_not_read_have_their_line(rt: HostRuntime) -> Result<(), Fail> {
+    let rows = [
+        (ReadFault::TooLong, "file -: too long\n"),
+        (ReadFault::Device(2), "file -: cannot be read\n"),
+        (ReadFault::OutOfMemory, "out of memory\n"),
+    ];
+    for (fault, line) in rows {
+        let mut err = writer(&rt, ROOM)?;
+        print_read_fault(&mut err, "-", fault);
+        assert_eq!(rt; err.held(), line.as_bytes());
+    }
     Ok(())
 }
