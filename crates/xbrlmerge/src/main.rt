@@ -32,6 +32,8 @@ mod std_sink;
 mod std_source;
 #[cfg(test)]
 mod tests_io;
+#[cfg(test)]
+mod tests_writing;
 mod write_fault;
 mod writer;
 
