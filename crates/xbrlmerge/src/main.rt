@@ -4,8 +4,6 @@
 mod base;
 mod bundle;
 mod concept_kind;
-#[cfg(test)]
-mod devices;
 mod document;
 mod document_form;
 mod encoded;
@@ -37,12 +35,16 @@ mod sink;
 mod source;
 mod std_sink;
 mod std_source;
+mod tests_writing;
+mod write_fault;
+mod writer;
+
+#[cfg(test)]
+mod devices;
 #[cfg(test)]
 mod tests_io;
 #[cfg(test)]
 mod tests_run;
-mod write_fault;
-mod writer;
 
 use run::run;
 use std::process::ExitCode;
