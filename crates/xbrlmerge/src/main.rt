@@ -37,7 +37,11 @@ mod std_source;
 #[cfg(test)]
 mod tests_io;
 #[cfg(test)]
+mod tests_reading;
+#[cfg(test)]
 mod tests_run;
+#[cfg(test)]
+mod tests_sheet;
 mod write_fault;
 mod writer;
 
