@@ -9,7 +9,8 @@ use Rattle.oim_names.specs.declared.reason.Reason.TheVariants.{MissingConcept, U
 use Rattle.serde_json.specs.Data.{Data}
 use Rattle.serde_json.specs.Find.{get}
 use Rattle.xbrlmerge.specs.declared.fact.Fact.{Fact}
-use Rattle.xbrlmerge.specs.Conditions.{form_conditions, some_name, concept_of, kind_of, is_numeric, is_other_dimension, dimensions_of, dimension_conditions, number_conditions, decimals_conditions, fact_conditions}
+use Rattle.xbrlmerge.specs.Conditions.{form_conditions, some_name, kind_of, is_numeric, is_other_dimension, dimension_conditions, number_conditions, decimals_conditions, fact_conditions}
+use Rattle.xbrlmerge.specs.ReportParts.{concept_of, dimensions_of}
 use Rattle.xbrlmerge.specs.Json.{any_in}
 use Rattle.xbrlmerge.specs.Names.{named, name_conditions}
 use Rattle.xbrlmerge.specs.Outcome.{said_fact, fact_outcome}

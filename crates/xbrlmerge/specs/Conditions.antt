@@ -14,25 +14,11 @@ use Rattle.xbrlmerge.specs.declared.concept_kind.ConceptKind.{ConceptKind}
 use Rattle.xbrlmerge.specs.declared.concept_kind.ConceptKind.TheVariants.{Numeric, Text, Name}
 use Rattle.xbrlmerge.specs.Json.{object_at, text_at, within, members, any_in, has_member, has_item, has_colon, is_unknown, is_object, is_no_object, is_no_array, is_no_text, is_text}
 use Rattle.xbrlmerge.specs.Names.{binds_nothing, bindings_in, named, name_conditions}
+use Rattle.xbrlmerge.specs.ReportParts.{info, namespaces_of, taxonomy_of, dimensions_of, dimension, concept_of, value_of, decimals_of, whole_number}
 use Rattle.xbrlmerge.specs.Refusal.{Condition}
 use Rattle.xbrlmerge.specs.Sheet.{Sheet}
 
 -- ---- a document
-
-abbrev pub info : List ℕ → Data → Option Data
-info key tree = within (codes "documentInfo") key tree
-
-abbrev pub namespaces_of : Data → Option Members
-namespaces_of tree = option_and_then as_object (info (codes "namespaces") tree)
-
-abbrev pub bindings_of : Data → List Binding
-bindings_of tree = bindings_in (members (namespaces_of tree))
-
-abbrev pub taxonomy_of : Data → Option Items
-taxonomy_of tree = option_and_then as_array (info (codes "taxonomy") tree)
-
-abbrev pub facts_of : Data → Members
-facts_of tree = members (object_at (codes "facts") tree)
 
 abbrev pub has_other_parts : Data → Bool
 has_other_parts tree =
@@ -60,18 +46,6 @@ abbrev pub document_conditions : Data → List Condition
 document_conditions tree = shape_conditions tree ++ ((any_in binds_nothing (namespaces_of tree), Namespace) ∷ (has_item (taxonomy_of tree), TaxonomyUrl) ∷ [])
 
 -- ---- a fact
-
-abbrev pub dimensions_of : Data → Option Members
-dimensions_of fact = object_at (codes "dimensions") fact
-
-abbrev pub dimension : List ℕ → Data → Option Data
-dimension key fact = within (codes "dimensions") key fact
-
-abbrev pub concept_of : Data → Option (List ℕ)
-concept_of fact = option_and_then as_str (dimension (codes "concept") fact)
-
-abbrev pub value_of : Data → Option (List ℕ)
-value_of fact = text_at (codes "value") fact
 
 abbrev pub has_other_members : Data → Bool
 has_other_members fact =
@@ -135,9 +109,6 @@ number_conditions fact =
 abbrev pub is_whole : Data → Bool
 is_whole d = is_some (option_and_then as_i64 (as_number d)) || is_some (option_and_then as_u64 (as_number d))
 
-abbrev pub whole_number : Data → Option ℤ
-whole_number d = option_and_then as_i64 (as_number d)
-
 -- decimals are a whole number (xBRL-JSON 1.0, section 3.1.2), in a range (own)
 abbrev pub decimals_conditions : Option Data → List Condition
 decimals_conditions decimals =
@@ -148,4 +119,4 @@ decimals_conditions decimals =
 -- the conditions of a fact, in the order in which they are answered
 abbrev pub fact_conditions : Sheet → List Binding → Data → List Condition
 fact_conditions sheet bs fact =
-    form_conditions fact ++ (name_conditions (some_name fact) bs ++ (dimension_conditions sheet bs fact ++ (number_conditions fact ++ decimals_conditions (get (codes "decimals") fact))))
+    form_conditions fact ++ (name_conditions (some_name fact) bs ++ (dimension_conditions sheet bs fact ++ (number_conditions fact ++ decimals_conditions (decimals_of fact))))

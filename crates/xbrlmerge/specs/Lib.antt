@@ -7,8 +7,11 @@ pub mod Fact
 pub mod Json
 pub mod Names
 pub mod Outcome
+pub mod Parts
 pub mod Pieces
+pub mod Prefixes
 pub mod Rank
+pub mod ReportParts
 pub mod Refusal
 pub mod Run
 pub mod Sets

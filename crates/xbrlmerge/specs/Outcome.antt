@@ -12,7 +12,8 @@ use Rattle.xbrlmerge.specs.declared.fact.Fact.{Fact}
 use Rattle.xbrlmerge.specs.declared.place.Place.{Place}
 use Rattle.xbrlmerge.specs.declared.place.Place.TheVariants.{Document as AtDocument, Fact as AtFact}
 use Rattle.xbrlmerge.specs.declared.refusal.Refusal.{Refusal}
-use Rattle.xbrlmerge.specs.Conditions.{bindings_of, facts_of, concept_of, value_of, whole_number, document_conditions, fact_conditions}
+use Rattle.xbrlmerge.specs.Conditions.{document_conditions, fact_conditions}
+use Rattle.xbrlmerge.specs.ReportParts.{bindings_of, facts_of, concept_of, value_of, whole_number}
 use Rattle.xbrlmerge.specs.Document.{Document}
 use Rattle.xbrlmerge.specs.Json.{json, values}
 use Rattle.xbrlmerge.specs.Names.{named}

@@ -2,7 +2,8 @@ ghost use Rattle.std.specs.Prelude.{◌≡◌, ◌⊎◌, ◌||◌, not, None, S
 ghost use Rattle.std.specs.Result.{result_err};
 ghost use Rattle.serde_json.specs.Find.{as_object, as_str};
 ghost use Rattle.serde_json.specs.View.{view};
-ghost use Rattle.xbrlmerge.specs.Conditions.{bindings_of, document_conditions, has_other_parts, root_keys, info_keys, document_type, info, shape_conditions};
+ghost use Rattle.xbrlmerge.specs.Conditions.{document_conditions, has_other_parts, root_keys, info_keys, document_type, shape_conditions};
+ghost use Rattle.xbrlmerge.specs.ReportParts.{bindings_of, info};
 ghost use Rattle.xbrlmerge.specs.Json.{any_in, is_unknown, is_text, object_at};
 ghost use Rattle.xbrlmerge.specs.Refusal.{first_holding};
 

@@ -4,7 +4,8 @@ ghost use Rattle.std.specs.Result.{result_err};
 ghost use Rattle.oim_value.specs.Units.{units_of};
 ghost use Rattle.serde_json.specs.Find.{get};
 ghost use Rattle.serde_json.specs.View.{view};
-ghost use Rattle.xbrlmerge.specs.Conditions.{value_of, whole_number, number_conditions, decimals_conditions};
+ghost use Rattle.xbrlmerge.specs.Conditions.{number_conditions, decimals_conditions};
+ghost use Rattle.xbrlmerge.specs.ReportParts.{value_of, whole_number};
 ghost use Rattle.xbrlmerge.specs.Refusal.{first_holding};
 
 use crate::json::text_at;

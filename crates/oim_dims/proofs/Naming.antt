@@ -1,0 +1,147 @@
+-- The measures that the pieces of a unit name.
+use Rattle.std.proofs.Common.{◌≡◌, ◌≢◌, ℕ, zero, suc, ◌<◌, Bool, true, false, cond, List, [], ◌∷◌, length, drop, get_or, refl, sym, ap, arith}
+use Rattle.std.specs.Prelude.{Option, Some, None, All, IsTrue, not, ◌||◌, if◌then◌else◌, ◌==◌}
+use Rattle.std.proofs.lemmas.Bool.Decides.{nat_tests}
+use Rattle.std.specs.Option.{option_map_or}
+use Rattle.std.specs.List.{AllZip, list_all, list_any, slice_split, onto_first}
+use Rattle.std.proofs.lemmas.List.Elements.{All-cons}
+use Rattle.oim_names.specs.QName.{QName, is_name, is_part, prefix_part, local_part}
+use Rattle.oim_names.specs.Bindings.{Binding}
+use Rattle.oim_names.specs.Reasons.{entry_of}
+use Rattle.oim_names.specs.Expansion.{Expands, NamesNothing, name_refusal, is_unbound, is_reserved}
+use Rattle.oim_names.specs.declared.reason.Reason.{Reason}
+use Rattle.oim_names.specs.declared.reason.Reason.TheVariants.{OutOfMemory, NameForm, UnboundPrefix, ReservedNamespace, UnitForm}
+use Rattle.oim_dims.specs.Unit.{is_mark, is_star, is_piece, is_unit_text, is_refused, some_piece, unit_refusal, numerator_pieces, denominator_pieces, IsMeasure}
+use Rattle.oim_dims.proofs.Digits.{both_true}
+
+-- the refusal of a name, by its three tests
+abbrev first_of_three : Bool → Bool → Bool → Option Reason
+first_of_three form unbound reserved =
+    if not form then Some NameForm else (if unbound then Some UnboundPrefix else (if reserved then Some ReservedNamespace else None))
+
+abbrev is_it : Reason → Option Reason → Bool
+is_it r o = option_map_or (λ e. (entry_of e).number == (entry_of r).number) o false
+
+none_of_three : (a b c : Bool) → is_it NameForm (first_of_three a b c) ≡ false → is_it UnboundPrefix (first_of_three a b c) ≡ false → is_it ReservedNamespace (first_of_three a b c) ≡ false → first_of_three a b c ≡ None
+none_of_three false b c h k l = cc
+none_of_three true true c h k l = cc
+none_of_three true false true h k l = cc
+none_of_three true false false h k l = refl
+
+-- a piece with none of the three is named
+piece_named : (bs : List Binding) (p : List ℕ) → is_refused bs NameForm p ≡ false → is_refused bs UnboundPrefix p ≡ false → is_refused bs ReservedNamespace p ≡ false → name_refusal bs p ≡ None
+piece_named bs p h k l = none_of_three (is_name p) (is_unbound bs p) (is_reserved bs p) h k l
+
+neither : (a b : Bool) → (a || b) ≡ false → (a ≡ false) × (b ≡ false)
+neither true b h = cc
+neither false b h = (refl, h)
+
+all_named : (bs : List Binding) (ps : List (List ℕ)) → list_any (is_refused bs NameForm) ps ≡ false → list_any (is_refused bs UnboundPrefix) ps ≡ false → list_any (is_refused bs ReservedNamespace) ps ≡ false → All (λ p. name_refusal bs p ≡ None) ps
+all_named bs [] h k l = λ j d lt. absurd (omega arith)
+all_named bs (p ∷ ps) h k l =
+    let a = neither (is_refused bs NameForm p) (list_any (is_refused bs NameForm) ps) h in
+    let b = neither (is_refused bs UnboundPrefix p) (list_any (is_refused bs UnboundPrefix) ps) k in
+    let c = neither (is_refused bs ReservedNamespace p) (list_any (is_refused bs ReservedNamespace) ps) l in
+    All-cons (λ q. name_refusal bs q ≡ None) p ps (piece_named bs p a.0 b.0 c.0) (all_named bs ps a.1 b.1 c.1)
+
+-- what a text that is not refused has
+pub record IsNamed (bs : List Binding) (t : List ℕ) : Type 0 where
+  pub form : is_unit_text t ≡ true
+  pub numerators : All (λ p. name_refusal bs p ≡ None) (numerator_pieces t)
+  pub denominators : All (λ p. name_refusal bs p ≡ None) (denominator_pieces t)
+
+-- four tests, the first of which holds
+abbrev first_of_four : Bool → Bool → Bool → Bool → Option Reason
+first_of_four form named unbound reserved =
+    if not form then Some UnitForm else (if named then Some NameForm else (if unbound then Some UnboundPrefix else (if reserved then Some ReservedNamespace else None)))
+
+none_of_four : (a b c d : Bool) → first_of_four a b c d ≡ None → (a ≡ true) × (b ≡ false) × (c ≡ false) × (d ≡ false)
+none_of_four false b c d h = cc
+none_of_four true true c d h = cc
+none_of_four true false true d h = cc
+none_of_four true false false true h = cc
+none_of_four true false false false h = (refl, refl, refl, refl)
+
+pub unit_named : (bs : List Binding) (t : List ℕ) → unit_refusal bs t ≡ None → IsNamed bs t
+unit_named bs t h =
+    let e = none_of_four (is_unit_text t) (some_piece (is_refused bs NameForm) t) (some_piece (is_refused bs UnboundPrefix) t) (some_piece (is_refused bs ReservedNamespace) t) h in
+    let a = neither _ _ e.1 in
+    let b = neither _ _ e.2 in
+    let c = neither _ _ e.3 in
+    record { form = e.0; numerators = all_named bs (numerator_pieces t) a.0 b.0 c.0; denominators = all_named bs (denominator_pieces t) a.1 b.1 c.1 }
+
+reserved_refused : (b : Bool) → first_of_three true b true ≡ None → ReservedNamespace ≡ OutOfMemory
+reserved_refused true h = cc
+reserved_refused false h = cc
+
+-- the only error of a name that is not refused
+pub only_memory : (bs : List Binding) (p : List ℕ) (e : Reason) → name_refusal bs p ≡ None → NamesNothing is_name bs p e → e ≡ OutOfMemory
+only_memory bs p NameForm none h = cc (rw h at none)
+only_memory bs p UnboundPrefix none h = let form : is_name p ≡ true = h.0 in let free : is_unbound bs p ≡ true = h.1 in cc (rw (form, free) at none)
+only_memory bs p ReservedNamespace none h = let form : is_name p ≡ true = h.0 in let reserved : is_reserved bs p ≡ true = h.1 in reserved_refused (is_unbound bs p) (rw (form, reserved) at none)
+only_memory bs p OutOfMemory none h = refl
+only_memory bs p _ none h = absurd h
+
+-- a part of a text with no mark has none
+no_mark_after : (n : ℕ) (p : List ℕ) → list_any is_mark p ≡ false → list_any is_mark (drop n p) ≡ false
+no_mark_after zero p h = h
+no_mark_after (suc n) [] h = refl
+no_mark_after (suc n) (c ∷ cs) h = no_mark_after n cs (neither (is_mark c) (list_any is_mark cs) h).1
+
+not_true : (b : Bool) → not b ≡ true → b ≡ false
+not_true true h = cc
+not_true false h = refl
+
+measure_of_piece : (bs : List Binding) (p : List ℕ) (n : QName) → Expands bs p n → is_piece p ≡ true → IsMeasure n
+measure_of_piece bs p n e h =
+    let parts = both_true (not (length p == 0)) (not (list_any is_mark p)) h in
+    let plain : list_any is_mark p ≡ false = not_true (list_any is_mark p) parts.1 in
+    let form : IsTrue (is_part (local_part p)) = (both_true (is_part (prefix_part p)) (is_part (local_part p)) e.form).1 in
+    record {
+      allowed = e.allowed;
+      form = rw e.local_part form;
+      plain = rw e.local_part (no_mark_after _ p plain);
+    }
+
+-- each piece names a measure
+pub measures_of_pieces : (bs : List Binding) (ps : List (List ℕ)) (ns : List QName) → AllZip (Expands bs) ps ns → list_all is_piece ps ≡ true → All IsMeasure ns
+measures_of_pieces bs [] [] z h = λ j d lt. absurd (omega arith)
+measures_of_pieces bs [] (n ∷ ns) z h = absurd z
+measures_of_pieces bs (p ∷ ps) [] z h = absurd z
+measures_of_pieces bs (p ∷ ps) (n ∷ ns) z h =
+    let b = both_true (is_piece p) (list_all is_piece ps) h in
+    All-cons IsMeasure n ns (measure_of_piece bs p n z.0 b.0) (measures_of_pieces bs ps ns z.1 b.1)
+
+-- a side has a piece
+onto_some : (c : ℕ) (ps : List (List ℕ)) → 0 < length (onto_first c ps)
+onto_some c [] = omega arith
+onto_some c (p ∷ ps) = omega arith
+
+split_some : (s : List ℕ) → 0 < length (slice_split is_star s)
+split_some [] = omega arith
+split_some (c ∷ cs) = elim (is_star c) as (λ b. 0 < length (cond b ([] ∷ slice_split is_star cs) (onto_first c (slice_split is_star cs)))) [ true ↦ omega arith | false ↦ onto_some c (slice_split is_star cs) ]
+
+long : (bs : List Binding) (ps : List (List ℕ)) (ns : List QName) → AllZip (Expands bs) ps ns → length ns ≡ length ps
+long bs [] [] z = refl
+long bs [] (n ∷ ns) z = absurd z
+long bs (p ∷ ps) [] z = absurd z
+long bs (p ∷ ps) (n ∷ ns) z = omega (arith, long bs ps ns z.1)
+
+pub side_some : (bs : List Binding) (s : List ℕ) (ns ms : List QName) → AllZip (Expands bs) (slice_split is_star s) ns → length ms ≡ length ns → ms ≢ []
+side_some bs s ns ms z same e = let none : length ms ≡ 0 = ap length e in omega (arith, long bs (slice_split is_star s) ns z, split_some s)
+
+-- lists of at most one name
+pub alone_is : (ns : List QName) (n : QName) → length ns ≡ 1 → n ≡ get_or ns 0 n → ns ≡ n ∷ []
+alone_is [] n one h = absurd (omega arith)
+alone_is (m ∷ []) n one h = ap (λ x. x ∷ []) (sym h)
+alone_is (m ∷ k ∷ ns) n one h = absurd (omega arith)
+
+pub empty_is : (ns : List QName) → length ns ≡ 0 → ns ≡ []
+empty_is [] h = refl
+empty_is (n ∷ ns) h = absurd (omega arith)
+
+pub head_is : (m n : QName) → m ∷ [] ≡ n ∷ [] → m ≡ n
+head_is m n h = cc
+
+pub zero_is : (n : ℕ) (b : Bool) → b ≡ (n == 0) → b ≡ true → n ≡ 0
+zero_is n b h e = grind (arith, nat_tests)

@@ -1,0 +1,12 @@
+use Rattle.std.proofs.Common.{◌≡◌, drop, true}
+use Rattle.std.specs.List.{list_all}
+use Rattle.std.specs.Char.{is_ascii_digit}
+use Rattle.std.specs.Str.Parse.{digits_value_after}
+use Rattle.oim_dims.proofs.moment.number_of.Given as goal
+
+-- the number so far, and then the digits that are left, give the number of all
+abbrev pub invariant-loop-c : goal.invariant-loop-c
+invariant-loop-c l = record {
+  told : digits_value_after 10 l.number (drop l.c-index l.digits) ≡ digits_value_after 10 0 l.digits;
+  digits : list_all is_ascii_digit (drop l.c-index l.digits) ≡ true;
+}

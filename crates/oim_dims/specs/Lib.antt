@@ -1,0 +1,6 @@
+pub mod DateTime
+pub mod Period
+pub mod Language
+pub mod Unit
+pub mod Ties
+pub mod DimensionSet

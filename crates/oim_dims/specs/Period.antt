@@ -1,0 +1,42 @@
+-- Periods (OIM Common 1.0, the core dimension period; xBRL-JSON 1.0, periods as one date-time or two).
+use Rattle.std.specs.Prelude.{ℕ, ℤ, Bool, ◌==◌, int_lt, if◌then◌else◌, List, ◌∷◌, ◌++◌, Option, Some, None, Result, Ok, Err, ⊤, ◌<ℤ◌}
+use Rattle.std.specs.Ordering.{int_eq}
+use Rattle.std.specs.List.{list_any, before_first, after_first}
+use Rattle.oim_names.specs.declared.reason.Reason.{Reason}
+use Rattle.oim_names.specs.declared.reason.Reason.TheVariants.{PeriodForm, PeriodOrder}
+use Rattle.oim_dims.specs.declared.period.Period.{Period}
+use Rattle.oim_dims.specs.declared.period.Period.TheVariants.{Forever, Instant, Duration}
+use Rattle.oim_dims.specs.DateTime.{moment_of, moment_text, IsMoment}
+
+abbrev pub is_slash : ℕ → Bool
+is_slash c = c == 47
+
+-- the parts round the first `/`, each of them the whole text where there is none
+abbrev pub start_part : List ℕ → List ℕ
+start_part t = before_first is_slash t
+
+abbrev pub end_part : List ℕ → List ℕ
+end_part t = if list_any is_slash t then after_first is_slash t else t
+
+-- the period from one moment to another, which does not lie before it (own: the instant where both are one)
+abbrev pub from_to : Option ℤ → Option ℤ → Result Period Reason
+from_to None end = Err PeriodForm
+from_to (Some start) None = Err PeriodForm
+from_to (Some start) (Some end) =
+    if int_lt end start then Err PeriodOrder else (if int_eq start end then Ok (Instant start) else Ok (Duration start end))
+
+-- the period of a text: one date-time, or two with one `/`
+abbrev pub period_of : List ℕ → Result Period Reason
+period_of t = from_to (moment_of (start_part t)) (moment_of (end_part t))
+
+-- how a period is written; a fact that holds forever writes none (own)
+abbrev pub period_text : Period → Option (List ℕ)
+period_text Forever = None
+period_text (Instant m) = Some (moment_text m)
+period_text (Duration start end) = Some (moment_text start ++ 47 ∷ moment_text end)
+
+-- a period of moments, of which a duration ends after its start
+abbrev pub IsPeriod : Period → Type 0
+IsPeriod Forever = ⊤
+IsPeriod (Instant m) = IsMoment m
+IsPeriod (Duration start end) = IsMoment start × IsMoment end × (start <ℤ end)

@@ -1,0 +1,131 @@
+-- Units (OIM Common 1.0, the core dimension unit; xBRL-JSON 1.0, units as texts).
+use Rattle.std.specs.Prelude.{◌≡◌, ◌≢◌, ℕ, ◌-◌, Bool, false, not, ◌&&◌, ◌||◌, ◌==◌, if◌then◌else◌, List, [], ◌∷◌, ◌++◌, length, slice_index, slice_range, map, Option, Some, None, All, IsTrue, codes}
+use Rattle.std.specs.List.{AllZip, list_all, list_any, slice_split, before_first, after_first, join_with_byte}
+use Rattle.std.specs.List.Sorted.{IsPermutation, IsSorted}
+use Rattle.std.specs.Option.{option_map_or, unwrap_or}
+use Rattle.oim_names.specs.QName.{QName, is_part}
+use Rattle.oim_names.specs.Bindings.{Binding, prefix_of}
+use Rattle.oim_names.specs.Expansion.{Expands, name_refusal, reserved_uri}
+use Rattle.oim_names.specs.Reasons.{entry_of}
+use Rattle.oim_names.specs.declared.reason.Reason.{Reason}
+use Rattle.oim_value.specs.ValueOrder.{name_cmp}
+use Rattle.oim_names.specs.declared.reason.Reason.TheVariants.{UnitForm, NameForm, UnboundPrefix, ReservedNamespace}
+
+-- the characters that a unit is built with: ( ) * /
+abbrev pub is_star : ℕ → Bool
+is_star c = c == 42
+
+abbrev pub is_slash : ℕ → Bool
+is_slash c = c == 47
+
+abbrev pub is_mark : ℕ → Bool
+is_mark c = c == 40 || c == 41 || c == 42 || c == 47
+
+-- a side without the parentheses round the whole of it
+abbrev pub inner : List ℕ → List ℕ
+inner s = if slice_index s 0 == 40 && slice_index s (length s - 1) == 41 then slice_range s 1 (length s - 1) else s
+
+-- what stands round the `*` of a side
+abbrev pub pieces : List ℕ → List (List ℕ)
+pieces s = slice_split is_star (inner s)
+
+-- the pieces of both sides: before the first `/`, and after it, where there is one
+unfoldable pub numerator_pieces : List ℕ → List (List ℕ)
+numerator_pieces t = pieces (before_first is_slash t)
+
+unfoldable pub denominator_pieces : List ℕ → List (List ℕ)
+denominator_pieces t = if list_any is_slash t then pieces (after_first is_slash t) else []
+
+-- a test of each piece of both sides, and of some piece
+abbrev pub each_piece : (List ℕ → Bool) → List ℕ → Bool
+each_piece p t = list_all p (numerator_pieces t) && list_all p (denominator_pieces t)
+
+abbrev pub some_piece : (List ℕ → Bool) → List ℕ → Bool
+some_piece p t = list_any p (numerator_pieces t) || list_any p (denominator_pieces t)
+
+-- some characters, none of which a unit is built with
+abbrev pub is_piece : List ℕ → Bool
+is_piece p = not (length p == 0) && not (list_any is_mark p)
+
+-- the form of a unit: a side, or two with one `/`, and sides of pieces with `*` between them (own: with or without parentheses)
+abbrev pub is_unit_text : List ℕ → Bool
+is_unit_text t = each_piece is_piece t
+
+-- the measures of a unit, as multisets: each list has them in any order
+pub record Measures : Type 0 where
+  pub numerators : List QName
+  pub denominators : List QName
+
+-- the pieces name these measures, each as often
+pub record NamesEach (bs : List Binding) (ps : List (List ℕ)) (names : List QName) : Type 0 where
+  pub spelled : List QName
+  pub expands : AllZip (Expands bs) ps spelled
+  pub same : IsPermutation spelled names
+
+pub record HasMeasures (bs : List Binding) (t : List ℕ) (m : Measures) : Type 0 where
+  pub form : IsTrue (is_unit_text t)
+  pub numerators : NamesEach bs (numerator_pieces t) m.numerators
+  pub denominators : NamesEach bs (denominator_pieces t) m.denominators
+
+-- the measure of a number without a unit (XBRL 2.1, section 4.8.2)
+abbrev pub pure_name : QName
+pure_name = record { uri = codes "http://www.xbrl.org/2003/instance"; local_part = codes "pure" }
+
+abbrev pub pure_alone : Measures
+pure_alone = record { numerators = pure_name ∷ []; denominators = [] }
+
+-- the unit of a text under these bindings; `pure` alone is none (own)
+abbrev pub UnitOf : List Binding → List ℕ → Option Measures → Type 0
+UnitOf bs t None = HasMeasures bs t pure_alone
+UnitOf bs t (Some m) = HasMeasures bs t m × (m ≢ pure_alone)
+
+-- whether this is why a piece is no name
+abbrev pub is_refused : List Binding → Reason → List ℕ → Bool
+is_refused bs r p = option_map_or (λ e. (entry_of e).number == (entry_of r).number) (name_refusal bs p) false
+
+-- why a text is no unit, the first that holds: its form, and then of any piece its form, its prefix, its namespace
+abbrev pub unit_refusal : List Binding → List ℕ → Option Reason
+unit_refusal bs t =
+    if not (is_unit_text t) then Some UnitForm else (
+    if some_piece (is_refused bs NameForm) t then Some NameForm else (
+    if some_piece (is_refused bs UnboundPrefix) t then Some UnboundPrefix else (
+    if some_piece (is_refused bs ReservedNamespace) t then Some ReservedNamespace else None)))
+
+-- a measure that a unit can be spelled with
+pub record IsMeasure (n : QName) : Type 0 where
+  pub allowed : n.uri ≢ reserved_uri
+  pub form : IsTrue (is_part n.local_part)
+  pub plain : list_any is_mark n.local_part ≡ false
+
+-- what each unit is: sorted measures, a numerator among them, and not `pure` alone
+pub record IsUnit (m : Measures) : Type 0 where
+  pub numerators : IsSorted name_cmp m.numerators
+  pub denominators : IsSorted name_cmp m.denominators
+  pub multiplied : All IsMeasure m.numerators
+  pub divided : All IsMeasure m.denominators
+  pub some : m.numerators ≢ []
+  pub unit : m ≢ pure_alone
+
+-- whether a measure can be written: its URI has a prefix, and the first of them has no character that a unit is built with
+abbrev pub is_writable : List Binding → QName → Bool
+is_writable bs n = option_map_or (λ p. not (list_any is_mark p)) (prefix_of bs n.uri) false
+
+abbrev pub can_write : List Binding → Measures → Bool
+can_write bs m = list_all (is_writable bs) m.numerators && list_all (is_writable bs) m.denominators
+
+-- a measure, and measures with `*` between them
+abbrev pub measure_text : List Binding → QName → List ℕ
+measure_text bs n = unwrap_or (prefix_of bs n.uri) [] ++ 58 ∷ n.local_part
+
+abbrev pub product_text : List Binding → List QName → List ℕ
+product_text bs ns = join_with_byte 42 (map (measure_text bs) ns)
+
+-- a side beside another, in parentheses where it has several measures
+abbrev pub side_text : List Binding → List QName → List ℕ
+side_text bs ns = if length ns == 1 then product_text bs ns else 40 ∷ product_text bs ns ++ 41 ∷ []
+
+-- how a unit is written (xBRL-JSON 1.0)
+unfoldable pub unit_text : List Binding → Measures → List ℕ
+unit_text bs m =
+    if length m.denominators == 0 then product_text bs m.numerators
+    else side_text bs m.numerators ++ 47 ∷ side_text bs m.denominators

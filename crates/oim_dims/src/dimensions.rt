@@ -1,0 +1,205 @@
+ghost use Rattle.std.specs.Prelude.{◌≡◌, ◌≤◌, ◌⊎◌, ◌↔◌, [], true, None, Some, length, IsTrue, IfErr, IfSome, OnOk, OnErr};
+ghost use Rattle.std.specs.List.{insert};
+ghost use Rattle.std.specs.Option.{option_copied};
+ghost use Rattle.oim_dims.specs.declared.period.Period.TheVariants.{Forever};
+ghost use Rattle.oim_dims.specs.declared.member.Member.{Member as AMember};
+ghost use Rattle.oim_dims.specs.DimensionSet.{rises, has_name, with_member};
+
+use crate::list::Sequence;
+use crate::member::Member;
+use crate::period::Period;
+use crate::unit::Unit;
+use oim_names::{Copied, Key, Name, Reason, Text};
+use std::alloc::{AllocError, Global};
+use std::cmp::Ordering;
+use std::marker::Model;
+
+/// A dimension set (OIM Common 1.0): the core dimensions, and the members of taxonomy-defined
+/// dimensions in the order of names, each name once. Fields are compared in this order, absent
+/// before present.
+#[derive(Debug, Drop, PartialEq, Eq, PartialOrd, Ord)]
+pub struct Dimensions {
+    concept: Name,
+    entity: Option<Name>,
+    period: Period,
+    unit: Option<Unit>,
+    language: Option<Text>,
+    members: Sequence<(Name, Member)>,
+}
+
+impl Model for Dimensions {
+    ghost use Rattle.std.specs.Prelude.{◌≡◌, true};
+    ghost use Rattle.oim_dims.specs.DimensionSet.{DimensionSet, rises};
+
+    ghost Value = { DimensionSet };
+
+    ghost view = { λ a. record { concept = a.concept; entity = a.entity; period = a.period; unit = a.unit; language = a.language; members = a.members } };
+
+    ghost invariant = { λ a. rises a.members ≡ true };
+
+    ghost inverse = { λ d. record { concept = d.concept; entity = d.entity; period = d.period; unit = d.unit; language = d.language; members = d.members } };
+}
+
+impl Dimensions {
+    /// The dimensions of a fact that names its concept alone: it holds forever. Later calls take
+    /// their memory from `alloc`.
+    pub fn new(alloc: Global, concept: Name) -> Dimensions
+        ensures { result ≡ record { concept = concept; entity = None; period = Forever; unit = None; language = None; members = [] } }
+    {
+        Dimensions {
+            concept,
+            entity: None,
+            period: Period::Forever,
+            unit: None,
+            language: None,
+            members: Sequence::new(Vec::new(alloc)),
+        }
+    }
+
+    /// What is reported on.
+    pub fn concept(&self) -> &Name
+        ensures { result.now ≡ self.now.concept }
+    {
+        &self.concept
+    }
+
+    /// Who reports, or is reported on: the URI of a scheme, and an identifier.
+    pub fn entity(&self) -> Option<&Name>
+        ensures { option_copied result ≡ self.now.entity }
+    {
+        self.entity.as_ref()
+    }
+
+    /// When the fact holds.
+    pub fn period(&self) -> Period
+        ensures { result ≡ self.now.period }
+    {
+        self.period
+    }
+
+    /// What a number is counted in.
+    pub fn unit(&self) -> Option<&Unit>
+        ensures { option_copied result ≡ self.now.unit }
+    {
+        self.unit.as_ref()
+    }
+
+    /// The language of a text, in lower case.
+    pub fn language(&self) -> Option<&Text>
+        ensures { option_copied result ≡ self.now.language }
+    {
+        self.language.as_ref()
+    }
+
+    /// The taxonomy-defined dimensions with their members, in the order of names.
+    pub fn members(&self) -> &[(Name, Member)]
+        ensures members { result.now ≡ self.now.members }
+        ensures sorted { IsTrue (rises self.now.members) }
+    {
+        self.members.as_slice()
+    }
+
+    /// Sets the entity.
+    pub fn set_entity(&mut self, entity: Name)
+        ensures { self.new ≡ record self.old { entity = Some entity } }
+    {
+        self.entity = Some(entity);
+    }
+
+    /// Sets the period.
+    pub fn set_period(&mut self, period: Period)
+        ensures { self.new ≡ record self.old { period = period } }
+    {
+        self.period = period;
+    }
+
+    /// Sets the unit, or none.
+    pub fn set_unit(&mut self, unit: Option<Unit>)
+        ensures { self.new ≡ record self.old { unit = unit } }
+    {
+        self.unit = unit;
+    }
+
+    /// Sets the language.
+    pub fn set_language(&mut self, language: Text)
+        ensures { self.new ≡ record self.old { language = Some language } }
+    {
+        self.language = Some(language);
+    }
+
+    /// Adds the member of a taxonomy-defined dimension. After an error nothing has changed.
+    ///
+    /// # Errors
+    ///
+    /// `DimensionValue` exactly where the dimension is there; `OutOfMemory`.
+    pub fn add(&mut self, name: Name, member: Member) -> Result<(), Reason>
+        ensures ok { OnOk result (self.new ≡ record self.old { members = with_member name member self.old.members }) }
+        ensures refused { (result ≡ Err Reason.DimensionValue) ↔ IsTrue (has_name name self.old.members) }
+        ensures errors { IfErr result (λ e. (e ≡ Reason.DimensionValue) ⊎ (e ≡ Reason.OutOfMemory)) }
+        ensures err { OnErr result (self.new ≡ self.old) }
+    {
+        match place_of(self.members.as_slice(), &name) {
+            Some(place) => match self.members.insert(place, (name, member)) {
+                Ok(()) => Ok(()),
+                Err(_) => Err(Reason::OutOfMemory),
+            },
+            None => Err(Reason::DimensionValue),
+        }
+    }
+}
+
+// Where the name goes, or `None` where it is there.
+fn place_of(members: &[(Name, Member)], name: &Name) -> Option<usize>
+    requires { rises members.now ≡ true }
+    ensures there { (result ≡ None) ↔ IsTrue (has_name name.now members.now) }
+    ensures bound { IfSome result (λ place. place ≤ length members.now) }
+    ensures place { IfSome result (λ place. (m : AMember) → insert members.now place (name.now, m) ≡ with_member name.now m members.now) }
+{
+    for (i, known) in members.iter().enumerate() {
+        match name.cmp(&known.0) {
+            Ordering::Less => return Some(i),
+            Ordering::Equal => return None,
+            Ordering::Greater => {}
+        }
+    }
+    Some(members.len())
+}
+
+impl Copied for Dimensions {
+    fn copied(&self, alloc: Global) -> Result<Self, AllocError> {
+        Ok(Dimensions {
+            concept: self.concept.copied(alloc)?,
+            entity: Copied::copied(&self.entity, alloc)?,
+            period: self.period,
+            unit: Copied::copied(&self.unit, alloc)?,
+            language: Copied::copied(&self.language, alloc)?,
+            members: self.members.copied(alloc)?,
+        })
+    }
+}
+
+impl Key for Dimensions {
+    ghost use Rattle.std.specs.FinMap.{slice_cmp-IsAntisymmetric};
+    ghost use Rattle.std.proofs.lemmas.Map.Lookups.{exact_pairs, exact_bytes};
+    ghost use Rattle.oim_names.specs.Exact.{exact_option};
+    ghost use Rattle.oim_names.specs.QName.{exact_name};
+    ghost use Rattle.oim_value.specs.Ties.{both_tie};
+    ghost use Rattle.oim_dims.specs.Ties.{exact_measures};
+    ghost use Rattle.oim_dims.specs.contracts.period.PeriodKey.TheImpl.Laws.{exact-law as exact_period};
+    ghost use Rattle.oim_dims.specs.contracts.member.MemberKey.TheImpl.Laws.{exact-law as exact_member};
+
+    ghost exact = { λ x y h.
+        let concept = both_tie _ _ h in
+        let entity = both_tie _ _ concept.1 in
+        let period = both_tie _ _ entity.1 in
+        let unit = both_tie _ _ period.1 in
+        let language = both_tie _ _ unit.1 in
+        λ i. record {
+          concept = exact_name x.concept y.concept concept.0 i;
+          entity = exact_option exact_name x.entity y.entity entity.0 i;
+          period = exact_period x.period y.period period.0 i;
+          unit = exact_option exact_measures x.unit y.unit unit.0 i;
+          language = exact_option exact_bytes x.language y.language language.0 i;
+          members = slice_cmp-IsAntisymmetric (exact_pairs _ _ exact_name exact_member) x.members y.members language.1 i;
+        } };
+}

@@ -1,0 +1,69 @@
+ghost use Rattle.std.specs.Prelude.{◌≡◌, ◌⊎◌, ◌↔◌, IsTrue, IfOk, IfErr};
+ghost use Rattle.std.specs.Str.{str_to_ascii_lowercase};
+ghost use Rattle.std.specs.List.{list_all, slice_split, before_first};
+ghost use Rattle.std.specs.Char.{is_ascii_alphabetic, is_ascii_alphanumeric};
+ghost use Rattle.oim_dims.specs.Language.{is_language, is_group, is_hyphen};
+
+use oim_names::{Reason, Text};
+use std::alloc::Global;
+
+/// The language of a text, in ASCII lower case: groups of one to eight ASCII letters or digits with
+/// `-` between them, the first of letters (XML Schema Part 2, section 3.3.3).
+///
+/// # Errors
+///
+/// `LanguageForm` exactly where the text has not the form; `OutOfMemory`.
+pub fn read_language(alloc: Global, text: &str) -> Result<Text, Reason>
+    ensures language { IfOk result (λ language. language ≡ str_to_ascii_lowercase text.now) }
+    ensures form { (result ≡ Err Reason.LanguageForm) ↔ ¬ (IsTrue (is_language text.now)) }
+    ensures errors { IfErr result (λ e. (e ≡ Reason.LanguageForm) ⊎ (e ≡ Reason.OutOfMemory)) }
+{
+    if !is_language(text) {
+        return Err(Reason::LanguageForm);
+    }
+    let mut lower = String::from_str(alloc, text)?;
+    lower.make_ascii_lowercase();
+    Ok(Text::new(alloc, lower.as_str())?)
+}
+
+fn is_language(text: &str) -> bool
+    ensures { result ≡ is_language text.now }
+{
+    are_groups(text) && are_letters(first_group(text))
+}
+
+fn are_groups(text: &str) -> bool
+    ensures { result ≡ list_all is_group (slice_split is_hyphen text.now) }
+{
+    text.split('-').all(|group| is_group(group))
+}
+
+fn is_group(group: &str) -> bool
+    ensures { result ≡ is_group group.now }
+{
+    if group.is_empty() || group.len() > 8 {
+        return false;
+    }
+    are_letters_or_digits(group.as_bytes())
+}
+
+fn are_letters_or_digits(text: &[u8]) -> bool
+    ensures { result ≡ list_all is_ascii_alphanumeric text.now }
+{
+    text.iter().all(|c| c.is_ascii_alphanumeric())
+}
+
+fn first_group(text: &str) -> &[u8]
+    ensures { result.now ≡ before_first is_hyphen text.now }
+{
+    match text.split_once('-') {
+        Some((first, _)) => first.as_bytes(),
+        None => text.as_bytes(),
+    }
+}
+
+fn are_letters(text: &[u8]) -> bool
+    ensures { result ≡ list_all is_ascii_alphabetic text.now }
+{
+    text.iter().all(|c| c.is_ascii_alphabetic())
+}

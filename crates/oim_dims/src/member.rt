@@ -1,0 +1,40 @@
+ghost use Rattle.std.specs.Prelude.{◌≡◌, IfOk};
+
+use oim_names::{Copied, Key, Name, Text};
+use std::alloc::{AllocError, Global};
+
+/// What a taxonomy-defined dimension has. Members are ordered by kind as they stand here; texts by
+/// bytes.
+#[derive(Debug, Drop, PartialEq, Eq, PartialOrd, Ord)]
+pub enum Member {
+    /// A typed dimension whose value is nil.
+    Nil,
+    /// The value of a typed dimension, as it was spelled.
+    Text(Text),
+    /// The member of an explicit dimension.
+    Name(Name),
+}
+
+impl Copied for Member {
+    fn copied(&self, alloc: Global) -> Result<Self, AllocError> {
+        Ok(match self {
+            Member::Nil => Member::Nil,
+            Member::Text(text) => Member::Text(text.copied(alloc)?),
+            Member::Name(name) => Member::Name(name.copied(alloc)?),
+        })
+    }
+}
+
+impl Key for Member {
+    ghost use Rattle.std.specs.Prelude.{refl};
+    ghost use Rattle.std.proofs.Common.{ap};
+    ghost use Rattle.std.proofs.lemmas.Map.Lookups.{exact_bytes};
+    ghost use Rattle.oim_names.specs.QName.{exact_name};
+    ghost use Rattle.oim_dims.specs.declared.member.Member.TheVariants.{Nil, Text as AText, Name as AName};
+
+    ghost exact = { elim [
+      | Nil ↦ elim [ Nil ↦ λ h. refl | AText t ↦ λ h. Prim.cc | AName n ↦ λ h. Prim.cc ]
+      | AText s ↦ elim [ Nil ↦ λ h. Prim.cc | AText t ↦ λ h. ap AText (exact_bytes s t h) | AName n ↦ λ h. Prim.cc ]
+      | AName m ↦ elim [ Nil ↦ λ h. Prim.cc | AText t ↦ λ h. Prim.cc | AName n ↦ λ h. ap AName (exact_name m n h) ]
+    ] };
+}

@@ -1,0 +1,114 @@
+mod periods;
+mod sets;
+mod units;
+
+use crate::{Dimensions, Period, Unit, read_language, read_period, read_unit, write_period};
+use oim_names::{Aliases, Copied, Name, Reason, Text};
+use std::alloc::AllocError;
+
+// Where a request for memory is refused, the next one is not: the callee is asked again, and must
+// not have changed anything. The line on standard error tells `tests/refused_memory` of it.
+
+fn tell_refused(rt: &HostRuntime) {
+    let _ = eprintln!(rt; "refused");
+}
+
+fn text(rt: &HostRuntime, bytes: &str) -> Result<Text, AllocError> {
+    match Text::new(rt.alloc(), bytes) {
+        Err(_) => {
+            tell_refused(rt);
+            Text::new(rt.alloc(), bytes)
+        }
+        made => made,
+    }
+}
+
+fn copied<T: Copied>(rt: &HostRuntime, value: &T) -> Result<T, AllocError> {
+    match value.copied(rt.alloc()) {
+        Err(_) => {
+            tell_refused(rt);
+            value.copied(rt.alloc())
+        }
+        copy => copy,
+    }
+}
+
+fn bind(rt: &HostRuntime, aliases: &mut Aliases, prefix: &str, uri: &str) -> Result<(), Reason> {
+    match aliases.add(prefix, uri) {
+        Err(Reason::OutOfMemory) => {
+            tell_refused(rt);
+            aliases.add(prefix, uri)
+        }
+        answer => answer,
+    }
+}
+
+fn example(rt: &HostRuntime) -> Result<Aliases, Reason> {
+    let mut aliases = Aliases::new(rt.alloc());
+    bind(rt, &mut aliases, "eg", "http://example.org/t")?;
+    bind(rt, &mut aliases, "x", "http://example.org/u")?;
+    bind(
+        rt,
+        &mut aliases,
+        "xbrli",
+        "http://www.xbrl.org/2003/instance",
+    )?;
+    bind(rt, &mut aliases, "xbrl", "https://xbrl.org/2021")?;
+    Ok(aliases)
+}
+
+fn name(rt: &HostRuntime, spelled: &str) -> Result<Name, Reason> {
+    let aliases = example(rt)?;
+    match aliases.expand(spelled) {
+        Err(Reason::OutOfMemory) => {
+            tell_refused(rt);
+            aliases.expand(spelled)
+        }
+        answer => answer,
+    }
+}
+
+fn period(rt: &HostRuntime, spelled: &str) -> Result<Period, Reason> {
+    match read_period(rt.alloc(), spelled) {
+        Err(Reason::OutOfMemory) => {
+            tell_refused(rt);
+            read_period(rt.alloc(), spelled)
+        }
+        answer => answer,
+    }
+}
+
+fn period_text(rt: &HostRuntime, period: &Period) -> Result<Option<Text>, AllocError> {
+    match write_period(rt.alloc(), period) {
+        Err(_) => {
+            tell_refused(rt);
+            write_period(rt.alloc(), period)
+        }
+        answer => answer,
+    }
+}
+
+fn language(rt: &HostRuntime, spelled: &str) -> Result<Text, Reason> {
+    match read_language(rt.alloc(), spelled) {
+        Err(Reason::OutOfMemory) => {
+            tell_refused(rt);
+            read_language(rt.alloc(), spelled)
+        }
+        answer => answer,
+    }
+}
+
+fn unit(rt: &HostRuntime, spelled: &str) -> Result<Option<Unit>, Reason> {
+    let aliases = example(rt)?;
+    match read_unit(rt.alloc(), &aliases, spelled) {
+        Err(Reason::OutOfMemory) => {
+            tell_refused(rt);
+            read_unit(rt.alloc(), &aliases, spelled)
+        }
+        answer => answer,
+    }
+}
+
+fn dimensions(rt: &HostRuntime, concept: &str) -> Result<Dimensions, Reason> {
+    Ok(Dimensions::new(rt.alloc(), name(rt, concept)?))
+}

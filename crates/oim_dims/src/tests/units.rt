@@ -1,0 +1,168 @@
+use super::{bind, copied, example, name, tell_refused, unit};
+use crate::{Unit, can_write_unit, unit_refusal, write_unit};
+use oim_names::{Aliases, Reason, Text};
+use std::alloc::AllocError;
+use std::test::Fail;
+
+fn unit_text(rt: &HostRuntime, aliases: &Aliases, unit: &Unit) -> Result<Text, AllocError> {
+    match write_unit(rt.alloc(), aliases, unit) {
+        Err(_) => {
+            tell_refused(rt);
+            write_unit(rt.alloc(), aliases, unit)
+        }
+        answer => answer,
+    }
+}
+
+#[test]
+fn measures_come_in_any_order(rt: HostRuntime) -> Result<(), Fail> {
+    let plain = unit(&rt, "x:a*x:b/x:c")?;
+    for spelled in [
+        "(x:b*x:a)/x:c",
+        "(x:a*x:b)/(x:c)",
+        "x:b*x:a/x:c",
+        "x:b*x:a/(x:c)",
+    ] {
+        assert!(rt; unit(&rt, spelled)? == plain, "{spelled}");
+    }
+    let Some(unit) = plain else {
+        panic!(rt; "the unit is kept");
+    };
+    assert_eq!(rt; unit.numerators().len(), 2);
+    assert!(rt; unit.numerators()[0] == name(&rt, "x:a")?);
+    assert!(rt; unit.numerators()[1] == name(&rt, "x:b")?);
+    assert_eq!(rt; unit.denominators().len(), 1);
+    assert!(rt; unit.denominators()[0] == name(&rt, "x:c")?);
+    Ok(())
+}
+
+#[test]
+fn measures_are_sorted_and_repeats_kept(rt: HostRuntime) -> Result<(), Fail> {
+    let Some(unit) = unit(&rt, "x:b*eg:z*x:a*x:b")? else {
+        panic!(rt; "the unit is kept");
+    };
+    let sorted = ["eg:z", "x:a", "x:b", "x:b"];
+    assert_eq!(rt; unit.numerators().len(), sorted.len());
+    for (measure, spelled) in unit.numerators().iter().zip(&sorted) {
+        assert!(rt; *measure == name(&rt, spelled)?, "{spelled}");
+    }
+    assert!(rt; unit.denominators().is_empty());
+    Ok(())
+}
+
+#[test]
+fn pure_alone_is_no_unit(rt: HostRuntime) -> Result<(), Fail> {
+    for spelled in ["xbrli:pure", "(xbrli:pure)"] {
+        assert!(rt; unit(&rt, spelled)?.is_none(), "{spelled}");
+    }
+    for spelled in [
+        "xbrli:pure/x:c",
+        "x:c/xbrli:pure",
+        "xbrli:pure*xbrli:pure",
+        "xbrli:pure/xbrli:pure",
+        "x:a/x:a",
+        "x:pure",
+        "xbrli:purer",
+    ] {
+        assert!(rt; unit(&rt, spelled)?.is_some(), "{spelled}");
+    }
+    Ok(())
+}
+
+#[test]
+fn other_texts_are_no_units(rt: HostRuntime) {
+    let forms = [
+        "",
+        "*",
+        "/",
+        "()",
+        "x:a/",
+        "/x:a",
+        "x:a/x:b/x:c",
+        "x:a**x:b",
+        "*x:a",
+        "x:a*",
+        "(x:a",
+        "x:a)",
+        "((x:a))",
+        "(x:a)*(x:b)",
+        "(x:a)*x:b",
+        "x:a*(x:b)",
+        "(x:a*x:b",
+        "(x:a/x:b)",
+        "x:a/(x:b",
+        "x:a/()",
+        "x:(a)",
+        "(x:a)(x:b)",
+    ];
+    for spelled in forms {
+        assert!(rt; unit(&rt, spelled) == Err(Reason::UnitForm), "{spelled}");
+    }
+}
+
+#[test]
+fn the_least_refusal_of_any_piece_is_answered(rt: HostRuntime) -> Result<(), Fail> {
+    let rows = [
+        ("a/x:b", Reason::NameForm),
+        (" ", Reason::NameForm),
+        ("x:a*", Reason::UnitForm),
+        ("q:a", Reason::UnboundPrefix),
+        ("xbrl:a", Reason::ReservedNamespace),
+        ("xbrl:a*q:a/a", Reason::NameForm),
+        ("xbrl:a*q:a", Reason::UnboundPrefix),
+        ("x:a/xbrl:a*q:a", Reason::UnboundPrefix),
+        ("x:a/x:b*xbrl:c", Reason::ReservedNamespace),
+        ("x:a b", Reason::NameForm),
+        ("x:a:b", Reason::NameForm),
+    ];
+    let aliases = example(&rt)?;
+    for (spelled, reason) in rows {
+        assert!(rt; unit(&rt, spelled) == Err(reason), "{spelled}");
+        assert!(rt;
+            unit_refusal(&aliases, spelled) == Some(reason),
+            "{spelled}"
+        );
+    }
+    assert!(rt; unit_refusal(&aliases, "(x:a*x:b)/x:c").is_none());
+    Ok(())
+}
+
+#[test]
+fn units_are_written_and_read_back(rt: HostRuntime) -> Result<(), Fail> {
+    let rows = [
+        ("x:a", "x:a"),
+        ("(x:a)", "x:a"),
+        ("(x:b*x:a)", "x:a*x:b"),
+        ("x:a/x:b", "x:a/x:b"),
+        ("x:b*x:a/x:c", "(x:a*x:b)/x:c"),
+        ("x:c/x:b*x:a", "x:c/(x:a*x:b)"),
+        ("x:b*x:a/x:d*x:c*x:c", "(x:a*x:b)/(x:c*x:c*x:d)"),
+    ];
+    let aliases = example(&rt)?;
+    for (spelled, plain) in rows {
+        let Some(unit) = unit(&rt, spelled)? else {
+            panic!(rt; "the unit is kept");
+        };
+        if !can_write_unit(&aliases, &unit) {
+            panic!(rt; "the unit can be written");
+        }
+        let written = unit_text(&rt, &aliases, &unit)?;
+        assert_eq!(rt; written.as_str(), plain);
+        assert!(rt; super::unit(&rt, plain)? == Some(copied(&rt, &unit)?));
+    }
+    Ok(())
+}
+
+#[test]
+fn a_unit_is_written_with_plain_prefixes_alone(rt: HostRuntime) -> Result<(), Fail> {
+    let Some(unit) = unit(&rt, "x:a/eg:b")? else {
+        panic!(rt; "the unit is kept");
+    };
+    let mut aliases = Aliases::new(rt.alloc());
+    bind(&rt, &mut aliases, "x", "http://example.org/u")?;
+    assert!(rt; !can_write_unit(&aliases, &unit));
+    bind(&rt, &mut aliases, "e*g", "http://example.org/t")?;
+    bind(&rt, &mut aliases, "eg", "http://example.org/t")?;
+    assert!(rt; !can_write_unit(&aliases, &unit));
+    Ok(())
+}

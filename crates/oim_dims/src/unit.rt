@@ -1,0 +1,76 @@
+ghost use Rattle.std.specs.Prelude.{◌≡◌, ◌≢◌, [], ◌∷◌, All};
+ghost use Rattle.std.specs.List.Sorted.{IsSorted};
+ghost use Rattle.oim_value.specs.ValueOrder.{name_cmp};
+ghost use Rattle.oim_dims.specs.Unit.{IsMeasure, pure_name};
+
+use crate::list::Sequence;
+use oim_names::{Copied, Key, Name};
+use std::alloc::{AllocError, Global};
+use std::marker::Model;
+
+/// What a number is counted in: measures that are multiplied, and measures that they are divided by
+/// (OIM Common 1.0, the core dimension unit). Both lists are in the order of names, repeats kept.
+/// There is a numerator, no local part has `*`, `/`, `(` or `)`, and `pure` alone is no unit.
+#[derive(Debug, Drop, PartialEq, Eq, PartialOrd, Ord)]
+pub struct Unit {
+    numerators: Sequence<Name>,
+    denominators: Sequence<Name>,
+}
+
+impl Model for Unit {
+    ghost use Rattle.oim_dims.specs.Unit.{Measures, IsUnit};
+
+    ghost Value = { Measures };
+
+    ghost view = { λ a. record { numerators = a.numerators; denominators = a.denominators } };
+
+    ghost invariant = { λ a. IsUnit (record { numerators = a.numerators; denominators = a.denominators }) };
+
+    ghost inverse = { λ m. record { numerators = m.numerators; denominators = m.denominators } };
+}
+
+impl Unit {
+    pub(crate) fn new(numerators: Sequence<Name>, denominators: Sequence<Name>) -> Unit
+        requires numerators { IsSorted name_cmp numerators }
+        requires denominators { IsSorted name_cmp denominators }
+        requires measures { All IsMeasure numerators × All IsMeasure denominators }
+        requires some { numerators ≢ [] }
+        requires unit { ¬ ((numerators ≡ pure_name ∷ []) × (denominators ≡ [])) }
+        ensures numerators { result.numerators ≡ numerators }
+        ensures denominators { result.denominators ≡ denominators }
+    {
+        Unit {
+            numerators,
+            denominators,
+        }
+    }
+
+    /// The measures that are multiplied, sorted.
+    pub fn numerators(&self) -> &[Name]
+        ensures { result.now ≡ self.now.numerators }
+    {
+        self.numerators.as_slice()
+    }
+
+    /// The measures that are divided by, sorted.
+    pub fn denominators(&self) -> &[Name]
+        ensures { result.now ≡ self.now.denominators }
+    {
+        self.denominators.as_slice()
+    }
+}
+
+impl Copied for Unit {
+    fn copied(&self, alloc: Global) -> Result<Self, AllocError> {
+        Ok(Unit {
+            numerators: self.numerators.copied(alloc)?,
+            denominators: self.denominators.copied(alloc)?,
+        })
+    }
+}
+
+impl Key for Unit {
+    ghost use Rattle.oim_dims.specs.Ties.{exact_measures};
+
+    ghost exact = { exact_measures };
+}
