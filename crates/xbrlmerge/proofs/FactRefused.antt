@@ -19,7 +19,7 @@ use Rattle.xbrlmerge.specs.Sheet.{Sheet}
 use Rattle.xbrlmerge.proofs.Refused.{passes_on, stops, one_passes, one_stops, refused, accepted}
 
 -- the kind of a concept that is there
-kind_at : (sheet : Sheet) (bs : List Binding) (o : Option (List ℕ)) → is_none o ≡ false → option_and_then (λ t. map.get sheet.concepts (named bs t)) o ≡ map.get sheet.concepts (named bs (unwrap_or o []))
+pub kind_at : (sheet : Sheet) (bs : List Binding) (o : Option (List ℕ)) → is_none o ≡ false → option_and_then (λ t. map.get sheet.concepts (named bs t)) o ≡ map.get sheet.concepts (named bs (unwrap_or o []))
 kind_at sheet bs None there = absurd (cc)
 kind_at sheet bs (Some t) there = refl
 

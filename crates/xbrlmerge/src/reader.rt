@@ -1,6 +1,7 @@
 ghost use Rattle.std.specs.Prelude.{◌≡◌, ◌⊎◌, Ok, Err, Some, map, IfOk, IfErr};
 ghost use Rattle.serde_json.specs.View.{view, members_view};
 ghost use Rattle.xbrlmerge.specs.Conditions.{is_numeric};
+ghost use Rattle.xbrlmerge.specs.Document.{SaysDocument};
 ghost use Rattle.xbrlmerge.specs.Json.{values};
 ghost use Rattle.xbrlmerge.specs.Outcome.{at, fact_outcome, all_or_first, tree_outcome, outcome};
 
@@ -26,6 +27,7 @@ use std::alloc::Global;
 #[tactic(auto, unfolding(crate::specs::Outcome::outcome))]
 pub fn read_report(alloc: Global, sheet: &Sheet, bytes: &[u8]) -> Result<Document, Refusal>
     ensures ok { IfOk result (λ d. outcome sheet.now bytes.now ≡ Ok d) }
+    ensures said { IfOk result (SaysDocument sheet.now bytes.now) }
     ensures errors { IfErr result
         (λ r. (r ≡ at Place.Document Reason.OutOfMemory) ⊎ (outcome sheet.now bytes.now ≡ Err r)) }
 {
