@@ -14,7 +14,7 @@ use Rattle.xbrlmerge.specs.ReportParts.{concept_of, dimensions_of}
 use Rattle.xbrlmerge.specs.Json.{any_in}
 use Rattle.xbrlmerge.specs.Names.{named, name_conditions}
 use Rattle.xbrlmerge.specs.Outcome.{said_fact, fact_outcome}
-use Rattle.xbrlmerge.specs.Refusal.{Condition, first_holding, unless}
+use Rattle.xbrlmerge.specs.Refusal.{Condition, first_holding}
 use Rattle.xbrlmerge.specs.Sheet.{Sheet}
 use Rattle.xbrlmerge.proofs.Refused.{passes_on, stops, one_passes, one_stops, refused, accepted}
 

@@ -1,11 +1,9 @@
 -- Where no condition holds, the outcome is what the objects say.
-use Rattle.std.proofs.Common.{◌≡◌, ℕ, ◌+◌, ℤ, List, [], ◌∷◌, ◌++◌, map, Bool, true, false, not, ◌&&◌, ◌||◌, cond, codes, bytes_eq, Option, Some, None, option_and_then, is_none, Result, Ok, Err, refl, sym, ap, subst, ◌∙◌}
-use Rattle.std.specs.Prelude.{IsTrue}
+use Rattle.std.proofs.Common.{◌≡◌, ℕ, ◌+◌, ℤ, List, [], ◌∷◌, ◌++◌, map, Bool, true, false, not, ◌&&◌, cond, bytes_eq, Option, Some, None, option_and_then, is_none, Result, Ok, Err, refl, sym, ap, subst, ◌∙◌}
 use Rattle.std.specs.Option.{option_map_or, unwrap_or}
 use Rattle.std.specs.List.{AllZip}
-use Rattle.std.specs.FinMap as map
 use Rattle.std.proofs.lemmas.Slice.Eq.{bytes_eq-Decides}
-use Rattle.oim_names.specs.QName.{QName, is_name, prefix_part, local_part}
+use Rattle.oim_names.specs.QName.{is_name, prefix_part, local_part}
 use Rattle.oim_names.specs.Bindings.{Binding, uri_of}
 use Rattle.oim_names.specs.Expansion.{Expands, reserved_uri}
 use Rattle.oim_names.specs.declared.reason.Reason.{Reason}
@@ -24,7 +22,7 @@ use Rattle.xbrlmerge.specs.Document.{Document, SaysDocument}
 use Rattle.xbrlmerge.specs.Fact.{SaysDecimals, SaysNumber, SaysFact}
 use Rattle.xbrlmerge.specs.Json.{json, values, any_in}
 use Rattle.xbrlmerge.specs.Names.{named, lacks_form, lacks_binding, lies_in_reserved, name_conditions}
-use Rattle.xbrlmerge.specs.Outcome.{said_fact, fact_outcome, all_or_first, facts_outcome, unless_refused, tree_outcome, outcome}
+use Rattle.xbrlmerge.specs.Outcome.{said_fact, fact_outcome, all_or_first, facts_outcome, unless_refused, tree_outcome}
 use Rattle.xbrlmerge.specs.Refusal.{Condition, first_holding, unless, map_ok}
 use Rattle.xbrlmerge.specs.ReportParts.{concept_of, value_of, decimals_of, whole_number, dimensions_of, bindings_of, facts_of}
 use Rattle.xbrlmerge.specs.Sheet.{Sheet}

@@ -8,7 +8,7 @@ ghost use Rattle.xbrlmerge.specs.Conditions.{number_conditions, decimals_conditi
 ghost use Rattle.xbrlmerge.specs.ReportParts.{value_of, whole_number};
 ghost use Rattle.xbrlmerge.specs.Refusal.{first_holding};
 
-use crate::json::text_at;
+use crate::json_tree::text_at;
 use oim_names::Reason;
 use oim_value::{Decimals, Fixed, read_fixed};
 use serde_json::Value;
@@ -30,8 +30,10 @@ pub(crate) fn read_number(fact: &Value) -> Result<Fixed, Reason>
 ///
 /// Errors: `DecimalsForm` where they are no whole number; `DecimalsRange`.
 pub(crate) fn read_decimals(decimals: Option<&Value>) -> Result<Decimals, Reason>
-    ensures decimals { IfOk result (λ d. d ≡ option_and_then whole_number (option_map (λ v. view v.now) decimals.entry)) }
-    ensures refused { result_err result ≡ first_holding (decimals_conditions (option_map (λ v. view v.now) decimals.entry)) }
+    ensures decimals { let said = option_map (λ v. view v.now) decimals.entry in
+        IfOk result (λ d. d ≡ option_and_then whole_number said) }
+    ensures refused { let said = option_map (λ v. view v.now) decimals.entry in
+        result_err result ≡ first_holding (decimals_conditions said) }
 {
     match decimals {
         Some(value) => read_whole(value),

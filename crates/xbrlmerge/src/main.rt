@@ -14,7 +14,7 @@ mod fact_form;
 mod fact_text;
 mod fact_value;
 mod fault;
-mod json;
+mod json_tree;
 pub mod laws;
 mod lines;
 mod merging;

@@ -1,4 +1,4 @@
-use Rattle.std.proofs.Common.{◌∷◌, [], inr, sym}
+use Rattle.std.proofs.Common.{◌∷◌, [], inr}
 use Rattle.std.proofs.lemmas.Result.{err_from_is_err_and}
 use Rattle.oim_names.specs.declared.reason.Reason.TheVariants.{Namespace, TaxonomyUrl}
 use Rattle.serde_json.specs.View.{view}

@@ -2,7 +2,7 @@ use Rattle.std.proofs.Common.{rules, ◌≡◌, Some, None, subst, ◌∙◌, in
 use Rattle.serde_json.specs.View.{view}
 use Rattle.xbrlmerge.specs.Json.{json_text}
 use Rattle.xbrlmerge.proofs.Texts.{passes, fails}
-use Rattle.xbrlmerge.proofs.json.read_json.Goals as goal
+use Rattle.xbrlmerge.proofs.json_tree.read_json.Goals as goal
 
 pub returns-in-Ok-clause-value : goal.returns-in-Ok-clause-value
 returns-in-Ok-clause-value c =

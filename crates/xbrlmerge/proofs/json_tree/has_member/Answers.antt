@@ -2,7 +2,7 @@ use Rattle.std.proofs.Common.{option_map, sym, ap, ◌∙◌}
 use Rattle.serde_json.specs.View.{members_view}
 use Rattle.xbrlmerge.specs.Json.{has_member}
 use Rattle.xbrlmerge.proofs.Filled.{filled_members}
-use Rattle.xbrlmerge.proofs.json.has_member.Goals as goal
+use Rattle.xbrlmerge.proofs.json_tree.has_member.Goals as goal
 
 pub returns-in-Some : goal.returns-in-Some
 returns-in-Some c =

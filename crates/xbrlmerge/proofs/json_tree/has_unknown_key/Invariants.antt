@@ -1,7 +1,7 @@
 use Rattle.std.proofs.Common.{◌≡◌, map}
 use Rattle.serde_json.specs.View.{members_view}
 use Rattle.xbrlmerge.specs.Json.{any_member, is_unknown}
-use Rattle.xbrlmerge.proofs.json.has_unknown_key.Given as goal
+use Rattle.xbrlmerge.proofs.json_tree.has_unknown_key.Given as goal
 
 abbrev pub invariant-loop-key : goal.invariant-loop-key
 invariant-loop-key l =
