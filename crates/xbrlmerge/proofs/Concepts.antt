@@ -1,18 +1,16 @@
 -- A map of concepts, as its entries and as a finite map.
-use Rattle.std.proofs.Common.{◌≡◌, ℕ, List, [], ◌∷◌, Bool, true, false, cond, Option, Some, None, is_eq, BTreeMap, refl, sym, ap, ◌∙◌}
-use Rattle.std.specs.Prelude.{◌||◌}
-use Rattle.std.specs.Ordering.{nat_cmp, ordering_then, eq_by_cmp}
+use Rattle.std.proofs.Common.{◌≡◌, List, [], ◌∷◌, Bool, true, false, cond, Some, BTreeMap, refl, sym, ap, ◌∙◌}
+use Rattle.std.specs.Ordering.{eq_by_cmp}
 use Rattle.std.specs.Cmp.{IsTotalOrder, eq_by_cmp_equiv}
-use Rattle.std.specs.Cmp.Lexicographic.{slice_cmp}
 use Rattle.std.proofs.lemmas.Cmp.{nat_list_cmp_total, then_total, on_total}
 use Rattle.std.specs.FinMap as map
-use Rattle.std.specs.FinMap.{FinMap, IsAntisymmetric, find, same_map, get-insert, get-from_entries}
+use Rattle.std.specs.FinMap.{FinMap, find, same_map, get-insert, get-from_entries}
 use Rattle.std.specs.Map.{lookup}
-use Rattle.std.specs.BTreeMap.{is_at, get_by, UpdatesBy}
+use Rattle.std.specs.BTreeMap.{is_at, UpdatesBy}
 use Rattle.oim_names.specs.QName.{QName, exact_name}
 use Rattle.oim_names.specs.Bindings.{Binding}
 use Rattle.oim_value.specs.ValueOrder.{name_cmp}
-use Rattle.serde_json.specs.Data.{Data, Members, no_members, member}
+use Rattle.serde_json.specs.Data.{Members, no_members, member}
 use Rattle.xbrlmerge.specs.declared.concept_kind.ConceptKind.{ConceptKind}
 use Rattle.xbrlmerge.specs.declared.concept_kind.ConceptKind.TheVariants.{Numeric}
 use Rattle.xbrlmerge.specs.Names.{named}

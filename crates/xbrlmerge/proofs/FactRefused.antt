@@ -9,16 +9,17 @@ use Rattle.oim_names.specs.declared.reason.Reason.TheVariants.{MissingConcept, U
 use Rattle.serde_json.specs.Data.{Data}
 use Rattle.serde_json.specs.Find.{get}
 use Rattle.xbrlmerge.specs.declared.fact.Fact.{Fact}
-use Rattle.xbrlmerge.specs.Conditions.{form_conditions, some_name, concept_of, kind_of, is_numeric, is_other_dimension, dimensions_of, dimension_conditions, number_conditions, decimals_conditions, fact_conditions}
+use Rattle.xbrlmerge.specs.Conditions.{form_conditions, some_name, kind_of, is_numeric, is_other_dimension, dimension_conditions, number_conditions, decimals_conditions, fact_conditions}
+use Rattle.xbrlmerge.specs.ReportParts.{concept_of, dimensions_of}
 use Rattle.xbrlmerge.specs.Json.{any_in}
 use Rattle.xbrlmerge.specs.Names.{named, name_conditions}
 use Rattle.xbrlmerge.specs.Outcome.{said_fact, fact_outcome}
-use Rattle.xbrlmerge.specs.Refusal.{Condition, first_holding, unless}
+use Rattle.xbrlmerge.specs.Refusal.{Condition, first_holding}
 use Rattle.xbrlmerge.specs.Sheet.{Sheet}
 use Rattle.xbrlmerge.proofs.Refused.{passes_on, stops, one_passes, one_stops, refused, accepted}
 
 -- the kind of a concept that is there
-kind_at : (sheet : Sheet) (bs : List Binding) (o : Option (List ℕ)) → is_none o ≡ false → option_and_then (λ t. map.get sheet.concepts (named bs t)) o ≡ map.get sheet.concepts (named bs (unwrap_or o []))
+pub kind_at : (sheet : Sheet) (bs : List Binding) (o : Option (List ℕ)) → is_none o ≡ false → option_and_then (λ t. map.get sheet.concepts (named bs t)) o ≡ map.get sheet.concepts (named bs (unwrap_or o []))
 kind_at sheet bs None there = absurd (cc)
 kind_at sheet bs (Some t) there = refl
 

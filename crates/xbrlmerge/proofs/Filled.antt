@@ -1,5 +1,5 @@
 -- Whether an object and an array have anything in them.
-use Rattle.std.proofs.Common.{◌≡◌, ℕ, not, Bool, true, false, eqb, List, [], ◌∷◌, length, Some, refl, ap, ◌∙◌, rules, arith, ◌==◌, ◌<◌}
+use Rattle.std.proofs.Common.{◌≡◌, ℕ, not, Bool, true, false, List, [], ◌∷◌, length, Some, refl, rules, arith, ◌==◌, ◌<◌}
 use Rattle.std.specs.Prelude.{IsTrue}
 use Rattle.std.proofs.lemmas.Bool.Decides.{nat_tests}
 use Rattle.serde_json.specs.View.{members_view, items_view}

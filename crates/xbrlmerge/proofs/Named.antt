@@ -1,18 +1,16 @@
 -- Names that are not refused.
-use Rattle.std.proofs.Common.{◌≡◌, ℕ, List, [], ◌∷◌, Bool, true, false, cond, not, ◌||◌, ◌&&◌, ◌⊎◌, inl, inr, Option, Some, None, Result, Ok, Err, string_bytes, is_none, refl, sym, ap, ◌∙◌, rules, arith}
-use Rattle.std.specs.Prelude.{IsTrue, OnOk, is_err}
-use Rattle.std.specs.Option.{option_map_or, unwrap_or}
-use Rattle.std.proofs.lemmas.Bool.Decides.{nat_tests}
-use Rattle.oim_names.specs.QName.{QName, is_name, prefix_part, local_part}
-use Rattle.oim_names.specs.Bindings.{Binding, uri_of}
+use Rattle.std.proofs.Common.{◌≡◌, ℕ, List, [], ◌∷◌, Bool, true, false, cond, not, ◌||◌, ◌&&◌, ◌⊎◌, inl, inr, Some, None, Result, Ok, Err, string_bytes, refl, sym}
+use Rattle.std.specs.Prelude.{OnOk, is_err}
+use Rattle.std.specs.Option.{unwrap_or}
+use Rattle.oim_names.specs.QName.{QName, is_name}
+use Rattle.oim_names.specs.Bindings.{Binding}
 use Rattle.oim_names.specs.Expansion.{Expands, name_refusal, is_unbound, is_reserved}
 use Rattle.oim_names.specs.declared.reason.Reason.{Reason}
 use Rattle.oim_names.specs.declared.reason.Reason.TheVariants.{OutOfMemory, NameForm, UnboundPrefix, ReservedNamespace}
-use Rattle.serde_json.specs.Data.{Data, Members}
-use Rattle.serde_json.specs.View.{view, members_view}
+use Rattle.serde_json.specs.View.{members_view}
 use Rattle.serde_json.proofs.Views.{Entry}
 use Rattle.xbrlmerge.specs.Json.{any_member}
-use Rattle.xbrlmerge.specs.Names.{named, of_key, lacks_form, lacks_binding, lies_in_reserved, is_refused}
+use Rattle.xbrlmerge.specs.Names.{named, of_key, is_refused}
 
 pub both_false : (a b : Bool) → (a || b) ≡ false → (a ≡ false) × (b ≡ false)
 both_false true b e = absurd (cc)

@@ -1,10 +1,9 @@
 -- The first condition that holds, in lists that are joined.
-use Rattle.std.proofs.Common.{◌≡◌, ◌⊎◌, ℕ, List, [], ◌∷◌, ◌++◌, Bool, true, false, cond, ◌||◌, Option, Some, None, Result, Ok, Err, inl, inr, refl, sym, ap, ◌∙◌}
-use Rattle.std.specs.Option.{option_map_or}
+use Rattle.std.proofs.Common.{◌≡◌, ℕ, List, [], ◌∷◌, ◌++◌, Bool, true, false, cond, Option, Some, None, Ok, Err, refl, sym, ap, ◌∙◌}
 use Rattle.oim_names.specs.Bindings.{Binding}
 use Rattle.oim_names.specs.declared.reason.Reason.{Reason}
-use Rattle.oim_names.specs.declared.reason.Reason.TheVariants.{OutOfMemory, NameForm, UnboundPrefix, ReservedNamespace}
-use Rattle.serde_json.specs.Data.{Data, Members, no_members, member}
+use Rattle.oim_names.specs.declared.reason.Reason.TheVariants.{NameForm, UnboundPrefix, ReservedNamespace}
+use Rattle.serde_json.specs.Data.{Members, no_members, member}
 use Rattle.xbrlmerge.specs.Json.{any_member, any_in}
 use Rattle.xbrlmerge.specs.Names.{of_key, lacks_form, lacks_binding, lies_in_reserved, is_refused, name_conditions}
 use Rattle.xbrlmerge.specs.Refusal.{Condition, first_holding, unless}

@@ -1,5 +1,5 @@
 -- Where the walk over the conditions of a sheet stops.
-use Rattle.std.proofs.Common.{◌≡◌, List, ◌∷◌, ◌++◌, Bool, true, false, Option, Some, None, Err, refl, sym, ap, ◌∙◌}
+use Rattle.std.proofs.Common.{◌≡◌, List, ◌∷◌, ◌++◌, false, Some, None, Err, sym, ◌∙◌}
 use Rattle.oim_names.specs.declared.reason.Reason.{Reason}
 use Rattle.oim_names.specs.declared.reason.Reason.TheVariants.{Namespace}
 use Rattle.serde_json.specs.Data.{Data}

@@ -11,6 +11,7 @@ pub mod Parts
 pub mod Pieces
 pub mod Prefixes
 pub mod Rank
+pub mod ReportParts
 pub mod Refusal
 pub mod Run
 pub mod Sets

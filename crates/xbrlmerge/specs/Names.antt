@@ -1,5 +1,5 @@
 -- Names in objects: the bindings that an object declares, and why a name is refused.
-use Rattle.std.specs.Prelude.{ℕ, List, [], ◌∷◌, Bool, true, false, not, ◌||◌, ◌&&◌, bytes_eq}
+use Rattle.std.specs.Prelude.{ℕ, List, [], ◌∷◌, Bool, true, not, ◌||◌, ◌&&◌, bytes_eq}
 use Rattle.std.specs.Option.{unwrap_or, option_map_or}
 use Rattle.oim_names.specs.QName.{QName, is_part, is_name, local_part, prefix_part}
 use Rattle.oim_names.specs.Bindings.{Binding, uri_of}

@@ -6,13 +6,14 @@ use Rattle.oim_names.specs.declared.reason.Reason.{Reason}
 use Rattle.oim_names.specs.declared.reason.Reason.TheVariants.{NotJson}
 use Rattle.oim_value.specs.Units.{units_of}
 use Rattle.oim_value.specs.declared.value.Value.TheVariants.{Number}
-use Rattle.serde_json.specs.Data.{Data}
+use Rattle.serde_json.specs.Data.{Data, Members}
 use Rattle.serde_json.specs.Find.{get}
 use Rattle.xbrlmerge.specs.declared.fact.Fact.{Fact}
 use Rattle.xbrlmerge.specs.declared.place.Place.{Place}
 use Rattle.xbrlmerge.specs.declared.place.Place.TheVariants.{Document as AtDocument, Fact as AtFact}
 use Rattle.xbrlmerge.specs.declared.refusal.Refusal.{Refusal}
-use Rattle.xbrlmerge.specs.Conditions.{bindings_of, facts_of, concept_of, value_of, whole_number, document_conditions, fact_conditions}
+use Rattle.xbrlmerge.specs.Conditions.{document_conditions, fact_conditions}
+use Rattle.xbrlmerge.specs.ReportParts.{bindings_of, facts_of, concept_of, value_of, whole_number}
 use Rattle.xbrlmerge.specs.Document.{Document}
 use Rattle.xbrlmerge.specs.Json.{json, values}
 use Rattle.xbrlmerge.specs.Names.{named}
@@ -42,9 +43,13 @@ all_or_first n (Err reason ∷ outcomes) = Err (at (AtFact n) reason)
 
 -- ---- a document
 
--- the facts of a document in which no condition holds: the fact objects stand in byte order of their identifiers
+-- the facts of fact objects, which stand in byte order of their identifiers, or the first refusal
+abbrev pub facts_said : Sheet → List Binding → Members → Result (List Fact) Refusal
+facts_said sheet bs objects = all_or_first 1 (map (fact_outcome sheet bs) (values objects))
+
+-- the facts of a document in which no condition holds
 abbrev pub facts_outcome : Sheet → Data → Result (List Fact) Refusal
-facts_outcome sheet tree = all_or_first 1 (map (fact_outcome sheet (bindings_of tree)) (values (facts_of tree)))
+facts_outcome sheet tree = facts_said sheet (bindings_of tree) (facts_of tree)
 
 abbrev pub unless_refused : Option Reason → Result Document Refusal → Result Document Refusal
 unless_refused None said = said

@@ -2,7 +2,8 @@ ghost use Rattle.std.specs.Prelude.{◌≡◌, ◌⊎◌, ◌||◌, not, None, S
 ghost use Rattle.std.specs.Result.{result_err};
 ghost use Rattle.serde_json.specs.Find.{as_object, as_str};
 ghost use Rattle.serde_json.specs.View.{view};
-ghost use Rattle.xbrlmerge.specs.Conditions.{bindings_of, document_conditions, has_other_parts, root_keys, info_keys, document_type, info, shape_conditions};
+ghost use Rattle.xbrlmerge.specs.Conditions.{document_conditions, has_other_parts, has_unknown_part, has_other_type, shape_conditions};
+ghost use Rattle.xbrlmerge.specs.ReportParts.{bindings_of, info};
 ghost use Rattle.xbrlmerge.specs.Json.{any_in, is_unknown, is_text, object_at};
 ghost use Rattle.xbrlmerge.specs.Refusal.{first_holding};
 
@@ -18,8 +19,11 @@ const DOCUMENT_TYPE: &str = "https://xbrl.org/2021/xbrl-json";
 ///
 /// Errors: the refusal of the first condition that holds; `OutOfMemory`.
 pub(crate) fn read_info(alloc: Global, tree: &Value) -> Result<Aliases, Reason>
-    ensures bound { IfOk result (λ a. (a ≡ bindings_of (view tree.now)) × (first_holding (document_conditions (view tree.now)) ≡ None)) }
-    ensures refused { IfErr result (λ r. (r ≡ Reason.OutOfMemory) ⊎ (first_holding (document_conditions (view tree.now)) ≡ Some r)) }
+    ensures bound { IfOk result (λ aliases. aliases ≡ bindings_of (view tree.now)) }
+    ensures accepted { IfOk result
+        (λ _. first_holding (document_conditions (view tree.now)) ≡ None) }
+    ensures refused { let first = first_holding (document_conditions (view tree.now)) in
+        IfErr result (λ r. (r ≡ Reason.OutOfMemory) ⊎ (first ≡ Some r)) }
 {
     check_shape(tree)?;
     let namespaces = within(tree, "documentInfo", "namespaces").and_then(Value::as_object);
@@ -36,7 +40,7 @@ fn check_shape(tree: &Value) -> Result<(), Reason>
     if has_other_parts(tree) {
         return Err(Reason::MemberForm);
     }
-    if has_unknown_member(tree) {
+    if has_unknown_part(tree) {
         return Err(Reason::UnknownMember);
     }
     if has_other_type(tree) {
@@ -55,8 +59,8 @@ fn has_other_parts(tree: &Value) -> bool
         || is_no_array(within(tree, "documentInfo", "taxonomy"))
 }
 
-fn has_unknown_member(tree: &Value) -> bool
-    ensures { result ≡ (any_in (is_unknown root_keys) (as_object (view tree.now)) || any_in (is_unknown info_keys) (object_at (codes "documentInfo") (view tree.now))) }
+fn has_unknown_part(tree: &Value) -> bool
+    ensures { result ≡ has_unknown_part (view tree.now) }
 {
     has_unknown_in(tree.as_object(), &["documentInfo", "facts"])
         || has_unknown_in(
@@ -66,7 +70,7 @@ fn has_unknown_member(tree: &Value) -> bool
 }
 
 fn has_other_type(tree: &Value) -> bool
-    ensures { result ≡ not (is_text document_type (option_and_then as_str (info (codes "documentType") (view tree.now)))) }
+    ensures { result ≡ has_other_type (view tree.now) }
 {
     match within(tree, "documentInfo", "documentType").and_then(Value::as_str) {
         Some(found) => found != DOCUMENT_TYPE,

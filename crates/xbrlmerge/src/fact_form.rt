@@ -3,7 +3,8 @@ ghost use Rattle.std.specs.Option.{unwrap_or, option_map_or};
 ghost use Rattle.std.specs.Result.{result_err};
 ghost use Rattle.serde_json.specs.Find.{get, as_object};
 ghost use Rattle.serde_json.specs.View.{view, members_view};
-ghost use Rattle.xbrlmerge.specs.Conditions.{has_other_members, fact_keys, dimension_keys, dimensions_of, form_conditions, concept_of, some_name, of_defined, is_other_dimension};
+ghost use Rattle.xbrlmerge.specs.Conditions.{has_other_members, has_unknown_member, form_conditions, some_name, of_defined, is_other_dimension};
+ghost use Rattle.xbrlmerge.specs.ReportParts.{dimensions_of, concept_of};
 ghost use Rattle.xbrlmerge.specs.Json.{any_in, any_member, is_unknown, object_at};
 ghost use Rattle.xbrlmerge.specs.Names.{named, name_conditions, lacks_form, lacks_binding, lies_in_reserved, is_refused};
 ghost use Rattle.xbrlmerge.specs.Refusal.{first_holding};
@@ -48,7 +49,7 @@ fn has_other_members(fact: &Value) -> bool
 }
 
 fn has_unknown_member(fact: &Value) -> bool
-    ensures { result ≡ (any_in (is_unknown fact_keys) (as_object (view fact.now)) || any_in (is_unknown dimension_keys) (dimensions_of (view fact.now))) }
+    ensures { result ≡ has_unknown_member (view fact.now) }
 {
     has_unknown_in(
         fact.as_object(),
@@ -61,7 +62,8 @@ fn has_unknown_member(fact: &Value) -> bool
 
 /// Whether no name of a fact is refused.
 pub(crate) fn check_names(aliases: &Aliases, fact: &Value) -> Result<(), Reason>
-    ensures { result_err result ≡ first_holding (name_conditions (some_name (view fact.now)) aliases.now) }
+    ensures { result_err result
+        ≡ first_holding (name_conditions (some_name (view fact.now)) aliases.now) }
 {
     let mut faults = NameFaults::NONE;
     if let Some(text) = concept_text(fact) {
@@ -85,8 +87,11 @@ pub(crate) fn concept_text(fact: &Value) -> Option<&str>
 /// Errors: `MissingConcept` where there is none; `OutOfMemory`.
 pub(crate) fn read_concept(aliases: &Aliases, fact: &Value) -> Result<Name, Reason>
     requires { option_map_or (is_refused aliases.now) (concept_of (view fact.now)) false ≡ false }
-    ensures named { IfOk result (λ n. (is_none (concept_of (view fact.now)) ≡ false) × (n ≡ named aliases.now (unwrap_or (concept_of (view fact.now)) []))) }
-    ensures refused { IfErr result (λ r. (r ≡ Reason.OutOfMemory) ⊎ ((r ≡ Reason.MissingConcept) × (is_none (concept_of (view fact.now)) ≡ true))) }
+    ensures named { let text = concept_of (view fact.now) in
+        IfOk result (λ n. (is_none text ≡ false) × (n ≡ named aliases.now (unwrap_or text []))) }
+    ensures refused { let missing = is_none (concept_of (view fact.now)) in
+        IfErr result
+        (λ r. (r ≡ Reason.OutOfMemory) ⊎ ((r ≡ Reason.MissingConcept) × (missing ≡ true))) }
 {
     match concept_text(fact) {
         Some(text) => aliases.expand(text),

@@ -4,7 +4,8 @@ ghost use Rattle.std.specs.Result.{result_err};
 ghost use Rattle.oim_value.specs.Units.{units_of};
 ghost use Rattle.serde_json.specs.Find.{get};
 ghost use Rattle.serde_json.specs.View.{view};
-ghost use Rattle.xbrlmerge.specs.Conditions.{value_of, whole_number, number_conditions, decimals_conditions};
+ghost use Rattle.xbrlmerge.specs.Conditions.{number_conditions, decimals_conditions};
+ghost use Rattle.xbrlmerge.specs.ReportParts.{value_of, whole_number};
 ghost use Rattle.xbrlmerge.specs.Refusal.{first_holding};
 
 use crate::json_tree::text_at;
@@ -29,8 +30,10 @@ pub(crate) fn read_number(fact: &Value) -> Result<Fixed, Reason>
 ///
 /// Errors: `DecimalsForm` where they are no whole number; `DecimalsRange`.
 pub(crate) fn read_decimals(decimals: Option<&Value>) -> Result<Decimals, Reason>
-    ensures decimals { IfOk result (λ d. d ≡ option_and_then whole_number (option_map (λ v. view v.now) decimals.entry)) }
-    ensures refused { result_err result ≡ first_holding (decimals_conditions (option_map (λ v. view v.now) decimals.entry)) }
+    ensures decimals { let said = option_map (λ v. view v.now) decimals.entry in
+        IfOk result (λ d. d ≡ option_and_then whole_number said) }
+    ensures refused { let said = option_map (λ v. view v.now) decimals.entry in
+        result_err result ≡ first_holding (decimals_conditions said) }
 {
     match decimals {
         Some(value) => read_whole(value),

@@ -94,8 +94,8 @@ pub(crate) fn has_colon(key: &str) -> bool
 
 /// Whether there is an object, and some key of it is no extension's and none of these.
 pub(crate) fn has_unknown_in(object: Option<&Map<String, Value>>, known: &[&str]) -> bool
-    ensures { result
-        ≡ any_in (is_unknown (map (λ s. s.now) known.now)) (option_map (λ m. members_view m.now.entries) object.entry) }
+    ensures { let members = option_map (λ m. members_view m.now.entries) object.entry in
+        result ≡ any_in (is_unknown (map (λ s. s.now) known.now)) members }
 {
     match object {
         Some(members) => has_unknown_key(members, known),

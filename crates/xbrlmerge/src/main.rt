@@ -35,7 +35,6 @@ mod sink;
 mod source;
 mod std_sink;
 mod std_source;
-mod tests_writing;
 mod write_fault;
 mod writer;
 
@@ -44,7 +43,13 @@ mod devices;
 #[cfg(test)]
 mod tests_io;
 #[cfg(test)]
+mod tests_reading;
+#[cfg(test)]
 mod tests_run;
+#[cfg(test)]
+mod tests_sheet;
+#[cfg(test)]
+mod tests_writing;
 
 use run::run;
 use std::process::ExitCode;

@@ -33,7 +33,8 @@ impl NameFaults {
     pub(crate) fn and_of(self, aliases: &Aliases, name: &str) -> NameFaults
         ensures form { result.form ≡ (self.form || lacks_form name.now) }
         ensures prefix { result.prefix ≡ (self.prefix || lacks_binding aliases.now name.now) }
-        ensures namespace { result.namespace ≡ (self.namespace || lies_in_reserved aliases.now name.now) }
+        ensures namespace { result.namespace
+            ≡ (self.namespace || lies_in_reserved aliases.now name.now) }
     {
         let refusal = aliases.name_refusal(name);
         NameFaults {
@@ -45,9 +46,12 @@ impl NameFaults {
 
     /// These, and why the keys of this object are refused.
     pub(crate) fn and_of_keys(self, aliases: &Aliases, members: &Map<String, Value>) -> NameFaults
-        ensures form { result.form ≡ (self.form || any_member (of_key lacks_form) (members_view members.now.entries)) }
-        ensures prefix { result.prefix ≡ (self.prefix || any_member (of_key (lacks_binding aliases.now)) (members_view members.now.entries)) }
-        ensures namespace { result.namespace ≡ (self.namespace || any_member (of_key (lies_in_reserved aliases.now)) (members_view members.now.entries)) }
+        ensures form { let ms = members_view members.now.entries in
+            result.form ≡ (self.form || any_member (of_key lacks_form) ms) }
+        ensures prefix { let ms = members_view members.now.entries in
+            result.prefix ≡ (self.prefix || any_member (of_key (lacks_binding aliases.now)) ms) }
+        ensures namespace { let ms = members_view members.now.entries in
+            result.namespace ≡ (self.namespace || any_member (of_key (lies_in_reserved aliases.now)) ms) }
     {
         let mut faults = self;
         for (key, _value) in members.iter() {
@@ -62,9 +66,12 @@ impl NameFaults {
         aliases: &Aliases,
         dimensions: &Map<String, Value>,
     ) -> NameFaults
-        ensures form { result.form ≡ (self.form || any_member (of_defined lacks_form) (members_view dimensions.now.entries)) }
-        ensures prefix { result.prefix ≡ (self.prefix || any_member (of_defined (lacks_binding aliases.now)) (members_view dimensions.now.entries)) }
-        ensures namespace { result.namespace ≡ (self.namespace || any_member (of_defined (lies_in_reserved aliases.now)) (members_view dimensions.now.entries)) }
+        ensures form { let ms = members_view dimensions.now.entries in
+            result.form ≡ (self.form || any_member (of_defined lacks_form) ms) }
+        ensures prefix { let ms = members_view dimensions.now.entries in
+            result.prefix ≡ (self.prefix || any_member (of_defined (lacks_binding aliases.now)) ms) }
+        ensures namespace { let ms = members_view dimensions.now.entries in
+            result.namespace ≡ (self.namespace || any_member (of_defined (lies_in_reserved aliases.now)) ms) }
     {
         let mut faults = self;
         for (key, _value) in dimensions.iter() {
@@ -77,7 +84,11 @@ impl NameFaults {
 
     /// The least refusal.
     pub(crate) fn check(self) -> Result<(), Reason>
-        ensures { result_err result ≡ first_holding ((self.form, Reason.NameForm) ∷ (self.prefix, Reason.UnboundPrefix) ∷ (self.namespace, Reason.ReservedNamespace) ∷ []) }
+        ensures { result_err result ≡ first_holding (
+            (self.form, Reason.NameForm)
+            ∷ (self.prefix, Reason.UnboundPrefix)
+            ∷ (self.namespace, Reason.ReservedNamespace)
+            ∷ []) }
     {
         if self.form {
             return Err(Reason::NameForm);

@@ -17,7 +17,8 @@ pub(crate) fn read_namespaces(
     ensures bound { let ms = option_map (λ m. members_view m.now.entries) namespaces.entry in
         IfOk result (λ a. (a ≡ bindings_in (members ms)) × (any_in binds_nothing ms ≡ false)) }
     ensures refused { let ms = option_map (λ m. members_view m.now.entries) namespaces.entry in
-        IfErr result (λ r. (r ≡ Reason.OutOfMemory) ⊎ ((r ≡ Reason.Namespace) × (any_in binds_nothing ms ≡ true))) }
+        IfErr result (λ r. (r ≡ Reason.OutOfMemory)
+        ⊎ ((r ≡ Reason.Namespace) × (any_in binds_nothing ms ≡ true))) }
 {
     match namespaces {
         Some(entries) => bind_all(alloc, entries),
@@ -29,7 +30,8 @@ fn bind_all(alloc: Global, entries: &Map<String, Value>) -> Result<Aliases, Reas
     ensures bound { let ms = members_view entries.now.entries in
         IfOk result (λ a. (a ≡ bindings_in ms) × (any_member binds_nothing ms ≡ false)) }
     ensures refused { let ms = members_view entries.now.entries in
-        IfErr result (λ r. (r ≡ Reason.OutOfMemory) ⊎ ((r ≡ Reason.Namespace) × (any_member binds_nothing ms ≡ true))) }
+        IfErr result (λ r. (r ≡ Reason.OutOfMemory)
+        ⊎ ((r ≡ Reason.Namespace) × (any_member binds_nothing ms ≡ true))) }
 {
     let mut aliases = Aliases::new(alloc);
     for (prefix, uri) in entries.iter() {

@@ -1,8 +1,9 @@
 ghost use Rattle.std.specs.Prelude.{◌≡◌, ◌⊎◌, Ok, Err, Some, map, IfOk, IfErr};
 ghost use Rattle.serde_json.specs.View.{view, members_view};
 ghost use Rattle.xbrlmerge.specs.Conditions.{is_numeric};
+ghost use Rattle.xbrlmerge.specs.Document.{SaysDocument};
 ghost use Rattle.xbrlmerge.specs.Json.{values};
-ghost use Rattle.xbrlmerge.specs.Outcome.{at, fact_outcome, all_or_first, tree_outcome, outcome};
+ghost use Rattle.xbrlmerge.specs.Outcome.{at, fact_outcome, facts_said, tree_outcome, outcome};
 
 use crate::concept_kind::ConceptKind;
 use crate::document::Document;
@@ -26,6 +27,7 @@ use std::alloc::Global;
 #[tactic(auto, unfolding(crate::specs::Outcome::outcome))]
 pub fn read_report(alloc: Global, sheet: &Sheet, bytes: &[u8]) -> Result<Document, Refusal>
     ensures ok { IfOk result (λ d. outcome sheet.now bytes.now ≡ Ok d) }
+    ensures said { IfOk result (SaysDocument sheet.now bytes.now) }
     ensures errors { IfErr result
         (λ r. (r ≡ at Place.Document Reason.OutOfMemory) ⊎ (outcome sheet.now bytes.now ≡ Err r)) }
 {
@@ -35,8 +37,8 @@ pub fn read_report(alloc: Global, sheet: &Sheet, bytes: &[u8]) -> Result<Documen
 
 fn read_document(alloc: Global, sheet: &Sheet, tree: &Value) -> Result<Document, Refusal>
     ensures ok { IfOk result (λ d. tree_outcome sheet.now (Some (view tree.now)) ≡ Ok d) }
-    ensures errors { IfErr result
-        (λ r. (r ≡ at Place.Document Reason.OutOfMemory) ⊎ (tree_outcome sheet.now (Some (view tree.now)) ≡ Err r)) }
+    ensures errors { let said = tree_outcome sheet.now (Some (view tree.now)) in
+        IfErr result (λ r. (r ≡ at Place.Document Reason.OutOfMemory) ⊎ (said ≡ Err r)) }
 {
     let aliases = read_info(alloc, tree)?;
     match object_at(tree, "facts") {
@@ -51,9 +53,10 @@ fn read_facts(
     aliases: &Aliases,
     objects: &Map<String, Value>,
 ) -> Result<Vec<Fact>, Refusal>
-    ensures ok { IfOk result (λ facts. all_or_first 1 (map (fact_outcome sheet.now aliases.now) (values (members_view objects.now.entries))) ≡ Ok facts.items) }
-    ensures errors { IfErr result
-        (λ r. (r ≡ at Place.Document Reason.OutOfMemory) ⊎ (all_or_first 1 (map (fact_outcome sheet.now aliases.now) (values (members_view objects.now.entries))) ≡ Err r)) }
+    ensures ok { let said = facts_said sheet.now aliases.now (members_view objects.now.entries) in
+        IfOk result (λ facts. said ≡ Ok facts.items) }
+    ensures errors { let said = facts_said sheet.now aliases.now (members_view objects.now.entries) in
+        IfErr result (λ r. (r ≡ at Place.Document Reason.OutOfMemory) ⊎ (said ≡ Err r)) }
 {
     let mut facts = Vec::new(alloc);
     let mut place = 1;
@@ -73,7 +76,8 @@ fn read_facts(
 fn read_fact(sheet: &Sheet, aliases: &Aliases, object: &Value) -> Result<Fact, Reason>
     ensures ok { IfOk result (λ f. fact_outcome sheet.now aliases.now (view object.now) ≡ Ok f) }
     ensures errors { IfErr result
-        (λ r. (r ≡ Reason.OutOfMemory) ⊎ (fact_outcome sheet.now aliases.now (view object.now) ≡ Err r)) }
+        (λ r. (r ≡ Reason.OutOfMemory)
+        ⊎ (fact_outcome sheet.now aliases.now (view object.now) ≡ Err r)) }
 {
     check_form(object)?;
     check_names(aliases, object)?;

@@ -52,7 +52,8 @@ impl Sheet {
     #[tactic(auto, unfolding(crate::specs::Sheet::sheet_outcome))]
     pub fn read(alloc: Global, bytes: &[u8]) -> Result<Sheet, Reason>
         ensures ok { IfOk result (λ s. sheet_outcome bytes.now ≡ Ok s) }
-        ensures errors { IfErr result (λ r. (r ≡ Reason.OutOfMemory) ⊎ (sheet_outcome bytes.now ≡ Err r)) }
+        ensures errors { IfErr result
+            (λ r. (r ≡ Reason.OutOfMemory) ⊎ (sheet_outcome bytes.now ≡ Err r)) }
     {
         let tree = read_json(alloc, bytes)?;
         Sheet::from_tree(alloc, &tree)
@@ -60,7 +61,8 @@ impl Sheet {
 
     fn from_tree(alloc: Global, tree: &Value) -> Result<Sheet, Reason>
         ensures ok { IfOk result (λ s. sheet_of (Some (view tree.now)) ≡ Ok s) }
-        ensures errors { IfErr result (λ r. (r ≡ Reason.OutOfMemory) ⊎ (sheet_of (Some (view tree.now)) ≡ Err r)) }
+        ensures errors { IfErr result
+            (λ r. (r ≡ Reason.OutOfMemory) ⊎ (sheet_of (Some (view tree.now)) ≡ Err r)) }
     {
         check_form(tree)?;
         let aliases = read_namespaces(alloc, object_at(tree, "namespaces"))?;
@@ -74,8 +76,10 @@ impl Sheet {
         aliases: &Aliases,
         concepts: Option<&Map<String, Value>>,
     ) -> Result<Sheet, Reason>
-        requires { any_in (of_key (is_refused aliases.now)) (option_map (λ m. members_view m.now.entries) concepts) ≡ false }
-        ensures listed { IfOk result (λ s. s.concepts ≡ map.from_entries (listed aliases.now (members (option_map (λ m. members_view m.now.entries) concepts.entry)))) }
+        requires { let ms = option_map (λ m. members_view m.now.entries) concepts in
+            any_in (of_key (is_refused aliases.now)) ms ≡ false }
+        ensures listed { let ms = option_map (λ m. members_view m.now.entries) concepts.entry in
+            IfOk result (λ s. s.concepts ≡ map.from_entries (listed aliases.now (members ms))) }
         ensures errors { IfErr result (λ r. r ≡ Reason.OutOfMemory) }
     {
         match concepts {
@@ -91,8 +95,10 @@ impl Sheet {
         aliases: &Aliases,
         concepts: &Map<String, Value>,
     ) -> Result<Sheet, Reason>
-        requires { any_member (of_key (is_refused aliases.now)) (members_view concepts.now.entries) ≡ false }
-        ensures listed { IfOk result (λ s. s.concepts ≡ map.from_entries (listed aliases.now (members_view concepts.now.entries))) }
+        requires { let ms = members_view concepts.now.entries in
+            any_member (of_key (is_refused aliases.now)) ms ≡ false }
+        ensures listed { let ms = members_view concepts.now.entries in
+            IfOk result (λ s. s.concepts ≡ map.from_entries (listed aliases.now ms)) }
         ensures errors { IfErr result (λ r. r ≡ Reason.OutOfMemory) }
     {
         let mut found = BTreeMap::new(alloc);
@@ -107,7 +113,8 @@ impl Sheet {
 }
 
 fn check_names(aliases: &Aliases, tree: &Value) -> Result<(), Reason>
-    ensures { result_err result ≡ first_holding (name_conditions (some_key (view tree.now)) aliases.now) }
+    ensures { result_err result
+        ≡ first_holding (name_conditions (some_key (view tree.now)) aliases.now) }
 {
     let mut faults = NameFaults::NONE;
     if let Some(concepts) = object_at(tree, "concepts") {
@@ -129,7 +136,8 @@ fn check_kinds(tree: &Value) -> Result<(), Reason>
 }
 
 fn has_other_kind(concepts: Option<&Map<String, Value>>) -> bool
-    ensures { result ≡ any_in is_no_kind (option_map (λ m. members_view m.now.entries) concepts.entry) }
+    ensures { let ms = option_map (λ m. members_view m.now.entries) concepts.entry in
+        result ≡ any_in is_no_kind ms }
 {
     match concepts {
         Some(members) => lists_other_kind(members),

@@ -1,8 +1,9 @@
-use Rattle.std.proofs.Common.{◌∷◌, [], inr, sym}
+use Rattle.std.proofs.Common.{◌∷◌, [], inr}
 use Rattle.std.proofs.lemmas.Result.{err_from_is_err_and}
 use Rattle.oim_names.specs.declared.reason.Reason.TheVariants.{Namespace, TaxonomyUrl}
 use Rattle.serde_json.specs.View.{view}
-use Rattle.xbrlmerge.specs.Conditions.{namespaces_of, taxonomy_of, shape_conditions}
+use Rattle.xbrlmerge.specs.Conditions.{shape_conditions}
+use Rattle.xbrlmerge.specs.ReportParts.{namespaces_of, taxonomy_of}
 use Rattle.xbrlmerge.specs.Json.{any_in, has_item}
 use Rattle.xbrlmerge.specs.Names.{binds_nothing}
 use Rattle.xbrlmerge.proofs.Refused.{stops}

@@ -5,7 +5,7 @@ use Rattle.oim_value.specs.Number.{Denotes}
 use Rattle.oim_value.specs.Units.{units_of}
 use Rattle.oim_value.proofs.Denoted.{denotes_units}
 use Rattle.serde_json.specs.View.{view}
-use Rattle.xbrlmerge.specs.Conditions.{value_of}
+use Rattle.xbrlmerge.specs.ReportParts.{value_of}
 use Rattle.xbrlmerge.proofs.fact_value.read_number.Goals as goal
 
 pub returns-in-Some-clause-number : goal.returns-in-Some-clause-number

@@ -1,4 +1,4 @@
-use Rattle.std.proofs.Common.{rules, ◌≡◌, ◌⊎◌, Some, None, Err, IfErr, option_map, inl, inr, ⊎_elim, refl, sym, ap, subst, ◌∙◌, true}
+use Rattle.std.proofs.Common.{◌≡◌, Some, None, Err, option_map, inl, inr, ⊎_elim, refl, sym, ap, subst, ◌∙◌, true}
 use Rattle.std.proofs.lemmas.Result.{err_from_is_err_and}
 use Rattle.oim_names.specs.Bindings.{is_refused_binding}
 use Rattle.serde_json.specs.View.{view, members_view}

@@ -1,9 +1,7 @@
-use Rattle.std.proofs.Common.{◌≡◌, ◌⊎◌, Bool, refl, codes, None, Some, true, false, not, is_none, inr, sym, ap, ◌∙◌, rules, arith}
+use Rattle.std.proofs.Common.{◌≡◌, true, inr, sym, ap, ◌∙◌}
 use Rattle.std.proofs.lemmas.Result.{err_from_is_err_and}
-use Rattle.serde_json.specs.Find.{get}
 use Rattle.serde_json.specs.View.{view}
-use Rattle.xbrlmerge.specs.Conditions.{concept_of, kind_of, is_numeric, is_other_dimension, dimensions_of, decimals_conditions}
-use Rattle.xbrlmerge.specs.Json.{any_in}
+use Rattle.xbrlmerge.specs.Conditions.{kind_of, is_numeric, decimals_conditions}
 use Rattle.xbrlmerge.specs.Refusal.{first_holding}
 use Rattle.xbrlmerge.proofs.FactRefused.{by_form, by_names, by_other_dimension, by_number, by_decimals, is_kind_of}
 use Rattle.xbrlmerge.proofs.reader.read_fact.Goals as goal

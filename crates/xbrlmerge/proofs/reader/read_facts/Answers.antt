@@ -1,8 +1,7 @@
-use Rattle.std.proofs.Common.{◌≡◌, ◌⊎◌, ◌∷◌, Ok, Err, inl, inr, ⊎_elim, refl, sym, ap, ◌∙◌}
-use Rattle.serde_json.specs.View.{view, members_view}
-use Rattle.xbrlmerge.specs.declared.place.Place.TheVariants.{Fact as AtFact}
+use Rattle.std.proofs.Common.{Err, inl, inr, ⊎_elim, sym, ap, ◌∙◌}
+use Rattle.serde_json.specs.View.{members_view}
 use Rattle.xbrlmerge.specs.Json.{values}
-use Rattle.xbrlmerge.specs.Outcome.{at, fact_outcome, all_or_first}
+use Rattle.xbrlmerge.specs.Outcome.{fact_outcome}
 use Rattle.xbrlmerge.proofs.Facts.{facts_after, facts_step, all_facts}
 use Rattle.xbrlmerge.proofs.reader.read_facts.Goals as goal
 

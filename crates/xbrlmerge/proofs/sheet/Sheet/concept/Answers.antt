@@ -1,4 +1,4 @@
-use Rattle.std.proofs.Common.{sym, ap, ◌∙◌}
+use Rattle.std.proofs.Common.{ap, ◌∙◌}
 use Rattle.std.specs.FinMap as map
 use Rattle.xbrlmerge.proofs.Concepts.{get_lookup}
 use Rattle.xbrlmerge.proofs.sheet.Sheet.concept.Goals as goal

@@ -1,11 +1,10 @@
-use Rattle.std.proofs.Common.{rules, ◌≡◌, ◌∷◌, Some, None, Err, false, is_err, string_bytes, refl, sym, ap, subst, ◌∙◌}
+use Rattle.std.proofs.Common.{◌≡◌, string_bytes, sym, ap, ◌∙◌}
 use Rattle.std.proofs.lemmas.Result.{err_from_is_err_and}
 use Rattle.std.specs.FinMap as map
 use Rattle.oim_value.specs.ValueOrder.{name_cmp}
-use Rattle.serde_json.specs.View.{view, members_view}
+use Rattle.serde_json.specs.View.{members_view}
 use Rattle.xbrlmerge.specs.declared.concept_kind.ConceptKind.TheVariants.{Numeric}
 use Rattle.xbrlmerge.specs.Names.{is_refused, named}
-use Rattle.xbrlmerge.specs.Sheet.{listed}
 use Rattle.xbrlmerge.proofs.Concepts.{listed_after, listed_all, entry_more}
 use Rattle.xbrlmerge.proofs.Named.{expands_named, only_memory, none_of_keys, on_ok}
 use Rattle.xbrlmerge.proofs.sheet.Sheet.list_all.Goals as goal
