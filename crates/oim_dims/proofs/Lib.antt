@@ -9,3 +9,5 @@ pub mod Sides
 pub mod Naming
 pub mod Places
 pub mod Products
+pub mod Prefixes
+pub mod UnitText
