@@ -26,12 +26,12 @@ bound_back [] p u distinct e = absurd (cc)
 bound_back (b ∷ bs) p u distinct e =
     elim (bytes_eq b.uri u) as (λ t. bytes_eq b.uri u ≡ t → option_map (λ (a : Binding). a.prefix) (cond t (Some b) (find (λ a. bytes_eq a.uri u) bs)) ≡ Some p → uri_of (b ∷ bs) p ≡ Some u) [
       | true ↦ λ same h.
-        let is : b.prefix ≡ p = cc in
-        let here : bytes_eq b.prefix p ≡ true = rw is (bytes_eq-refl p) in
-        rw here (ap Some (same_bytes b.uri u same))
+          let is : b.prefix ≡ p = cc in
+          let here : bytes_eq b.prefix p ≡ true = rw is (bytes_eq-refl p) in
+          rw here (ap Some (same_bytes b.uri u same))
       | false ↦ λ other h.
-        let rest = bound_back bs p u (λ i j d less within. distinct (suc i) (suc j) d (omega arith) (omega arith)) h in
-        let ne : b.prefix ≢ p = differs bs p u b.prefix rest (λ j d less. distinct 0 (suc j) d (omega arith) (omega arith)) in
-        let there : bytes_eq b.prefix p ≡ false = not_same b.prefix p (bytes_eq b.prefix p) refl ne in
-        rw there rest
+          let rest = bound_back bs p u (λ i j d less within. distinct (suc i) (suc j) d (omega arith) (omega arith)) h in
+          let ne : b.prefix ≢ p = differs bs p u b.prefix rest (λ j d less. distinct 0 (suc j) d (omega arith) (omega arith)) in
+          let there : bytes_eq b.prefix p ≡ false = not_same b.prefix p (bytes_eq b.prefix p) refl ne in
+          rw there rest
     ] refl e
