@@ -1,8 +1,9 @@
 ghost use Rattle.std.specs.Prelude.{◌≡◌, ◌≢◌, ◌↔◌, [], ◌++◌, ◌∷◌, ◌⊎◌, IsTrue, IfOk, IfErr, IfSome, OnOk, OnErr};
 ghost use Rattle.std.specs.Option.{option_copied};
-ghost use Rattle.oim_names.specs.QName.{is_name, is_entity, is_part};
+ghost use Rattle.std.specs.Result.{result_err};
+ghost use Rattle.oim_names.specs.QName.{is_part};
 ghost use Rattle.oim_names.specs.Bindings.{AreBindings, uri_of, prefix_of, bound, is_refused_binding};
-ghost use Rattle.oim_names.specs.Expansion.{Expands, ExpandsEntity, NamesNothing, IsNotNamed, name_refusal, reserved_uri};
+ghost use Rattle.oim_names.specs.Expansion.{Expands, ExpandsEntity, entity_refusal, name_refusal, prefix_refusal, reserved_uri};
 
 use crate::binding::Binding;
 use crate::form::{is_part, split};
@@ -102,13 +103,14 @@ impl Aliases {
     /// The name that the text stands for: a bound prefix, a colon and a local part
     /// (XML Namespaces 1.0, section 4).
     ///
-    /// Errors, the first that holds: `NameForm`, `UnboundPrefix`, `ReservedNamespace`; `OutOfMemory`.
+    /// Errors: what `name_refusal` answers; `OutOfMemory`.
     pub fn expand(&self, text: &str) -> Result<Name, Reason>
         ensures ok { IfOk result (Expands self.now text.now) }
         ensures uri { IfOk result (λ name. name.uri ≢ []) }
         ensures allowed { IfOk result (λ name. name.uri ≢ reserved_uri) }
         ensures local { IfOk result (λ name. IsTrue (is_part name.local_part)) }
-        ensures errors { IfErr result (NamesNothing is_name self.now text.now) }
+        ensures errors { IfErr result
+            (λ r. (r ≡ Reason.OutOfMemory) ⊎ (name_refusal self.now text.now ≡ Some r)) }
     {
         let (prefix, local) = split(text);
         if !is_part(prefix.as_bytes()) || !is_part(local.as_bytes()) {
@@ -123,14 +125,10 @@ impl Aliases {
         ensures { result ≡ name_refusal self.now text.now }
     {
         let (prefix, local) = split(text);
-        if !(is_part(prefix.as_bytes()) && is_part(local.as_bytes())) {
+        if !is_part(prefix.as_bytes()) || !is_part(local.as_bytes()) {
             return Some(Reason::NameForm);
         }
-        match self.uri(prefix) {
-            None => Some(Reason::UnboundPrefix),
-            Some(uri) if uri == RESERVED => Some(Reason::ReservedNamespace),
-            Some(_) => None,
-        }
+        self.naming_uri(prefix).err()
     }
 
     /// The entity that the text stands for: a bound prefix for the URI of its scheme, a colon and an
@@ -142,7 +140,8 @@ impl Aliases {
         ensures uri { IfOk result (λ entity. entity.uri ≢ []) }
         ensures allowed { IfOk result (λ entity. entity.uri ≢ reserved_uri) }
         ensures identifier { IfOk result (λ entity. entity.local_part ≢ []) }
-        ensures errors { IfErr result (NamesNothing is_entity self.now text.now) }
+        ensures errors { IfErr result
+            (λ r. (r ≡ Reason.OutOfMemory) ⊎ (entity_refusal self.now text.now ≡ Some r)) }
     {
         let (prefix, identifier) = split(text);
         if !is_part(prefix.as_bytes()) || identifier.is_empty() {
@@ -151,21 +150,32 @@ impl Aliases {
         self.named(prefix, identifier)
     }
 
+    /// The name of the prefix's URI and this local part.
     fn named(&self, prefix: &str, local: &str) -> Result<Name, Reason>
         ensures uri { IfOk result (λ name. uri_of self.now prefix.now ≡ Some name.uri) }
         ensures filled { IfOk result (λ name. name.uri ≢ []) }
         ensures allowed { IfOk result (λ name. name.uri ≢ reserved_uri) }
         ensures local { IfOk result (λ name. name.local_part ≡ local.now) }
-        ensures errors { IfErr result (IsNotNamed (uri_of self.now prefix.now)) }
+        ensures errors { IfErr result
+            (λ r. (r ≡ Reason.OutOfMemory) ⊎ (prefix_refusal (uri_of self.now prefix.now) ≡ Some r)) }
     {
-        let Some(uri) = self.uri(prefix) else {
-            return Err(Reason::UnboundPrefix);
-        };
-        if uri == RESERVED {
-            return Err(Reason::ReservedNamespace);
-        }
+        let uri = self.naming_uri(prefix)?;
         let alloc = *self.bindings.allocator();
         Ok(Name::new(Text::new(alloc, uri)?, Text::new(alloc, local)?))
+    }
+
+    /// The URI that a name with this prefix has.
+    fn naming_uri(&self, prefix: &str) -> Result<&str, Reason>
+        ensures uri { IfOk result (λ uri. uri_of self.now prefix.now ≡ Some uri.now) }
+        ensures filled { IfOk result (λ uri. uri.now ≢ []) }
+        ensures allowed { IfOk result (λ uri. uri.now ≢ reserved_uri) }
+        ensures refused { result_err result ≡ prefix_refusal (uri_of self.now prefix.now) }
+    {
+        match self.uri(prefix) {
+            None => Err(Reason::UnboundPrefix),
+            Some(uri) if uri == RESERVED => Err(Reason::ReservedNamespace),
+            Some(uri) => Ok(uri),
+        }
     }
 
     /// The name as a text: the prefix, a colon and the local part, whether the prefix is bound or not.
@@ -175,6 +185,10 @@ impl Aliases {
             name.now.uri ≢ reserved_uri →
             IsTrue (is_part name.now.local_part) →
             IfOk result (λ text. Expands self.now text name.now) }
+        ensures back_entity { uri_of self.now prefix.now ≡ Some name.now.uri →
+            name.now.uri ≢ reserved_uri →
+            name.now.local_part ≢ [] →
+            IfOk result (λ text. ExpandsEntity self.now text name.now) }
     {
         joined(*self.bindings.allocator(), prefix, name.local())
     }
@@ -186,5 +200,5 @@ fn joined(alloc: Global, prefix: &str, local: &str) -> Result<Text, AllocError>
     let mut text = String::from_str(alloc, prefix)?;
     text.push_str(":")?;
     text.push_str(local)?;
-    Text::new(alloc, text.as_str())
+    Ok(Text::from_string(text))
 }

@@ -1,4 +1,4 @@
-ghost use Rattle.std.specs.Prelude.{◌≡◌, IfOk, IsUtf8};
+ghost use Rattle.std.specs.Prelude.{◌≡◌, IfOk, IsUtf8, string_bytes};
 
 use crate::copied::{Copied, Key};
 use std::alloc::{AllocError, Global};
@@ -31,12 +31,20 @@ impl Text {
         })
     }
 
+    /// The text of a string, without a copy.
+    pub fn from_string(text: String) -> Text
+        ensures { result ≡ string_bytes text }
+    {
+        // That the bytes are UTF-8 is known of what `as_str` gives.
+        let _utf8 = text.as_str();
+        Text { text }
+    }
+
     /// The bytes as a text.
     pub fn as_str(&self) -> &str
         ensures bytes { result.now ≡ self.now }
         ensures utf8 { IsUtf8 self.now }
     {
-        let _bytes = self.text.as_bytes();
         self.text.as_str()
     }
 }

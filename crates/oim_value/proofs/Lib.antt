@@ -5,3 +5,4 @@ pub mod PlainLemmas
 pub mod Shapes
 pub mod ShortLaws
 pub mod Units
+pub mod Denoted

@@ -3,3 +3,4 @@ pub mod Number
 pub mod Plain
 pub mod Ties
 pub mod ValueOrder
+pub mod Units

@@ -1,40 +1,57 @@
 use crate::{Decimals, Fixed, Value, read_fixed, write_fixed};
 use oim_names::{Aliases, Copied, Name, Reason, Text};
-use std::alloc::{AllocError, Global};
+use std::alloc::AllocError;
 use std::test::Fail;
 
 const UNIT: i128 = 1_000_000_000_000_000_000;
 
-// One request for memory of a test may be refused (`rt try --fail-alloc`), so a call that was
-// refused is made again.
-fn text_of(alloc: Global, text: &str) -> Result<Text, AllocError> {
-    match Text::new(alloc, text) {
-        Ok(made) => Ok(made),
-        Err(_) => Text::new(alloc, text),
+// Where a request for memory is refused, the next one is not, so the call is made again. The line
+// on standard error tells `tests/refused_memory` of it.
+
+fn tell_refused(rt: &HostRuntime) {
+    let _ = eprintln!(rt; "refused");
+}
+
+fn text_of(rt: &HostRuntime, text: &str) -> Result<Text, AllocError> {
+    match Text::new(rt.alloc(), text) {
+        Err(_) => {
+            tell_refused(rt);
+            Text::new(rt.alloc(), text)
+        }
+        made => made,
     }
 }
 
-fn written(alloc: Global, number: Fixed) -> Result<Text, AllocError> {
-    match write_fixed(alloc, number) {
-        Ok(text) => Ok(text),
-        Err(_) => write_fixed(alloc, number),
+fn written(rt: &HostRuntime, number: Fixed) -> Result<Text, AllocError> {
+    match write_fixed(rt.alloc(), number) {
+        Err(_) => {
+            tell_refused(rt);
+            write_fixed(rt.alloc(), number)
+        }
+        text => text,
     }
 }
 
-fn bind(aliases: &mut Aliases, prefix: &str, uri: &str) -> Result<(), Reason> {
+fn bind(rt: &HostRuntime, aliases: &mut Aliases, prefix: &str, uri: &str) -> Result<(), Reason> {
     match aliases.add(prefix, uri) {
-        Ok(()) => Ok(()),
-        Err(_) => aliases.add(prefix, uri),
+        Err(Reason::OutOfMemory) => {
+            tell_refused(rt);
+            aliases.add(prefix, uri)
+        }
+        bound => bound,
     }
 }
 
-fn name_of(alloc: Global, text: &str) -> Result<Name, Reason> {
-    let mut aliases = Aliases::new(alloc);
-    bind(&mut aliases, "b", "http://a.org")?;
-    bind(&mut aliases, "a", "http://b.org")?;
+fn name_of(rt: &HostRuntime, text: &str) -> Result<Name, Reason> {
+    let mut aliases = Aliases::new(rt.alloc());
+    bind(rt, &mut aliases, "b", "http://a.org")?;
+    bind(rt, &mut aliases, "a", "http://b.org")?;
     match aliases.expand(text) {
-        Ok(name) => Ok(name),
-        Err(_) => aliases.expand(text),
+        Err(Reason::OutOfMemory) => {
+            tell_refused(rt);
+            aliases.expand(text)
+        }
+        name => name,
     }
 }
 
@@ -105,7 +122,7 @@ fn numbers_are_written_plain(rt: HostRuntime) -> Result<(), Fail> {
     ];
     for (text, plain) in rows {
         match read_fixed(text) {
-            Ok(number) => assert_eq!(rt; written(rt.alloc(), number)?.as_str(), plain),
+            Ok(number) => assert_eq!(rt; written(&rt, number)?.as_str(), plain),
             Err(_) => panic!(rt; "{text} is refused"),
         }
     }
@@ -136,8 +153,8 @@ fn number(text: &str, decimals: Decimals) -> Value {
     }
 }
 
-fn name(alloc: Global, text: &str) -> Value {
-    match name_of(alloc, text) {
+fn name(rt: &HostRuntime, text: &str) -> Value {
+    match name_of(rt, text) {
         Ok(name) => Value::Name(name),
         Err(_) => Value::Nil,
     }
@@ -161,13 +178,13 @@ fn values_are_in_order(rt: HostRuntime) -> Result<(), Fail> {
         number("0", finite(12)),
         number("0", Decimals::INFINITE),
         number("0.000000000000000001", finite(0)),
-        Value::Text(text_of(rt.alloc(), "")?),
-        Value::Text(text_of(rt.alloc(), "10")?),
-        Value::Text(text_of(rt.alloc(), "9")?),
-        Value::Text(text_of(rt.alloc(), "é")?),
-        name(rt.alloc(), "b:y"),
-        name(rt.alloc(), "b:z"),
-        name(rt.alloc(), "a:x"),
+        Value::Text(text_of(&rt, "")?),
+        Value::Text(text_of(&rt, "10")?),
+        Value::Text(text_of(&rt, "9")?),
+        Value::Text(text_of(&rt, "é")?),
+        name(&rt, "b:y"),
+        name(&rt, "b:z"),
+        name(&rt, "a:x"),
     ];
     for i in 0..rising.len() {
         for j in 0..rising.len() {
@@ -182,13 +199,16 @@ fn values_are_copied(rt: HostRuntime) -> Result<(), Fail> {
     let rows = [
         Value::Nil,
         number("1", finite(2)),
-        Value::Text(text_of(rt.alloc(), "ab")?),
-        name(rt.alloc(), "a:x"),
+        Value::Text(text_of(&rt, "ab")?),
+        name(&rt, "a:x"),
     ];
     for value in &rows {
         match value.copied(rt.alloc()) {
             Ok(copy) => assert!(rt; copy == *value),
-            Err(_) => assert!(rt; value.copied(rt.alloc())? == *value),
+            Err(_) => {
+                tell_refused(&rt);
+                assert!(rt; value.copied(rt.alloc())? == *value);
+            }
         }
     }
     Ok(())

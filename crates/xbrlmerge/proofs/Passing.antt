@@ -1,5 +1,5 @@
 -- Lemmas on a text on its way to a sink, for those who push it in parts.
-use Rattle.std.proofs.Common.{◌≡◌, ℕ, ◌+◌, ◌-◌, ◌^◌, ◌≤◌, min, List, [], ◌++◌, Option, Result, Ok, Err, IfErr, length, take, drop, refl, sym, ap, ◌∙◌, append_assoc, append-nil, add-zero, zero-add, arith, length-append, length-take-le, take-append-drop}
+use Rattle.std.proofs.Common.{◌≡◌, ℕ, ◌+◌, ◌-◌, ◌^◌, ◌≤◌, List, [], ◌++◌, Option, Result, Ok, Err, IfErr, length, take, drop, refl, sym, ap, ◌∙◌, append_assoc, append-nil, add-zero, zero-add, arith, length-append, length-take-le, take-append-drop}
 use Rattle.std.specs.Io.KnownBytes.{Appends}
 use Rattle.std.proofs.KnownBytes.{Appends-nil, Appends-trans}
 use Rattle.xbrlmerge.specs.Sink.{AppendsFirst, AppendsFront, counted, written_of}
@@ -12,7 +12,7 @@ Passes-nil a p = record {
   front = [];
   whole = append-nil p.bytes;
   appended = Appends-nil a;
-  count = ap counted (sym (add-zero p.written))
+  count = ap counted (sym (add-zero p.written));
 }
 
 -- one text came after the other
@@ -22,7 +22,7 @@ Passes-trans {a} {b} {c} {p} {q} {r} {xs} {ys} first second = record {
   whole = sym (append_assoc p.bytes xs ys) ∙ ap (λ l. l ++ ys) first.whole ∙ append_assoc first.front q.bytes ys
       ∙ ap (λ l. first.front ++ l) second.whole ∙ sym (append_assoc first.front second.front r.bytes);
   appended = Appends-trans a b c first.front second.front first.appended second.appended;
-  count = omega (arith, first.count, second.count, length-append first.front second.front)
+  count = omega (arith, first.count, second.count, length-append first.front second.front);
 }
 
 -- the sink took the whole text, before which nothing was pushed and of which nothing waits
@@ -37,7 +37,7 @@ Breaks-more {p = p} {xs = xs} more broken = record {
   rest = broken.rest ++ more;
   whole = sym (append_assoc p.bytes xs more) ∙ ap (λ l. l ++ more) broken.whole ∙ append_assoc broken.front broken.rest more;
   appended = broken.appended;
-  count = broken.count
+  count = broken.count;
 }
 
 -- a fault in the later of two texts is one in both
@@ -48,7 +48,7 @@ Breaks-trans {a} {b} {c} {p} {q} {xs} {ys} passed broken = record {
   whole = sym (append_assoc p.bytes xs ys) ∙ ap (λ l. l ++ ys) passed.whole ∙ append_assoc passed.front q.bytes ys
       ∙ ap (λ l. passed.front ++ l) broken.whole ∙ sym (append_assoc passed.front broken.front broken.rest);
   appended = Appends-trans a b c passed.front broken.front passed.appended broken.appended;
-  count = omega (arith, passed.count, broken.count, length-append passed.front broken.front)
+  count = omega (arith, passed.count, broken.count, length-append passed.front broken.front);
 }
 
 -- a fault in a text before which nothing was pushed
@@ -58,7 +58,7 @@ AppendsFront-broken {text = text} new broken = record {
   rest = broken.rest;
   whole = ap (λ (p : Pending). p.bytes ++ text) (sym new) ∙ broken.whole;
   appended = broken.appended;
-  count = broken.count ∙ ap (λ (p : Pending). counted (p.written + length broken.front)) new ∙ ap counted (zero-add (length broken.front))
+  count = broken.count ∙ ap (λ (p : Pending). counted (p.written + length broken.front)) new ∙ ap counted (zero-add (length broken.front));
 }
 
 -- a fault in the flush behind a text before which nothing was pushed
@@ -74,7 +74,7 @@ Passes-waiting a p text = record {
   front = [];
   whole = refl;
   appended = Appends-nil a;
-  count = ap counted (sym (add-zero p.written))
+  count = ap counted (sym (add-zero p.written));
 }
 
 -- a fault before the sink took anything
@@ -84,7 +84,7 @@ Breaks-none a p text small = record {
   rest = p.bytes ++ text;
   whole = refl;
   appended = Appends-nil a;
-  count = omega arith
+  count = omega arith;
 }
 
 -- a fault after the sink took the first n bytes of what waited
@@ -94,7 +94,7 @@ Breaks-first a b p n put = record {
   rest = drop n p.bytes;
   whole = append-nil p.bytes ∙ sym (take-append-drop n p.bytes);
   appended = put.0;
-  count = ap (λ k. counted (p.written + k)) (sym (length-take-le n p.bytes put.1))
+  count = ap (λ k. counted (p.written + k)) (sym (length-take-le n p.bytes put.1));
 }
 
 -- a fault in what waits is one in the text that was pushed just now
@@ -107,5 +107,5 @@ Breaks-pushed a b p text (Err fault) broken = record {
   rest = broken.rest;
   whole = sym (append-nil (p.bytes ++ text)) ∙ broken.whole;
   appended = broken.appended;
-  count = broken.count
+  count = broken.count;
 }

@@ -3,17 +3,27 @@
 
 mod base;
 mod bundle;
+mod concept_kind;
 #[cfg(test)]
 mod devices;
 mod document;
+mod document_form;
 mod encoded;
 mod fact;
+mod fact_form;
+mod fact_text;
+mod fact_value;
 mod fault;
+mod json_tree;
 pub mod laws;
 mod lines;
 mod merging;
+mod name_faults;
+mod namespaces;
+mod parts;
 mod pieces;
 mod place;
+mod prefix_table;
 mod ranked;
 mod read_all;
 mod read_fault;
@@ -29,6 +39,8 @@ mod std_sink;
 mod std_source;
 #[cfg(test)]
 mod tests_io;
+#[cfg(test)]
+mod tests_run;
 mod write_fault;
 mod writer;
 

@@ -76,4 +76,10 @@ impl Pieces {
             Err(taken) => Err(WriteFault::Device(self.written.saturating_add(taken as u64))),
         }
     }
+    /// How many bytes the sink took.
+    pub fn written(&self) -> u64
+        ensures { result ≡ self.now.written }
+    {
+        self.written
+    }
 }

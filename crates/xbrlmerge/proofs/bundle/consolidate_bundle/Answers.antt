@@ -17,8 +17,8 @@ returns-in-Ok-write_to-clause-ok g c =
     } in
     consolidated c.args.bytes.now c.in-Ok.sheet merging.base merging.refusals (g.S.Sink.told c.args.out.now) (g.S.Sink.told c.write_to.new.out) read c.in-Ok-write_to.ensures.ok
 
-pub returns-in-Err-write_to-clause-err : goal.returns-in-Err-write_to-clause-err
-returns-in-Err-write_to-clause-err g c =
+pub returns-clause-err : goal.returns-clause-err
+returns-clause-err g c =
     let merging = c.in-Ok-read_reports.merging in
     let read : HasRead c.args.bytes.now c.in-Ok.sheet merging.base merging.refusals = record {
       line = c.cut_line.result.0.now;

@@ -1,0 +1,45 @@
+-- A text denotes one number of units.
+use Rattle.std.proofs.Common.{◌≡◌, ℕ, zero, suc, ◌+◌, ◌*◌, ◌/◌, ◌^◌, ◌<◌, ◌≤◌, List, length, Bool, true, false, refl, sym, ap, ◌∙◌, arith}
+use Rattle.std.specs.Prelude.{ℤ, pos, negsuc, ◌*ℤ◌, unsigned_abs}
+use Rattle.std.proofs.Math.IntN.{neg_ℤ}
+use Rattle.std.proofs.Math.Nat.{mul-div_cancel, mul-le-mul_left, pow-le-pow_right}
+use Rattle.std.specs.Str.Parse.{digits_value}
+use Rattle.oim_value.specs.Number.{signed, is_negative, both_parts, fraction_part, Denotes}
+use Rattle.oim_value.specs.Units.{units_of}
+use Rattle.oim_value.proofs.Units.{unsigned_abs-signed}
+
+magnitude : (z : ℤ) (p : ℕ) → unsigned_abs (z *ℤ pos p) ≡ unsigned_abs z * p
+magnitude (pos n) p = refl
+magnitude (negsuc n) p = unsigned_abs-signed true (suc n * p)
+
+product_positive : (a p : ℕ) → 0 < p → 0 < suc a * p
+product_positive a p some = let h : p * 1 ≤ p * suc a = mul-le-mul_left p (omega arith) in grind (arith, h)
+
+no_negative : (x n : ℕ) → 0 < x → neg_ℤ (pos x) ≡ pos n → ⊥
+no_negative zero n some e = omega arith
+no_negative (suc x) n some e = cc
+
+no_positive : (x n : ℕ) → 0 < x → pos x ≡ neg_ℤ (pos n) → ⊥
+no_positive zero n some e = omega arith
+no_positive (suc x) zero some e = cc
+no_positive (suc x) (suc n) some e = cc
+
+-- a number that a product has on the right is what the quotient gives
+quotient : (b : Bool) (z : ℤ) (p n : ℕ) → 0 < p → z *ℤ pos p ≡ signed b n → z ≡ signed b (n / p)
+quotient b z p n some e =
+    let size : unsigned_abs z * p ≡ n = sym (magnitude z p) ∙ ap unsigned_abs e ∙ unsigned_abs-signed b n in
+    let whole : n / p ≡ unsigned_abs z = ap (λ m. m / p) (sym size) ∙ mul-div_cancel (unsigned_abs z) some in
+    rw whole (same b z p n some e)
+  where
+    same : (b : Bool) (z : ℤ) (p n : ℕ) → 0 < p → z *ℤ pos p ≡ signed b n → z ≡ signed b (unsigned_abs z)
+    same false (pos a) p n some e = refl
+    same false (negsuc a) p n some e = absurd (no_negative (suc a * p) n (product_positive a p some) e)
+    same true (pos zero) p n some e = refl
+    same true (pos (suc a)) p n some e = absurd (no_positive (suc a * p) n (product_positive a p some) e)
+    same true (negsuc a) p n some e = refl
+
+ten_positive : (n : ℕ) → 0 < 10 ^ n
+ten_positive n = let p : 10 ^ 0 ≤ 10 ^ n = pow-le-pow_right {n = 10} (omega arith) {i = 0} {j = n} (omega arith) in omega arith
+
+pub denotes_units : (t : List ℕ) (units : ℤ) → Denotes t units → units ≡ units_of t
+denotes_units t units says = quotient (is_negative t) units (10 ^ length (fraction_part t)) (10 ^ 18 * digits_value 10 (both_parts t)) (ten_positive (length (fraction_part t))) says.value

@@ -1,0 +1,45 @@
+use Rattle.std.proofs.Common.{◌≡◌, false, inr, sym, ap, ◌∙◌}
+use Rattle.std.proofs.lemmas.Result.{err_from_is_err_and}
+use Rattle.serde_json.specs.View.{view}
+use Rattle.xbrlmerge.specs.Json.{any_in, members}
+use Rattle.xbrlmerge.specs.Names.{is_refused, of_key, binds_nothing, bindings_in, name_conditions, lacks_form, lacks_binding, lies_in_reserved}
+use Rattle.xbrlmerge.specs.Refusal.{first_holding}
+use Rattle.xbrlmerge.specs.Sheet.{concepts_of, dimensions_of, some_key}
+use Rattle.xbrlmerge.proofs.Named.{both_false}
+use Rattle.xbrlmerge.proofs.Refused.{no_name_refused, no_key_refused_in}
+use Rattle.xbrlmerge.proofs.SheetRefused.{by_form, by_names, by_kinds}
+use Rattle.xbrlmerge.proofs.sheet.Sheet.from_tree.Goals as goal
+
+pub returns-in_err-check_form-clause-errors : goal.returns-in_err-check_form-clause-errors
+returns-in_err-check_form-clause-errors c =
+    let p = err_from_is_err_and c.from_residual.result c.from_residual.ensures.1 in
+    rw (p.1, p.2) (inr (by_form (view c.args.tree.now) c.in_err-check_form.field-0.0 c.in_err-check_form.ensures))
+
+pub returns-in_err-check_names-clause-errors : goal.returns-in_err-check_names-clause-errors
+returns-in_err-check_names-clause-errors c =
+    let tree = view c.args.tree.now in
+    let same = ap (λ ms. bindings_in (members ms)) c.object_at.ensures in
+    let p = err_from_is_err_and c.from_residual-in_err-check_names.result c.from_residual-in_err-check_names.ensures.1 in
+    rw (p.1, p.2) (inr (by_names tree c.in_err-check_names.field-0.0 c.in_ok-check_form.ensures
+    (ap (any_in binds_nothing) (sym c.object_at.ensures) ∙ c.in_ok-aliases.ensures.bound.1)
+    (c.in_err-check_names.ensures ∙ ap (λ b. first_holding (name_conditions (some_key tree) b)) (c.in_ok-aliases.ensures.bound.0 ∙ same))))
+
+pub returns-in_err-check_kinds-clause-errors : goal.returns-in_err-check_kinds-clause-errors
+returns-in_err-check_kinds-clause-errors c =
+    let tree = view c.args.tree.now in
+    let same = ap (λ ms. bindings_in (members ms)) c.object_at.ensures in
+    let p = err_from_is_err_and c.from_residual-in_err-check_kinds.result c.from_residual-in_err-check_kinds.ensures.1 in
+    rw (p.1, p.2) (inr (by_kinds tree c.in_err-check_kinds.field-0.0 c.in_ok-check_form.ensures
+    (ap (any_in binds_nothing) (sym c.object_at.ensures) ∙ c.in_ok-aliases.ensures.bound.1)
+    (c.in_ok-check_names.ensures ∙ ap (λ b. first_holding (name_conditions (some_key tree) b)) (c.in_ok-aliases.ensures.bound.0 ∙ same))
+    c.in_err-check_kinds.ensures))
+
+pub listed-requires : goal.listed-requires
+listed-requires c =
+    let tree = view c.args.tree.now in
+    let bs = c.in_ok-aliases.aliases in
+    let names = no_name_refused (some_key tree) bs c.in_ok-check_names.ensures in
+    let form = both_false (any_in (of_key lacks_form) (concepts_of tree)) (any_in (of_key lacks_form) (dimensions_of tree)) names.0 in
+    let prefix = both_false (any_in (of_key (lacks_binding bs)) (concepts_of tree)) (any_in (of_key (lacks_binding bs)) (dimensions_of tree)) names.1 in
+    let namespace = both_false (any_in (of_key (lies_in_reserved bs)) (concepts_of tree)) (any_in (of_key (lies_in_reserved bs)) (dimensions_of tree)) names.2 in
+    ap (any_in (of_key (is_refused bs))) c.object_at-2.ensures ∙ no_key_refused_in bs (concepts_of tree) form.0 prefix.0 namespace.0

@@ -1,0 +1,21 @@
+-- Conditions of refusals, and which is answered.
+use Rattle.std.specs.Prelude.{Bool, List, [], ◌∷◌, if◌then◌else◌, Option, Some, None, Result, Ok, Err}
+use Rattle.oim_names.specs.declared.reason.Reason.{Reason}
+
+-- whether it holds, and the refusal that it is answered with
+abbrev pub Condition : Type 0
+Condition = Bool × Reason
+
+-- the refusal of the first condition that holds
+abbrev pub first_holding : List Condition → Option Reason
+first_holding [] = None
+first_holding (c ∷ cs) = if c.0 then Some c.1 else first_holding cs
+
+-- a value, but where it is refused
+abbrev pub unless : {A : Type 0} → Option Reason → A → Result A Reason
+unless None a = Ok a
+unless (Some reason) a = Err reason
+
+abbrev pub map_ok : {A B E : Type 0} → (A → B) → Result A E → Result B E
+map_ok f (Ok a) = Ok (f a)
+map_ok f (Err e) = Err e

@@ -1,0 +1,93 @@
+ghost use Rattle.std.specs.Prelude.{◌≡◌, ◌||◌, ◌∷◌, [], false};
+ghost use Rattle.std.specs.Result.{result_err};
+ghost use Rattle.serde_json.specs.View.{members_view};
+ghost use Rattle.xbrlmerge.specs.Conditions.{of_defined};
+ghost use Rattle.xbrlmerge.specs.Json.{any_member};
+ghost use Rattle.xbrlmerge.specs.Refusal.{first_holding};
+ghost use Rattle.xbrlmerge.specs.Names.{lacks_form, lacks_binding, lies_in_reserved, of_key};
+
+use crate::json_tree::has_colon;
+use oim_names::{Aliases, Reason};
+use serde_json::{Map, Value};
+
+/// Why some of the names that were looked at are refused.
+#[derive(Clone, Copy, Debug)]
+pub(crate) struct NameFaults {
+    /// One hasn't a name's form.
+    form: bool,
+    /// One has a prefix that is not bound.
+    prefix: bool,
+    /// One lies in the reserved namespace.
+    namespace: bool,
+}
+
+impl NameFaults {
+    /// No name was looked at.
+    pub(crate) const NONE: NameFaults = NameFaults {
+        form: false,
+        prefix: false,
+        namespace: false,
+    };
+
+    /// These, and why this name is refused.
+    pub(crate) fn and_of(self, aliases: &Aliases, name: &str) -> NameFaults
+        ensures form { result.form ≡ (self.form || lacks_form name.now) }
+        ensures prefix { result.prefix ≡ (self.prefix || lacks_binding aliases.now name.now) }
+        ensures namespace { result.namespace ≡ (self.namespace || lies_in_reserved aliases.now name.now) }
+    {
+        let refusal = aliases.name_refusal(name);
+        NameFaults {
+            form: self.form || refusal == Some(Reason::NameForm),
+            prefix: self.prefix || refusal == Some(Reason::UnboundPrefix),
+            namespace: self.namespace || refusal == Some(Reason::ReservedNamespace),
+        }
+    }
+
+    /// These, and why the keys of this object are refused.
+    pub(crate) fn and_of_keys(self, aliases: &Aliases, members: &Map<String, Value>) -> NameFaults
+        ensures form { result.form ≡ (self.form || any_member (of_key lacks_form) (members_view members.now.entries)) }
+        ensures prefix { result.prefix ≡ (self.prefix || any_member (of_key (lacks_binding aliases.now)) (members_view members.now.entries)) }
+        ensures namespace { result.namespace ≡ (self.namespace || any_member (of_key (lies_in_reserved aliases.now)) (members_view members.now.entries)) }
+    {
+        let mut faults = self;
+        for (key, _value) in members.iter() {
+            faults = faults.and_of(aliases, key.as_str());
+        }
+        faults
+    }
+
+    /// These, and why the keys of taxonomy-defined dimensions are refused.
+    pub(crate) fn and_of_defined(
+        self,
+        aliases: &Aliases,
+        dimensions: &Map<String, Value>,
+    ) -> NameFaults
+        ensures form { result.form ≡ (self.form || any_member (of_defined lacks_form) (members_view dimensions.now.entries)) }
+        ensures prefix { result.prefix ≡ (self.prefix || any_member (of_defined (lacks_binding aliases.now)) (members_view dimensions.now.entries)) }
+        ensures namespace { result.namespace ≡ (self.namespace || any_member (of_defined (lies_in_reserved aliases.now)) (members_view dimensions.now.entries)) }
+    {
+        let mut faults = self;
+        for (key, _value) in dimensions.iter() {
+            if has_colon(key.as_str()) {
+                faults = faults.and_of(aliases, key.as_str());
+            }
+        }
+        faults
+    }
+
+    /// The least refusal.
+    pub(crate) fn check(self) -> Result<(), Reason>
+        ensures { result_err result ≡ first_holding ((self.form, Reason.NameForm) ∷ (self.prefix, Reason.UnboundPrefix) ∷ (self.namespace, Reason.ReservedNamespace) ∷ []) }
+    {
+        if self.form {
+            return Err(Reason::NameForm);
+        }
+        if self.prefix {
+            return Err(Reason::UnboundPrefix);
+        }
+        if self.namespace {
+            return Err(Reason::ReservedNamespace);
+        }
+        Ok(())
+    }
+}

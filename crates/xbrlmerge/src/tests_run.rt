@@ -1,0 +1,355 @@
+use crate::devices::{TestReader, TestWriter, Then};
+use crate::run::run;
+use std::alloc::AllocError;
+use std::test::Fail;
+
+// Where a request for memory is refused, the next one is not: the program says so, and is run
+// again. The line on standard error tells of it.
+
+const ROOM: usize = 1 << 16;
+
+/// Names and a sheet of two numeric concepts.
+const SHEET: &str =
+    r#"{"namespaces":{"eg":"http://example.org/t"},"concepts":{"eg:A":"numeric","eg:B":"numeric"}}"#;
+
+const INFO: &str =
+    r#"{"documentInfo":{"documentType":"https://xbrl.org/2021/xbrl-json","namespaces":{"eg":"http://example.org/t","x":"http://example.org/u","xbrli":"http://www.xbrl.org/2003/instance","xbrl":"https://xbrl.org/2021"}},"facts":{"#;
+
+/// The same with `zz` in place of `eg`.
+const OTHER_INFO: &str =
+    r#"{"documentInfo":{"documentType":"https://xbrl.org/2021/xbrl-json","namespaces":{"zz":"http://example.org/t","x":"http://example.org/u","xbrli":"http://www.xbrl.org/2003/instance","xbrl":"https://xbrl.org/2021"}},"facts":{"#;
+
+const HUNDRED: &str = r#""a":{"value":"100","decimals":0,"dimensions":{"concept":"eg:A"}}"#;
+
+/// The same, to the end of its report.
+const JUST_HUNDRED: &str = r#""a":{"value":"100","decimals":0,"dimensions":{"concept":"eg:A"}}}}"#;
+
+const OTHER_HUNDRED: &str = r#""a":{"value":"100","decimals":0,"dimensions":{"concept":"zz:A"}}"#;
+
+// The canonical text, but for its namespaces and its facts.
+const HEAD: &str =
+    r#"{"documentInfo":{"documentType":"https://xbrl.org/2021/xbrl-json","namespaces":{"#;
+
+const MIDDLE: &str = r#"},"taxonomy":[]},"facts":{"#;
+
+const END: &str = "}}";
+
+const ONE_URI: &str = r#""n1":"http://example.org/t""#;
+
+const WRITTEN_HUNDRED: &str =
+    r#""f1":{"decimals":0,"dimensions":{"concept":"n1:A"},"value":"100"}"#;
+
+fn tell_refused(rt: &HostRuntime) {
+    let _ = eprintln!(rt; "refused");
+}
+
+fn joined(rt: &HostRuntime, parts: &[&str]) -> Result<Vec<u8>, AllocError> {
+    let mut all = match Vec::with_capacity(rt.alloc(), ROOM) {
+        Ok(made) => made,
+        Err(_) => {
+            tell_refused(rt);
+            Vec::with_capacity(rt.alloc(), ROOM)?
+        }
+    };
+    for part in parts {
+        all.extend_from_slice(part.as_bytes())?;
+    }
+    Ok(all)
+}
+
+fn writer(rt: &HostRuntime, room: usize) -> Result<TestWriter, AllocError> {
+    match TestWriter::new(rt.alloc(), room, room, Then::Fails) {
+        Err(_) => {
+            tell_refused(rt);
+            TestWriter::new(rt.alloc(), room, room, Then::Fails)
+        }
+        made => made,
+    }
+}
+
+/// What the program left.
+#[derive(Drop)]
+struct Ran {
+    status: u8,
+    out: TestWriter,
+    err: TestWriter,
+}
+
+fn run_once(rt: &HostRuntime, input: TestReader<'_>, room: usize) -> Result<Ran, AllocError> {
+    let mut out = writer(rt, room)?;
+    let mut err = writer(rt, ROOM)?;
+    let status = run(rt.alloc(), &[], input, &mut out, &mut err);
+    Ok(Ran { status, out, err })
+}
+
+/// Runs the program on standard input, with room for so many bytes on standard output.
+fn run_in(rt: &HostRuntime, input: TestReader<'_>, room: usize) -> Result<Ran, AllocError> {
+    let ran = run_once(rt, input, room)?;
+    if ran.status == 3 && ran.err.held() == b"out of memory\n".as_slice() {
+        tell_refused(rt);
+        return run_once(rt, input, room);
+    }
+    Ok(ran)
+}
+
+/// Whether the program answers so. What it left is shown where it does not.
+fn gives(
+    rt: &HostRuntime,
+    parts: &[&str],
+    status: u8,
+    out: &[&str],
+    err: &str,
+) -> Result<bool, Fail> {
+    let bundle = joined(rt, parts)?;
+    let text = joined(rt, out)?;
+    let ran = run_in(rt, TestReader::new(&bundle, ROOM, Then::Ends), ROOM)?;
+    let same = ran.status == status
+        && ran.err.held() == err.as_bytes()
+        && ran.out.held() == text.as_slice();
+    if !same {
+        let _ = eprintln!(rt; "status {}", ran.status);
+    }
+    Ok(same)
+}
+
+#[test]
+fn no_report_gives_the_empty_text(rt: HostRuntime) -> Result<(), Fail> {
+    let text = [HEAD, MIDDLE, END];
+    assert_eq!(rt; joined(&rt, &text)?.len(), 108);
+    for ends in ["", "\n", "\n\n\n"] {
+        assert!(rt; gives(&rt, &[SHEET, ends], 0, &text, "")?);
+    }
+    Ok(())
+}
+
+#[test]
+fn prefixes_carry_no_meaning(rt: HostRuntime) -> Result<(), Fail> {
+    let text = [HEAD, ONE_URI, MIDDLE, WRITTEN_HUNDRED, END];
+    assert_eq!(rt; joined(&rt, &text)?.len(), 200);
+    let [a, b, c, d, e] = [INFO, OTHER_INFO, HUNDRED, OTHER_HUNDRED, END];
+    let bundles = [
+        [SHEET, "\n", a, c, e, "", "", "", "", "", "", ""],
+        [SHEET, "\n", b, d, e, "\n", "", "", "", "", "", ""],
+        [SHEET, "\n", a, c, e, "\n", b, d, e, "\n", "", ""],
+        [SHEET, "\n", b, d, e, "\n", a, c, e, "\n", "", ""],
+        [SHEET, "\n", a, c, e, "\n", a, c, e, "\n\n", a, JUST_HUNDRED],
+    ];
+    for bundle in bundles {
+        assert!(rt; gives(&rt, &bundle, 0, &text, "")?);
+    }
+    Ok(())
+}
+
+#[test]
+fn bundle_of_two_reports_and_one_again(rt: HostRuntime) -> Result<(), Fail> {
+    let text = [HEAD, ONE_URI, MIDDLE, WRITTEN_HUNDRED, END];
+    let [a, b, c, d, e] = [INFO, OTHER_INFO, HUNDRED, OTHER_HUNDRED, END];
+    let bundle = [SHEET, "\n", a, c, e, "\n", b, d, e, "\n", a, c, e, "\n"];
+    assert!(rt; gives(&rt, &bundle, 0, &text, "")?);
+    Ok(())
+}
+
+#[test]
+fn one_number_has_one_text(rt: HostRuntime) -> Result<(), Fail> {
+    let zeros = [
+        SHEET,
+        "\n",
+        INFO,
+        r#""a":{"value":"-0","dimensions":{"concept":"eg:A"}},"#,
+        r#""b":{"value":"+0.00","dimensions":{"concept":"eg:A"}},"#,
+        r#""c":{"value":".0","dimensions":{"concept":"eg:A"}},"#,
+        r#""d":{"value":"0","dimensions":{"concept":"eg:A"}}"#,
+        END,
+    ];
+    let zero = r#""f1":{"dimensions":{"concept":"n1:A"},"value":"0"}"#;
+    assert!(rt; gives(&rt, &zeros, 0, &[HEAD, ONE_URI, MIDDLE, zero, END], "")?);
+    let others = [
+        SHEET,
+        "\n",
+        INFO,
+        r#""a":{"value":"1.","dimensions":{"concept":"eg:A"}},"#,
+        r#""b":{"value":"0.10000000000000000000","dimensions":{"concept":"eg:A"}},"#,
+        r#""c":{"value":"0.000000000000000001","dimensions":{"concept":"eg:A"}}"#,
+        END,
+    ];
+    let written = [
+        HEAD,
+        ONE_URI,
+        MIDDLE,
+        r#""f1":{"dimensions":{"concept":"n1:A"},"value":"0.000000000000000001"},"#,
+        r#""f2":{"dimensions":{"concept":"n1:A"},"value":"0.1"},"#,
+        r#""f3":{"dimensions":{"concept":"n1:A"},"value":"1"}"#,
+        END,
+    ];
+    assert!(rt; gives(&rt, &others, 0, &written, "")?);
+    Ok(())
+}
+
+#[test]
+fn a_refused_report_changes_nothing(rt: HostRuntime) -> Result<(), Fail> {
+    let refused = [
+        INFO,
+        r#""a":{"value":"1","dimensions":{"concept":"eg:A"}},"#,
+        r#""b":{"value":"1","dimensions":{"concept":"q:A"}},"#,
+        r#""c":{"value":"2","dimensions":{"concept":"eg:A"}}"#,
+        END,
+    ];
+    let [a, b, c, d, e] = refused;
+    let line = "report 1: 13 UnboundPrefix at fact 2\n";
+    let nothing = [HEAD, MIDDLE, END];
+    assert!(rt; gives(&rt, &[SHEET, "\n", a, b, c, d, e], 1, &nothing, line)?);
+    let hundred = [HEAD, ONE_URI, MIDDLE, WRITTEN_HUNDRED, END];
+    let bundle = [
+        SHEET, "\n\n", a, b, c, d, e, "\n\n", INFO, HUNDRED, END, "\n{}",
+    ];
+    let lines = "report 1: 13 UnboundPrefix at fact 2\nreport 3: 2 MemberForm at document\n";
+    assert!(rt; gives(&rt, &bundle, 1, &hundred, lines)?);
+    Ok(())
+}
+
+#[test]
+fn refusals_are_told_with_their_place(rt: HostRuntime) -> Result<(), Fail> {
+    let rows = [
+        (
+            r#""a":{"value":"1","dimensions":{"concept":"eg:A","noteId":"k1"}}"#,
+            "report 1: 10 Notes at fact 1\n",
+        ),
+        (
+            r#""a":{"value":"1","links":{"eg:l":{}},"dimensions":{"concept":"eg:A"}}"#,
+            "report 1: 9 Links at fact 1\n",
+        ),
+        (
+            r#""a":{"value":"1","decimals":13,"dimensions":{"concept":"eg:A"}}"#,
+            "report 1: 29 DecimalsRange at fact 1\n",
+        ),
+        (
+            r#""a":{"value":"0.0000000000000000001","dimensions":{"concept":"eg:A"}}"#,
+            "report 1: 27 NumberDigits at fact 1\n",
+        ),
+        (
+            r#""b":{"value":" 1","dimensions":{"concept":"eg:A"}},"a":{"value":"1","dimensions":{"concept":"eg:A"}}"#,
+            "report 1: 26 NumberForm at fact 2\n",
+        ),
+        (r#""a":7"#, "report 1: 2 MemberForm at fact 1\n"),
+        (r#""a":{"#, "report 1: 1 NotJson at document\n"),
+    ];
+    for (facts, line) in rows {
+        let bundle = [SHEET, "\n", INFO, facts, END];
+        assert!(rt; gives(&rt, &bundle, 1, &[HEAD, MIDDLE, END], line)?);
+    }
+    Ok(())
+}
+
+#[test]
+fn identifiers_are_padded(rt: HostRuntime) -> Result<(), Fail> {
+    let mut report = joined(&rt, &[SHEET, "\n", INFO])?;
+    let mut text = joined(&rt, &[HEAD, ONE_URI, MIDDLE])?;
+    for (place, number) in ["1", "2", "3", "4", "5", "6", "7", "8", "9", "10"]
+        .iter()
+        .enumerate()
+    {
+        let [comma, zero] = [
+            [",", ""][usize::from(place == 0)],
+            ["0", ""][usize::from(place == 9)],
+        ];
+        for part in [comma, "\"", *number, r#"":{"value":""#, *number] {
+            report.extend_from_slice(part.as_bytes())?;
+        }
+        report.extend_from_slice(br#"","decimals":0,"dimensions":{"concept":"eg:A"}}"#)?;
+        for part in [
+            comma,
+            "\"f",
+            zero,
+            *number,
+            r#"":{"decimals":0,"dimensions":{"concept":"n1:A"},"value":""#,
+            *number,
+            "\"}",
+        ] {
+            text.extend_from_slice(part.as_bytes())?;
+        }
+    }
+    report.extend_from_slice(END.as_bytes())?;
+    text.extend_from_slice(END.as_bytes())?;
+    let ran = run_in(&rt, TestReader::new(&report, ROOM, Then::Ends), ROOM)?;
+    assert_eq!(rt; ran.status, 0);
+    assert_eq!(rt; ran.out.held(), text.as_slice());
+    Ok(())
+}
+
+#[test]
+fn prefixes_follow_the_bytes_of_uris(rt: HostRuntime) -> Result<(), Fail> {
+    let bundle = [
+        r#"{"namespaces":{"p":"http://b.org","q":"http://a.org"},"concepts":{"p:A":"numeric","q:A":"numeric"}}"#,
+        "\n",
+        r#"{"documentInfo":{"documentType":"https://xbrl.org/2021/xbrl-json","namespaces":{"p":"http://b.org","q":"http://a.org"}},"facts":{"#,
+        r#""a":{"value":"1","dimensions":{"concept":"p:A"}},"b":{"value":"2","dimensions":{"concept":"q:A"}}"#,
+        END,
+    ];
+    let text = [
+        HEAD,
+        r#""n1":"http://a.org","n2":"http://b.org""#,
+        MIDDLE,
+        r#""f1":{"dimensions":{"concept":"n1:A"},"value":"2"},"#,
+        r#""f2":{"dimensions":{"concept":"n2:A"},"value":"1"}"#,
+        END,
+    ];
+    assert!(rt; gives(&rt, &bundle, 0, &text, "")?);
+    Ok(())
+}
+
+#[test]
+fn a_refused_sheet_ends_the_run(rt: HostRuntime) -> Result<(), Fail> {
+    let rows = [
+        ("", "sheet: 1 NotJson\n"),
+        ("\n{}", "sheet: 1 NotJson\n"),
+        ("[]", "sheet: 2 MemberForm\n"),
+        (
+            r#"{"concepts":{"eg:A":"numeric"}}"#,
+            "sheet: 13 UnboundPrefix\n",
+        ),
+        (
+            r#"{"namespaces":{"eg":"http://example.org/t"},"concepts":{"eg:A":"number"}}"#,
+            "sheet: 32 SheetKind\n",
+        ),
+    ];
+    for (bundle, line) in rows {
+        assert!(rt; gives(&rt, &[bundle], 3, &[], line)?);
+    }
+    assert!(rt; gives(&rt, &["{}"], 0, &[HEAD, MIDDLE, END], "")?);
+    Ok(())
+}
+
+#[test]
+fn a_failing_device_ends_the_run(rt: HostRuntime) -> Result<(), Fail> {
+    let bundle = joined(&rt, &[SHEET, "\n", INFO, HUNDRED, END])?;
+    let text = joined(&rt, &[HEAD, ONE_URI, MIDDLE, WRITTEN_HUNDRED, END])?;
+    for (room, line) in [
+        (0, "device: 0 bytes written\n"),
+        (199, "device: 199 bytes written\n"),
+    ] {
+        let ran = run_in(&rt, TestReader::new(&bundle, 1, Then::Ends), room)?;
+        assert_eq!(rt; ran.status, 3);
+        assert_eq!(rt; ran.err.held(), line.as_bytes());
+        assert_eq!(rt; Some(ran.out.held()), text.get(..room));
+    }
+    let ran = run_in(&rt, TestReader::new(&bundle, ROOM, Then::Fails), ROOM)?;
+    assert_eq!(rt; ran.status, 3);
+    assert_eq!(rt; ran.err.held(), b"file -: cannot be read\n".as_slice());
+    assert!(rt; ran.out.held().is_empty());
+    Ok(())
+}
+
+#[test]
+fn words_are_not_taken_yet(rt: HostRuntime) -> Result<(), Fail> {
+    let mut out = writer(&rt, ROOM)?;
+    let mut err = writer(&rt, ROOM)?;
+    let word = match String::from_str(rt.alloc(), "--help") {
+        Err(_) => String::from_str(rt.alloc(), "--help")?,
+        Ok(word) => word,
+    };
+    let input = TestReader::new(SHEET.as_bytes(), ROOM, Then::Ends);
+    let status = run(rt.alloc(), &[word], input, &mut out, &mut err);
+    assert_eq!(rt; status, 3);
+    assert!(rt; out.held().is_empty() && err.held().is_empty());
+    Ok(())
+}
