@@ -1,6 +1,5 @@
 ghost use Rattle.std.specs.Prelude.{◌≡◌, ◌≢◌, ◌++◌, [], Some, true, map, string_bytes, IsTrue, IfOk, OnOk};
 ghost use Rattle.std.specs.List.{list_all};
-ghost use Rattle.oim_names.specs.Bindings.{AreBindings};
 ghost use Rattle.oim_dims.specs.Unit.{UnitOf, can_write, is_writable, measure_text, product_text, side_text, unit_text};
 
 use crate::unit::Unit;
@@ -13,8 +12,9 @@ use std::alloc::{AllocError, Global};
 pub fn write_unit(alloc: Global, aliases: &Aliases, unit: &Unit) -> Result<Text, AllocError>
     requires { IsTrue (can_write aliases.now unit.now) }
     ensures text { IfOk result (λ text. text ≡ unit_text aliases.now unit.now) }
-    ensures reads_back { AreBindings aliases.now → IfOk result (λ text. UnitOf aliases.now text (Some unit.now)) }
+    ensures reads_back { IfOk result (λ text. UnitOf aliases.now text (Some unit.now)) }
 {
+    aliases.known();
     let mut text = String::new(alloc);
     push_unit(&mut text, aliases, unit.numerators(), unit.denominators())?;
     Text::new(alloc, text.as_str())

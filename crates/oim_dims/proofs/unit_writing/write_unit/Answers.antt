@@ -5,7 +5,7 @@ use Rattle.oim_dims.proofs.UnitText.{unit_back}
 use Rattle.oim_dims.proofs.unit_writing.write_unit.Goals as goal
 
 pub returns-clause-reads_back : goal.returns-clause-reads_back
-returns-clause-reads_back c = λ were.
+returns-clause-reads_back c =
     let written : c.as_str.result.now ≡ unit_text c.args.aliases.now c.args.unit.now = search rules in
     let P : List ℕ → Type 0 = λ t. UnitOf c.args.aliases.now t (Some c.args.unit.now) in
-    IfOk-weaker c.new.result _ P (λ t e. subst P (sym (e ∙ written)) (unit_back c.args.aliases.now c.args.unit.now were c.numerators.ensures.unit c.requires)) c.new.ensures
+    IfOk-weaker c.new.result _ P (λ t e. subst P (sym (e ∙ written)) (unit_back c.args.aliases.now c.args.unit.now c.known.ensures c.numerators.ensures.unit c.requires)) c.new.ensures
