@@ -11,3 +11,6 @@ pub mod Places
 pub mod Products
 pub mod Prefixes
 pub mod UnitText
+pub mod Orders
+pub mod Fits
+pub mod Languages

@@ -1,11 +1,10 @@
 -- The prefix of a URI is bound to it.
-use Rattle.std.proofs.Common.{◌≡◌, ◌≢◌, ℕ, zero, suc, ◌+◌, ◌<◌, Bool, true, false, cond, List, [], ◌∷◌, length, get_or, refl, sym, ap, ◌∙◌, arith}
-use Rattle.std.specs.Prelude.{Option, Some, None, All, AllPairs}
+use Rattle.std.proofs.Common.{◌≡◌, ◌≢◌, ℕ, suc, Bool, true, false, cond, List, [], ◌∷◌, refl, sym, ap, ◌∙◌, arith}
+use Rattle.std.specs.Prelude.{Some, All, AllPairs}
 use Rattle.std.specs.Option.{option_map}
 use Rattle.std.specs.List.{find}
 use Rattle.std.specs.Str.{bytes_eq}
-use Rattle.std.proofs.lemmas.Slice.Eq.{bytes_eq-Decides}
-use Rattle.oim_names.specs.Bindings.{Binding, AreBindings, uri_of, prefix_of}
+use Rattle.oim_names.specs.Bindings.{Binding, uri_of, prefix_of}
 use Rattle.oim_names.proofs.Bytes.{same_bytes, bytes_eq-refl}
 
 not_same : (s t : List ℕ) (b : Bool) → bytes_eq s t ≡ b → s ≢ t → b ≡ false

@@ -1,18 +1,17 @@
 -- The text of a unit denotes it.
-use Rattle.std.proofs.Common.{◌≡◌, ◌≢◌, ℕ, zero, suc, ◌+◌, ◌-◌, ◌<◌, ◌≤◌, Bool, true, false, cond, List, [], ◌∷◌, ◌++◌, length, map, refl, sym, ap, ◌∙◌, subst, inl, inr, arith}
-use Rattle.std.specs.Prelude.{Option, Some, None, All, IsTrue, not, ◌&&◌, ◌||◌, ◌==◌, if◌then◌else◌, nat_eq}
+use Rattle.std.proofs.Common.{◌≡◌, ◌≢◌, ℕ, suc, ◌<◌, Bool, true, false, List, [], ◌∷◌, ◌++◌, length, map, refl, sym, ap, ◌∙◌, arith}
+use Rattle.std.specs.Prelude.{Some, None, All, not, ◌==◌, if◌then◌else◌}
 use Rattle.std.specs.Option.{option_map_or, unwrap_or}
 use Rattle.std.specs.List.{AllZip, list_all, list_any, slice_split, join_with_byte}
-use Rattle.std.specs.List.Sorted.{IsPermutation}
 use Rattle.std.proofs.lemmas.Bool.Decides.{nat_tests}
 use Rattle.std.proofs.lemmas.List.Splits.{slice_split_at, slice_split_none}
 use Rattle.std.proofs.lemmas.List.Folds.{list_any-append}
 use Rattle.std.proofs.lemmas.List.Elements.{All-cons, All-tail}
-use Rattle.oim_names.specs.QName.{QName, is_part}
-use Rattle.oim_names.specs.Bindings.{Binding, AreBindings, uri_of, prefix_of}
+use Rattle.oim_names.specs.QName.{QName}
+use Rattle.oim_names.specs.Bindings.{Binding, AreBindings, prefix_of}
 use Rattle.oim_names.specs.Expansion.{Expands}
 use Rattle.oim_names.proofs.Spelling.{spelled_back}
-use Rattle.oim_dims.specs.Unit.{is_mark, is_star, is_slash, inner, pieces, is_piece, numerator_pieces, denominator_pieces, is_writable, can_write, measure_text, product_text, side_text, unit_text, Measures, IsMeasure, IsUnit, NamesEach, HasMeasures, UnitOf, pure_alone}
+use Rattle.oim_dims.specs.Unit.{is_mark, is_star, is_slash, inner, pieces, is_piece, numerator_pieces, denominator_pieces, is_writable, can_write, measure_text, product_text, side_text, unit_text, Measures, IsMeasure, IsUnit, NamesEach, HasMeasures, UnitOf}
 use Rattle.oim_dims.proofs.Digits.{both_true}
 use Rattle.std.proofs.lemmas.List.Sorted.{IsPermutation-refl}
 use Rattle.oim_dims.proofs.Prefixes.{bound_back}
@@ -158,7 +157,7 @@ names_each bs ns z = record { spelled = ns; expands = expand_each bs _ ns z; sam
 -- a text whose pieces are those of the unit has its measures
 has_measures : (bs : List Binding) (t : List ℕ) (m : Measures) → numerator_pieces t ≡ map (measure_text bs) m.numerators → denominator_pieces t ≡ map (measure_text bs) m.denominators → AllZip (IsSpelled bs) (map (measure_text bs) m.numerators) m.numerators → AllZip (IsSpelled bs) (map (measure_text bs) m.denominators) m.denominators → HasMeasures bs t m
 has_measures bs t m np dp nz dz = record {
-  form = rw (np, dp, pieces_are bs _ m.numerators nz, pieces_are bs _ m.denominators dz) refl;
+  form = rw (np, dp) (rw (pieces_are bs (map (measure_text bs) m.numerators) m.numerators nz, pieces_are bs (map (measure_text bs) m.denominators) m.denominators dz) refl);
   numerators = rw np (names_each bs m.numerators nz);
   denominators = rw dp (names_each bs m.denominators dz);
 }
