@@ -9,3 +9,8 @@ pub mod Sides
 pub mod Naming
 pub mod Places
 pub mod Products
+pub mod Prefixes
+pub mod UnitText
+pub mod Orders
+pub mod Fits
+pub mod Languages

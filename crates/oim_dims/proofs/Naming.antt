@@ -1,5 +1,5 @@
 -- The measures that the pieces of a unit name.
-use Rattle.std.proofs.Common.{◌≡◌, ◌≢◌, ℕ, zero, suc, ◌<◌, Bool, true, false, cond, List, [], ◌∷◌, length, drop, get_or, refl, sym, ap, arith}
+use Rattle.std.proofs.Common.{◌≡◌, ◌≢◌, ◌⊎◌, inl, inr, ◌∙◌, ℕ, zero, suc, ◌<◌, Bool, true, false, cond, List, [], ◌∷◌, length, drop, get_or, refl, sym, ap, arith}
 use Rattle.std.specs.Prelude.{Option, Some, None, All, IsTrue, not, ◌||◌, if◌then◌else◌, ◌==◌}
 use Rattle.std.proofs.lemmas.Bool.Decides.{nat_tests}
 use Rattle.std.specs.Option.{option_map_or}
@@ -8,7 +8,7 @@ use Rattle.std.proofs.lemmas.List.Elements.{All-cons}
 use Rattle.oim_names.specs.QName.{QName, is_name, is_part, prefix_part, local_part}
 use Rattle.oim_names.specs.Bindings.{Binding}
 use Rattle.oim_names.specs.Reasons.{entry_of}
-use Rattle.oim_names.specs.Expansion.{Expands, NamesNothing, name_refusal, is_unbound, is_reserved}
+use Rattle.oim_names.specs.Expansion.{Expands, name_refusal, is_unbound, is_reserved}
 use Rattle.oim_names.specs.declared.reason.Reason.{Reason}
 use Rattle.oim_names.specs.declared.reason.Reason.TheVariants.{OutOfMemory, NameForm, UnboundPrefix, ReservedNamespace, UnitForm}
 use Rattle.oim_dims.specs.Unit.{is_mark, is_star, is_piece, is_unit_text, is_refused, some_piece, unit_refusal, numerator_pieces, denominator_pieces, IsMeasure}
@@ -17,7 +17,8 @@ use Rattle.oim_dims.proofs.Digits.{both_true}
 -- the refusal of a name, by its three tests
 abbrev first_of_three : Bool → Bool → Bool → Option Reason
 first_of_three form unbound reserved =
-    if not form then Some NameForm else (if unbound then Some UnboundPrefix else (if reserved then Some ReservedNamespace else None))
+    if form then (if unbound then Some UnboundPrefix else (if reserved then Some ReservedNamespace else None))
+    else Some NameForm
 
 abbrev is_it : Reason → Option Reason → Bool
 is_it r o = option_map_or (λ e. (entry_of e).number == (entry_of r).number) o false
@@ -70,17 +71,9 @@ unit_named bs t h =
     let c = neither _ _ e.3 in
     record { form = e.0; numerators = all_named bs (numerator_pieces t) a.0 b.0 c.0; denominators = all_named bs (denominator_pieces t) a.1 b.1 c.1 }
 
-reserved_refused : (b : Bool) → first_of_three true b true ≡ None → ReservedNamespace ≡ OutOfMemory
-reserved_refused true h = cc
-reserved_refused false h = cc
-
 -- the only error of a name that is not refused
-pub only_memory : (bs : List Binding) (p : List ℕ) (e : Reason) → name_refusal bs p ≡ None → NamesNothing is_name bs p e → e ≡ OutOfMemory
-only_memory bs p NameForm none h = cc (rw h at none)
-only_memory bs p UnboundPrefix none h = let form : is_name p ≡ true = h.0 in let free : is_unbound bs p ≡ true = h.1 in cc (rw (form, free) at none)
-only_memory bs p ReservedNamespace none h = let form : is_name p ≡ true = h.0 in let reserved : is_reserved bs p ≡ true = h.1 in reserved_refused (is_unbound bs p) (rw (form, reserved) at none)
-only_memory bs p OutOfMemory none h = refl
-only_memory bs p _ none h = absurd h
+pub only_memory : (bs : List Binding) (p : List ℕ) (e : Reason) → name_refusal bs p ≡ None → (e ≡ OutOfMemory) ⊎ (name_refusal bs p ≡ Some e) → e ≡ OutOfMemory
+only_memory bs p e none h = elim h [ inl memory ↦ memory | inr refused ↦ absurd (cc (sym none ∙ refused)) ]
 
 -- a part of a text with no mark has none
 no_mark_after : (n : ℕ) (p : List ℕ) → list_any is_mark p ≡ false → list_any is_mark (drop n p) ≡ false

@@ -4,3 +4,4 @@ pub mod Language
 pub mod Unit
 pub mod Ties
 pub mod DimensionSet
+pub mod FactOrder

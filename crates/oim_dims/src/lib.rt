@@ -4,6 +4,7 @@
 mod dimensions;
 mod fact;
 mod language;
+pub mod laws;
 mod list;
 mod measures;
 mod member;

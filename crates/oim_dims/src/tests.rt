@@ -57,8 +57,7 @@ fn example(rt: &HostRuntime) -> Result<Aliases, Reason> {
     Ok(aliases)
 }
 
-fn name(rt: &HostRuntime, spelled: &str) -> Result<Name, Reason> {
-    let aliases = example(rt)?;
+fn name(rt: &HostRuntime, aliases: &Aliases, spelled: &str) -> Result<Name, Reason> {
     match aliases.expand(spelled) {
         Err(Reason::OutOfMemory) => {
             tell_refused(rt);
@@ -98,17 +97,16 @@ fn language(rt: &HostRuntime, spelled: &str) -> Result<Text, Reason> {
     }
 }
 
-fn unit(rt: &HostRuntime, spelled: &str) -> Result<Option<Unit>, Reason> {
-    let aliases = example(rt)?;
-    match read_unit(rt.alloc(), &aliases, spelled) {
+fn unit(rt: &HostRuntime, aliases: &Aliases, spelled: &str) -> Result<Option<Unit>, Reason> {
+    match read_unit(rt.alloc(), aliases, spelled) {
         Err(Reason::OutOfMemory) => {
             tell_refused(rt);
-            read_unit(rt.alloc(), &aliases, spelled)
+            read_unit(rt.alloc(), aliases, spelled)
         }
         answer => answer,
     }
 }
 
-fn dimensions(rt: &HostRuntime, concept: &str) -> Result<Dimensions, Reason> {
-    Ok(Dimensions::new(rt.alloc(), name(rt, concept)?))
+fn dimensions(rt: &HostRuntime, aliases: &Aliases, concept: &str) -> Result<Dimensions, Reason> {
+    Ok(Dimensions::new(rt.alloc(), name(rt, aliases, concept)?))
 }

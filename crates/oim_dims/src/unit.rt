@@ -1,7 +1,7 @@
 ghost use Rattle.std.specs.Prelude.{◌≡◌, ◌≢◌, [], ◌∷◌, All};
 ghost use Rattle.std.specs.List.Sorted.{IsSorted};
 ghost use Rattle.oim_value.specs.ValueOrder.{name_cmp};
-ghost use Rattle.oim_dims.specs.Unit.{IsMeasure, pure_name};
+ghost use Rattle.oim_dims.specs.Unit.{IsMeasure, IsUnit, pure_name};
 
 use crate::list::Sequence;
 use oim_names::{Copied, Key, Name};
@@ -47,7 +47,8 @@ impl Unit {
 
     /// The measures that are multiplied, sorted.
     pub fn numerators(&self) -> &[Name]
-        ensures { result.now ≡ self.now.numerators }
+        ensures numerators { result.now ≡ self.now.numerators }
+        ensures unit { IsUnit self.now }
     {
         self.numerators.as_slice()
     }

@@ -1,6 +1,5 @@
 ghost use Rattle.std.specs.Prelude.{◌≡◌, ◌≢◌, ◌++◌, [], Some, true, map, string_bytes, IsTrue, IfOk, OnOk};
 ghost use Rattle.std.specs.List.{list_all};
-ghost use Rattle.oim_names.specs.Bindings.{AreBindings};
 ghost use Rattle.oim_dims.specs.Unit.{UnitOf, can_write, is_writable, measure_text, product_text, side_text, unit_text};
 
 use crate::unit::Unit;
@@ -10,19 +9,14 @@ use std::alloc::{AllocError, Global};
 
 /// The text of a unit under these aliases, each side in the order of names (xBRL-JSON 1.0). It
 /// reads back. `can_write_unit` is the test for its condition.
-#[tactic(auto, unfolding(crate::specs::Unit::unit_text))]
 pub fn write_unit(alloc: Global, aliases: &Aliases, unit: &Unit) -> Result<Text, AllocError>
     requires { IsTrue (can_write aliases.now unit.now) }
     ensures text { IfOk result (λ text. text ≡ unit_text aliases.now unit.now) }
+    ensures reads_back { IfOk result (λ text. UnitOf aliases.now text (Some unit.now)) }
 {
+    aliases.known();
     let mut text = String::new(alloc);
-    if unit.denominators().is_empty() {
-        push_product(&mut text, aliases, unit.numerators())?;
-    } else {
-        push_side(&mut text, aliases, unit.numerators())?;
-        text.push_str("/")?;
-        push_side(&mut text, aliases, unit.denominators())?;
-    }
+    push_unit(&mut text, aliases, unit.numerators(), unit.denominators())?;
     Text::new(alloc, text.as_str())
 }
 
@@ -46,6 +40,25 @@ fn is_writable(aliases: &Aliases, name: &Name) -> bool
         Some(prefix) => !has_mark(prefix.as_bytes()),
         None => false,
     }
+}
+
+#[tactic(auto, unfolding(crate::specs::Unit::unit_text))]
+fn push_unit(
+    text: &mut String,
+    aliases: &Aliases,
+    numerators: &[Name],
+    denominators: &[Name],
+) -> Result<(), AllocError>
+    requires numerators { list_all (is_writable aliases.now) numerators.now ≡ true }
+    requires denominators { list_all (is_writable aliases.now) denominators.now ≡ true }
+    ensures { OnOk result (string_bytes text.new ≡ string_bytes text.old ++ unit_text aliases.now (record { numerators = numerators.now; denominators = denominators.now })) }
+{
+    if denominators.is_empty() {
+        return push_product(text, aliases, numerators);
+    }
+    push_side(text, aliases, numerators)?;
+    text.push_str("/")?;
+    push_side(text, aliases, denominators)
 }
 
 // Writes a side that stands beside another.

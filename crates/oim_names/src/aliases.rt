@@ -90,6 +90,14 @@ impl Aliases {
             .map(|binding| binding.uri())
     }
 
+    /// Does nothing, and tells that each prefix has its form and is bound once, to a URI that is not
+    /// empty.
+    pub fn known(&self)
+        ensures { AreBindings self.now }
+    {
+        let _bindings = &self.bindings;
+    }
+
     /// The prefix that was bound to the URI first.
     pub fn prefix_of(&self, uri: &str) -> Option<&str>
         ensures { option_copied result ≡ prefix_of self.now uri.now }

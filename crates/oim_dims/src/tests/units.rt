@@ -16,35 +16,37 @@ fn unit_text(rt: &HostRuntime, aliases: &Aliases, unit: &Unit) -> Result<Text, A
 
 #[test]
 fn measures_come_in_any_order(rt: HostRuntime) -> Result<(), Fail> {
-    let plain = unit(&rt, "x:a*x:b/x:c")?;
+    let aliases = example(&rt)?;
+    let plain = unit(&rt, &aliases, "x:a*x:b/x:c")?;
     for spelled in [
         "(x:b*x:a)/x:c",
         "(x:a*x:b)/(x:c)",
         "x:b*x:a/x:c",
         "x:b*x:a/(x:c)",
     ] {
-        assert!(rt; unit(&rt, spelled)? == plain, "{spelled}");
+        assert!(rt; unit(&rt, &aliases, spelled)? == plain, "{spelled}");
     }
     let Some(unit) = plain else {
         panic!(rt; "the unit is kept");
     };
     assert_eq!(rt; unit.numerators().len(), 2);
-    assert!(rt; unit.numerators()[0] == name(&rt, "x:a")?);
-    assert!(rt; unit.numerators()[1] == name(&rt, "x:b")?);
+    assert!(rt; unit.numerators()[0] == name(&rt, &aliases, "x:a")?);
+    assert!(rt; unit.numerators()[1] == name(&rt, &aliases, "x:b")?);
     assert_eq!(rt; unit.denominators().len(), 1);
-    assert!(rt; unit.denominators()[0] == name(&rt, "x:c")?);
+    assert!(rt; unit.denominators()[0] == name(&rt, &aliases, "x:c")?);
     Ok(())
 }
 
 #[test]
 fn measures_are_sorted_and_repeats_kept(rt: HostRuntime) -> Result<(), Fail> {
-    let Some(unit) = unit(&rt, "x:b*eg:z*x:a*x:b")? else {
+    let aliases = example(&rt)?;
+    let Some(unit) = unit(&rt, &aliases, "x:b*eg:z*x:a*x:b")? else {
         panic!(rt; "the unit is kept");
     };
     let sorted = ["eg:z", "x:a", "x:b", "x:b"];
     assert_eq!(rt; unit.numerators().len(), sorted.len());
     for (measure, spelled) in unit.numerators().iter().zip(&sorted) {
-        assert!(rt; *measure == name(&rt, spelled)?, "{spelled}");
+        assert!(rt; *measure == name(&rt, &aliases, spelled)?, "{spelled}");
     }
     assert!(rt; unit.denominators().is_empty());
     Ok(())
@@ -52,8 +54,9 @@ fn measures_are_sorted_and_repeats_kept(rt: HostRuntime) -> Result<(), Fail> {
 
 #[test]
 fn pure_alone_is_no_unit(rt: HostRuntime) -> Result<(), Fail> {
+    let aliases = example(&rt)?;
     for spelled in ["xbrli:pure", "(xbrli:pure)"] {
-        assert!(rt; unit(&rt, spelled)?.is_none(), "{spelled}");
+        assert!(rt; unit(&rt, &aliases, spelled)?.is_none(), "{spelled}");
     }
     for spelled in [
         "xbrli:pure/x:c",
@@ -64,13 +67,14 @@ fn pure_alone_is_no_unit(rt: HostRuntime) -> Result<(), Fail> {
         "x:pure",
         "xbrli:purer",
     ] {
-        assert!(rt; unit(&rt, spelled)?.is_some(), "{spelled}");
+        assert!(rt; unit(&rt, &aliases, spelled)?.is_some(), "{spelled}");
     }
     Ok(())
 }
 
 #[test]
-fn other_texts_are_no_units(rt: HostRuntime) {
+fn other_texts_are_no_units(rt: HostRuntime) -> Result<(), Fail> {
+    let aliases = example(&rt)?;
     let forms = [
         "",
         "*",
@@ -96,8 +100,12 @@ fn other_texts_are_no_units(rt: HostRuntime) {
         "(x:a)(x:b)",
     ];
     for spelled in forms {
-        assert!(rt; unit(&rt, spelled) == Err(Reason::UnitForm), "{spelled}");
+        assert!(rt;
+            unit(&rt, &aliases, spelled) == Err(Reason::UnitForm),
+            "{spelled}"
+        );
     }
+    Ok(())
 }
 
 #[test]
@@ -117,7 +125,7 @@ fn the_least_refusal_of_any_piece_is_answered(rt: HostRuntime) -> Result<(), Fai
     ];
     let aliases = example(&rt)?;
     for (spelled, reason) in rows {
-        assert!(rt; unit(&rt, spelled) == Err(reason), "{spelled}");
+        assert!(rt; unit(&rt, &aliases, spelled) == Err(reason), "{spelled}");
         assert!(rt;
             unit_refusal(&aliases, spelled) == Some(reason),
             "{spelled}"
@@ -140,7 +148,7 @@ fn units_are_written_and_read_back(rt: HostRuntime) -> Result<(), Fail> {
     ];
     let aliases = example(&rt)?;
     for (spelled, plain) in rows {
-        let Some(unit) = unit(&rt, spelled)? else {
+        let Some(unit) = unit(&rt, &aliases, spelled)? else {
             panic!(rt; "the unit is kept");
         };
         if !can_write_unit(&aliases, &unit) {
@@ -148,14 +156,15 @@ fn units_are_written_and_read_back(rt: HostRuntime) -> Result<(), Fail> {
         }
         let written = unit_text(&rt, &aliases, &unit)?;
         assert_eq!(rt; written.as_str(), plain);
-        assert!(rt; super::unit(&rt, plain)? == Some(copied(&rt, &unit)?));
+        assert!(rt; super::unit(&rt, &aliases, plain)? == Some(copied(&rt, &unit)?));
     }
     Ok(())
 }
 
 #[test]
 fn a_unit_is_written_with_plain_prefixes_alone(rt: HostRuntime) -> Result<(), Fail> {
-    let Some(unit) = unit(&rt, "x:a/eg:b")? else {
+    let all = example(&rt)?;
+    let Some(unit) = unit(&rt, &all, "x:a/eg:b")? else {
         panic!(rt; "the unit is kept");
     };
     let mut aliases = Aliases::new(rt.alloc());

@@ -1,0 +1,64 @@
+-- A language in lower case is kept as it is.
+use Rattle.std.proofs.Common.{◌≡◌, ℕ, zero, suc, Bool, true, false, cond, List, [], ◌∷◌, map, take, refl, sym, ap, ◌∙◌, arith}
+use Rattle.std.specs.List.{list_all, slice_split, onto_first, position_or_len}
+use Rattle.std.specs.Char.{is_ascii_alphabetic, is_ascii_alphanumeric, to_ascii_lowercase}
+use Rattle.std.specs.Str.{str_to_ascii_lowercase}
+use Rattle.std.proofs.lemmas.Bool.Decides.{nat_tests}
+use Rattle.std.proofs.lemmas.List.{length-map}
+use Rattle.oim_dims.specs.Language.{is_hyphen, is_group, is_language}
+
+lower_hyphen : (c : ℕ) → is_hyphen (to_ascii_lowercase c) ≡ is_hyphen c
+lower_hyphen c = grind (arith, nat_tests)
+
+lower_letter : (c : ℕ) → is_ascii_alphabetic (to_ascii_lowercase c) ≡ is_ascii_alphabetic c
+lower_letter c = grind (arith, nat_tests)
+
+lower_letter_or_digit : (c : ℕ) → is_ascii_alphanumeric (to_ascii_lowercase c) ≡ is_ascii_alphanumeric c
+lower_letter_or_digit c = grind (arith, nat_tests)
+
+lower_twice : (c : ℕ) → to_ascii_lowercase (to_ascii_lowercase c) ≡ to_ascii_lowercase c
+lower_twice c = grind (arith, nat_tests)
+
+-- a test that lower case does not change
+lower_all : (p : ℕ → Bool) → ((c : ℕ) → p (to_ascii_lowercase c) ≡ p c) → (xs : List ℕ) → list_all p (str_to_ascii_lowercase xs) ≡ list_all p xs
+lower_all p same [] = refl
+lower_all p same (x ∷ xs) = rw (same x, lower_all p same xs) refl
+
+lower_onto : (c : ℕ) (gs : List (List ℕ)) → map str_to_ascii_lowercase (onto_first c gs) ≡ onto_first (to_ascii_lowercase c) (map str_to_ascii_lowercase gs)
+lower_onto c [] = refl
+lower_onto c (g ∷ gs) = refl
+
+lower_split : (xs : List ℕ) → slice_split is_hyphen (str_to_ascii_lowercase xs) ≡ map str_to_ascii_lowercase (slice_split is_hyphen xs)
+lower_split [] = refl
+lower_split (x ∷ xs) =
+    rw (lower_hyphen x, lower_split xs)
+    (elim (is_hyphen x) as (λ b. cond b ([] ∷ map str_to_ascii_lowercase (slice_split is_hyphen xs)) (onto_first (to_ascii_lowercase x) (map str_to_ascii_lowercase (slice_split is_hyphen xs))) ≡ map str_to_ascii_lowercase (cond b ([] ∷ slice_split is_hyphen xs) (onto_first x (slice_split is_hyphen xs)))) [
+      | true ↦ refl
+      | false ↦ sym (lower_onto x (slice_split is_hyphen xs))
+    ])
+
+lower_group : (g : List ℕ) → is_group (str_to_ascii_lowercase g) ≡ is_group g
+lower_group g = rw (length-map, lower_all is_ascii_alphanumeric lower_letter_or_digit g) refl
+
+lower_groups : (gs : List (List ℕ)) → list_all is_group (map str_to_ascii_lowercase gs) ≡ list_all is_group gs
+lower_groups [] = refl
+lower_groups (g ∷ gs) = rw (lower_group g, lower_groups gs) refl
+
+lower_place : (xs : List ℕ) → position_or_len is_hyphen (str_to_ascii_lowercase xs) ≡ position_or_len is_hyphen xs
+lower_place [] = refl
+lower_place (x ∷ xs) = rw (lower_hyphen x, lower_place xs) refl
+
+lower_take : (n : ℕ) (xs : List ℕ) → take n (str_to_ascii_lowercase xs) ≡ str_to_ascii_lowercase (take n xs)
+lower_take zero xs = refl
+lower_take (suc n) [] = refl
+lower_take (suc n) (x ∷ xs) = ap (λ t. to_ascii_lowercase x ∷ t) (lower_take n xs)
+
+pub lower_language : (t : List ℕ) → is_language (str_to_ascii_lowercase t) ≡ is_language t
+lower_language t = rw (lower_split t, lower_groups (slice_split is_hyphen t), lower_place t, lower_take (position_or_len is_hyphen t) t, lower_all is_ascii_alphabetic lower_letter (take (position_or_len is_hyphen t) t)) refl
+
+pub lower_again : (t : List ℕ) → str_to_ascii_lowercase (str_to_ascii_lowercase t) ≡ str_to_ascii_lowercase t
+lower_again [] = refl
+lower_again (c ∷ cs) = rw (lower_twice c, lower_again cs) refl
+
+pub language_kept : (t : List ℕ) → is_language t ≡ true → (is_language (str_to_ascii_lowercase t) ≡ true) × (str_to_ascii_lowercase (str_to_ascii_lowercase t) ≡ str_to_ascii_lowercase t)
+language_kept t h = (lower_language t ∙ h, lower_again t)
