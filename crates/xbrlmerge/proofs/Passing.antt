@@ -2,7 +2,7 @@
 use Rattle.std.proofs.Common.{◌≡◌, ℕ, ◌+◌, ◌-◌, ◌^◌, ◌≤◌, List, [], ◌++◌, Option, Result, Ok, Err, IfErr, length, take, drop, refl, sym, ap, ◌∙◌, append_assoc, append-nil, add-zero, zero-add, arith, length-append, length-take-le, take-append-drop}
 use Rattle.std.specs.Io.KnownBytes.{Appends}
 use Rattle.std.proofs.KnownBytes.{Appends-nil, Appends-trans}
-use Rattle.xbrlmerge.specs.Sink.{AppendsFirst, AppendsFront, counted, written_of}
+use Rattle.xbrlmerge.specs.Sink.{AppendsFirst, AppendsFront, saturated, written_of}
 use Rattle.xbrlmerge.specs.Pieces.{Pending, Passes, Breaks, nothing_yet}
 use Rattle.xbrlmerge.specs.declared.write_fault.WriteFault.{WriteFault}
 
@@ -12,7 +12,7 @@ Passes-nil a p = record {
   front = [];
   whole = append-nil p.bytes;
   appended = Appends-nil a;
-  count = ap counted (sym (add-zero p.written));
+  count = ap saturated (sym (add-zero p.written));
 }
 
 -- one text came after the other
@@ -58,7 +58,7 @@ AppendsFront-broken {text = text} new broken = record {
   rest = broken.rest;
   whole = ap (λ (p : Pending). p.bytes ++ text) (sym new) ∙ broken.whole;
   appended = broken.appended;
-  count = broken.count ∙ ap (λ (p : Pending). counted (p.written + length broken.front)) new ∙ ap counted (zero-add (length broken.front));
+  count = broken.count ∙ ap (λ (p : Pending). saturated (p.written + length broken.front)) new ∙ ap saturated (zero-add (length broken.front));
 }
 
 -- a fault in the flush behind a text before which nothing was pushed
@@ -74,7 +74,7 @@ Passes-waiting a p text = record {
   front = [];
   whole = refl;
   appended = Appends-nil a;
-  count = ap counted (sym (add-zero p.written));
+  count = ap saturated (sym (add-zero p.written));
 }
 
 -- a fault before the sink took anything
@@ -88,13 +88,13 @@ Breaks-none a p text small = record {
 }
 
 -- a fault after the sink took the first n bytes of what waited
-pub Breaks-first : (a b : Option (List ℕ)) (p : Pending) (n : ℕ) → AppendsFirst a b p.bytes n → Breaks a b p [] (counted (p.written + n))
+pub Breaks-first : (a b : Option (List ℕ)) (p : Pending) (n : ℕ) → AppendsFirst a b p.bytes n → Breaks a b p [] (saturated (p.written + n))
 Breaks-first a b p n put = record {
   front = take n p.bytes;
   rest = drop n p.bytes;
   whole = append-nil p.bytes ∙ sym (take-append-drop n p.bytes);
   appended = put.0;
-  count = ap (λ k. counted (p.written + k)) (sym (length-take-le n p.bytes put.1));
+  count = ap (λ k. saturated (p.written + k)) (sym (length-take-le n p.bytes put.1));
 }
 
 -- a fault in what waits is one in the text that was pushed just now

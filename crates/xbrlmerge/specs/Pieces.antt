@@ -1,7 +1,7 @@
 -- A text on its way to a sink. (own)
 use Rattle.std.specs.Prelude.{◌≡◌, ℕ, ◌+◌, ◌++◌, List, [], Option, length}
 use Rattle.std.specs.Io.KnownBytes.{Appends}
-use Rattle.xbrlmerge.specs.Sink.{counted}
+use Rattle.xbrlmerge.specs.Sink.{saturated}
 
 -- how many bytes the sink took, and those that wait to be put
 pub record Pending : Type 0 where
@@ -17,7 +17,7 @@ pub record Passes (old new : Option (List ℕ)) (before after : Pending) (text :
   pub front : List ℕ
   pub whole : before.bytes ++ text ≡ front ++ after.bytes
   pub appended : Appends old new front
-  pub count : counted after.written ≡ counted (before.written + length front)
+  pub count : saturated after.written ≡ saturated (before.written + length front)
 
 -- the text was to come behind what waited: the sink took a front of both before a fault, which tells what is written
 pub record Breaks (old new : Option (List ℕ)) (before : Pending) (text : List ℕ) (written : ℕ) : Type 0 where
@@ -25,4 +25,4 @@ pub record Breaks (old new : Option (List ℕ)) (before : Pending) (text : List 
   pub rest : List ℕ
   pub whole : before.bytes ++ text ≡ front ++ rest
   pub appended : Appends old new front
-  pub count : written ≡ counted (before.written + length front)
+  pub count : written ≡ saturated (before.written + length front)

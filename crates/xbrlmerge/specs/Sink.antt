@@ -9,8 +9,8 @@ abbrev pub AppendsFirst : Option (List ℕ) → Option (List ℕ) → List ℕ �
 AppendsFirst old new text n = Appends old new (take n text) × (n ≤ length text)
 
 -- a count that has reached the greatest u64 stays there
-abbrev pub counted : ℕ → ℕ
-counted n = min n (2 ^ 64 - 1)
+abbrev pub saturated : ℕ → ℕ
+saturated n = min n (2 ^ 64 - 1)
 
 -- the sink took a front of the text, and `written` counts its bytes
 pub record AppendsFront (old new : Option (List ℕ)) (text : List ℕ) (written : ℕ) : Type 0 where
@@ -18,7 +18,7 @@ pub record AppendsFront (old new : Option (List ℕ)) (text : List ℕ) (written
   pub rest : List ℕ
   pub whole : text ≡ front ++ rest
   pub appended : Appends old new front
-  pub count : written ≡ counted (length front)
+  pub count : written ≡ saturated (length front)
 
 -- the length that a fault carries
 abbrev pub written_of : WriteFault → ℕ
