@@ -8,6 +8,7 @@ mod devices;
 mod document;
 mod encoded;
 mod fact;
+mod fact_set;
 mod fact_text;
 mod fault;
 pub mod laws;
