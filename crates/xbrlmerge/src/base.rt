@@ -5,6 +5,7 @@ ghost use Rattle.xbrlmerge.specs.Fact.{fact_cmp};
 
 use crate::document::Document;
 use crate::fact::Fact;
+use crate::fact_set::add_all;
 use crate::sets::make_set;
 use std::alloc::{AllocError, Global};
 use std::marker::Model;
@@ -43,13 +44,9 @@ impl Base {
         ensures ok { OnOk result (self.new ≡ union self.old (body (document ∷ []))) }
         ensures err { OnErr result (self.new ≡ self.old) }
     {
-        let before = self.facts.len();
-        self.facts.append(&mut document.into_facts())?;
-        if let Err(refused) = make_set(&mut self.facts) {
-            self.facts.truncate(before);
-            return Err(refused);
-        }
-        Ok(())
+        let mut facts = document.into_facts();
+        make_set(&mut facts)?;
+        add_all(&mut self.facts, facts)
     }
 
     /// The facts, each once and in order.

@@ -9,6 +9,7 @@ mod document_form;
 mod encoded;
 mod fact;
 mod fact_form;
+mod fact_set;
 mod fact_text;
 mod fact_value;
 mod fault;
