@@ -1,33 +1,73 @@
 -- Bodies by membership.
-use Rattle.std.proofs.Common.{◌≡◌, List, [], ◌∷◌, ◌++◌, append-nil, Bool, true, refl, sym, ap, ◌∙◌}
-use mathlib.Core.Bool.{◌||◌}
-use Rattle.std.specs.Prelude.{flat_map, Contains}
+use Rattle.std.proofs.Common.{◌≡◌, List, [], ◌∷◌, ◌++◌, append-nil, Bool, true, false, refl, sym, ap, ◌∙◌, inl, inr, ⊎_elim}
+use mathlib.Core.Bool.{◌||◌, true≢false}
+use Rattle.std.specs.Prelude.{◌↔◌, ◌⊎◌, flat_map, Contains}
 use Rattle.std.specs.List.{list_any}
 use Rattle.std.specs.List.Sorted.{IsStrictlySortedBy}
 use Rattle.std.specs.Ordering.{eq_by_cmp}
-use Rattle.std.specs.Cmp.{both_ways, Equal-is, eq_by_cmp_equiv}
+use Rattle.std.specs.declared.cmp.Ordering.{Ordering}
+use Rattle.std.specs.declared.cmp.Ordering.TheVariants.{Equal}
+use Rattle.std.specs.Cmp.{IsTotalOrder, both_ways, Equal-is, eq_by_cmp_equiv}
 use Rattle.std.proofs.lemmas.List.Folds.{list_any-append}
 use Rattle.std.proofs.lemmas.List.Concat.{flat_map-append}
 use Rattle.std.proofs.lemmas.Map.Views.{Contains-from_any, list_any-from_Contains}
-use Rattle.xbrlmerge.specs.Body.{Body, all_facts, body, union, BodyIgnoresOrder, BodyIsSetOfFacts, BodyOfBoth}
+use Rattle.xbrlmerge.specs.Body.{Body, all_facts, body, union, BodyIgnoresOrder, BodyIsSetOfFacts, BodyOfBoth, UnionHasBoth}
 use Rattle.xbrlmerge.specs.Document.{Document}
 use Rattle.xbrlmerge.specs.Fact.{fact_cmp}
-use Rattle.xbrlmerge.specs.Sets.{set_of}
+use Rattle.xbrlmerge.specs.Sets.{IsSetOf, set_of}
 use Rattle.xbrlmerge.specs.declared.fact.Fact.{Fact}
 use Rattle.xbrlmerge.proofs.FactOrder.{fact_cmp_total, fact_cmp_exact}
 use Rattle.xbrlmerge.proofs.Members.{passes_there, sorted-set_of, has-set_of, set_of-same, set_of-sorted, set_of-both}
 
-same : (f g : Fact) → eq_by_cmp fact_cmp f g ≡ true → f ≡ g
-same f g e = fact_cmp_exact f g ((Equal-is (fact_cmp f g)).0 e)
+one_so : (a b : Bool) → (a || b) ≡ true → (a ≡ true) ⊎ (b ≡ true)
+one_so true b e = inl refl
+one_so false b e = inr e
 
-moved : (fs gs : List Fact) (f : Fact) → list_any (eq_by_cmp fact_cmp f) fs ≡ list_any (eq_by_cmp fact_cmp f) gs → Contains fs f → Contains gs f
-moved fs gs f is one = Contains-from_any same f gs (sym is ∙ list_any-from_Contains (eq_by_cmp_equiv fact_cmp_total) f fs one)
+first_so : (a b : Bool) → a ≡ true → (a || b) ≡ true
+first_so true b e = refl
+first_so false b e = absurd (true≢false (sym e))
+
+second_so : (a b : Bool) → b ≡ true → (a || b) ≡ true
+second_so true b e = refl
+second_so false b e = e
+
+module _ {K : Type 0} {R : K → K → Ordering} (o : IsTotalOrder R) (exact : (x y : K) → R x y ≡ Equal → x ≡ y) where
+  same : (x y : K) → eq_by_cmp R x y ≡ true → x ≡ y
+  same x y e = exact x y ((Equal-is (R x y)).0 e)
+
+  -- whether a list has x, as a test
+  there : (xs : List K) (x : K) → list_any (eq_by_cmp R x) xs ≡ true → Contains xs x
+  there xs x one = Contains-from_any same x xs one
+
+  tested : (xs : List K) (x : K) → Contains xs x → list_any (eq_by_cmp R x) xs ≡ true
+  tested xs x one = list_any-from_Contains (eq_by_cmp_equiv o) x xs one
+
+  pub set_of_is_set : (xs : List K) → IsSetOf R xs (set_of R xs)
+  set_of_is_set xs = record {
+    rises = sorted-set_of o xs;
+    members = λ x. (λ one. there xs x (sym (has-set_of o x xs) ∙ tested _ x one), λ one. there _ x (has-set_of o x xs ∙ tested xs x one));
+  }
+
+  -- what two lists have, one of them has
+  pub in_one : (xs ys : List K) (x : K) → Contains (xs ++ ys) x ↔ (Contains xs x ⊎ Contains ys x)
+  in_one xs ys x =
+      let both : list_any (eq_by_cmp R x) (xs ++ ys) ≡ (list_any (eq_by_cmp R x) xs || list_any (eq_by_cmp R x) ys) = list_any-append (eq_by_cmp R x) xs ys in (
+        λ one. ⊎_elim (λ l. inl (there xs x l)) (λ r. inr (there ys x r)) (one_so _ _ (sym both ∙ tested _ x one)),
+        ⊎_elim (λ l. there _ x (both ∙ first_so _ _ (tested xs x l))) (λ r. there _ x (both ∙ second_so _ _ (tested ys x r))),
+      )
 
 pub body_is_set_of_facts : BodyIsSetOfFacts
-body_is_set_of_facts docs = record {
-  rises = sorted-set_of fact_cmp_total (all_facts docs);
-  members = λ f. (moved _ _ f (has-set_of fact_cmp_total f (all_facts docs)), moved _ _ f (sym (has-set_of fact_cmp_total f (all_facts docs))));
-}
+body_is_set_of_facts docs = set_of_is_set fact_cmp_total fact_cmp_exact (all_facts docs)
+
+pub union_has_both : UnionHasBoth
+union_has_both a b =
+    let set = set_of_is_set fact_cmp_total fact_cmp_exact (a ++ b) in
+    record {
+      rises = set.rises;
+      members = λ f.
+          let one = in_one fact_cmp_total fact_cmp_exact a b f in
+          (λ here. one.0 ((set.members f).0 here), λ here. (set.members f).1 (one.1 here));
+    }
 
 list_any-flat_map : {A B : Type 0} (p : B → Bool) (f : A → List B) (xs : List A) → list_any p (flat_map f xs) ≡ list_any (λ x. list_any p (f x)) xs
 list_any-flat_map p f [] = refl

@@ -6,7 +6,7 @@ use Rattle.std.specs.declared.cmp.Ordering.{Ordering}
 use Rattle.std.specs.declared.cmp.Ordering.TheVariants.{Less, Equal, Greater}
 use Rattle.std.specs.Ordering.{is_lt, ordering_reverse}
 use Rattle.std.specs.Cmp.{IsTotalOrder, tied_itself}
-use Rattle.xbrlmerge.specs.Rank.{rank}
+use Rattle.xbrlmerge.specs.Rank.{rank, RanksAreWithin}
 use Rattle.std.proofs.lemmas.Bool.{cases_Bool}
 use Rattle.std.proofs.lemmas.Bool.Decides.{nat_tests}
 use Rattle.std.proofs.lemmas.List.{get_or_default}
@@ -64,3 +64,8 @@ rank_at {R = R} o xs i d rises h =
     let place : count_by (λ y. is_lt (R y (get_or xs i d))) xs ≡ i = count_at (λ y. is_lt (R y (get_or xs i d))) xs i (omega arith)
     ((λ k e low high. ap is_lt (before R xs k i e d rises high h)), (λ k e low high. not_after o xs i k d e rises low high)) in
     ap suc place ∙ add_one i
+
+pub ranks_are_within : {K : Type 0} {R : K → K → Ordering} (o : IsTotalOrder R) → RanksAreWithin R
+ranks_are_within {R = R} o members x rises (i, within, there) =
+    let place : rank R x members ≡ i + 1 = ap (λ y. rank R y members) (sym there) ∙ rank_at o members i x rises within in
+    (omega (arith, place), omega (arith, place))

@@ -1,9 +1,9 @@
 -- What a list of documents says in all (own).
-use Rattle.std.specs.Prelude.{◌≡◌, ◌↔◌, List, ◌++◌, flat_map, Contains}
+use Rattle.std.specs.Prelude.{◌≡◌, ◌↔◌, ◌⊎◌, List, ◌++◌, flat_map, Contains}
 use Rattle.std.specs.List.Sorted.{IsStrictlySortedBy}
 use Rattle.xbrlmerge.specs.Document.{Document}
 use Rattle.xbrlmerge.specs.Fact.{fact_cmp}
-use Rattle.xbrlmerge.specs.Sets.{set_of}
+use Rattle.xbrlmerge.specs.Sets.{IsSetOf, set_of}
 use Rattle.xbrlmerge.specs.declared.fact.Fact.{Fact}
 
 -- a finite set of facts: the rising list of its members
@@ -21,13 +21,16 @@ body docs = set_of fact_cmp (all_facts docs)
 abbrev pub union : Body → Body → Body
 union a b = set_of fact_cmp (a ++ b)
 
--- a body rises, and has just the facts of its documents
-pub record IsSetOfFacts (docs : List Document) (facts : Body) : Type 0 where
-  pub rises : IsStrictlySortedBy fact_cmp facts
-  pub members : (f : Fact) → Contains facts f ↔ Contains (all_facts docs) f
-
 abbrev pub BodyIsSetOfFacts : Type 0
-BodyIsSetOfFacts = (docs : List Document) → IsSetOfFacts docs (body docs)
+BodyIsSetOfFacts = (docs : List Document) → IsSetOf fact_cmp (all_facts docs) (body docs)
+
+-- a union rises, and has just what the one body or the other has
+pub record IsUnion (a b both : Body) : Type 0 where
+  pub rises : IsStrictlySortedBy fact_cmp both
+  pub members : (f : Fact) → Contains both f ↔ (Contains a f ⊎ Contains b f)
+
+abbrev pub UnionHasBoth : Type 0
+UnionHasBoth = (a b : Body) → IsUnion a b (union a b)
 
 -- each document of the one list is in the other
 abbrev pub HaveSameMembers : List Document → List Document → Type 0

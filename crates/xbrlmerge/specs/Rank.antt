@@ -1,7 +1,11 @@
 -- The numbers of a set's members, from 1, and their texts of one width (own). In bytes, `0` is 48.
-use Rattle.std.specs.Prelude.{ℕ, zero, suc, ◌+◌, ◌/◌, ◌%◌, List, [], ◌∷◌, ◌++◌, length, count_by, nat_lt, if◌then◌else◌}
+use Rattle.std.specs.Prelude.{◌≡◌, ℕ, zero, suc, ◌+◌, ◌/◌, ◌%◌, ◌^◌, ◌<◌, ◌≤◌, List, [], ◌∷◌, ◌++◌, length, count_by, nat_lt, if◌then◌else◌, Contains}
 use Rattle.std.specs.declared.cmp.Ordering.{Ordering}
-use Rattle.std.specs.Ordering.{is_lt}
+use Rattle.std.specs.Ordering.{is_lt, nat_cmp}
+use Rattle.std.specs.declared.cmp.Ordering.TheVariants.{Less}
+use Rattle.std.specs.Cmp.Lexicographic.{slice_cmp}
+use Rattle.std.specs.List.Sorted.{IsStrictlySortedBy}
+use Rattle.std.specs.Str.Parse.{AllDigits, digits_value}
 
 -- one more than the number of members that are smaller than x
 abbrev pub rank : {K : Type 0} → (K → K → Ordering) → K → List K → ℕ
@@ -23,3 +27,31 @@ width n = digits_up_to n n
 -- a letter and the rank of x, padded to the width of the greatest
 abbrev pub numbered : {K : Type 0} → ℕ → (K → K → Ordering) → K → List K → List ℕ
 numbered letter R x members = letter ∷ padded (width (length members)) (rank R x members)
+
+-- ---- what these come to
+
+-- the text has so many bytes, each a decimal digit, and writes n
+pub record IsNumeralOf (digits n : ℕ) (text : List ℕ) : Type 0 where
+  pub long : length text ≡ digits
+  pub decimal : AllDigits 10 text
+  pub value : digits_value 10 text ≡ n
+
+abbrev pub PaddedWritesNumber : Type 0
+PaddedWritesNumber = (digits n : ℕ) → n < 10 ^ digits → IsNumeralOf digits n (padded digits n)
+
+-- so many digits, one or more, write n, and no fewer do
+pub record IsFewestDigits (n digits : ℕ) : Type 0 where
+  pub some : 1 ≤ digits
+  pub enough : n < 10 ^ digits
+  pub fewest : (k : ℕ) → 1 ≤ k → n < 10 ^ k → digits ≤ k
+
+abbrev pub WidthIsFewestDigits : Type 0
+WidthIsFewestDigits = (n : ℕ) → IsFewestDigits n (width n)
+
+-- the members of a set have ranks from 1 to their number
+abbrev pub RanksAreWithin : {K : Type 0} → (K → K → Ordering) → Type 0
+RanksAreWithin {K} R = (members : List K) (x : K) → IsStrictlySortedBy R members → Contains members x → (1 ≤ rank R x members) × (rank R x members ≤ length members)
+
+-- padded texts, read as bytes, are in the order of the numbers
+abbrev pub PaddedKeepsOrder : Type 0
+PaddedKeepsOrder = (digits m n : ℕ) → m < n → n < 10 ^ digits → slice_cmp nat_cmp (padded digits m) (padded digits n) ≡ Less

@@ -1,9 +1,13 @@
 //! Laws of the definitions, each the contract of a function that does nothing.
 ghost use Rattle.std.specs.Prelude.{◌≡◌};
-ghost use Rattle.xbrlmerge.specs.Body.{BodyIgnoresOrder, BodyIsSetOfFacts, BodyOfBoth};
+ghost use Rattle.std.specs.Cmp.Lexicographic.{slice_cmp};
+ghost use Rattle.std.specs.Ordering.{nat_cmp};
+ghost use Rattle.xbrlmerge.specs.Body.{BodyIgnoresOrder, BodyIsSetOfFacts, BodyOfBoth, UnionHasBoth};
 ghost use Rattle.xbrlmerge.specs.Bytes.{BytesIgnoreOrder};
 ghost use Rattle.xbrlmerge.specs.Fact.{fact_cmp};
+ghost use Rattle.xbrlmerge.specs.Rank.{PaddedKeepsOrder, PaddedWritesNumber, RanksAreWithin, WidthIsFewestDigits};
 ghost use Rattle.xbrlmerge.specs.Run.{BundlesIgnoreOrder};
+ghost use Rattle.xbrlmerge.specs.Sets.{ListsMakeSets, RisingListsAreSets};
 ghost use Rattle.xbrlmerge.specs.declared.fact.Fact.{Fact as FactValue};
 
 use crate::fact::Fact;
@@ -37,4 +41,42 @@ pub fn bytes_ignore_order()
 /// often as one likes, are written by the same bytes.
 pub fn bundles_ignore_order()
     ensures { BundlesIgnoreOrder }
+{}
+
+/// The set of what a list has rises, and has just that.
+pub fn lists_make_sets()
+    ensures facts { ListsMakeSets fact_cmp }
+    ensures uris { ListsMakeSets (slice_cmp nat_cmp) }
+{}
+
+/// A list that rises is the set of what it has.
+pub fn rising_lists_are_sets()
+    ensures facts { RisingListsAreSets fact_cmp }
+    ensures uris { RisingListsAreSets (slice_cmp nat_cmp) }
+{}
+
+/// The union of two bodies rises, and has just what the one or the other has.
+pub fn union_has_both()
+    ensures { UnionHasBoth }
+{}
+
+/// A number that fits is written by so many decimal digits, and they read as the number.
+pub fn padded_writes_number()
+    ensures { PaddedWritesNumber }
+{}
+
+/// The width of a number is the fewest digits that write it.
+pub fn width_is_fewest_digits()
+    ensures { WidthIsFewestDigits }
+{}
+
+/// The members of a set have ranks from 1 to their number.
+pub fn ranks_are_within()
+    ensures facts { RanksAreWithin fact_cmp }
+    ensures uris { RanksAreWithin (slice_cmp nat_cmp) }
+{}
+
+/// Padded texts of one width are in the order of their numbers.
+pub fn padded_keeps_order()
+    ensures { PaddedKeepsOrder }
 {}
