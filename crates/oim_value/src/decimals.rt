@@ -37,7 +37,7 @@ impl Model for Decimals {
 }
 
 impl Decimals {
-    /// Those of an exact number.
+    /// The decimals of an exact number.
     pub const INFINITE: Decimals = Decimals {
         places: Places::Infinite,
     };

@@ -4,7 +4,7 @@ use oim_names::{Copied, Key, Name, Text};
 use std::alloc::{AllocError, Global};
 
 /// A fact's value. Values are ordered by kind as they stand here; numbers by units and then
-/// decimals, texts by bytes.
+/// decimals, texts by bytes, names by URI and then local part.
 #[derive(Debug, Drop, PartialEq, Eq, PartialOrd, Ord)]
 pub enum Value {
     /// Nothing is reported.

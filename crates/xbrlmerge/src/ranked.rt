@@ -3,7 +3,7 @@ ghost use Rattle.xbrlmerge.specs.Rank.{padded, width};
 
 use std::alloc::{AllocError, Global};
 
-/// How long a label mostly is, at most.
+/// Room for a label, asked for at once; most are no longer.
 const LABEL: usize = 16;
 
 /// How many digits a number has.
