@@ -1,9 +1,9 @@
 -- What a report's bytes say, or the first refusal.
-use Rattle.std.specs.Prelude.{ℕ, ◌+◌, List, [], ◌∷◌, map, codes, Option, Some, None, Result, Ok, Err, option_and_then}
+use Rattle.std.specs.Prelude.{◌≢◌, ℕ, ◌+◌, List, [], ◌∷◌, map, codes, Option, Some, None, Result, Ok, Err, option_and_then}
 use Rattle.std.specs.Option.{unwrap_or}
 use Rattle.oim_names.specs.Bindings.{Binding}
 use Rattle.oim_names.specs.declared.reason.Reason.{Reason}
-use Rattle.oim_names.specs.declared.reason.Reason.TheVariants.{NotJson}
+use Rattle.oim_names.specs.declared.reason.Reason.TheVariants.{OutOfMemory, NotJson}
 use Rattle.oim_value.specs.Units.{units_of}
 use Rattle.oim_value.specs.declared.value.Value.TheVariants.{Number}
 use Rattle.serde_json.specs.Data.{Data, Members}
@@ -62,3 +62,7 @@ tree_outcome sheet (Some tree) = unless_refused (first_holding (document_conditi
 -- the document that the bytes say under the sheet, or the first refusal: the document's, then the first fact's
 unfoldable pub outcome : Sheet → List ℕ → Result Document Refusal
 outcome sheet bytes = tree_outcome sheet (json bytes)
+
+-- no bytes are refused for want of memory: that is no refusal of a report's own
+abbrev pub OutcomesWantNoMemory : Type 0
+OutcomesWantNoMemory = (sheet : Sheet) (bytes : List ℕ) (place : Place) → outcome sheet bytes ≢ Err (at place OutOfMemory)

@@ -96,3 +96,7 @@ name_code = code_by (List ℕ × List ℕ) (coded× (coded_list coded_ℕ) (code
 
 abbrev pub sheet_code : Coded Sheet
 sheet_code = code_by (FinMap name_cmp ConceptKind) (map.code name_code (code_by ℕ coded_ℕ kind_number kind_of_number kind_back)) (λ s. s.concepts) (λ m. record { concepts = m }) (λ _. refl)
+
+-- no sheet is refused for want of memory
+abbrev pub SheetOutcomesWantNoMemory : Type 0
+SheetOutcomesWantNoMemory = (bytes : List ℕ) → sheet_outcome bytes ≢ Err OutOfMemory
