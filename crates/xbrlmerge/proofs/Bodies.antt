@@ -11,7 +11,7 @@ use Rattle.std.specs.Cmp.{IsTotalOrder, both_ways, Equal-is, eq_by_cmp_equiv}
 use Rattle.std.proofs.lemmas.List.Folds.{list_any-append}
 use Rattle.std.proofs.lemmas.List.Concat.{flat_map-append}
 use Rattle.std.proofs.lemmas.Map.Views.{Contains-from_any, list_any-from_Contains}
-use Rattle.xbrlmerge.specs.Body.{Body, all_facts, body, union, BodyIgnoresOrder, BodyIsSetOfFacts, BodyOfBoth, UnionHasBoth}
+use Rattle.xbrlmerge.specs.Body.{all_facts, body, union, BodyIgnoresOrder, BodyIsSetOfFacts, BodyOfBoth, UnionHasBoth}
 use Rattle.xbrlmerge.specs.Document.{Document}
 use Rattle.xbrlmerge.specs.Fact.{fact_cmp}
 use Rattle.xbrlmerge.specs.Sets.{IsSetOf, set_of}

@@ -1,12 +1,12 @@
 -- Concept sheets: which concepts reports may use, and what their values are (own).
-use Rattle.std.specs.Prelude.{ℕ, zero, suc, List, [], ◌∷◌, ◌++◌, Bool, not, ◌||◌, codes, Option, Some, None, Result, Err, refl, ◌≡◌}
+use Rattle.std.specs.Prelude.{ℕ, zero, suc, List, [], ◌∷◌, ◌++◌, Bool, not, ◌||◌, codes, Option, Some, None, Result, Err, refl, ◌≡◌, ◌≢◌}
 use Rattle.std.specs.Coded.{Coded, code_by, coded×, coded_ℕ, coded_list}
 use Rattle.std.specs.FinMap as map
 use Rattle.std.specs.FinMap.{FinMap}
 use Rattle.oim_names.specs.QName.{QName}
 use Rattle.oim_names.specs.Bindings.{Binding}
 use Rattle.oim_names.specs.declared.reason.Reason.{Reason}
-use Rattle.oim_names.specs.declared.reason.Reason.TheVariants.{NotJson, MemberForm, UnknownMember, Namespace, SheetKind}
+use Rattle.oim_names.specs.declared.reason.Reason.TheVariants.{OutOfMemory, NotJson, MemberForm, UnknownMember, Namespace, SheetKind}
 use Rattle.oim_value.specs.ValueOrder.{name_cmp}
 use Rattle.serde_json.specs.Data.{Data, Members, no_members, member}
 use Rattle.serde_json.specs.Find.{get, as_object, as_str}

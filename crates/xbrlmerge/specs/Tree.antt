@@ -1,9 +1,10 @@
 -- The JSON value by which a body is written: xBRL-JSON 1.0, section 3, with one choice of prefixes and identifiers (own).
 -- In bytes, `:` is 58, `f` 102, `n` 110.
-use Rattle.std.specs.Prelude.{ℕ, ℤ, List, [], ◌∷◌, ◌++◌, map, flat_map, codes, Option, Some, None}
+use Rattle.std.specs.Prelude.{ℕ, ℤ, List, [], ◌∷◌, ◌++◌, map, flat_map, codes, Option, Some, None, ⊤}
 use Rattle.std.specs.Ordering.{nat_cmp}
 use Rattle.std.specs.Cmp.Lexicographic.{slice_cmp}
-use Rattle.serde_json.specs.Data.{Data, null, number, string, array, object, no_items, Members, no_members, member}
+use Rattle.std.specs.List.Sorted.{IsStrictlySortedBy}
+use Rattle.serde_json.specs.Data.{Data, null, number, string, array, object, Items, no_items, item, Members, no_members, member}
 use Rattle.serde_json.specs.Find.{of_integer}
 use Rattle.oim_names.specs.QName.{QName}
 use Rattle.oim_value.specs.Plain.{plain}
@@ -88,3 +89,27 @@ abbrev pub tree : Body → Data
 tree b =
     object (member (codes "documentInfo") (info_tree (uris b)) (
     member (codes "facts") (facts_tree b) no_members))
+
+-- ---- its keys
+
+abbrev pub keys : Members → List (List ℕ)
+keys no_members = []
+keys (member k d ms) = k ∷ keys ms
+
+-- each object has its keys in byte order, each once
+abbrev mutual
+  pub KeysRise : Data → Type 0
+  KeysRise (object ms) = IsStrictlySortedBy (slice_cmp nat_cmp) (keys ms) × KeysRiseInMembers ms
+  KeysRise (array ds) = KeysRiseInItems ds
+  KeysRise _ = ⊤
+
+  pub KeysRiseInItems : Items → Type 0
+  KeysRiseInItems no_items = ⊤
+  KeysRiseInItems (item d ds) = KeysRise d × KeysRiseInItems ds
+
+  pub KeysRiseInMembers : Members → Type 0
+  KeysRiseInMembers no_members = ⊤
+  KeysRiseInMembers (member k d ms) = KeysRise d × KeysRiseInMembers ms
+
+abbrev pub KeysOfTreeRise : Type 0
+KeysOfTreeRise = (b : Body) → IsStrictlySortedBy fact_cmp b → KeysRise (tree b)

@@ -6,8 +6,11 @@ ghost use Rattle.xbrlmerge.specs.Body.{BodyIgnoresOrder, BodyIsSetOfFacts, BodyO
 ghost use Rattle.xbrlmerge.specs.Bytes.{BytesIgnoreOrder};
 ghost use Rattle.xbrlmerge.specs.Fact.{fact_cmp};
 ghost use Rattle.xbrlmerge.specs.Rank.{PaddedKeepsOrder, PaddedWritesNumber, RanksAreWithin, WidthIsFewestDigits};
+ghost use Rattle.xbrlmerge.specs.Outcome.{OutcomesWantNoMemory};
 ghost use Rattle.xbrlmerge.specs.Run.{BundlesIgnoreOrder};
+ghost use Rattle.xbrlmerge.specs.Sheet.{SheetOutcomesWantNoMemory};
 ghost use Rattle.xbrlmerge.specs.Sets.{ListsMakeSets, RisingListsAreSets};
+ghost use Rattle.xbrlmerge.specs.Tree.{KeysOfTreeRise};
 ghost use Rattle.xbrlmerge.specs.declared.fact.Fact.{Fact as FactValue};
 
 use crate::fact::Fact;
@@ -79,4 +82,19 @@ pub fn ranks_are_within()
 /// Padded texts of one width are in the order of their numbers.
 pub fn padded_keeps_order()
     ensures { PaddedKeepsOrder }
+{}
+
+/// Each object by which a body is written has its keys in byte order, each once.
+pub fn keys_of_tree_rise()
+    ensures { KeysOfTreeRise }
+{}
+
+/// No report is refused for want of memory: that is no refusal of its own.
+pub fn outcomes_want_no_memory()
+    ensures { OutcomesWantNoMemory }
+{}
+
+/// No sheet is refused for want of memory.
+pub fn sheet_outcomes_want_no_memory()
+    ensures { SheetOutcomesWantNoMemory }
 {}
