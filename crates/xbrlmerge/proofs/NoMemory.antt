@@ -10,14 +10,15 @@ use Rattle.xbrlmerge.specs.declared.fact.Fact.{Fact}
 use Rattle.xbrlmerge.specs.declared.place.Place.{Place}
 use Rattle.xbrlmerge.specs.declared.place.Place.TheVariants.{Document as AtDocument, Fact as AtFact}
 use Rattle.xbrlmerge.specs.declared.refusal.Refusal.{Refusal}
-use Rattle.xbrlmerge.specs.Conditions.{bindings_of, facts_of, document_conditions, fact_conditions}
+use Rattle.xbrlmerge.specs.Conditions.{document_conditions, fact_conditions}
+use Rattle.xbrlmerge.specs.ReportParts.{bindings_of, facts_of}
 use Rattle.xbrlmerge.specs.Document.{Document}
 use Rattle.xbrlmerge.specs.Json.{json, values}
 use Rattle.xbrlmerge.specs.Outcome.{at, said_fact, fact_outcome, all_or_first, facts_outcome, unless_refused, tree_outcome, outcome, OutcomesWantNoMemory}
 use Rattle.xbrlmerge.specs.Refusal.{Condition, first_holding, unless, map_ok}
 use Rattle.xbrlmerge.specs.Sheet.{Sheet, sheet_conditions, said_sheet, sheet_of, sheet_outcome, SheetOutcomesWantNoMemory}
 
-is_memory : Reason → Bool
+abbrev is_memory : Reason → Bool
 is_memory OutOfMemory = true
 is_memory r = false
 
@@ -30,7 +31,6 @@ both true b h = (refl, h)
 both false b h = absurd (false≢true h)
 
 not_memory : (r : Reason) → not (is_memory r) ≡ true → Some r ≢ Some OutOfMemory
-unfolding is_memory
 not_memory r other e = let same : r ≡ OutOfMemory = cc in absurd (false≢true (ap (λ s. not (is_memory s)) (sym same) ∙ other))
 
 first_other : (cs : List Condition) → are_other cs ≡ true → first_holding cs ≢ Some OutOfMemory
@@ -67,7 +67,7 @@ one_other sheet bs fact = unless_other (first_holding (fact_conditions sheet bs 
 
 next_other : (n : ℕ) (o : Result Fact Reason) (os : List (Result Fact Reason)) (p : Place) → o ≢ Err OutOfMemory → all_or_first (n + 1) os ≢ Err (at p OutOfMemory) → all_or_first n (o ∷ os) ≢ Err (at p OutOfMemory)
 next_other n (Ok fact) os p here there = map_ok_other (λ facts. fact ∷ facts) (all_or_first (n + 1) os) p there
-next_other n (Err r) os p here there e = let same : at (AtFact n) r ≡ at p OutOfMemory = cc in at_other r (AtFact n) p (λ s. let is : r ≡ OutOfMemory = cc in here (ap Err is)) same
+next_other n (Err r) os p here there = λ e. let same : at (AtFact n) r ≡ at p OutOfMemory = cc in at_other r (AtFact n) p (λ s. let is : r ≡ OutOfMemory = cc in here (ap Err is)) same
 
 all_other : (sheet : Sheet) (bs : List Binding) (n : ℕ) (facts : List Data) (p : Place) → all_or_first n (map (fact_outcome sheet bs) facts) ≢ Err (at p OutOfMemory)
 all_other sheet bs n [] p = λ e. absurd (cc)
@@ -75,14 +75,14 @@ all_other sheet bs n (fact ∷ facts) p = next_other n (fact_outcome sheet bs fa
 
 unless_refused_other : (o : Option Reason) (said : Result Document Refusal) (p : Place) → o ≢ Some OutOfMemory → said ≢ Err (at p OutOfMemory) → unless_refused o said ≢ Err (at p OutOfMemory)
 unless_refused_other None said p here there = there
-unless_refused_other (Some r) said p here there e = let same : at AtDocument r ≡ at p OutOfMemory = cc in at_other r AtDocument p here same
+unless_refused_other (Some r) said p here there = λ e. let same : at AtDocument r ≡ at p OutOfMemory = cc in at_other r AtDocument p here same
 
 tree_other : (sheet : Sheet) (tree : Option Data) (p : Place) → tree_outcome sheet tree ≢ Err (at p OutOfMemory)
-tree_other sheet None p e = let same : at AtDocument NotJson ≡ at p OutOfMemory = cc in at_other NotJson AtDocument p (λ s. absurd (cc)) same
+tree_other sheet None p = λ e. let same : at AtDocument NotJson ≡ at p OutOfMemory = cc in at_other NotJson AtDocument p (λ s. absurd (cc)) same
 tree_other sheet (Some tree) p =
     unless_refused_other (first_holding (document_conditions tree)) (map_ok (λ facts. record { facts = facts }) (facts_outcome sheet tree)) p
-        (first_other (document_conditions tree) refl)
-        (map_ok_other (λ facts. record { facts = facts }) (facts_outcome sheet tree) p (all_other sheet (bindings_of tree) 1 (values (facts_of tree)) p))
+    (first_other (document_conditions tree) refl)
+    (map_ok_other (λ facts. record { facts = facts }) (facts_outcome sheet tree) p (all_other sheet (bindings_of tree) 1 (values (facts_of tree)) p))
 
 pub outcomes_want_no_memory : OutcomesWantNoMemory
 unfolding outcome

@@ -4,6 +4,8 @@
 mod base;
 mod bundle;
 mod concept_kind;
+#[cfg(test)]
+mod devices;
 mod document;
 mod document_form;
 mod encoded;
@@ -36,11 +38,6 @@ mod sink;
 mod source;
 mod std_sink;
 mod std_source;
-mod write_fault;
-mod writer;
-
-#[cfg(test)]
-mod devices;
 #[cfg(test)]
 mod tests_io;
 #[cfg(test)]
@@ -51,6 +48,8 @@ mod tests_run;
 mod tests_sheet;
 #[cfg(test)]
 mod tests_writing;
+mod write_fault;
+mod writer;
 
 use run::run;
 use std::process::ExitCode;
