@@ -1,8 +1,7 @@
-ghost use Rattle.std.specs.Prelude.{◌≡◌, ◌⊎◌, Ok, Err, Some, map, IfOk, IfErr};
+ghost use Rattle.std.specs.Prelude.{◌≡◌, ◌⊎◌, Ok, Err, Some, IfOk, IfErr};
 ghost use Rattle.serde_json.specs.View.{view, members_view};
 ghost use Rattle.xbrlmerge.specs.Conditions.{is_numeric};
 ghost use Rattle.xbrlmerge.specs.Document.{SaysDocument};
-ghost use Rattle.xbrlmerge.specs.Json.{values};
 ghost use Rattle.xbrlmerge.specs.Outcome.{at, fact_outcome, facts_said, tree_outcome, outcome};
 
 use crate::concept_kind::ConceptKind;
