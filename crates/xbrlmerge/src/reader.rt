@@ -58,7 +58,7 @@ fn read_facts(
         IfErr result (λ r. (r ≡ at Place.Document Reason.OutOfMemory) ⊎ (said ≡ Err r)) }
 {
     let mut facts = Vec::new(alloc);
-    let mut place = 1;
+    let mut place: u64 = 1;
     for (_identifier, object) in objects.iter() {
         match read_fact(sheet, aliases, object) {
             Ok(fact) => facts.push(fact)?,
