@@ -1,10 +1,8 @@
-ghost use Rattle.std.specs.Prelude.{◌≡◌, ◌⊎◌, ◌||◌, not, None, Some, IfOk, IfErr, codes, option_and_then};
+ghost use Rattle.std.specs.Prelude.{◌≡◌, ◌⊎◌, ◌||◌, None, Some, IfOk, IfErr};
 ghost use Rattle.std.specs.Result.{result_err};
-ghost use Rattle.serde_json.specs.Find.{as_object, as_str};
 ghost use Rattle.serde_json.specs.View.{view};
 ghost use Rattle.xbrlmerge.specs.Conditions.{document_conditions, has_other_parts, has_unknown_part, has_other_type, shape_conditions};
-ghost use Rattle.xbrlmerge.specs.ReportParts.{bindings_of, info};
-ghost use Rattle.xbrlmerge.specs.Json.{any_in, is_unknown, is_text, object_at};
+ghost use Rattle.xbrlmerge.specs.ReportParts.{bindings_of};
 ghost use Rattle.xbrlmerge.specs.Refusal.{first_holding};
 
 use crate::json_tree::{has_item, has_unknown_in, is_no_array, is_no_object, object_at, within};

@@ -1,12 +1,11 @@
-ghost use Rattle.std.specs.Prelude.{◌≡◌, ◌⊎◌, ◌||◌, [], None, Some, IfOk, IfErr, false, true, codes, option_map, option_and_then, is_none};
+ghost use Rattle.std.specs.Prelude.{◌≡◌, ◌⊎◌, ◌||◌, [], IfOk, IfErr, false, true, option_map, is_none};
 ghost use Rattle.std.specs.Option.{unwrap_or, option_map_or};
 ghost use Rattle.std.specs.Result.{result_err};
-ghost use Rattle.serde_json.specs.Find.{get, as_object};
 ghost use Rattle.serde_json.specs.View.{view, members_view};
-ghost use Rattle.xbrlmerge.specs.Conditions.{has_other_members, has_unknown_member, form_conditions, some_name, of_defined, is_other_dimension};
+ghost use Rattle.xbrlmerge.specs.Conditions.{has_other_members, has_unknown_member, form_conditions, some_name, is_other_dimension};
 ghost use Rattle.xbrlmerge.specs.ReportParts.{dimensions_of, concept_of};
-ghost use Rattle.xbrlmerge.specs.Json.{any_in, any_member, is_unknown, object_at};
-ghost use Rattle.xbrlmerge.specs.Names.{named, name_conditions, lacks_form, lacks_binding, lies_in_reserved, is_refused};
+ghost use Rattle.xbrlmerge.specs.Json.{any_in, any_member};
+ghost use Rattle.xbrlmerge.specs.Names.{named, name_conditions, is_refused};
 ghost use Rattle.xbrlmerge.specs.Refusal.{first_holding};
 
 use crate::json_tree::{

@@ -1,8 +1,7 @@
-ghost use Rattle.std.specs.Prelude.{◌≡◌, Some, IfOk, [], codes, option_map, option_and_then};
+ghost use Rattle.std.specs.Prelude.{◌≡◌, Some, IfOk, [], option_map, option_and_then};
 ghost use Rattle.std.specs.Option.{unwrap_or};
 ghost use Rattle.std.specs.Result.{result_err};
 ghost use Rattle.oim_value.specs.Units.{units_of};
-ghost use Rattle.serde_json.specs.Find.{get};
 ghost use Rattle.serde_json.specs.View.{view};
 ghost use Rattle.xbrlmerge.specs.Conditions.{number_conditions, decimals_conditions};
 ghost use Rattle.xbrlmerge.specs.ReportParts.{value_of, whole_number};

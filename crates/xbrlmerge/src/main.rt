@@ -1,6 +1,8 @@
 //! Consolidates xBRL-JSON reports.
 #![tactic(auto)]
 
+#[cfg(test)]
+mod asked_again;
 mod base;
 mod bundle;
 mod concept_kind;
@@ -39,9 +41,11 @@ mod source;
 mod std_sink;
 mod std_source;
 #[cfg(test)]
-mod tests_io;
+mod tests_documents;
 #[cfg(test)]
-mod tests_reading;
+mod tests_facts;
+#[cfg(test)]
+mod tests_io;
 #[cfg(test)]
 mod tests_run;
 #[cfg(test)]

@@ -1,8 +1,7 @@
-ghost use Rattle.std.specs.Prelude.{◌≡◌, ◌⊎◌, Ok, Err, Some, map, IfOk, IfErr};
+ghost use Rattle.std.specs.Prelude.{◌≡◌, ◌⊎◌, Ok, Err, Some, IfOk, IfErr};
 ghost use Rattle.serde_json.specs.View.{view, members_view};
 ghost use Rattle.xbrlmerge.specs.Conditions.{is_numeric};
 ghost use Rattle.xbrlmerge.specs.Document.{SaysDocument};
-ghost use Rattle.xbrlmerge.specs.Json.{values};
 ghost use Rattle.xbrlmerge.specs.Outcome.{at, fact_outcome, facts_said, tree_outcome, outcome};
 
 use crate::concept_kind::ConceptKind;
@@ -59,7 +58,7 @@ fn read_facts(
         IfErr result (λ r. (r ≡ at Place.Document Reason.OutOfMemory) ⊎ (said ≡ Err r)) }
 {
     let mut facts = Vec::new(alloc);
-    let mut place = 1;
+    let mut place: u64 = 1;
     for (_identifier, object) in objects.iter() {
         match read_fact(sheet, aliases, object) {
             Ok(fact) => facts.push(fact)?,

@@ -1,30 +1,12 @@
+use crate::asked_again::{read, read_sheet, tell_refused};
 use crate::concept_kind::ConceptKind;
 use crate::place::Place;
-use crate::reader::read_report;
 use crate::refusal::Refusal;
-use crate::sheet::Sheet;
 use oim_names::{Aliases, Name, Reason};
 use std::test::Fail;
 
-// Where a request for memory is refused, the next one is not: the callee is asked again. The line
-// on standard error tells of it.
-
 const NAMESPACES: &str =
     r#"{"namespaces":{"eg":"http://example.org/t"},"concepts":{"eg:A":"numeric"}}"#;
-
-fn tell_refused(rt: &HostRuntime) {
-    let _ = eprintln!(rt; "refused");
-}
-
-fn read_sheet(rt: &HostRuntime, text: &str) -> Result<Sheet, Reason> {
-    match Sheet::read(rt.alloc(), text.as_bytes()) {
-        Err(Reason::OutOfMemory) => {
-            tell_refused(rt);
-            Sheet::read(rt.alloc(), text.as_bytes())
-        }
-        answer => answer,
-    }
-}
 
 fn read_name(rt: &HostRuntime, aliases: &Aliases, text: &str) -> Result<Name, Reason> {
     match aliases.expand(text) {
@@ -139,18 +121,7 @@ fn a_sheet_binds_nothing_in_a_report(rt: HostRuntime) -> Result<(), Fail> {
     let sheet = read_sheet(&rt, NAMESPACES)?;
     let report =
         r#"{"documentInfo":{"documentType":"https://xbrl.org/2021/xbrl-json"},"facts":{"a":{"value":"1","dimensions":{"concept":"eg:A"}}}}"#;
-    let refusal = match read_report(rt.alloc(), &sheet, report.as_bytes()) {
-        Err(
-            Refusal {
-                reason: Reason::OutOfMemory,
-                place: Place::Document,
-            },
-        ) => {
-            tell_refused(&rt);
-            read_report(rt.alloc(), &sheet, report.as_bytes()).err()
-        }
-        answer => answer.err(),
-    };
+    let refusal = read(&rt, &sheet, report.as_bytes()).err();
     let unbound = Refusal {
         reason: Reason::UnboundPrefix,
         place: Place::Fact(1),
