@@ -1,8 +1,7 @@
 -- What a bundle's run leaves, from what its steps say.
-use Rattle.std.proofs.Common.{◌≡◌, ℕ, List, Option, Result, Ok, Err, inr, sym, ap, ◌∙◌, subst}
+use Rattle.std.proofs.Common.{◌≡◌, ℕ, List, Option, Ok, inr, sym, ap, ◌∙◌, subst}
 use Rattle.std.specs.Io.KnownBytes.{Appends}
 use Rattle.std.specs.List.{before_first, after_first}
-use Rattle.xbrlmerge.specs.declared.fault.Fault.{Fault}
 use Rattle.xbrlmerge.specs.declared.refusal.Refusal.{Refusal}
 use Rattle.xbrlmerge.specs.declared.write_fault.WriteFault.{WriteFault}
 use Rattle.xbrlmerge.specs.declared.write_fault.WriteFault.TheVariants.{OutOfMemory, Device}

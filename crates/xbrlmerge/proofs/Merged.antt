@@ -1,5 +1,5 @@
 -- Items that were sorted and stripped of repeats are a set.
-use Rattle.std.proofs.Common.{◌≡◌, List, [], Bool, true, refl, sym, ap, subst, ◌∙◌}
+use Rattle.std.proofs.Common.{◌≡◌, List, [], Bool, true, sym, subst, ◌∙◌}
 use Rattle.std.specs.Prelude.{Contains, IsPermutation, IsSorted}
 use Rattle.std.specs.List.{dedup}
 use Rattle.std.specs.List.Retain.{IsFiltered, DiffersFromLast}

@@ -1,4 +1,4 @@
-use Rattle.std.proofs.Common.{◌≡◌, subst, sym}
+use Rattle.std.proofs.Common.{subst, sym}
 use Rattle.xbrlmerge.specs.Run.{Stops}
 use Rattle.xbrlmerge.proofs.Bundles.{HasRead, consolidated, stopped}
 use Rattle.xbrlmerge.proofs.bundle.consolidate_bundle.Goals as goal

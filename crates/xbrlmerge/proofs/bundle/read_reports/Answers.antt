@@ -1,6 +1,6 @@
-use Rattle.std.proofs.Common.{◌≡◌, ◌∷◌, ◌+◌, ◌<◌, ◌≤◌, length, false, ◌∙◌, ap, sym, arith}
+use Rattle.std.proofs.Common.{◌≡◌, ◌∷◌, ◌<◌, length, false, ◌∙◌, ap, sym, arith}
 use Rattle.std.specs.Prelude.{◌==◌}
-use Rattle.std.specs.List.{before_first, after_first}
+use Rattle.std.specs.List.{before_first}
 use Rattle.std.proofs.lemmas.Bool.Decides.{nat_tests}
 use Rattle.xbrlmerge.specs.Bundle.{is_line_end, filled_pieces}
 use Rattle.xbrlmerge.proofs.LinePieces.{filled_pieces-filled, fewer_left}

@@ -1,8 +1,6 @@
-use Rattle.std.proofs.Common.{◌≡◌, ◌≤◌, ◌+◌, ◌++◌, List, length}
-use Rattle.xbrlmerge.specs.Body.{body}
+use Rattle.std.proofs.Common.{◌≡◌, ◌≤◌, ◌+◌, ◌++◌, length}
 use Rattle.xbrlmerge.specs.Bundle.{filled_pieces}
-use Rattle.xbrlmerge.specs.Document.{Document}
-use Rattle.xbrlmerge.specs.Run.{accepted, refused, refused_from}
+use Rattle.xbrlmerge.specs.Run.{refused, refused_from}
 use Rattle.xbrlmerge.proofs.Reports.{HasMerged}
 use Rattle.xbrlmerge.proofs.bundle.read_reports.Given as goal
 

@@ -1,6 +1,5 @@
-use Rattle.std.proofs.Common.{◌≡◌, ◌+◌, ◌≤◌, ◌++◌, vec_len, vec_capacity}
+use Rattle.std.proofs.Common.{◌+◌, ◌≤◌, ◌++◌, vec_len, vec_capacity}
 use Rattle.std.specs.Prelude.{reverse}
-use Rattle.xbrlmerge.specs.Fact.{fact_cmp}
 use Rattle.xbrlmerge.proofs.FactOrder.{fact_cmp_total, fact_cmp_exact}
 use Rattle.xbrlmerge.proofs.Growth.{Grows}
 use Rattle.xbrlmerge.proofs.fact_set.add_all.Given as goal

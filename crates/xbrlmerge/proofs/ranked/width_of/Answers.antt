@@ -1,5 +1,4 @@
-use Rattle.std.proofs.Common.{◌≡◌, ◌+◌, ◌/◌, arith}
-use Rattle.xbrlmerge.specs.Rank.{width}
+use Rattle.std.proofs.Common.{arith}
 use Rattle.xbrlmerge.proofs.Digits.{width_large, width_small}
 use Rattle.xbrlmerge.proofs.ranked.width_of.Goals as goal
 

@@ -1,6 +1,6 @@
-use Rattle.std.proofs.Common.{◌≡◌, ℕ, ◌+◌, ◌-◌, ◌^◌, ◌≤◌, ◌∷◌, ◌++◌, List, drop, nat_lt, sym, ap, subst, ◌∙◌, arith, append_assoc}
+use Rattle.std.proofs.Common.{◌+◌, ◌-◌, ◌^◌, ◌≤◌, ◌++◌, drop, nat_lt, sym, ap, subst, ◌∙◌, arith, append_assoc}
 use Rattle.std.proofs.lemmas.Result.{err_from_is_err_and}
-use Rattle.xbrlmerge.specs.Parts.{fact_members, facts_text, parts}
+use Rattle.xbrlmerge.specs.Parts.{fact_members, parts}
 use Rattle.xbrlmerge.specs.Pieces.{Breaks}
 use Rattle.xbrlmerge.specs.Sink.{written_of}
 use Rattle.xbrlmerge.proofs.Passing.{Passes-trans, Breaks-more, Breaks-none, Breaks-trans}

@@ -1,4 +1,4 @@
-use Rattle.std.proofs.Common.{[], sym, subst}
+use Rattle.std.proofs.Common.{sym, subst}
 use Rattle.std.specs.List.Sorted.{IsStrictlySortedBy}
 use Rattle.xbrlmerge.specs.Fact.{fact_cmp}
 use Rattle.xbrlmerge.specs.Sets.{set_of}

@@ -1,9 +1,9 @@
-use Rattle.std.proofs.Common.{◌≡◌, [], ◌++◌, map, sym, ap, ◌∙◌, rules}
+use Rattle.std.proofs.Common.{◌++◌, map, ap, ◌∙◌}
 use Rattle.std.specs.Prelude.{flat_map}
 use Rattle.std.specs.Ordering.{nat_cmp}
 use Rattle.std.specs.Cmp.Lexicographic.{slice_cmp}
 use Rattle.xbrlmerge.specs.Sets.{set_of}
-use Rattle.xbrlmerge.specs.Tree.{uris, uris_of_value}
+use Rattle.xbrlmerge.specs.Tree.{uris_of_value}
 use Rattle.xbrlmerge.proofs.Uris.{set_of-front}
 use Rattle.xbrlmerge.proofs.prefix_table.PrefixTable.of.Goals as goal
 
