@@ -1,0 +1,85 @@
+-- What a search in a list that rises finds.
+use Rattle.std.proofs.Common.{◌≡◌, ℕ, zero, suc, ◌+◌, ◌<◌, ◌≤◌, ◌-◌, Bool, true, false, not, cond, List, [], ◌∷◌, length, get_or, Some, Ok, Err, refl, sym, ap, ◌∙◌, arith, inl, inr}
+use Rattle.std.specs.Prelude.{is_some}
+use mathlib.Core.Bool.{true≢false}
+use Rattle.std.specs.declared.cmp.Ordering.{Ordering}
+use Rattle.std.specs.declared.cmp.Ordering.TheVariants.{Less, Equal, Greater}
+use Rattle.std.specs.Ordering.{is_lt, is_eq, ordering_reverse, ordering_index}
+use Rattle.std.specs.Cmp.{IsTotalOrder, alike_right, tied_back}
+use Rattle.std.specs.List.Sorted.{IsNonDecreasingBy, IsPartitionPoint}
+use Rattle.std.proofs.lemmas.Bool.{cases_lt}
+use Rattle.std.proofs.lemmas.List.{get_or_default}
+use Rattle.std.proofs.lemmas.List.Sums.{position_or_len_is}
+use Rattle.std.proofs.lemmas.List.Sorted.{searchable_from_sorted}
+use Rattle.std.proofs.lemmas.Map.Keys.{Less-from_sorted}
+use Rattle.merge_laws.specs.Insertions.{found_at}
+use Rattle.merge_laws.specs.Sorted.{IsRising, item_at, has_key, place_of}
+use Rattle.merge_laws.specs.Items.{turned_less, turned_greater}
+
+pub less : (r : Ordering) → true ≡ is_lt r → r ≡ Less
+less Less t = refl
+less Equal t = absurd (true≢false t)
+less Greater t = absurd (true≢false t)
+
+module _ {K E : Type 0} {R : K → K → Ordering} (key : E → K) (o : IsTotalOrder R) where
+  -- of two places, the first has the lower key
+  pub rising_at : (es : List E) → IsRising R key es → (i j : ℕ) (d : E) → i < j → j < length es → R (key (get_or es i d)) (key (get_or es j d)) ≡ Less
+  rising_at es h i j d below within = Less-from_sorted (λ e f. R (key e) (key f)) es i j d h below within
+
+  has_tied : (es : List E) (k : K) (i : ℕ) (d : E) → i < length es → R (key (get_or es i d)) k ≡ Equal → has_key R key k es ≡ true
+  has_tied [] k i d lt p = absurd (omega arith)
+  has_tied (e ∷ es) k zero d lt p = ap (λ r. is_some (cond (is_eq r) (Some e) (item_at R key k es))) (tied_back o (key e) k p)
+  has_tied (e ∷ es) k (suc i) d lt p = elim (is_eq (R k (key e))) as (λ b. is_some (cond b (Some e) (item_at R key k es)) ≡ true) [ true ↦ refl | false ↦ has_tied es k i d (omega arith) p ]
+
+  has_none : (es : List E) (k : K) → ((j : ℕ) (d : E) → j < length es → is_eq (R k (key (get_or es j d))) ≡ false) → has_key R key k es ≡ false
+  has_none [] k apart = refl
+  has_none (e ∷ es) k apart = ap (λ b. is_some (cond b (Some e) (item_at R key k es))) (apart 0 e (omega arith)) ∙ has_none es k (λ j d lt. apart (suc j) d (omega arith))
+
+  first_place : (es : List E) (k : K) (i : ℕ) (d : E) → i ≤ length es → ((j : ℕ) → j < i → R (key (get_or es j d)) k ≡ Less) → (i < length es → is_lt (R (key (get_or es i d)) k) ≡ false) → place_of R key k es ≡ i
+  first_place es k i d le below at = position_or_len_is (λ e. not (is_lt (R (key e) k))) es i d le (λ j lt. ap (λ r. not (is_lt r)) (below j lt)) (λ lt. ap not (at lt))
+
+  -- the place of an item with the key,
+  pub found_here : (es : List E) (k : K) (i : ℕ) (d : E) → IsRising R key es → i < length es → R (key (get_or es i d)) k ≡ Equal → Ok i ≡ found_at R key k es
+  found_here es k i d h lt p =
+      let place = first_place es k i d (omega (arith, lt)) (λ j below. sym (alike_right o _ k _ p) ∙ rising_at es h j i d below lt) (λ _. ap is_lt p) in
+      sym (λ n. cond (has_tied es k i d lt p n) (Ok (place n)) (Err (place n)))
+
+  -- and the place between those below the key and those above it
+  pub found_gap : (es : List E) (k : K) (i : ℕ) → i ≤ length es → ((j : ℕ) (d : E) → j < i → R (key (get_or es j d)) k ≡ Less) → ((j : ℕ) (d : E) → i ≤ j → j < length es → R (key (get_or es j d)) k ≡ Greater) → Err i ≡ found_at R key k es
+  found_gap [] k i le below above = ap Err (omega (arith, le))
+  found_gap (e ∷ es) k i le below above =
+      let place = first_place (e ∷ es) k i e le (λ j lt. below j e lt) (λ lt. ap is_lt (above i e (omega arith) lt)) in
+      let absent = has_none (e ∷ es) k (λ j d lt. elim (cases_lt j i) [
+        | inl under ↦ ap is_eq (turned_less key o _ _ (below j d under))
+        | inr over ↦ ap is_eq (turned_greater key o _ _ (above j d over lt))
+      ]) in
+      sym (λ n. cond (absent n) (Ok (place n)) (Err (place n)))
+
+  -- a key above the last is above all
+  pub found_behind : (es : List E) (k : K) (last : E) → IsRising R key es → 0 < length es → ((d : E) → last ≡ get_or es (length es - 1) d) → R (key last) k ≡ Less → Err (length es) ≡ found_at R key k es
+  found_behind es k last h some is p = found_gap es k (length es) (omega arith) (λ j d lt. elim (cases_lt (j + 1) (length es)) [
+    | inl under ↦ o.trans _ _ _ (rising_at es h j (length es - 1) d (omega (arith, under)) (omega (arith, some))) (sym (ap (λ e. R (key e) k) (is d)) ∙ p)
+    | inr over ↦ (let same : j ≡ length es - 1 = omega (arith, over, lt) in ap (λ n. R (key (get_or es n d)) k) same ∙ sym (ap (λ e. R (key e) k) (is d)) ∙ p)
+  ]) (λ j d ge lt. absurd (omega (arith, ge, lt)))
+
+  -- where a search says so only of a list in order
+  pub parted : (es : List E) (k : K) (i : ℕ) → IsRising R key es → (IsNonDecreasingBy (λ e. ordering_index (R (key e) k)) es → IsPartitionPoint (λ e. R (key e) k ≡ Less) (λ e. R (key e) k ≡ Greater) es i) → IsPartitionPoint (λ e. R (key e) k ≡ Less) (λ e. R (key e) k ≡ Greater) es i
+  parted es k i h found = found (searchable_from_sorted o key es k (λ j d _ lt.
+      ap is_lt (turned_less key o _ _ (rising_at es h j (j + 1) d (omega arith) lt))))
+
+  -- what is below a key at one place is so at each before, and what is above it at each after
+  pub less_before : (es : List E) (k : K) (i : ℕ) (x : E) → IsRising R key es → i < length es → R (key (get_or es i x)) k ≡ Less → (j : ℕ) (d : E) → j < i + 1 → R (key (get_or es j d)) k ≡ Less
+  less_before es k i x h within p j d lt =
+      let read : R (key (get_or es i d)) k ≡ Less = ap (λ e. R (key e) k) (get_or_default es i d x within) ∙ p in
+      elim (cases_lt j i) [
+        | inl under ↦ o.trans _ _ _ (rising_at es h j i d under within) read
+        | inr over ↦ let same : j ≡ i = omega (arith, over, lt) in ap (λ n. R (key (get_or es n d)) k) same ∙ read
+      ]
+
+  pub greater_after : (es : List E) (k : K) (i : ℕ) (x : E) → IsRising R key es → i < length es → R (key (get_or es i x)) k ≡ Greater → (j : ℕ) (d : E) → i ≤ j → j < length es → R (key (get_or es j d)) k ≡ Greater
+  greater_after es k i x h here p j d ge within =
+      let read : R (key (get_or es i d)) k ≡ Greater = ap (λ e. R (key e) k) (get_or_default es i d x here) ∙ p in
+      elim (cases_lt i j) [
+        | inl under ↦ turned_less key o _ _ (o.trans _ _ _ (turned_greater key o _ _ read) (rising_at es h i j d under within))
+        | inr over ↦ let same : j ≡ i = omega (arith, over, ge) in ap (λ n. R (key (get_or es n d)) k) same ∙ read
+      ]

@@ -1,0 +1,45 @@
+-- What one list takes from another: new items, each with the place before which it goes, and merged values (own).
+use Rattle.std.specs.Prelude.{ℕ, zero, suc, if◌then◌else◌, List, [], ◌∷◌, ◌++◌, take, drop, Option, Some, None, Result, Ok, Err}
+use Rattle.std.specs.List.{flat_map}
+use Rattle.std.specs.declared.cmp.Ordering.{Ordering}
+use Rattle.merge_laws.specs.Sorted.{item_at, has_key, place_of, entry_key}
+
+-- the items with new ones among them, the last one first
+abbrev pub inserted : {E : Type 0} → List E → List (ℕ × E) → List E
+inserted es [] = es
+inserted es (n ∷ ns) = inserted (take n.0 es) ns ++ n.1 ∷ drop n.0 es
+
+module _ {K E : Type 0} (R : K → K → Ordering) (key : E → K) where
+  -- where a key is, or where it would go
+  abbrev pub found_at : K → List E → Result ℕ ℕ
+  found_at k es = if has_key R key k es then Ok (place_of R key k es) else Err (place_of R key k es)
+
+  -- an item that others do not have
+  abbrev pub new_item : List E → E → List (ℕ × E)
+  new_item es f = if has_key R key (key f) es then [] else (place_of R key (key f) es, f) ∷ []
+
+  abbrev pub new_items : List E → List E → List (ℕ × E)
+  new_items es fs = flat_map (new_item es) fs
+
+module _ {K V : Type 0} (R : K → K → Ordering) (merged : V → V → V) where
+  -- the value that a key of both gets
+  abbrev pub shared_value : ℕ → V → Option (K × V) → List (ℕ × V)
+  shared_value i w None = []
+  shared_value i w (Some e) = (i, merged e.1 w) ∷ []
+
+  abbrev pub new_value : List (K × V) → K × V → List (ℕ × V)
+  new_value es f = shared_value (place_of R entry_key f.0 es) f.1 (item_at R entry_key f.0 es)
+
+  abbrev pub new_values : List (K × V) → List (K × V) → List (ℕ × V)
+  new_values es fs = flat_map (new_value es) fs
+
+-- the entries with another value at a place
+abbrev pub with_value : {K V : Type 0} → ℕ → V → List (K × V) → List (K × V)
+with_value i v [] = []
+with_value zero v (e ∷ es) = (e.0, v) ∷ es
+with_value (suc i) v (e ∷ es) = e ∷ with_value i v es
+
+-- and with others at several, one after another
+abbrev pub with_values : {K V : Type 0} → List (K × V) → List (ℕ × V) → List (K × V)
+with_values es [] = es
+with_values es (c ∷ cs) = with_values (with_value c.0 c.1 es) cs

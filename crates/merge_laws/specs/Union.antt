@@ -1,0 +1,44 @@
+-- What two sets, or two maps, make together (own).
+use Rattle.std.specs.Prelude.{List, [], ◌∷◌, Option, Some, None}
+use Rattle.std.specs.declared.cmp.Ordering.{Ordering}
+use Rattle.std.specs.Ordering.{match_ordering}
+use Rattle.merge_laws.specs.Sorted.{itself, entry_key}
+
+module _ {K E : Type 0} (R : K → K → Ordering) (key : E → K) (join : E → E → E) where
+  -- the items with x among them; where one has its key already, that one and x are joined
+  abbrev pub with_item : E → List E → List E
+  with_item x [] = x ∷ []
+  with_item x (e ∷ es) = match_ordering (R (key x) (key e)) (x ∷ e ∷ es) (join e x ∷ es) (e ∷ with_item x es)
+
+  -- the items of the first, and those of the second one after another
+  abbrev pub union_of : List E → List E → List E
+  union_of es [] = es
+  union_of es (f ∷ fs) = with_item f (union_of es fs)
+
+-- what stands at a key of both, or of one
+abbrev pub either_or_both : {A : Type 0} → (A → A → A) → Option A → Option A → Option A
+either_or_both join None b = b
+either_or_both join (Some x) None = Some x
+either_or_both join (Some x) (Some y) = Some (join x y)
+
+-- of two items of one key a set keeps the first
+abbrev pub older : {K : Type 0} → K → K → K
+older x y = x
+
+-- and a map merges their values
+abbrev pub merged_entries : {K V : Type 0} → (V → V → V) → K × V → K × V → K × V
+merged_entries merged e f = (e.0, merged e.1 f.1)
+
+-- a set with an item in it, and the union of two sets
+abbrev pub set_with : {K : Type 0} → (K → K → Ordering) → K → List K → List K
+set_with R = with_item R itself older
+
+abbrev pub set_union : {K : Type 0} → (K → K → Ordering) → List K → List K → List K
+set_union R = union_of R itself older
+
+-- a map with a value put at a key, and the union of two maps
+abbrev pub map_with : {K V : Type 0} → (K → K → Ordering) → (V → V → V) → K → V → List (K × V) → List (K × V)
+map_with R merged k v = with_item R entry_key (merged_entries merged) (k, v)
+
+abbrev pub map_union : {K V : Type 0} → (K → K → Ordering) → (V → V → V) → List (K × V) → List (K × V) → List (K × V)
+map_union R merged = union_of R entry_key (merged_entries merged)
