@@ -1,4 +1,6 @@
 pub mod Fractions
+pub mod Intervals
+pub mod Meeting
 pub mod Numerals
 pub mod PlainLaws
 pub mod PlainLemmas

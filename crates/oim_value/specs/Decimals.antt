@@ -1,5 +1,5 @@
 -- How precisely a number is reported (Open Information Model, `decimals`; the range is own).
-use Rattle.std.specs.Prelude.{ℤ, Bool, nat_le, unsigned_abs, ◌≡◌, Option, Some, None, refl}
+use Rattle.std.specs.Prelude.{ℤ, Bool, nat_le, unsigned_abs, ◌≡◌, IsTrue, Option, Some, None, refl}
 use Rattle.oim_value.specs.declared.limits.TheConstants.{MOST_DECIMALS}
 use Rattle.oim_value.specs.declared.decimals.Places.{Places}
 use Rattle.oim_value.specs.declared.decimals.Places.TheVariants.{Finite, Infinite}
@@ -7,6 +7,11 @@ use Rattle.oim_value.specs.declared.decimals.Places.TheVariants.{Finite, Infinit
 -- whether there may be so many decimals
 abbrev pub is_finite_decimals : ℤ → Bool
 is_finite_decimals d = nat_le (unsigned_abs d) (unsigned_abs MOST_DECIMALS)
+
+-- decimals that a number may have: so many, or infinite ones
+abbrev pub AreDecimals : Option ℤ → Type 0
+AreDecimals (Some d) = IsTrue (is_finite_decimals d)
+AreDecimals None = Unit {0}
 
 -- contracts see the finite number, or None where infinite
 abbrev pub finite_of : Places → Option ℤ

@@ -1,4 +1,6 @@
 pub mod Decimals
+pub mod Interval
+pub mod Meets
 pub mod Number
 pub mod Plain
 pub mod Ties

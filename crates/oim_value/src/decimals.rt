@@ -1,6 +1,6 @@
 ghost use Rattle.std.specs.Prelude.{◌≡◌, IsTrue, IfErr, Some};
 ghost use Rattle.std.specs.Result.{OkIff};
-ghost use Rattle.oim_value.specs.Decimals.{is_finite_decimals};
+ghost use Rattle.oim_value.specs.Decimals.{AreDecimals, is_finite_decimals};
 
 use crate::limits::MOST_DECIMALS;
 use oim_names::{Copied, Key, Reason};
@@ -25,11 +25,13 @@ pub struct Decimals {
 
 impl Model for Decimals {
     ghost use Rattle.std.specs.Prelude.{ℤ, Option};
-    ghost use Rattle.oim_value.specs.Decimals.{finite_of, places_of, places_of-finite_of};
+    ghost use Rattle.oim_value.specs.Decimals.{AreDecimals, finite_of, places_of, places_of-finite_of};
 
     ghost Value = { Option ℤ };
 
     ghost view = { λ a. finite_of a.places };
+
+    ghost invariant = { λ a. AreDecimals (finite_of a.places) };
 
     ghost inverse = { λ d. record { places = places_of d } };
 
@@ -60,7 +62,8 @@ impl Decimals {
 
     /// How many they are, or None where they are infinite.
     pub fn get(&self) -> Option<i8>
-        ensures { result ≡ self.now }
+        ensures value { result ≡ self.now }
+        ensures range { AreDecimals self.now }
     {
         match self.places {
             Places::Finite(places) => Some(places),

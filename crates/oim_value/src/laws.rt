@@ -1,5 +1,7 @@
 ghost use Rattle.std.specs.Prelude.{◌≡◌, None};
 ghost use Rattle.oim_value.specs.declared.value.Value.{Value as Seen};
+ghost use Rattle.oim_value.specs.Interval.{CommonIsAssociative, CommonIsBoth, CommonIsCommutative, CommonIsIdempotent, HalfAfterPoint, HalfBeforePoint, IntervalHasNumber, IntervalHasPoints, MeetsByCommonPart, MeetsByCommonPoint};
+ghost use Rattle.oim_value.specs.Meets.{MeetsIsReflexive, MeetsIsSymmetric};
 ghost use Rattle.oim_value.specs.Number.{DenotesOne, ShortIsKept};
 ghost use Rattle.oim_value.specs.Plain.{PlainIsAscii, PlainIsOne, PlainIsPlain, PlainReadsBack, PlainTellsApart};
 ghost use Rattle.oim_value.specs.ValueOrder.{value_cmp};
@@ -45,3 +47,40 @@ pub fn infinite_is_no_number() -> Decimals
 {
     Decimals::INFINITE
 }
+
+/// Half the width of an interval is half of 10 to the power of minus the decimals.
+pub fn interval_is_half_a_place()
+    ensures after_point { HalfAfterPoint }
+    ensures before_point { HalfBeforePoint }
+{}
+
+/// The interval of a number has that number, so it is not empty.
+pub fn interval_has_its_number()
+    ensures number { IntervalHasNumber }
+    ensures points { IntervalHasPoints }
+{}
+
+/// Common parts are one whatever the grouping, the order and the repetition.
+pub fn common_is_a_meet()
+    ensures associative { CommonIsAssociative }
+    ensures commutative { CommonIsCommutative }
+    ensures idempotent { CommonIsIdempotent }
+{}
+
+/// The common part has just the numbers that lie in both intervals.
+pub fn common_has_both()
+    ensures { CommonIsBoth }
+{}
+
+/// Intervals that are not empty meet exactly where some number lies in both, which is where their
+/// common part is not empty.
+pub fn meets_by_common_point()
+    ensures point { MeetsByCommonPoint }
+    ensures part { MeetsByCommonPart }
+{}
+
+/// Each value meets itself, and is met by what it meets.
+pub fn values_meet_both_ways()
+    ensures reflexive { MeetsIsReflexive }
+    ensures symmetric { MeetsIsSymmetric }
+{}

@@ -1,16 +1,20 @@
-//! Numbers, decimals and the values of facts, in order.
+//! Numbers, decimals, rounding intervals and the values of facts, in order.
 #![tactic(auto)]
 
 mod decimals;
 mod digits;
 mod fixed;
+mod interval;
 pub mod laws;
 mod limits;
 #[cfg(test)]
 mod tests;
+#[cfg(test)]
+mod tests_intervals;
 mod value;
 
 pub use decimals::Decimals;
 pub use fixed::{Fixed, read_fixed, write_fixed};
+pub use interval::{Interval, common, interval_of, meets};
 pub use limits::{MOST_DECIMALS, MOST_DIGITS, UNIT_PLACES};
-pub use value::Value;
+pub use value::{Value, value_meets};

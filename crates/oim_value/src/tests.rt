@@ -3,7 +3,7 @@ use oim_names::{Aliases, Copied, Name, Reason, Text};
 use std::alloc::AllocError;
 use std::test::Fail;
 
-const UNIT: i128 = 1_000_000_000_000_000_000;
+pub(crate) const UNIT: i128 = 1_000_000_000_000_000_000;
 
 // Where a request for memory is refused, the next one is not, so the call is made again. The line
 // on standard error tells `tests/refused_memory` of it.
@@ -12,7 +12,7 @@ fn tell_refused(rt: &HostRuntime) {
     let _ = eprintln!(rt; "refused");
 }
 
-fn text_of(rt: &HostRuntime, text: &str) -> Result<Text, AllocError> {
+pub(crate) fn text_of(rt: &HostRuntime, text: &str) -> Result<Text, AllocError> {
     match Text::new(rt.alloc(), text) {
         Err(_) => {
             tell_refused(rt);
@@ -146,21 +146,21 @@ fn decimals_have_a_range(rt: HostRuntime) {
     assert!(rt; Decimals::INFINITE.get() == None);
 }
 
-fn number(text: &str, decimals: Decimals) -> Value {
+pub(crate) fn number(text: &str, decimals: Decimals) -> Value {
     match read_fixed(text) {
         Ok(number) => Value::Number(number, decimals),
         Err(_) => Value::Nil,
     }
 }
 
-fn name(rt: &HostRuntime, text: &str) -> Value {
+pub(crate) fn name(rt: &HostRuntime, text: &str) -> Value {
     match name_of(rt, text) {
         Ok(name) => Value::Name(name),
         Err(_) => Value::Nil,
     }
 }
 
-fn finite(number: i64) -> Decimals {
+pub(crate) fn finite(number: i64) -> Decimals {
     match Decimals::finite(number) {
         Ok(decimals) => decimals,
         Err(_) => Decimals::INFINITE,

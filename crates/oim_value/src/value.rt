@@ -1,5 +1,9 @@
+ghost use Rattle.std.specs.Prelude.{◌↔◌, IsTrue};
+ghost use Rattle.oim_value.specs.Meets.{Meets};
+
 use crate::decimals::Decimals;
 use crate::fixed::Fixed;
+use crate::interval::{interval_of, meets};
 use oim_names::{Copied, Key, Name, Text};
 use std::alloc::{AllocError, Global};
 
@@ -43,4 +47,20 @@ impl Key for Value {
       | AText s ↦ elim [ Nil ↦ λ h. Prim.cc | Number m q ↦ λ h. Prim.cc | AText t ↦ λ h. ap AText (exact_bytes s t h) | AName n ↦ λ h. Prim.cc ]
       | AName m ↦ elim [ Nil ↦ λ h. Prim.cc | Number m q ↦ λ h. Prim.cc | AText t ↦ λ h. Prim.cc | AName n ↦ λ h. ap AName (exact_name m n h) ]
     ] };
+}
+
+/// Whether two values may be one value, differently rounded: both nil, numbers whose rounding
+/// intervals meet, equal texts or equal names.
+pub fn value_meets(a: &Value, b: &Value) -> bool
+    ensures { IsTrue result ↔ Meets a.now b.now }
+{
+    match (a, b) {
+        (Value::Nil, Value::Nil) => true,
+        (Value::Number(m, d), Value::Number(n, e)) => {
+            meets(interval_of(*m, *d), interval_of(*n, *e))
+        }
+        (Value::Text(s), Value::Text(t)) => s == t,
+        (Value::Name(m), Value::Name(n)) => m == n,
+        _ => false,
+    }
 }

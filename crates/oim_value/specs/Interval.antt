@@ -1,0 +1,76 @@
+-- Rounding intervals (own), in units of 10 to the power of minus UNIT_PLACES.
+use Rattle.std.specs.Prelude.{◌≡◌, ◌↔◌, ℕ, ◌-◌, ◌*◌, ◌^◌, ◌<◌, ℤ, pos, neg_ℤ, ◌+ℤ◌, ◌-ℤ◌, ◌≤ℤ◌, int_le, unsigned_abs, Bool, ◌&&◌, IsTrue, Option, Some, None}
+use Rattle.std.specs.Int.{int_max, int_min}
+use Rattle.oim_value.specs.declared.interval.Interval.{Interval}
+use Rattle.oim_value.specs.declared.limits.TheConstants.{UNIT_PLACES}
+
+-- UNIT_PLACES - 1 - d, for decimals below UNIT_PLACES
+abbrev pub half_zeros : ℤ → ℕ
+half_zeros d = unsigned_abs (pos (UNIT_PLACES - 1) -ℤ d)
+
+-- half a unit of the last decimal place that is right, 0.5 * 10^-d; nothing where a number is exact
+abbrev pub half_width : Option ℤ → ℕ
+half_width (Some d) = 5 * 10 ^ half_zeros d
+half_width None = 0
+
+-- what a number with so many decimals may have been rounded from; both ends belong to it
+abbrev pub interval : ℤ → Option ℤ → Interval
+interval units decimals = record { low = units -ℤ pos (half_width decimals); high = units +ℤ pos (half_width decimals) }
+
+-- so many units lie in an interval
+pub record IsWithin (units : ℤ) (i : Interval) : Type 0 where
+  pub above : i.low ≤ℤ units
+  pub below : units ≤ℤ i.high
+
+-- the interval is not empty
+abbrev pub HasPoints : Interval → Type 0
+HasPoints i = i.low ≤ℤ i.high
+
+-- neither interval ends before the other begins
+abbrev pub intervals_meet : Interval → Interval → Bool
+intervals_meet a b = int_le a.low b.high && int_le b.low a.high
+
+-- from the greater low end to the lesser high end; empty where the intervals do not meet
+abbrev pub common_part : Interval → Interval → Interval
+common_part a b = record { low = int_max a.low b.low; high = int_min a.high b.high }
+
+-- twice the half width is 10^-d, for decimals after the point and before it
+abbrev pub HalfAfterPoint : Type 0
+HalfAfterPoint = (d : ℕ) → d < UNIT_PLACES → 2 * half_width (Some (pos d)) * 10 ^ d ≡ 10 ^ UNIT_PLACES
+
+abbrev pub HalfBeforePoint : Type 0
+HalfBeforePoint = (d : ℕ) → 2 * half_width (Some (neg_ℤ (pos d))) ≡ 10 ^ UNIT_PLACES * 10 ^ d
+
+-- a number lies in its own interval
+abbrev pub IntervalHasNumber : Type 0
+IntervalHasNumber = (units : ℤ) (decimals : Option ℤ) → IsWithin units (interval units decimals)
+
+abbrev pub IntervalHasPoints : Type 0
+IntervalHasPoints = (units : ℤ) (decimals : Option ℤ) → HasPoints (interval units decimals)
+
+-- common parts: in any grouping, in any order, with itself
+abbrev pub CommonIsAssociative : Type 0
+CommonIsAssociative = (a b c : Interval) → common_part (common_part a b) c ≡ common_part a (common_part b c)
+
+abbrev pub CommonIsCommutative : Type 0
+CommonIsCommutative = (a b : Interval) → common_part a b ≡ common_part b a
+
+abbrev pub CommonIsIdempotent : Type 0
+CommonIsIdempotent = (a : Interval) → common_part a a ≡ a
+
+-- what lies in the common part is what lies in both
+abbrev pub CommonIsBoth : Type 0
+CommonIsBoth = (units : ℤ) (a b : Interval) → IsWithin units (common_part a b) ↔ (IsWithin units a × IsWithin units b)
+
+-- so many units lie in both intervals
+pub record IsCommonPoint (a b : Interval) (units : ℤ) : Type 0 where
+  pub first : IsWithin units a
+  pub second : IsWithin units b
+
+-- intervals that are not empty meet exactly where some number lies in both,
+abbrev pub MeetsByCommonPoint : Type 0
+MeetsByCommonPoint = (a b : Interval) → HasPoints a → HasPoints b → IsTrue (intervals_meet a b) ↔ ((units : ℤ) × IsCommonPoint a b units)
+
+-- which is where their common part is not empty
+abbrev pub MeetsByCommonPart : Type 0
+MeetsByCommonPart = (a b : Interval) → HasPoints a → HasPoints b → IsTrue (intervals_meet a b) ↔ HasPoints (common_part a b)

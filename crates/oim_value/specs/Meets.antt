@@ -1,0 +1,21 @@
+-- Values that may be one value, differently rounded (OIM, consistent duplicates; nil and other values are own).
+use Rattle.std.specs.Prelude.{◌≡◌, IsTrue}
+use Rattle.oim_value.specs.declared.value.Value.{Value}
+use Rattle.oim_value.specs.declared.value.Value.TheVariants.{Nil, Number, Text as AText, Name as AName}
+use Rattle.oim_value.specs.Interval.{interval, intervals_meet}
+
+-- both nil, numbers whose intervals meet, equal texts, equal names; nothing else
+abbrev pub Meets : Value → Value → Type 0
+Meets Nil Nil = Unit {0}
+Meets (Number m d) (Number n e) = IsTrue (intervals_meet (interval m d) (interval n e))
+Meets (AText s) (AText t) = s ≡ t
+Meets (AName m) (AName n) = m ≡ n
+Meets x y = ⊥
+
+-- each value meets itself,
+abbrev pub MeetsIsReflexive : Type 0
+MeetsIsReflexive = (x : Value) → Meets x x
+
+-- and what meets it is met by it
+abbrev pub MeetsIsSymmetric : Type 0
+MeetsIsSymmetric = (x y : Value) → Meets x y → Meets y x

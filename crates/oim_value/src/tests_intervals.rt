@@ -1,0 +1,153 @@
+use crate::tests::{UNIT, finite, name, number, text_of};
+use crate::{Decimals, Interval, Value, common, interval_of, meets, read_fixed, value_meets};
+use std::test::Fail;
+
+const HALF: i128 = UNIT / 2;
+
+fn interval(text: &str, decimals: Decimals) -> Interval {
+    match read_fixed(text) {
+        Ok(number) => interval_of(number, decimals),
+        Err(_) => Interval { low: 1, high: 0 },
+    }
+}
+
+#[test]
+fn intervals_go_half_a_place_to_each_side(rt: HostRuntime) {
+    let exact = Decimals::INFINITE;
+    let rows = [
+        ("100", finite(0), 100 * UNIT - HALF, 100 * UNIT + HALF),
+        ("1234567", finite(-3), 1234067 * UNIT, 1235067 * UNIT),
+        ("1234067", exact, 1234067 * UNIT, 1234067 * UNIT),
+        (
+            "-1.5",
+            finite(1),
+            -1550000000000000000,
+            -1450000000000000000,
+        ),
+        ("1", finite(12), 999999999999500000, 1000000000000500000),
+        (
+            "0.123456789012345678",
+            finite(12),
+            123456789011845678,
+            123456789012845678,
+        ),
+        (
+            "0.123456789012345678",
+            finite(-12),
+            -499999999999876543210987654322,
+            500000000000123456789012345678,
+        ),
+        (
+            "-999999999999999999",
+            finite(-12),
+            -1000000499999999999 * UNIT,
+            -999999499999999999 * UNIT,
+        ),
+    ];
+    for (text, decimals, low, high) in rows {
+        assert!(rt;
+            interval(text, decimals) == Interval { low, high },
+            "{text}"
+        );
+    }
+}
+
+#[test]
+fn touching_intervals_meet(rt: HostRuntime) {
+    let exact = Decimals::INFINITE;
+    let rows = [
+        ("100", finite(0), "101", finite(0), true),
+        ("101", finite(0), "102", finite(0), true),
+        ("100", finite(0), "102", finite(0), false),
+        ("100", finite(0), "100.5", exact, true),
+        ("100", finite(0), "100.500000000000001", exact, false),
+        ("1234567", finite(-3), "1234067", exact, true),
+        ("1234567", finite(-3), "1234066.9", exact, false),
+        ("100", finite(0), "104", finite(-2), true),
+        ("103", finite(0), "104", finite(-2), true),
+        ("100", finite(0), "103", finite(0), false),
+        ("7", exact, "7.0", exact, true),
+        ("7", exact, "7.000000000000001", exact, false),
+        ("999999999999999999", finite(-12), "1", finite(12), false),
+    ];
+    for (first, d, second, e, meet) in rows {
+        let a = interval(first, d);
+        let b = interval(second, e);
+        assert!(rt;
+            meets(a, b) == meet && meets(b, a) == meet,
+            "{first} {second}"
+        );
+    }
+}
+
+#[test]
+fn one_unit_apart_is_apart(rt: HostRuntime) {
+    let a = Interval { low: -5, high: 9 };
+    assert!(rt; meets(a, Interval { low: 9, high: 20 }));
+    assert!(rt; !meets(a, Interval { low: 10, high: 20 }));
+    assert!(rt; meets(a, Interval { low: -8, high: -5 }));
+    assert!(rt; !meets(a, Interval { low: -8, high: -6 }));
+    assert!(rt; meets(a, Interval { low: 0, high: 1 }));
+}
+
+#[test]
+fn common_part_may_be_empty(rt: HostRuntime) {
+    let rows = [
+        (
+            interval("100", finite(0)),
+            interval("101", finite(0)),
+            100 * UNIT + HALF,
+            100 * UNIT + HALF,
+        ),
+        (
+            interval("100", finite(0)),
+            interval("102", finite(0)),
+            101 * UNIT + HALF,
+            100 * UNIT + HALF,
+        ),
+        (
+            interval("100", finite(0)),
+            interval("104", finite(-2)),
+            99 * UNIT + HALF,
+            100 * UNIT + HALF,
+        ),
+    ];
+    for (a, b, low, high) in rows {
+        assert!(rt; common(a, b) == Interval { low, high });
+        assert!(rt; common(b, a) == Interval { low, high });
+    }
+}
+
+#[test]
+fn values_meet_in_kind_alone(rt: HostRuntime) -> Result<(), Fail> {
+    let apart = [
+        Value::Nil,
+        number("5", Decimals::INFINITE),
+        number("100", finite(0)),
+        number("102", finite(0)),
+        Value::Text(text_of(&rt, "5")?),
+        Value::Text(text_of(&rt, "")?),
+        name(&rt, "b:y"),
+        name(&rt, "a:y"),
+        name(&rt, "a:z"),
+    ];
+    for i in 0..apart.len() {
+        for j in 0..apart.len() {
+            assert!(rt; value_meets(&apart[i], &apart[j]) == (i == j), "{i} {j}");
+        }
+    }
+    Ok(())
+}
+
+#[test]
+fn values_of_one_kind_may_meet(rt: HostRuntime) -> Result<(), Fail> {
+    let hundred = number("100", finite(0));
+    let between = number("101", finite(0));
+    assert!(rt; value_meets(&hundred, &between));
+    assert!(rt; value_meets(&between, &hundred));
+    assert!(rt; value_meets(&between, &number("102", finite(0))));
+    let text = Value::Text(text_of(&rt, "é")?);
+    assert!(rt; value_meets(&text, &Value::Text(text_of(&rt, "é")?)));
+    assert!(rt; value_meets(&name(&rt, "b:y"), &name(&rt, "b:y")));
+    Ok(())
+}
