@@ -1,1 +1,7 @@
+mod Edits
+mod Lists
 mod Places
+mod Puts
+mod Taking
+mod Unions
+mod Values

@@ -23,7 +23,7 @@ module _ {K E : Type 0} {R : K → K → Ordering} (key : E → K) (o : IsTotalO
   ] refl
 
   -- what holds of the items of both, and of joined ones, holds of the union's
-  all_with : (closed : (x y : E) → P x → P y → P (join x y)) → (x : E) (es : List E) → P x → AllByRecursion P es → AllByRecursion P (with_item R key join x es)
+  pub all_with : (closed : (x y : E) → P x → P y → P (join x y)) → (x : E) (es : List E) → P x → AllByRecursion P es → AllByRecursion P (with_item R key join x es)
   all_with closed x [] p a = (p, tt)
   all_with closed x (e ∷ es) p a =
       elim (R (key x) (key e)) as (λ r. AllByRecursion P (match_ordering r (x ∷ e ∷ es) (join e x ∷ es) (e ∷ with_item R key join x es))) [

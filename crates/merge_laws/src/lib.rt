@@ -1,9 +1,14 @@
 //! Merges with laws: whatever is merged, order, grouping and repetition do not matter.
 #![tactic(auto)]
 
+mod changes;
 mod insertion;
 mod merge;
 mod pair;
 mod search;
+mod sorted_map;
+mod sorted_set;
 
 pub use merge::Merge;
+pub use sorted_map::SortedMap;
+pub use sorted_set::SortedSet;

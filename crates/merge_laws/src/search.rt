@@ -1,4 +1,5 @@
-ghost use Rattle.std.specs.Prelude.{◌≡◌};
+ghost use Rattle.std.specs.Prelude.{◌≡◌, length};
+ghost use Rattle.std.specs.List.Sorted.{IsSearchInRange};
 ghost use Rattle.merge_laws.specs.Insertions.{found_at};
 ghost use Rattle.merge_laws.specs.Sorted.{IsRising, IsSet, itself, entry_key};
 
@@ -10,7 +11,8 @@ use std::cmp::Ordering;
 /// Where an item of a set is, or where it would go.
 pub(crate) fn find_item<T: Key>(items: &[T], item: &T) -> Result<usize, usize>
     requires { IsSet T.cmp items.now }
-    ensures { result ≡ found_at T.cmp itself item.now items.now }
+    ensures place { result ≡ found_at T.cmp itself item.now items.now }
+    ensures bound { IsSearchInRange result (length items.now) }
 {
     match items.last() {
         Some(last) if last.cmp(item).is_lt() => Err(items.len()),
@@ -21,7 +23,8 @@ pub(crate) fn find_item<T: Key>(items: &[T], item: &T) -> Result<usize, usize>
 /// Where a key of a map is, or where it would go.
 pub(crate) fn find_key<K: Key, V>(entries: &[(K, V)], key: &K) -> Result<usize, usize>
     requires { IsRising K.cmp entry_key entries.now }
-    ensures { result ≡ found_at K.cmp entry_key key.now entries.now }
+    ensures place { result ≡ found_at K.cmp entry_key key.now entries.now }
+    ensures bound { IsSearchInRange result (length entries.now) }
 {
     match entries.last() {
         Some((last, _)) if last.cmp(key).is_lt() => Err(entries.len()),
@@ -31,7 +34,8 @@ pub(crate) fn find_key<K: Key, V>(entries: &[(K, V)], key: &K) -> Result<usize, 
 
 fn halve<K: Key, V>(entries: &[(K, V)], key: &K) -> Result<usize, usize>
     requires { IsRising K.cmp entry_key entries.now }
-    ensures { result ≡ found_at K.cmp entry_key key.now entries.now }
+    ensures place { result ≡ found_at K.cmp entry_key key.now entries.now }
+    ensures bound { IsSearchInRange result (length entries.now) }
 {
     let mut low = 0;
     let mut high = entries.len();

@@ -15,8 +15,8 @@ loop-low-preserved-in-Less g c =
       above = l.invariant.above;
     }
 
-pub returns-in-Equal : goal.returns-in-Equal
-returns-in-Equal g c =
+pub returns-in-Equal-clause-place : goal.returns-in-Equal-clause-place
+returns-in-Equal-clause-place g c =
     let l = c.loop-low in
     let middle = l.low + (l.high - l.low) / 2 in
     let within : middle < length c.args.entries.now = omega (arith, c.loop-low-test.true, l.invariant.within) in
@@ -34,8 +34,8 @@ loop-low-preserved g c =
       above = greater_after entry_key g.met.K.Ord.total c.args.entries.now c.args.key.now middle c.index-entries-middle.result c.requires within (sym c.in-Greater.ensures);
     }
 
-pub returns : goal.returns
-returns g c =
+pub returns-clause-place : goal.returns-clause-place
+returns-clause-place g c =
     let l = c.loop-low in
     found_gap entry_key g.met.K.Ord.total c.args.entries.now c.args.key.now l.low (omega (arith, l.invariant.order, l.invariant.within)) l.invariant.below
     (λ j d ge lt. l.invariant.above j d (omega (arith, ge, c.loop-low-test.false)) lt)

@@ -1,0 +1,47 @@
+-- What a merge makes is the union.
+use Rattle.std.proofs.Common.{◌≡◌, cond, List, [], ◌∷◌, ◌++◌, Option, Some, None, refl, sym, ap, subst, ◌∙◌}
+use Rattle.std.specs.Prelude.{reverse}
+use Rattle.std.specs.Option.{option_or}
+use Rattle.std.specs.declared.cmp.Ordering.{Ordering}
+use Rattle.std.specs.Cmp.{IsTotalOrder}
+use Rattle.merge_laws.specs.Insertions.{inserted, new_item, new_items, new_values, with_values}
+use Rattle.merge_laws.specs.Sorted.{IsRising, IsSet, item_at, itself, entry_key}
+use Rattle.merge_laws.specs.Union.{either_or_both, older, merged_entries, set_union, map_union}
+use Rattle.merge_laws.specs.Items.{same_items, rises_union, item_at-union}
+use Rattle.merge_laws.proofs.Taking.{takes_all}
+use Rattle.merge_laws.proofs.Values.{revalued, IsRevalued, revalues_all}
+
+older_or : {A : Type 0} (a b : Option A) → option_or a b ≡ either_or_both older a b
+older_or None b = refl
+older_or (Some x) None = refl
+older_or (Some x) (Some y) = refl
+
+module _ {K : Type 0} {R : K → K → Ordering} (o : IsTotalOrder R) where
+  pub set_taken : (xs ys : List K) → IsSet R xs → IsSet R ys → inserted xs (reverse (new_items R itself xs ys)) ≡ set_union R xs ys
+  set_taken xs ys g h =
+      let taken = takes_all itself o xs ys g h in
+      same_items itself o _ _ taken.rises (rises_union itself o older (λ _ _. refl) xs ys g) (λ q.
+      taken.at q ∙ older_or (item_at R itself q xs) (item_at R itself q ys) ∙ sym (item_at-union itself o older (λ _ _. refl) q xs ys g h))
+
+module _ {K V : Type 0} {R : K → K → Ordering} (o : IsTotalOrder R) (merged : V → V → V) where
+  revalued_or : (a b : Option (K × V)) → option_or (revalued o merged a b) b ≡ either_or_both (merged_entries merged) a b
+  revalued_or None b = refl
+  revalued_or (Some x) None = refl
+  revalued_or (Some x) (Some y) = refl
+
+  -- the same entries are new, whatever values the others have
+  same_news : (es out fs : List (K × V)) → IsRevalued o merged es fs out → (gs : List (K × V)) → new_items R entry_key es gs ≡ new_items R entry_key out gs
+  same_news es out fs is [] = refl
+  same_news es out fs is (g ∷ gs) = λ n. cond (sym (is.has g.0) n) [] ((sym (is.place g.0) n, g) ∷ []) ++ same_news es out fs is gs n
+
+  pub map_taken : (es fs : List (K × V)) → IsRising R entry_key es → IsRising R entry_key fs → inserted (with_values es (new_values R merged es fs)) (reverse (new_items R entry_key es fs)) ≡ map_union R merged es fs
+  map_taken es fs g h =
+      let out = with_values es (new_values R merged es fs) in
+      let is = revalues_all o merged es fs g h in
+      let taken = takes_all entry_key o out fs is.rises h in
+      ap (λ ns. inserted out (reverse ns)) (same_news es out fs is fs)
+      ∙ same_items entry_key o _ _ taken.rises (rises_union entry_key o (merged_entries merged) (λ _ _. refl) es fs g) (λ q.
+      taken.at q
+      ∙ ap (λ a. option_or a (item_at R entry_key q fs)) (is.at q)
+      ∙ revalued_or (item_at R entry_key q es) (item_at R entry_key q fs)
+      ∙ sym (item_at-union entry_key o (merged_entries merged) (λ _ _. refl) q es fs g h))

@@ -1,0 +1,23 @@
+use Rattle.std.proofs.Common.{◌≡◌, ◌++◌, sym, ap, ◌∙◌}
+use Rattle.merge_laws.specs.Insertions.{new_item, new_items, new_value}
+use Rattle.merge_laws.specs.Sorted.{entry_key}
+use Rattle.merge_laws.proofs.Lists.{flat_map_more, whole}
+use Rattle.merge_laws.proofs.changes.changes_by.Goals as goal
+
+pub loop-other-preserved : goal.loop-other-preserved
+loop-other-preserved g c =
+    let es = c.args.entries.now in
+    let i = c.loop-other.other-index in
+    record {
+      values =
+          c.in_ok-add.ensures.values
+          ∙ ap (λ cs. cs ++ new_value g.K.Ord.cmp g.V.Merge.merged es c.other-item.result) c.loop-other.invariant.values
+          ∙ sym (flat_map_more (new_value g.K.Ord.cmp g.V.Merge.merged es) c.args.others.now i c.other-item.result c.loop-other-test.true c.other-item.is);
+      news =
+          c.in_ok-add.ensures.news
+          ∙ ap (λ cs. cs ++ new_item g.K.Ord.cmp entry_key es c.other-item.result) c.loop-other.invariant.news
+          ∙ sym (flat_map_more (new_item g.K.Ord.cmp entry_key es) c.args.others.now i c.other-item.result c.loop-other-test.true c.other-item.is);
+    }
+
+pub returns-clause-news : goal.returns-clause-news
+returns-clause-news g c = c.loop-other.invariant.news ∙ ap (new_items g.K.Ord.cmp entry_key c.args.entries.now) (whole c.args.others.now c.loop-other.other-index c.loop-other-test.false)

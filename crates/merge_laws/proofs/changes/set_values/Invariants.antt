@@ -1,0 +1,10 @@
+use Rattle.std.proofs.Common.{◌≡◌, vec_len, vec_capacity}
+use Rattle.merge_laws.specs.Insertions.{with_values}
+use Rattle.merge_laws.proofs.changes.set_values.Given as goal
+
+abbrev pub invariant-loop-place : goal.invariant-loop-place
+invariant-loop-place g l = record {
+  items : l.entries.items ≡ with_values l.initial.entries.items l.yielded;
+  len : vec_len l.entries ≡ vec_len l.initial.entries;
+  room : vec_capacity l.entries ≡ vec_capacity l.initial.entries;
+}

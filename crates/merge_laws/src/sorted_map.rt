@@ -1,0 +1,137 @@
+ghost use Rattle.std.specs.Prelude.{◌≡◌, [], length, slice_get, IfOk, OnOk, OnErr};
+ghost use Rattle.std.specs.Option.{option_copied, option_map};
+ghost use Rattle.merge_laws.specs.Sorted.{IsMap, value_at};
+ghost use Rattle.merge_laws.specs.Union.{map_with};
+
+use crate::changes::{changes_by, set_values};
+use crate::insertion::{insert_all, room_for};
+use crate::merge::Merge;
+use crate::search::find_key;
+use oim_names::{Copied, Key};
+use std::alloc::{AllocError, Global};
+use std::marker::Model;
+
+/// A map. Contracts see its entries in the order of their keys, each key once.
+#[derive(Drop)]
+pub struct SortedMap<K: Key, V: Merge> {
+    entries: Vec<(K, V)>,
+}
+
+impl<K: Key, V: Merge> Model for SortedMap<K, V> {
+    ghost use Rattle.std.specs.Prelude.{List};
+    ghost use Rattle.merge_laws.specs.Sorted.{IsMap};
+
+    ghost Value = { List (K × V) };
+
+    ghost view = { λ a. a.entries.items };
+
+    ghost invariant = { λ a. IsMap K.cmp V.is_known a.entries.items };
+}
+
+impl<K: Key, V: Merge> SortedMap<K, V> {
+    /// No entries. Later calls take their memory from `alloc`.
+    pub fn new(alloc: Global) -> Self
+        ensures { result ≡ [] }
+    {
+        SortedMap {
+            entries: Vec::new(alloc),
+        }
+    }
+
+    /// Merges the value into what stands at the key, or puts copies of both there.
+    ///
+    /// Errors: want of memory; the map is then as before.
+    pub fn put(&mut self, key: &K, value: &V) -> Result<(), AllocError>
+        ensures ok { OnOk result (self.new ≡ map_with K.cmp V.merged key.now value.now self.old) }
+        ensures err { OnErr result (self.new ≡ self.old) }
+    {
+        value.known();
+        let alloc = *self.entries.allocator();
+        match find_key(self.entries.as_slice(), key) {
+            Ok(place) => self.entries[place].1.merge(alloc, value),
+            Err(place) => {
+                let entry = (key.copied(alloc)?, value.copied(alloc)?);
+                self.entries.insert(place, entry)?;
+                Ok(())
+            }
+        }
+    }
+
+    /// The value at a key.
+    pub fn get(&self, key: &K) -> Option<&V>
+        ensures { option_copied result ≡ value_at K.cmp key.now self.now }
+    {
+        match find_key(self.entries.as_slice(), key) {
+            Ok(place) => Some(&self.entries[place].1),
+            Err(_) => None,
+        }
+    }
+
+    /// The entry at a place, from 0, in the order of the keys.
+    pub fn at(&self, place: usize) -> Option<(&K, &V)>
+        ensures { option_map (λ e. (e.0.now, e.1.now)) result ≡ slice_get self.now place }
+    {
+        match self.entries.get(place) {
+            Some((key, value)) => Some((key, value)),
+            None => None,
+        }
+    }
+
+    /// How many keys there are.
+    pub fn len(&self) -> usize
+        ensures count { result ≡ length self.now }
+        ensures map { IsMap K.cmp V.is_known self.now }
+    {
+        self.entries.len()
+    }
+}
+
+impl<K: Key, V: Merge> Copied for SortedMap<K, V> {
+    fn copied(&self, alloc: Global) -> Result<Self, AllocError> {
+        Ok(SortedMap {
+            entries: copies_of(alloc, self.entries.as_slice())?,
+        })
+    }
+}
+
+fn copies_of<K: Copied, V: Copied>(alloc: Global, entries: &[(K, V)]) -> Result<Vec<(K, V)>, AllocError>
+    ensures { IfOk result (λ copies. copies.items ≡ entries.now) }
+{
+    let mut copies = Vec::with_capacity(alloc, entries.len())?;
+    for entry in entries {
+        copies.push_reserved(entry.copied(alloc)?);
+    }
+    Ok(copies)
+}
+
+/// The keys of both; a key of both gets what its two values make together. The entries of the map
+/// stay, and those that are new to it are copied.
+impl<K: Key, V: Merge> Merge for SortedMap<K, V> {
+    ghost use Rattle.merge_laws.specs.Sorted.{IsMap};
+    ghost use Rattle.merge_laws.specs.Union.{map_union};
+    ghost use Rattle.merge_laws.specs.UnionLaws.{map_closed, map_associates, map_commutes, map_idempotent};
+
+    ghost is_known = { IsMap K.cmp V.is_known };
+
+    ghost merged = { map_union K.cmp V.merged };
+
+    ghost closed = { map_closed K.total V.is_known V.merged V.closed };
+
+    ghost associative = { map_associates K.total V.is_known V.merged V.associative };
+
+    ghost commutative = { map_commutes K.total V.is_known V.merged K.exact V.commutative };
+
+    ghost idempotent = { map_idempotent K.total V.is_known V.merged V.idempotent };
+
+    fn merge(&mut self, alloc: Global, other: &Self) -> Result<(), AllocError> {
+        let changes = changes_by(alloc, self.entries.as_slice(), other.entries.as_slice())?;
+        let above = room_for(&mut self.entries, changes.news.as_slice())?;
+        set_values(&mut self.entries, changes.values);
+        insert_all(&mut self.entries, changes.news, above);
+        Ok(())
+    }
+
+    fn known(&self) {
+        let _entries = &self.entries;
+    }
+}

@@ -1,0 +1,131 @@
+ghost use Rattle.std.specs.Prelude.{◌≡◌, [], not, IfOk, OnOk, OnErr};
+ghost use Rattle.merge_laws.specs.Insertions.{new_items};
+ghost use Rattle.merge_laws.specs.Sorted.{IsSet, has_key, itself};
+ghost use Rattle.merge_laws.specs.Union.{set_with};
+
+use crate::insertion::{insert_all, room_for};
+use crate::merge::Merge;
+use crate::search::find_item;
+use oim_names::{Copied, Key};
+use std::alloc::{AllocError, Global};
+use std::marker::Model;
+
+/// A set. Contracts see its items in order, each once.
+#[derive(Drop)]
+pub struct SortedSet<T: Key> {
+    items: Vec<T>,
+}
+
+impl<T: Key> Model for SortedSet<T> {
+    ghost use Rattle.std.specs.Prelude.{List};
+    ghost use Rattle.merge_laws.specs.Sorted.{IsSet};
+
+    ghost Value = { List T };
+
+    ghost view = { λ a. a.items.items };
+
+    ghost invariant = { λ a. IsSet T.cmp a.items.items };
+}
+
+impl<T: Key> SortedSet<T> {
+    /// No items. Later calls take their memory from `alloc`.
+    pub fn new(alloc: Global) -> Self
+        ensures { result ≡ [] }
+    {
+        SortedSet {
+            items: Vec::new(alloc),
+        }
+    }
+
+    /// Adds a copy of the item, and answers whether it is new.
+    ///
+    /// Errors: want of memory; the set is then as before.
+    pub fn insert(&mut self, item: &T) -> Result<bool, AllocError>
+        ensures ok { OnOk result (self.new ≡ set_with T.cmp item.now self.old) }
+        ensures new { IfOk result (λ new. new ≡ not (has_key T.cmp itself item.now self.old)) }
+        ensures err { OnErr result (self.new ≡ self.old) }
+    {
+        match find_item(self.items.as_slice(), item) {
+            Ok(_) => Ok(false),
+            Err(place) => {
+                let copy = item.copied(*self.items.allocator())?;
+                self.items.insert(place, copy)?;
+                Ok(true)
+            }
+        }
+    }
+
+    /// The items in order, each once.
+    pub fn as_slice(&self) -> &[T]
+        ensures items { result.now ≡ self.now }
+        ensures set { IsSet T.cmp self.now }
+    {
+        self.items.as_slice()
+    }
+}
+
+impl<T: Key> Copied for SortedSet<T> {
+    fn copied(&self, alloc: Global) -> Result<Self, AllocError> {
+        Ok(SortedSet {
+            items: copies_of(alloc, self.items.as_slice())?,
+        })
+    }
+}
+
+fn copies_of<T: Copied>(alloc: Global, items: &[T]) -> Result<Vec<T>, AllocError>
+    ensures { IfOk result (λ copies. copies.items ≡ items.now) }
+{
+    let mut copies = Vec::with_capacity(alloc, items.len())?;
+    for item in items {
+        copies.push_reserved(item.copied(alloc)?);
+    }
+    Ok(copies)
+}
+
+// Copies of the others that are not among the items, each with the place before which it goes.
+fn new_among<T: Key>(
+    alloc: Global,
+    items: &[T],
+    others: &[T],
+) -> Result<Vec<(usize, T)>, AllocError>
+    requires { IsSet T.cmp items.now }
+    ensures { IfOk result (λ news. news.items ≡ new_items T.cmp itself items.now others.now) }
+{
+    let mut news = Vec::new(alloc);
+    for other in others {
+        if let Err(place) = find_item(items, other) {
+            news.push((place, other.copied(alloc)?))?;
+        }
+    }
+    Ok(news)
+}
+
+/// The union: the items of both. Those of the set stay, and those that are new to it are copied.
+impl<T: Key> Merge for SortedSet<T> {
+    ghost use Rattle.merge_laws.specs.Sorted.{IsSet};
+    ghost use Rattle.merge_laws.specs.Union.{set_union};
+    ghost use Rattle.merge_laws.specs.UnionLaws.{set_closed, set_associates, set_commutes, set_idempotent};
+
+    ghost is_known = { IsSet T.cmp };
+
+    ghost merged = { set_union T.cmp };
+
+    ghost closed = { set_closed T.total };
+
+    ghost associative = { set_associates T.total };
+
+    ghost commutative = { set_commutes T.total T.exact };
+
+    ghost idempotent = { set_idempotent T.total };
+
+    fn merge(&mut self, alloc: Global, other: &Self) -> Result<(), AllocError> {
+        let news = new_among(alloc, self.items.as_slice(), other.items.as_slice())?;
+        let above = room_for(&mut self.items, news.as_slice())?;
+        insert_all(&mut self.items, news, above);
+        Ok(())
+    }
+
+    fn known(&self) {
+        let _items = &self.items;
+    }
+}
