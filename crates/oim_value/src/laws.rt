@@ -3,7 +3,7 @@ ghost use Rattle.oim_value.specs.declared.value.Value.{Value as Seen};
 ghost use Rattle.oim_value.specs.Interval.{CommonIsAssociative, CommonIsBoth, CommonIsCommutative, CommonIsIdempotent, HalfAfterPoint, HalfBeforePoint, IntervalHasNumber, IntervalHasPoints, MeetsByCommonPart, MeetsByCommonPoint};
 ghost use Rattle.oim_value.specs.Meets.{MeetsIsReflexive, MeetsIsSymmetric};
 ghost use Rattle.oim_value.specs.Number.{DenotesOne, ShortIsKept};
-ghost use Rattle.oim_value.specs.Plain.{PlainIsAscii, PlainIsOne, PlainIsPlain, PlainReadsBack, PlainTellsApart};
+ghost use Rattle.oim_value.specs.Plain.{AllBitsAreWritable, PlainIsAscii, PlainIsOne, PlainIsPlain, PlainReadsBack, PlainTellsApart, ShortIsWritable};
 ghost use Rattle.oim_value.specs.ValueOrder.{value_cmp};
 
 use crate::decimals::Decimals;
@@ -19,14 +19,20 @@ pub fn short_is_kept()
     ensures { ShortIsKept }
 {}
 
-/// A number that is kept has one plain text, which `plain` gives. It is ASCII.
+/// Every number of units that fits 128 bits is written in full, and every number that is kept.
+pub fn units_are_writable()
+    ensures bits { AllBitsAreWritable }
+    ensures short { ShortIsWritable }
+{}
+
+/// A number has one plain text, which `plain` gives. It is ASCII.
 pub fn plain_is_the_text()
     ensures plain { PlainIsPlain }
     ensures one { PlainIsOne }
     ensures ascii { PlainIsAscii }
 {}
 
-/// Reading `plain` gives the number back.
+/// Reading `plain` of a number that is kept gives the number back.
 pub fn plain_reads_back()
     ensures { PlainReadsBack }
 {}

@@ -1,4 +1,4 @@
-use crate::{Decimals, Fixed, Value, read_fixed, write_fixed};
+use crate::{Decimals, Fixed, Value, read_fixed, write_fixed, write_units};
 use oim_names::{Aliases, Copied, Name, Reason, Text};
 use std::alloc::AllocError;
 use std::test::Fail;
@@ -27,6 +27,16 @@ fn written(rt: &HostRuntime, number: Fixed) -> Result<Text, AllocError> {
         Err(_) => {
             tell_refused(rt);
             write_fixed(rt.alloc(), number)
+        }
+        text => text,
+    }
+}
+
+pub(crate) fn units_written(rt: &HostRuntime, units: i128) -> Result<Text, AllocError> {
+    match write_units(rt.alloc(), units) {
+        Err(_) => {
+            tell_refused(rt);
+            write_units(rt.alloc(), units)
         }
         text => text,
     }
@@ -125,6 +135,23 @@ fn numbers_are_written_plain(rt: HostRuntime) -> Result<(), Fail> {
             Ok(number) => assert_eq!(rt; written(&rt, number)?.as_str(), plain),
             Err(_) => panic!(rt; "{text} is refused"),
         }
+    }
+    Ok(())
+}
+
+#[test]
+fn any_units_are_written_plain(rt: HostRuntime) -> Result<(), Fail> {
+    let rows = [
+        (0, "0"),
+        (1, "0.000000000000000001"),
+        (-1, "-0.000000000000000001"),
+        (-UNIT, "-1"),
+        (10 * UNIT + UNIT / 10, "10.1"),
+        (i128::MAX, "170141183460469231731.687303715884105727"),
+        (i128::MIN, "-170141183460469231731.687303715884105728"),
+    ];
+    for (units, plain) in rows {
+        assert_eq!(rt; units_written(&rt, units)?.as_str(), plain);
     }
     Ok(())
 }
