@@ -16,7 +16,7 @@ use Rattle.std.proofs.lemmas.Str.{IsAscii-append, IsAscii-take}
 use Rattle.std.specs.Str.Parse.{digits_value_after}
 use Rattle.oim_value.specs.declared.limits.TheConstants.{UNIT_PLACES}
 use Rattle.oim_value.specs.Number.{onto_digit, is_point, without_trailing, signed, is_numeral, is_negative, integer_part, fraction_part, unsigned}
-use Rattle.oim_value.specs.Plain.{padded, plain, sign_text, with_point, integer_digits, fraction_digits, has_point, IsPlain, IsWritable, AllBitsAreWritable, ShortIsWritable, PlainIsPlain, PlainIsOne, PlainIsAscii}
+use Rattle.oim_value.specs.Plain.{padded, plain, sign_text, with_point, integer_digits, fraction_digits, has_point, IsPlain, IsWritable, FittingIsWritable, ShortIsWritable, PlainIsPlain, PlainIsOne, PlainIsAscii}
 use Rattle.oim_value.proofs.Decimal.{decimal_some, decimal_first, decimal_of_digits}
 use Rattle.oim_value.proofs.Numerals.{value_without_trailing, digits_without_trailing, parts_of_numeral}
 use Rattle.oim_value.proofs.Fractions.{value_append, value_lt, same_fraction, ten_some, below_product, turned}
@@ -89,9 +89,9 @@ whole_small s h = div_below s (10 ^ UNIT_PLACES) (10 ^ 64) (omega arith) (omega 
 pub short_is_writable : ShortIsWritable
 short_is_writable m short = omega (arith, short_bound m short)
 
-pub all_bits_are_writable : AllBitsAreWritable
-all_bits_are_writable (pos n) fits = omega (arith, fits.sfits)
-all_bits_are_writable (negsuc n) fits = omega (arith, fits.sfits)
+pub fitting_is_writable : FittingIsWritable
+fitting_is_writable (pos n) fits = omega (arith, fits.sfits)
+fitting_is_writable (negsuc n) fits = omega (arith, fits.sfits)
 
 -- the digits that `plain` puts together
 pub record Parts (m : ℤ) : Type 0 where

@@ -46,13 +46,13 @@ pub record IsPlain (t : List ℕ) (units : ℤ) : Type 0 where
   pub point : IsTrue (has_point t) ↔ (0 < length (fraction_part t))
   pub no_trailing_zero : without_trailing (fraction_part t) ≡ fraction_part t
 
--- so many units have 64 digits at most, and no more are written; no i128 has 40
+-- so many units have 64 digits at most, as many as `decimal` writes; those of an i128 have 39
 abbrev pub IsWritable : ℤ → Type 0
 IsWritable units = unsigned_abs units < 10 ^ 64
 
 -- every number that fits 128 bits is written in full,
-abbrev pub AllBitsAreWritable : Type 0
-AllBitsAreWritable = (units : ℤ) → FitsSigned w128 units → IsWritable units
+abbrev pub FittingIsWritable : Type 0
+FittingIsWritable = (units : ℤ) → FitsSigned w128 units → IsWritable units
 
 -- and so is every number that is kept
 abbrev pub ShortIsWritable : Type 0

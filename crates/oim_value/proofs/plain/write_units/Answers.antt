@@ -8,7 +8,7 @@ use mir.Syntax.{w128}
 use Rattle.oim_value.specs.declared.limits.TheConstants.{UNIT_PLACES}
 use Rattle.oim_value.specs.Number.{without_trailing}
 use Rattle.oim_value.specs.Plain.{integer_digits, plain, sign_text}
-use Rattle.oim_value.proofs.PlainLaws.{all_bits_are_writable}
+use Rattle.oim_value.proofs.PlainLaws.{fitting_is_writable}
 use Rattle.oim_value.proofs.PlainLemmas.{padded_integral-zeros, take-without_trailing}
 use Rattle.oim_value.proofs.Written.{all_places, all_places_ascii, plain_cut, plain_whole}
 use Rattle.oim_value.proofs.plain.write_units.Goals as goal
@@ -33,7 +33,7 @@ truncate-requires c =
     let size : c.unsigned_abs-size.result ≡ unsigned_abs c.args.units = c.unsigned_abs-size.ensures.value ∙ ap unsigned_abs units in
     let sign : c.sign_of-sign.result.now ≡ sign_text c.args.units = c.sign_of-sign.ensures ∙ ap sign_text units in
     let text : string_bytes c.in_ok-text.text ≡ all_places c.args.units = places_text c.args.units _ _ _ size sign (rw (c.laid_out.ensures, c.pow.ensures, c.pow-2.ensures) at c.in_ok-text.ensures.ok) in
-    let small = all_places_ascii c.args.units (all_bits_are_writable c.args.units c.ranges.units) (length c.skip_trailing_zeros-kept.result.now) in
+    let small = all_places_ascii c.args.units (fitting_is_writable c.args.units c.ranges.units) (length c.skip_trailing_zeros-kept.result.now) in
     let here = rw (← text) at small in
     λ within. (omega arith, λ some inside high. absurd (omega arith))
 
