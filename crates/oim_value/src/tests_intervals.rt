@@ -1,4 +1,4 @@
-use crate::tests::{UNIT, finite, name, number, text_of, units_written};
+use crate::tests::{UNIT, finite, name, number, text, units_written};
 use crate::{Decimals, Interval, Value, common, interval_of, meets, read_fixed, value_meets};
 use std::test::Fail;
 
@@ -141,14 +141,14 @@ fn common_part_may_be_empty(rt: HostRuntime) {
 }
 
 #[test]
-fn values_meet_in_kind_alone(rt: HostRuntime) -> Result<(), Fail> {
+fn values_meet_in_kind_alone(rt: HostRuntime) {
     let apart = [
         Value::Nil,
         number("5", Decimals::INFINITE),
         number("100", finite(0)),
         number("102", finite(0)),
-        Value::Text(text_of(&rt, "5")?),
-        Value::Text(text_of(&rt, "")?),
+        text(&rt, "5"),
+        text(&rt, ""),
         name(&rt, "b:y"),
         name(&rt, "a:y"),
         name(&rt, "a:z"),
@@ -158,23 +158,18 @@ fn values_meet_in_kind_alone(rt: HostRuntime) -> Result<(), Fail> {
             assert!(rt; value_meets(&apart[i], &apart[j]) == (i == j), "{i} {j}");
         }
     }
-    Ok(())
 }
 
 #[test]
-fn values_of_one_kind_may_meet(rt: HostRuntime) -> Result<(), Fail> {
+fn values_of_one_kind_may_meet(rt: HostRuntime) {
     let pairs = [
         (Value::Nil, Value::Nil),
         (number("100", finite(0)), number("101", finite(0))),
         (number("101", finite(0)), number("102", finite(0))),
-        (
-            Value::Text(text_of(&rt, "é")?),
-            Value::Text(text_of(&rt, "é")?),
-        ),
+        (text(&rt, "é"), text(&rt, "é")),
         (name(&rt, "b:y"), name(&rt, "b:y")),
     ];
     for (a, b) in &pairs {
         assert!(rt; value_meets(a, b) && value_meets(b, a));
     }
-    Ok(())
 }
