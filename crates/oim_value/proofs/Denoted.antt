@@ -5,6 +5,7 @@ use Rattle.std.proofs.lemmas.Bool.Decides.{nat_tests}
 use Rattle.std.proofs.Math.IntN.{neg_ℤ}
 use Rattle.std.proofs.Math.Nat.{mul-div_cancel, mul-le-mul_left, pow-le-pow_right}
 use Rattle.std.specs.Str.Parse.{digits_value, digits_value_after}
+use Rattle.oim_value.specs.declared.limits.TheConstants.{MOST_DIGITS, UNIT_PLACES}
 use Rattle.oim_value.specs.Number.{signed, is_negative, integer_part, both_parts, fraction_part, without_leading, without_trailing, is_number, is_short, Denotes}
 use Rattle.oim_value.specs.Units.{units_of}
 use Rattle.oim_value.proofs.Units.{unsigned_abs-signed, denotes_from}
@@ -43,12 +44,12 @@ ten_positive : (n : ℕ) → 0 < 10 ^ n
 ten_positive n = let p : 10 ^ 0 ≤ 10 ^ n = pow-le-pow_right {n = 10} (omega arith) {i = 0} {j = n} (omega arith) in omega arith
 
 pub denotes_units : (t : List ℕ) (units : ℤ) → Denotes t units → units ≡ units_of t
-denotes_units t units says = quotient (is_negative t) units (10 ^ length (fraction_part t)) (10 ^ 18 * digits_value 10 (both_parts t)) (ten_positive (length (fraction_part t))) says.value
+denotes_units t units says = quotient (is_negative t) units (10 ^ length (fraction_part t)) (10 ^ UNIT_PLACES * digits_value 10 (both_parts t)) (ten_positive (length (fraction_part t))) says.value
 
 -- a short number denotes these units
 pub short_denotes : (t : List ℕ) → IsTrue (is_number t) → IsTrue (is_short t) → Denotes t (units_of t)
 short_denotes t form short =
-    let few : length (without_leading (integer_part t)) + length (without_trailing (fraction_part t)) ≤ 18 = grind (arith, nat_tests) in
+    let few : length (without_leading (integer_part t)) + length (without_trailing (fraction_part t)) ≤ MOST_DIGITS = grind (arith, nat_tests) in
     let digits : ℕ = digits_value_after 10 0 (without_leading (integer_part t) ++ without_trailing (fraction_part t)) in
-    let says = denotes_from t (integer_part t) (fraction_part t) digits (length (without_trailing (fraction_part t))) (signed (is_negative t) (digits * 10 ^ (18 - length (without_trailing (fraction_part t))))) refl refl form refl refl (omega arith) refl in
+    let says = denotes_from t (integer_part t) (fraction_part t) digits (length (without_trailing (fraction_part t))) (signed (is_negative t) (digits * 10 ^ (UNIT_PLACES - length (without_trailing (fraction_part t))))) refl refl form refl refl (omega arith) refl in
     subst (Denotes t) (denotes_units t _ says) says

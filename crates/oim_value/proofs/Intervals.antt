@@ -1,12 +1,12 @@
 -- Laws of rounding intervals.
 use Rattle.std.proofs.Common.{◌≡◌, ℕ, ◌+◌, ◌-◌, ◌*◌, ◌^◌, ◌≤◌, true, ap, sym, ◌∙◌, arith}
-use Rattle.std.specs.Prelude.{ℤ, pos, neg_ℤ, ◌-ℤ◌, ◌≤ℤ◌, int_le, unsigned_abs, IsTrue}
+use Rattle.std.specs.Prelude.{ℤ, pos, negsuc, neg_ℤ, ◌-ℤ◌, ◌≤ℤ◌, int_le, unsigned_abs, IsTrue}
 use Rattle.std.specs.Int.{int_max, int_min}
 use Rattle.std.proofs.lemmas.Int.{ints, clamps}
 use Rattle.std.proofs.lemmas.Nat.{pow-add}
 use Rattle.oim_value.specs.declared.interval.Interval.{Interval}
 use Rattle.oim_value.specs.declared.limits.TheConstants.{UNIT_PLACES}
-use Rattle.oim_value.specs.Interval.{half_zeros, intervals_meet, HalfAfterPoint, HalfBeforePoint, IntervalHasNumber, IntervalHasPoints, CommonIsAssociative, CommonIsCommutative, CommonIsIdempotent, CommonIsBoth, MeetsByCommonPoint, MeetsByCommonPart}
+use Rattle.oim_value.specs.Interval.{half_width, half_zeros, intervals_meet, HalfAfterPoint, HalfBeforePoint, IntervalHasNumber, IntervalHasPoints, WithinIsNear, CommonIsAssociative, CommonIsCommutative, CommonIsIdempotent, CommonIsBoth, MeetsByCommonPoint, MeetsByCommonPart}
 use Rattle.oim_value.proofs.Numerals.{both_true}
 
 -- ---- half a place
@@ -36,6 +36,20 @@ half_before_point d =
     rw (zeros, pow-add 10 (UNIT_PLACES - 1) d) (moved (10 ^ (UNIT_PLACES - 1)) (10 ^ d))
 
 -- ---- the interval of a number
+
+near_is : (x : ℤ) (h : ℕ) → unsigned_abs x ≤ h → (neg_ℤ (pos h) ≤ℤ x) × (x ≤ℤ pos h)
+near_is (pos n) h near = (omega (arith, ints), omega (arith, ints))
+near_is (negsuc n) h near = (omega (arith, ints), omega (arith, ints))
+
+near_from : (x : ℤ) (h : ℕ) → neg_ℤ (pos h) ≤ℤ x → x ≤ℤ pos h → unsigned_abs x ≤ h
+near_from (pos n) h low high = omega (arith, ints)
+near_from (negsuc n) h low high = omega (arith, ints)
+
+pub within_is_near : WithinIsNear
+within_is_near z units decimals = (
+  λ p. near_from (z -ℤ units) (half_width decimals) (omega (arith, ints)) (omega (arith, ints)),
+  λ near. let both = near_is (z -ℤ units) (half_width decimals) near in record { above = omega (arith, ints); below = omega (arith, ints) },
+)
 
 pub interval_has_number : IntervalHasNumber
 interval_has_number units decimals = record { above = omega (arith, ints); below = omega (arith, ints) }

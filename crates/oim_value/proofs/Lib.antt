@@ -1,3 +1,4 @@
+pub mod Decimal
 pub mod Fractions
 pub mod Intervals
 pub mod Meeting
@@ -8,3 +9,4 @@ pub mod Shapes
 pub mod ShortLaws
 pub mod Units
 pub mod Denoted
+pub mod Written

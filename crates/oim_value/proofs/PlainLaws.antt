@@ -1,5 +1,5 @@
--- Each number that is kept has one plain text.
-use Rattle.std.proofs.Common.{◌≡◌, ◌≢◌, ℕ, zero, suc, ◌+◌, ◌*◌, ◌-◌, ◌^◌, ◌/◌, ◌%◌, ◌<◌, ◌≤◌, Bool, true, false, cond, eqb, List, [], ◌∷◌, ◌++◌, length, length-append, get_or, refl, sym, ap, ◌∙◌, arith, rules}
+-- Each number has one plain text.
+use Rattle.std.proofs.Common.{◌≡◌, ◌≢◌, ℕ, zero, suc, ◌+◌, ◌*◌, ◌-◌, ◌^◌, ◌/◌, ◌%◌, ◌<◌, ◌≤◌, Bool, true, false, cond, eqb, List, [], ◌∷◌, ◌++◌, length, length-append, get_or, refl, sym, ap, ◌∙◌, arith}
 use Rattle.std.specs.Prelude.{ℤ, pos, negsuc, ◌*ℤ◌, ◌<ℤ◌, unsigned_abs}
 use mathlib.Core.Bool.{false≢true}
 use Rattle.std.proofs.Math.IntN.{neg_ℤ}
@@ -7,17 +7,17 @@ use Rattle.std.proofs.lemmas.Bool.Decides.{nat_tests}
 use Rattle.std.proofs.lemmas.Int.{ints, unsigned_abs-mul}
 use Rattle.std.proofs.lemmas.List.Folds.{list_all-append}
 use Rattle.std.proofs.lemmas.Nat.{same_from_place, div-add-mod', mod_below, div_below}
-use Rattle.std.proofs.lemmas.Fmt.{IsAscii-decimal_wide, length-decimal-le_wide, first_decimal, decimal-digits_value, decimal_nonempty, decimal_digit}
-use Rattle.std.proofs.lemmas.Str.Parse.{IsNumeralModel, numerals_by_value}
+use Rattle.std.proofs.lemmas.Fmt.{IsAscii-decimal_wide, length-decimal-le_wide, decimal_digit}
 use Rattle.std.specs.Char.{is_ascii_digit}
 use Rattle.std.specs.List.{list_all, before_first, after_first}
 use Rattle.std.specs.Fmt.{decimal}
 use Rattle.std.specs.Str.{IsAscii}
 use Rattle.std.proofs.lemmas.Str.{IsAscii-append, IsAscii-take}
-use Rattle.std.specs.Str.Parse.{digits_value, digits_value_after}
-use Rattle.oim_value.specs.declared.limits.TheConstants.{MOST_DIGITS, UNIT_PLACES}
+use Rattle.std.specs.Str.Parse.{digits_value_after}
+use Rattle.oim_value.specs.declared.limits.TheConstants.{UNIT_PLACES}
 use Rattle.oim_value.specs.Number.{onto_digit, is_point, without_trailing, signed, is_numeral, is_negative, integer_part, fraction_part, unsigned}
-use Rattle.oim_value.specs.Plain.{padded, plain, sign_text, with_point, integer_digits, fraction_digits, has_point, IsPlain, PlainIsPlain, PlainIsOne, PlainIsAscii}
+use Rattle.oim_value.specs.Plain.{padded, plain, sign_text, with_point, integer_digits, fraction_digits, has_point, IsPlain, IsWritable, FittingIsWritable, ShortIsWritable, PlainIsPlain, PlainIsOne, PlainIsAscii}
+use Rattle.oim_value.proofs.Decimal.{decimal_some, decimal_first, decimal_of_digits}
 use Rattle.oim_value.proofs.Numerals.{value_without_trailing, digits_without_trailing, parts_of_numeral}
 use Rattle.oim_value.proofs.Fractions.{value_append, value_lt, same_fraction, ten_some, below_product, turned}
 use Rattle.oim_value.proofs.Shapes.{below_zero, unsigned-sign_text, is_negative-sign_text, no_plus-sign_text, before_first-digits, after_first-digits, has_point-text, point_some, some_point, sign_apart, has_point-unsigned, point_apart}
@@ -35,7 +35,7 @@ fraction_length r h = padded_length UNIT_PLACES (decimal r) (length-decimal-le_w
 pub fraction_value : (r : ℕ) → r < 10 ^ UNIT_PLACES → digits_value_after 10 0 (padded UNIT_PLACES (decimal r)) ≡ r
 fraction_value r h = zeros_value (UNIT_PLACES - length (decimal r)) (decimal r) ∙ decimal_value r (omega arith)
 
-fraction_worth : (r : ℕ) → r < 10 ^ UNIT_PLACES → digits_value_after 10 0 (without_trailing (padded UNIT_PLACES (decimal r))) * 10 ^ UNIT_PLACES ≡ r * 10 ^ length (without_trailing (padded UNIT_PLACES (decimal r)))
+pub fraction_worth : (r : ℕ) → r < 10 ^ UNIT_PLACES → digits_value_after 10 0 (without_trailing (padded UNIT_PLACES (decimal r))) * 10 ^ UNIT_PLACES ≡ r * 10 ^ length (without_trailing (padded UNIT_PLACES (decimal r)))
 fraction_worth r h = sym (rw (fraction_value r h, fraction_length r h) at (value_without_trailing 0 (padded UNIT_PLACES (decimal r))))
 
 kept_onto : (d : ℕ) (ds : List ℕ) → without_trailing ds ≡ ds → without_trailing (onto_digit d ds) ≡ onto_digit d ds
@@ -79,12 +79,19 @@ plain_from t i f m ei ef sign no_plus point di df some lone kept value = record 
   no_trailing_zero = rw ef at kept;
 }
 
-lone_zero : (q : ℕ) → q < 2 ^ 64 → get_or (decimal q) 0 0 ≡ 48 → length (decimal q) ≡ 1
+lone_zero : (q : ℕ) → q < 10 ^ 64 → get_or (decimal q) 0 0 ≡ 48 → length (decimal q) ≡ 1
 lone_zero zero small e = ap length (decimal_digit 0 (omega arith))
-lone_zero (suc k) small e = absurd (omega (arith, first_decimal (suc k) (omega arith) small))
+lone_zero (suc k) small e = absurd (omega (arith, decimal_first (suc k) (omega arith) small))
 
-pub whole_small : (s : ℕ) → s ≤ 10 ^ (MOST_DIGITS + UNIT_PLACES) → s / 10 ^ UNIT_PLACES < 2 ^ 60
-whole_small s h = div_below s (10 ^ UNIT_PLACES) (2 ^ 60) (omega arith) (omega arith)
+pub whole_small : (s : ℕ) → s < 10 ^ 64 → s / 10 ^ UNIT_PLACES < 10 ^ 64
+whole_small s h = div_below s (10 ^ UNIT_PLACES) (10 ^ 64) (omega arith) (omega arith)
+
+pub short_is_writable : ShortIsWritable
+short_is_writable m short = omega (arith, short_bound m short)
+
+pub fitting_is_writable : FittingIsWritable
+fitting_is_writable (pos n) fits = omega (arith, fits.sfits)
+fitting_is_writable (negsuc n) fits = omega (arith, fits.sfits)
 
 -- the digits that `plain` puts together
 pub record Parts (m : ℤ) : Type 0 where
@@ -93,12 +100,13 @@ pub record Parts (m : ℤ) : Type 0 where
   pub integer : integer_part (plain m) ≡ integer_digits (unsigned_abs m)
   pub fraction : fraction_part (plain m) ≡ fraction_digits (unsigned_abs m)
 
-pub parts_of_plain : (m : ℤ) → unsigned_abs m / 10 ^ UNIT_PLACES < 2 ^ 60 → Parts m
-parts_of_plain m small =
+pub parts_of_plain : (m : ℤ) → IsWritable m → Parts m
+parts_of_plain m writable =
+    let small : unsigned_abs m / 10 ^ UNIT_PLACES < 10 ^ 64 = whole_small (unsigned_abs m) writable in
     let i : List ℕ = integer_digits (unsigned_abs m) in
     let f : List ℕ = fraction_digits (unsigned_abs m) in
-    let di : list_all is_ascii_digit i ≡ true = decimal_digits (unsigned_abs m / 10 ^ UNIT_PLACES) (omega arith) in
-    let some : 0 < length i = decimal_nonempty (unsigned_abs m / 10 ^ UNIT_PLACES) (omega arith) in
+    let di : list_all is_ascii_digit i ≡ true = decimal_digits (unsigned_abs m / 10 ^ UNIT_PLACES) small in
+    let some : 0 < length i = decimal_some (unsigned_abs m / 10 ^ UNIT_PLACES) small in
     let rest : unsigned (plain m) ≡ i ++ with_point f = unsigned-sign_text m i (with_point f) some di in
     record {
       integer_digits_are = di;
@@ -108,17 +116,17 @@ parts_of_plain m small =
     }
 
 pub plain_is_plain : PlainIsPlain
-plain_is_plain m short =
+plain_is_plain m writable =
     let s : ℕ = unsigned_abs m in
     let q : ℕ = s / 10 ^ UNIT_PLACES in
     let r : ℕ = s % 10 ^ UNIT_PLACES in
-    let small_q : q < 2 ^ 60 = whole_small s (short_bound m short) in
+    let small_q : q < 10 ^ 64 = whole_small s writable in
     let small_r : r < 10 ^ UNIT_PLACES = mod_below s (10 ^ UNIT_PLACES) (omega arith) in
     let i : List ℕ = integer_digits s in
     let f : List ℕ = fraction_digits s in
-    let parts = parts_of_plain m small_q in
+    let parts = parts_of_plain m writable in
     let df : list_all is_ascii_digit f ≡ true = digits_without_trailing (padded UNIT_PLACES (decimal r)) (fraction_digits_are r small_r) in
-    let value : s * 10 ^ length f ≡ 10 ^ UNIT_PLACES * digits_value_after 10 0 (i ++ f) = rw (value_append i f, decimal_value q (omega arith)) (worth s q r (10 ^ UNIT_PLACES) (10 ^ length f) (digits_value_after 10 0 f) (div-add-mod' s (10 ^ UNIT_PLACES)) (fraction_worth r small_r)) in
+    let value : s * 10 ^ length f ≡ 10 ^ UNIT_PLACES * digits_value_after 10 0 (i ++ f) = rw (value_append i f, decimal_value q small_q) (worth s q r (10 ^ UNIT_PLACES) (10 ^ length f) (digits_value_after 10 0 f) (div-add-mod' s (10 ^ UNIT_PLACES)) (fraction_worth r small_r)) in
     plain_from (plain m) i f m
     (sym parts.integer)
     (sym parts.fraction)
@@ -126,14 +134,11 @@ plain_is_plain m short =
     (no_plus-sign_text m i (with_point f) parts.some_integer parts.integer_digits_are)
     (has_point-text m i f parts.integer_digits_are)
     parts.integer_digits_are df parts.some_integer
-    (lone_zero q (omega arith))
+    (lone_zero q small_q)
     (without_trailing-without_trailing (padded UNIT_PLACES (decimal r)))
     value
 
 -- ---- a plain text is the plain text
-
-own : IsNumeralModel (λ ds. list_all is_ascii_digit ds ≡ true) (digits_value 10)
-own = numerals_by_value _ (search rules)
 
 pub no_pos : (j x : ℕ) → 0 < j → neg_ℤ (pos j) ≡ pos x → ⊥
 no_pos zero x some e = omega arith
@@ -156,13 +161,13 @@ places : (s q r d p v w : ℕ) → q * d + r ≡ s → s * p ≡ d * (v * p + w)
 places s q r d p v w e f = let g = rw (← e) at f in omega (arith, g)
 
 pub plain_is_one : PlainIsOne
-plain_is_one m t short plain_text =
+plain_is_one m t writable plain_text =
     let i : List ℕ = integer_part t in
     let f : List ℕ = fraction_part t in
     let s : ℕ = unsigned_abs m in
     let q : ℕ = s / 10 ^ UNIT_PLACES in
     let r : ℕ = s % 10 ^ UNIT_PLACES in
-    let small_q : q < 2 ^ 60 = whole_small s (short_bound m short) in
+    let small_q : q < 10 ^ 64 = whole_small s writable in
     let small_r : r < 10 ^ UNIT_PLACES = mod_below s (10 ^ UNIT_PLACES) (omega arith) in
     let digits = parts_of_numeral i f plain_text.denotes.form in
     let sign : is_negative t ≡ below_zero m = sign_of_denoted m (is_negative t) (10 ^ length f) _ (ten_some (length f)) plain_text.negative plain_text.denotes.value in
@@ -171,21 +176,21 @@ plain_is_one m t short plain_text =
     (below_product r (10 ^ UNIT_PLACES) (10 ^ length f) small_r (ten_some (length f)))
     (turned (digits_value_after 10 0 f) (10 ^ UNIT_PLACES) (10 ^ length f) (value_lt f digits.1) (omega arith))
     (places s q r (10 ^ UNIT_PLACES) (10 ^ length f) _ _ (div-add-mod' s (10 ^ UNIT_PLACES)) size) in
-    let integer : i ≡ integer_digits s = sym (decimal-digits_value own i digits.0 plain_text.some_integer plain_text.no_leading_zero (rw (← split.0) (omega arith))) ∙ ap decimal (sym split.0) in
+    let integer : i ≡ integer_digits s = sym (decimal_of_digits i digits.0 plain_text.some_integer plain_text.no_leading_zero (rw (← split.0) small_q)) ∙ ap decimal (sym split.0) in
     let fraction : f ≡ fraction_digits s = sym plain_text.no_trailing_zero ∙ same_fraction f (padded UNIT_PLACES (decimal r)) digits.1 (fraction_digits_are r small_r) (rw (fraction_length r small_r, fraction_value r small_r) (sym split.1)) in
     let rest : unsigned t ≡ i ++ with_point f = point_apart (unsigned t) (λ h. plain_text.point.0 (has_point-unsigned t h)) in
     sign_apart t plain_text.no_plus ∙ (λ j. (ap (λ b. cond b (45 ∷ []) []) sign ∙ cond-below_zero m) j ++ (rest ∙ (λ k. integer k ++ with_point (fraction k))) j)
 
 -- ---- the plain text is ASCII
 
-IsAscii-cons : (c : ℕ) (cs : List ℕ) → c < 128 → IsAscii cs → IsAscii (c ∷ cs)
+pub IsAscii-cons : (c : ℕ) (cs : List ℕ) → c < 128 → IsAscii cs → IsAscii (c ∷ cs)
 IsAscii-cons c cs small h zero = small
 IsAscii-cons c cs small h (suc i) = h i
 
 IsAscii-nil : IsAscii []
 IsAscii-nil i = omega arith
 
-IsAscii-sign_text : (m : ℤ) → IsAscii (sign_text m)
+pub IsAscii-sign_text : (m : ℤ) → IsAscii (sign_text m)
 IsAscii-sign_text (pos n) = IsAscii-nil
 IsAscii-sign_text (negsuc n) = IsAscii-cons 45 [] (omega arith) IsAscii-nil
 
@@ -197,10 +202,10 @@ IsAscii-fraction : (r : ℕ) → r < 10 ^ 64 → IsAscii (without_trailing (padd
 IsAscii-fraction r h = rw (← take-without_trailing (padded UNIT_PLACES (decimal r))) (IsAscii-take (padded UNIT_PLACES (decimal r)) (length (without_trailing (padded UNIT_PLACES (decimal r)))) (IsAscii-padded UNIT_PLACES r h))
 
 pub plain_is_ascii : PlainIsAscii
-plain_is_ascii m short =
+plain_is_ascii m writable =
     let s : ℕ = unsigned_abs m in
-    let small_q : s / 10 ^ UNIT_PLACES < 2 ^ 60 = whole_small s (short_bound m short) in
+    let small_q : s / 10 ^ UNIT_PLACES < 10 ^ 64 = whole_small s writable in
     let small_r : s % 10 ^ UNIT_PLACES < 10 ^ UNIT_PLACES = mod_below s (10 ^ UNIT_PLACES) (omega arith) in
     IsAscii-append (sign_text m) (integer_digits s ++ with_point (fraction_digits s)) (IsAscii-sign_text m)
-    (IsAscii-append (integer_digits s) (with_point (fraction_digits s)) (IsAscii-decimal_wide (s / 10 ^ UNIT_PLACES) (omega arith))
+    (IsAscii-append (integer_digits s) (with_point (fraction_digits s)) (IsAscii-decimal_wide (s / 10 ^ UNIT_PLACES) small_q)
     (IsAscii-with_point (fraction_digits s) (IsAscii-fraction (s % 10 ^ UNIT_PLACES) (omega arith))))

@@ -15,8 +15,8 @@ use Rattle.oim_value.specs.Plain.{padded, plain, integer_digits, fraction_digits
 use Rattle.oim_value.proofs.Numerals.{parts_of_numeral, digits_without_leading, digits_without_trailing, few_digits}
 use Rattle.oim_value.proofs.Fractions.{same_fraction, ten_some, below_product}
 use Rattle.oim_value.proofs.PlainLemmas.{decimal_digits, decimal_value, zeros_digits, zeros_value, padded_length}
-use Rattle.oim_value.proofs.PlainLaws.{plain_is_plain, fraction_digits_are, fraction_length, fraction_value, no_pos, whole_small, parts_of_plain, without_trailing-without_trailing}
-use Rattle.oim_value.proofs.Units.{denotes_from, short_bound, short_signed, ten_to}
+use Rattle.oim_value.proofs.PlainLaws.{plain_is_plain, fraction_digits_are, fraction_length, fraction_value, no_pos, short_is_writable, parts_of_plain, without_trailing-without_trailing}
+use Rattle.oim_value.proofs.Units.{denotes_from, short_signed, ten_to}
 
 -- ---- a text denotes one number at most
 
@@ -129,7 +129,7 @@ plain_is_short m h =
     let small_q : n / 10 ^ p < 10 ^ front = div_below n (10 ^ p) (10 ^ front) (ten_some p) (omega (arith, all, h.few)) in
     let integer : length (without_leading (integer_digits s)) ≤ front = counted_integer front (s / 10 ^ UNIT_PLACES) (rw same.0 small_q) (omega arith) in
     let fraction : length (fraction_digits s) ≤ p = counted_fraction p v (s % 10 ^ UNIT_PLACES) small_v h.within small_r (moved (s % 10 ^ UNIT_PLACES) v (10 ^ p) (10 ^ z) (10 ^ UNIT_PLACES) same.1 unit) in
-    let parts = parts_of_plain m (whole_small s (short_bound m h)) in
+    let parts = parts_of_plain m (short_is_writable m h) in
     short_from (plain m) (integer_digits s) (fraction_digits s) parts.integer parts.fraction
     (rw (without_trailing-without_trailing (padded UNIT_PLACES (decimal (s % 10 ^ UNIT_PLACES)))) (omega (arith, h.within)))
 
@@ -140,7 +140,7 @@ accepted t form short = rw (form, short)
 
 pub plain_reads_back : PlainReadsBack
 plain_reads_back m h =
-    let text = plain_is_plain m h in
+    let text = plain_is_plain m (short_is_writable m h) in
     record { denotes = text.denotes; accepted = accepted (plain m) text.denotes.form (plain_is_short m h) }
 
 pub plain_tells_apart : PlainTellsApart

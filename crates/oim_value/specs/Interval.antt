@@ -1,23 +1,23 @@
 -- Rounding intervals (own), in units of 10 to the power of minus UNIT_PLACES.
-use Rattle.std.specs.Prelude.{◌≡◌, ◌↔◌, ℕ, ◌-◌, ◌*◌, ◌^◌, ◌<◌, ℤ, pos, neg_ℤ, ◌+ℤ◌, ◌-ℤ◌, ◌≤ℤ◌, int_le, unsigned_abs, Bool, ◌&&◌, IsTrue, Option, Some, None}
+use Rattle.std.specs.Prelude.{◌≡◌, ◌↔◌, ℕ, ◌-◌, ◌*◌, ◌^◌, ◌<◌, ◌≤◌, ℤ, pos, neg_ℤ, ◌+ℤ◌, ◌-ℤ◌, ◌≤ℤ◌, int_le, unsigned_abs, Bool, ◌&&◌, IsTrue, Option, Some, None}
 use Rattle.std.specs.Int.{int_max, int_min}
 use Rattle.oim_value.specs.declared.interval.Interval.{Interval}
 use Rattle.oim_value.specs.declared.limits.TheConstants.{UNIT_PLACES}
 
--- UNIT_PLACES - 1 - d, for decimals below UNIT_PLACES
+-- UNIT_PLACES - 1 - d; decimals are below UNIT_PLACES
 abbrev pub half_zeros : ℤ → ℕ
 half_zeros d = unsigned_abs (pos (UNIT_PLACES - 1) -ℤ d)
 
--- half a unit of the last decimal place that is right, 0.5 * 10^-d; nothing where a number is exact
+-- half of the last decimal place, 0.5 * 10^-d; nothing where a number is exact
 abbrev pub half_width : Option ℤ → ℕ
 half_width (Some d) = 5 * 10 ^ half_zeros d
 half_width None = 0
 
--- what a number with so many decimals may have been rounded from; both ends belong to it
+-- what a number with so many decimals may have been rounded from
 abbrev pub interval : ℤ → Option ℤ → Interval
 interval units decimals = record { low = units -ℤ pos (half_width decimals); high = units +ℤ pos (half_width decimals) }
 
--- so many units lie in an interval
+-- so many units lie in an interval, to which both ends belong
 pub record IsWithin (units : ℤ) (i : Interval) : Type 0 where
   pub above : i.low ≤ℤ units
   pub below : units ≤ℤ i.high
@@ -41,20 +41,27 @@ HalfAfterPoint = (d : ℕ) → d < UNIT_PLACES → 2 * half_width (Some (pos d))
 abbrev pub HalfBeforePoint : Type 0
 HalfBeforePoint = (d : ℕ) → 2 * half_width (Some (neg_ℤ (pos d))) ≡ 10 ^ UNIT_PLACES * 10 ^ d
 
--- a number lies in its own interval
+-- what lies in the interval of a number is no further from it than half of its last decimal place,
+abbrev pub WithinIsNear : Type 0
+WithinIsNear = (z units : ℤ) (decimals : Option ℤ) → IsWithin z (interval units decimals) ↔ (unsigned_abs (z -ℤ units) ≤ half_width decimals)
+
+-- so the number does,
 abbrev pub IntervalHasNumber : Type 0
 IntervalHasNumber = (units : ℤ) (decimals : Option ℤ) → IsWithin units (interval units decimals)
 
+-- and the interval is not empty
 abbrev pub IntervalHasPoints : Type 0
 IntervalHasPoints = (units : ℤ) (decimals : Option ℤ) → HasPoints (interval units decimals)
 
--- common parts: in any grouping, in any order, with itself
+-- the common part is one whatever the grouping,
 abbrev pub CommonIsAssociative : Type 0
 CommonIsAssociative = (a b c : Interval) → common_part (common_part a b) c ≡ common_part a (common_part b c)
 
+-- whatever the order,
 abbrev pub CommonIsCommutative : Type 0
 CommonIsCommutative = (a b : Interval) → common_part a b ≡ common_part b a
 
+-- and whatever the repetition
 abbrev pub CommonIsIdempotent : Type 0
 CommonIsIdempotent = (a : Interval) → common_part a a ≡ a
 

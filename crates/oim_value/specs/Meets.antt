@@ -1,4 +1,4 @@
--- Values that may be one value, differently rounded (OIM, consistent duplicates; nil and other values are own).
+-- Which values of duplicate facts are consistent (XBRL working group note on duplicate facts; nil, texts and names are own).
 use Rattle.std.specs.Prelude.{◌≡◌, IsTrue}
 use Rattle.oim_value.specs.declared.value.Value.{Value}
 use Rattle.oim_value.specs.declared.value.Value.TheVariants.{Nil, Number, Text as AText, Name as AName}

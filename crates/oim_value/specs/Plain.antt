@@ -1,7 +1,8 @@
 -- The one text by which a number is written (own).
-use Rattle.std.specs.Prelude.{◌≡◌, ◌≢◌, ◌↔◌, ℕ, ◌-◌, ◌/◌, ◌%◌, ◌^◌, ◌<◌, ℤ, pos, negsuc, ◌<ℤ◌, unsigned_abs, Bool, IsTrue, List, [], ◌∷◌, ◌++◌, length, replicate, slice_index, None}
+use Rattle.std.specs.Prelude.{◌≡◌, ◌≢◌, ◌↔◌, ℕ, ◌-◌, ◌/◌, ◌%◌, ◌^◌, ◌<◌, ℤ, pos, negsuc, ◌<ℤ◌, unsigned_abs, FitsSigned, Bool, IsTrue, List, [], ◌∷◌, ◌++◌, length, replicate, slice_index, None}
 use Rattle.std.specs.List.{list_any}
 use Rattle.std.specs.Fmt.{decimal}
+use Rattle.std.specs.Int.{w128}
 use Rattle.std.specs.Str.{IsAscii}
 use Rattle.oim_value.specs.declared.limits.TheConstants.{UNIT_PLACES}
 use Rattle.oim_value.specs.Number.{is_negative, is_point, integer_part, fraction_part, number_refusal, without_trailing, Denotes, IsShort}
@@ -45,17 +46,29 @@ pub record IsPlain (t : List ℕ) (units : ℤ) : Type 0 where
   pub point : IsTrue (has_point t) ↔ (0 < length (fraction_part t))
   pub no_trailing_zero : without_trailing (fraction_part t) ≡ fraction_part t
 
--- a number that is kept has a plain text,
+-- so many units have 64 digits at most, as many as `decimal` writes; those of an i128 have 39
+abbrev pub IsWritable : ℤ → Type 0
+IsWritable units = unsigned_abs units < 10 ^ 64
+
+-- every number that fits 128 bits is written in full,
+abbrev pub FittingIsWritable : Type 0
+FittingIsWritable = (units : ℤ) → FitsSigned w128 units → IsWritable units
+
+-- and so is every number that is kept
+abbrev pub ShortIsWritable : Type 0
+ShortIsWritable = (units : ℤ) → IsShort units → IsWritable units
+
+-- a number has a plain text,
 abbrev pub PlainIsPlain : Type 0
-PlainIsPlain = (units : ℤ) → IsShort units → IsPlain (plain units) units
+PlainIsPlain = (units : ℤ) → IsWritable units → IsPlain (plain units) units
 
 -- has no second one,
 abbrev pub PlainIsOne : Type 0
-PlainIsOne = (units : ℤ) (t : List ℕ) → IsShort units → IsPlain t units → t ≡ plain units
+PlainIsOne = (units : ℤ) (t : List ℕ) → IsWritable units → IsPlain t units → t ≡ plain units
 
 -- and that text is ASCII
 abbrev pub PlainIsAscii : Type 0
-PlainIsAscii = (units : ℤ) → IsShort units → IsAscii (plain units)
+PlainIsAscii = (units : ℤ) → IsWritable units → IsAscii (plain units)
 
 -- the text is read as so many units
 pub record IsReadAs (t : List ℕ) (units : ℤ) : Type 0 where
@@ -66,6 +79,6 @@ pub record IsReadAs (t : List ℕ) (units : ℤ) : Type 0 where
 abbrev pub PlainReadsBack : Type 0
 PlainReadsBack = (units : ℤ) → IsShort units → IsReadAs (plain units) units
 
--- and is no other number's
+-- and the plain text of a number is no other number's
 abbrev pub PlainTellsApart : Type 0
-PlainTellsApart = (m n : ℤ) → IsShort m → IsShort n → plain m ≡ plain n → m ≡ n
+PlainTellsApart = (m n : ℤ) → IsWritable m → IsWritable n → plain m ≡ plain n → m ≡ n

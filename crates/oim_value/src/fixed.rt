@@ -1,15 +1,16 @@
-ghost use Rattle.std.specs.Prelude.{◌≡◌, ◌+◌, ◌-◌, ◌*◌, ◌^◌, ◌<◌, ◌≤◌, ◌++◌, pos, unsigned_abs, true, length, string_bytes, IfOk};
+ghost use Rattle.std.specs.Prelude.{◌≡◌, ◌+◌, ◌-◌, ◌*◌, ◌^◌, ◌<◌, ◌≤◌, ◌++◌, pos, unsigned_abs, true, length, IfOk};
 ghost use Rattle.std.specs.Result.{result_err};
 ghost use Rattle.std.specs.List.{list_all};
 ghost use Rattle.std.specs.Char.{is_ascii_digit};
 ghost use Rattle.std.specs.Str.Parse.{digits_value_after};
 ghost use Rattle.oim_value.specs.Number.{Denotes, IsShort, number_refusal, signed};
-ghost use Rattle.oim_value.specs.Plain.{fraction_digits, plain, sign_text, with_point};
+ghost use Rattle.oim_value.specs.Plain.{plain};
 
 use crate::digits::{
     append_digits, are_digits, skip_leading_zeros, skip_trailing_zeros, split_point, split_sign,
 };
 use crate::limits::{MOST_DIGITS, UNIT_PLACES};
+use crate::plain::write_units;
 use oim_names::{Reason, Text};
 use std::alloc::{AllocError, Global};
 use std::marker::Model;
@@ -103,43 +104,11 @@ fn size_of(number: u64, zeros: u32) -> i128
     (u128::from(number) * 10u128.pow(zeros)) as i128
 }
 
-/// Writes a number as its one plain text: `-` below zero, the integer digits without leading zeros
-/// (`0` where there are none), and a point and the fraction digits without trailing zeros where
-/// there are any.
+/// Writes a number as its one plain text, as `write_units` does.
 ///
 /// Errors: want of memory.
 pub fn write_fixed(alloc: Global, value: Fixed) -> Result<Text, AllocError>
     ensures { IfOk result (λ text. text ≡ plain value) }
 {
-    let units = value.units();
-    let size = units.unsigned_abs();
-    let sign = sign_of(units);
-    let integer = size / 10u128.pow(UNIT_PLACES);
-    let fraction = fraction_of(alloc, size)?;
-    let point = point_before(&fraction);
-    let text = format!(in alloc; "{sign}{integer}{point}{fraction}")?;
-    Text::new(alloc, &text)
-}
-
-fn sign_of(units: i128) -> &'static str
-    ensures { result.now ≡ sign_text units }
-{
-    if units < 0 { "-" } else { "" }
-}
-
-fn fraction_of(alloc: Global, size: u128) -> Result<String, AllocError>
-    ensures { IfOk result (λ digits. string_bytes digits ≡ fraction_digits size) }
-{
-    let rest = size % 10u128.pow(UNIT_PLACES);
-    let width = UNIT_PLACES as usize;
-    let mut digits = format!(in alloc; "{rest:0width$}")?;
-    let kept = skip_trailing_zeros(digits.as_bytes()).len();
-    digits.truncate(kept);
-    Ok(digits)
-}
-
-fn point_before(fraction: &str) -> &'static str
-    ensures { result.now ++ fraction.now ≡ with_point fraction.now }
-{
-    if fraction.is_empty() { "" } else { "." }
+    write_units(alloc, value.units())
 }

@@ -55,15 +55,16 @@ fn zeros_of(places: i8) -> u32
     (i64::from(UNIT_PLACES) - 1 - i64::from(places)) as u32
 }
 
-/// Whether some number lies in both intervals, of which neither is empty.
+/// Whether neither interval ends before the other begins. Where neither is empty, that is whether
+/// some number lies in both.
 pub fn meets(a: Interval, b: Interval) -> bool
     ensures { result ≡ intervals_meet a b }
 {
     a.low <= b.high && b.low <= a.high
 }
 
-/// What lies in both intervals: from the greater low end to the lesser high end, which is empty
-/// where they do not meet.
+/// What lies in both intervals: from the greater low end to the lesser high end. It is empty where
+/// they do not meet.
 pub fn common(a: Interval, b: Interval) -> Interval
     ensures { result ≡ common_part a b }
 {

@@ -1,9 +1,9 @@
 ghost use Rattle.std.specs.Prelude.{◌≡◌, None};
 ghost use Rattle.oim_value.specs.declared.value.Value.{Value as Seen};
-ghost use Rattle.oim_value.specs.Interval.{CommonIsAssociative, CommonIsBoth, CommonIsCommutative, CommonIsIdempotent, HalfAfterPoint, HalfBeforePoint, IntervalHasNumber, IntervalHasPoints, MeetsByCommonPart, MeetsByCommonPoint};
+ghost use Rattle.oim_value.specs.Interval.{CommonIsAssociative, CommonIsBoth, CommonIsCommutative, CommonIsIdempotent, HalfAfterPoint, HalfBeforePoint, IntervalHasNumber, IntervalHasPoints, MeetsByCommonPart, MeetsByCommonPoint, WithinIsNear};
 ghost use Rattle.oim_value.specs.Meets.{MeetsIsReflexive, MeetsIsSymmetric};
 ghost use Rattle.oim_value.specs.Number.{DenotesOne, ShortIsKept};
-ghost use Rattle.oim_value.specs.Plain.{PlainIsAscii, PlainIsOne, PlainIsPlain, PlainReadsBack, PlainTellsApart};
+ghost use Rattle.oim_value.specs.Plain.{FittingIsWritable, PlainIsAscii, PlainIsOne, PlainIsPlain, PlainReadsBack, PlainTellsApart, ShortIsWritable};
 ghost use Rattle.oim_value.specs.ValueOrder.{value_cmp};
 
 use crate::decimals::Decimals;
@@ -19,14 +19,20 @@ pub fn short_is_kept()
     ensures { ShortIsKept }
 {}
 
-/// A number that is kept has one plain text, which `plain` gives. It is ASCII.
+/// Every number of units that fits 128 bits is written in full, and every number that is kept.
+pub fn units_are_writable()
+    ensures fitting { FittingIsWritable }
+    ensures short { ShortIsWritable }
+{}
+
+/// A number has one plain text, which `plain` gives. It is ASCII.
 pub fn plain_is_the_text()
     ensures plain { PlainIsPlain }
     ensures one { PlainIsOne }
     ensures ascii { PlainIsAscii }
 {}
 
-/// Reading `plain` gives the number back.
+/// Reading `plain` of a number that is kept gives the number back.
 pub fn plain_reads_back()
     ensures { PlainReadsBack }
 {}
@@ -54,14 +60,15 @@ pub fn interval_is_half_a_place()
     ensures before_point { HalfBeforePoint }
 {}
 
-/// The interval of a number has that number, so it is not empty.
-pub fn interval_has_its_number()
+/// The interval of a number has just what is near enough to it, and so the number itself.
+pub fn interval_has_what_is_near()
+    ensures near { WithinIsNear }
     ensures number { IntervalHasNumber }
     ensures points { IntervalHasPoints }
 {}
 
 /// Common parts are one whatever the grouping, the order and the repetition.
-pub fn common_is_a_meet()
+pub fn common_ignores_order()
     ensures associative { CommonIsAssociative }
     ensures commutative { CommonIsCommutative }
     ensures idempotent { CommonIsIdempotent }

@@ -7,6 +7,7 @@ mod fixed;
 mod interval;
 pub mod laws;
 mod limits;
+mod plain;
 #[cfg(test)]
 mod tests;
 #[cfg(test)]
@@ -17,4 +18,5 @@ pub use decimals::Decimals;
 pub use fixed::{Fixed, read_fixed, write_fixed};
 pub use interval::{Interval, common, interval_of, meets};
 pub use limits::{MOST_DECIMALS, MOST_DIGITS, UNIT_PLACES};
+pub use plain::write_units;
 pub use value::{Value, value_meets};

@@ -7,5 +7,6 @@ pub const MOST_DIGITS: usize = 18;
 /// `MOST_DIGITS`, so that every digit that counts is kept.
 pub const UNIT_PLACES: u32 = 18;
 
-/// Finite decimals go from minus this to this.
+/// Finite decimals go from minus this to this. It is less than `UNIT_PLACES`, so that half of a
+/// last decimal place is a whole number of units.
 pub const MOST_DECIMALS: i8 = 12;

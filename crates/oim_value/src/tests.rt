@@ -1,4 +1,4 @@
-use crate::{Decimals, Fixed, Value, read_fixed, write_fixed};
+use crate::{Decimals, Fixed, Value, read_fixed, write_fixed, write_units};
 use oim_names::{Aliases, Copied, Name, Reason, Text};
 use std::alloc::AllocError;
 use std::test::Fail;
@@ -12,7 +12,7 @@ fn tell_refused(rt: &HostRuntime) {
     let _ = eprintln!(rt; "refused");
 }
 
-pub(crate) fn text_of(rt: &HostRuntime, text: &str) -> Result<Text, AllocError> {
+fn text_of(rt: &HostRuntime, text: &str) -> Result<Text, AllocError> {
     match Text::new(rt.alloc(), text) {
         Err(_) => {
             tell_refused(rt);
@@ -27,6 +27,16 @@ fn written(rt: &HostRuntime, number: Fixed) -> Result<Text, AllocError> {
         Err(_) => {
             tell_refused(rt);
             write_fixed(rt.alloc(), number)
+        }
+        text => text,
+    }
+}
+
+pub(crate) fn units_written(rt: &HostRuntime, units: i128) -> Result<Text, AllocError> {
+    match write_units(rt.alloc(), units) {
+        Err(_) => {
+            tell_refused(rt);
+            write_units(rt.alloc(), units)
         }
         text => text,
     }
@@ -130,6 +140,23 @@ fn numbers_are_written_plain(rt: HostRuntime) -> Result<(), Fail> {
 }
 
 #[test]
+fn any_units_are_written_plain(rt: HostRuntime) -> Result<(), Fail> {
+    let rows = [
+        (0, "0"),
+        (1, "0.000000000000000001"),
+        (-1, "-0.000000000000000001"),
+        (-UNIT, "-1"),
+        (10 * UNIT + UNIT / 10, "10.1"),
+        (i128::MAX, "170141183460469231731.687303715884105727"),
+        (i128::MIN, "-170141183460469231731.687303715884105728"),
+    ];
+    for (units, plain) in rows {
+        assert_eq!(rt; units_written(&rt, units)?.as_str(), plain);
+    }
+    Ok(())
+}
+
+#[test]
 fn decimals_have_a_range(rt: HostRuntime) {
     for number in [i64::MIN, -256, -129, -13, 13, 128, 244, 256, i64::MAX] {
         assert!(rt;
@@ -153,6 +180,13 @@ pub(crate) fn number(text: &str, decimals: Decimals) -> Value {
     }
 }
 
+pub(crate) fn text(rt: &HostRuntime, text: &str) -> Value {
+    match text_of(rt, text) {
+        Ok(text) => Value::Text(text),
+        Err(_) => Value::Nil,
+    }
+}
+
 pub(crate) fn name(rt: &HostRuntime, text: &str) -> Value {
     match name_of(rt, text) {
         Ok(name) => Value::Name(name),
@@ -168,7 +202,7 @@ pub(crate) fn finite(number: i64) -> Decimals {
 }
 
 #[test]
-fn values_are_in_order(rt: HostRuntime) -> Result<(), Fail> {
+fn values_are_in_order(rt: HostRuntime) {
     let rising = [
         Value::Nil,
         number("-2", Decimals::INFINITE),
@@ -178,10 +212,10 @@ fn values_are_in_order(rt: HostRuntime) -> Result<(), Fail> {
         number("0", finite(12)),
         number("0", Decimals::INFINITE),
         number("0.000000000000000001", finite(0)),
-        Value::Text(text_of(&rt, "")?),
-        Value::Text(text_of(&rt, "10")?),
-        Value::Text(text_of(&rt, "9")?),
-        Value::Text(text_of(&rt, "é")?),
+        text(&rt, ""),
+        text(&rt, "10"),
+        text(&rt, "9"),
+        text(&rt, "é"),
         name(&rt, "b:y"),
         name(&rt, "b:z"),
         name(&rt, "a:x"),
@@ -191,7 +225,6 @@ fn values_are_in_order(rt: HostRuntime) -> Result<(), Fail> {
             assert!(rt; rising[i].cmp(&rising[j]) == i.cmp(&j), "{i} {j}");
         }
     }
-    Ok(())
 }
 
 #[test]
@@ -199,7 +232,7 @@ fn values_are_copied(rt: HostRuntime) -> Result<(), Fail> {
     let rows = [
         Value::Nil,
         number("1", finite(2)),
-        Value::Text(text_of(&rt, "ab")?),
+        text(&rt, "ab"),
         name(&rt, "a:x"),
     ];
     for value in &rows {

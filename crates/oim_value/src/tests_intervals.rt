@@ -1,4 +1,4 @@
-use crate::tests::{UNIT, finite, name, number, text_of};
+use crate::tests::{UNIT, finite, name, number, text, units_written};
 use crate::{Decimals, Interval, Value, common, interval_of, meets, read_fixed, value_meets};
 use std::test::Fail;
 
@@ -50,6 +50,28 @@ fn intervals_go_half_a_place_to_each_side(rt: HostRuntime) {
             "{text}"
         );
     }
+}
+
+#[test]
+fn ends_of_intervals_are_written(rt: HostRuntime) -> Result<(), Fail> {
+    let rows = [
+        (interval("100", finite(0)), "99.5", "100.5"),
+        (
+            interval("999999999999999999", finite(-12)),
+            "999999499999999999",
+            "1000000499999999999",
+        ),
+        (
+            interval("1", finite(12)),
+            "0.9999999999995",
+            "1.0000000000005",
+        ),
+    ];
+    for (i, low, high) in rows {
+        assert_eq!(rt; units_written(&rt, i.low)?.as_str(), low);
+        assert_eq!(rt; units_written(&rt, i.high)?.as_str(), high);
+    }
+    Ok(())
 }
 
 #[test]
@@ -119,14 +141,14 @@ fn common_part_may_be_empty(rt: HostRuntime) {
 }
 
 #[test]
-fn values_meet_in_kind_alone(rt: HostRuntime) -> Result<(), Fail> {
+fn values_meet_in_kind_alone(rt: HostRuntime) {
     let apart = [
         Value::Nil,
         number("5", Decimals::INFINITE),
         number("100", finite(0)),
         number("102", finite(0)),
-        Value::Text(text_of(&rt, "5")?),
-        Value::Text(text_of(&rt, "")?),
+        text(&rt, "5"),
+        text(&rt, ""),
         name(&rt, "b:y"),
         name(&rt, "a:y"),
         name(&rt, "a:z"),
@@ -136,18 +158,18 @@ fn values_meet_in_kind_alone(rt: HostRuntime) -> Result<(), Fail> {
             assert!(rt; value_meets(&apart[i], &apart[j]) == (i == j), "{i} {j}");
         }
     }
-    Ok(())
 }
 
 #[test]
-fn values_of_one_kind_may_meet(rt: HostRuntime) -> Result<(), Fail> {
-    let hundred = number("100", finite(0));
-    let between = number("101", finite(0));
-    assert!(rt; value_meets(&hundred, &between));
-    assert!(rt; value_meets(&between, &hundred));
-    assert!(rt; value_meets(&between, &number("102", finite(0))));
-    let text = Value::Text(text_of(&rt, "é")?);
-    assert!(rt; value_meets(&text, &Value::Text(text_of(&rt, "é")?)));
-    assert!(rt; value_meets(&name(&rt, "b:y"), &name(&rt, "b:y")));
-    Ok(())
+fn values_of_one_kind_may_meet(rt: HostRuntime) {
+    let pairs = [
+        (Value::Nil, Value::Nil),
+        (number("100", finite(0)), number("101", finite(0))),
+        (number("101", finite(0)), number("102", finite(0))),
+        (text(&rt, "é"), text(&rt, "é")),
+        (name(&rt, "b:y"), name(&rt, "b:y")),
+    ];
+    for (a, b) in &pairs {
+        assert!(rt; value_meets(a, b) && value_meets(b, a));
+    }
 }

@@ -1,5 +1,5 @@
 use Rattle.oim_value.proofs.Intervals.{common_is_associative, common_is_commutative, common_is_idempotent}
-use Rattle.oim_value.proofs.laws.common_is_a_meet.Goals as goal
+use Rattle.oim_value.proofs.laws.common_ignores_order.Goals as goal
 
 pub returns-clause-associative : goal.returns-clause-associative
 returns-clause-associative c = common_is_associative

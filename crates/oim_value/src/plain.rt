@@ -1,0 +1,35 @@
+ghost use Rattle.std.specs.Prelude.{◌≡◌, IfOk};
+ghost use Rattle.oim_value.specs.Plain.{plain, sign_text};
+
+use crate::digits::skip_trailing_zeros;
+use crate::limits::UNIT_PLACES;
+use oim_names::Text;
+use std::alloc::{AllocError, Global};
+
+/// Writes a number, in units of 10 to the power of minus `UNIT_PLACES`, as its one plain text: `-`
+/// below zero, the integer digits without leading zeros (`0` where there are none), and a point and
+/// the fraction digits without trailing zeros where there are any.
+///
+/// Errors: want of memory.
+pub fn write_units(alloc: Global, units: i128) -> Result<Text, AllocError>
+    ensures { IfOk result (λ text. text ≡ plain units) }
+{
+    let size = units.unsigned_abs();
+    let sign = sign_of(units);
+    let integer = size / 10u128.pow(UNIT_PLACES);
+    let rest = size % 10u128.pow(UNIT_PLACES);
+    if rest == 0 {
+        return Ok(Text::from_string(format!(in alloc; "{sign}{integer}")?));
+    }
+    let width = UNIT_PLACES as usize;
+    let mut text = format!(in alloc; "{sign}{integer}.{rest:0width$}")?;
+    let kept = skip_trailing_zeros(text.as_bytes()).len();
+    text.truncate(kept);
+    Ok(Text::from_string(text))
+}
+
+fn sign_of(units: i128) -> &'static str
+    ensures { result.now ≡ sign_text units }
+{
+    if units < 0 { "-" } else { "" }
+}
