@@ -1,4 +1,6 @@
+mod Both
 mod Edits
+mod Ends
 mod Lists
 mod Places
 mod Puts

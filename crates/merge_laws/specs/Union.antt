@@ -1,8 +1,8 @@
 -- What two sets, or two maps, make together (own).
-use Rattle.std.specs.Prelude.{List, [], ◌∷◌, Option, Some, None}
+use Rattle.std.specs.Prelude.{◌≡◌, ◌↔◌, ◌⊎◌, List, [], ◌∷◌, Contains, Option, Some, None}
 use Rattle.std.specs.declared.cmp.Ordering.{Ordering}
 use Rattle.std.specs.Ordering.{match_ordering}
-use Rattle.merge_laws.specs.Sorted.{itself, entry_key}
+use Rattle.merge_laws.specs.Sorted.{IsRising, IsSet, itself, entry_key, value_at}
 
 module _ {K E : Type 0} (R : K → K → Ordering) (key : E → K) (join : E → E → E) where
   -- the items with x among them; where one has its key already, that one and x are joined
@@ -42,3 +42,27 @@ map_with R merged k v = with_item R entry_key (merged_entries merged) (k, v)
 
 abbrev pub map_union : {K V : Type 0} → (K → K → Ordering) → (V → V → V) → List (K × V) → List (K × V) → List (K × V)
 map_union R merged = union_of R entry_key (merged_entries merged)
+
+module _ {K : Type 0} (R : K → K → Ordering) where
+  -- a set that has just what two lists have
+  pub record IsSetOfBoth (xs ys set : List K) : Type 0 where
+    pub rises : IsSet R set
+    pub members : (x : K) → Contains set x ↔ (Contains xs x ⊎ Contains ys x)
+
+  abbrev pub SetUnionHasBoth : Type 0
+  SetUnionHasBoth = (xs ys : List K) → IsSet R xs → IsSet R ys → IsSetOfBoth xs ys (set_union R xs ys)
+
+  abbrev pub SetWithHasItem : Type 0
+  SetWithHasItem = (xs : List K) (x : K) → IsSet R xs → IsSetOfBoth xs (x ∷ []) (set_with R x xs)
+
+module _ {K V : Type 0} (R : K → K → Ordering) (merged : V → V → V) where
+  -- a map that has the keys of two, with the merge of their values where both have one
+  pub record IsMapOfBoth (es fs map : List (K × V)) : Type 0 where
+    pub rises : IsRising R entry_key map
+    pub values : (k : K) → value_at R k map ≡ either_or_both merged (value_at R k es) (value_at R k fs)
+
+  abbrev pub MapUnionHasBoth : Type 0
+  MapUnionHasBoth = (es fs : List (K × V)) → IsRising R entry_key es → IsRising R entry_key fs → IsMapOfBoth es fs (map_union R merged es fs)
+
+  abbrev pub MapWithMerges : Type 0
+  MapWithMerges = (es : List (K × V)) (k : K) (v : V) → IsRising R entry_key es → IsMapOfBoth es ((k, v) ∷ []) (map_with R merged k v es)

@@ -3,12 +3,15 @@
 
 mod changes;
 mod insertion;
+pub mod laws;
 mod merge;
 mod pair;
 mod search;
 mod sorted_map;
 mod sorted_set;
+mod summary;
 
 pub use merge::Merge;
 pub use sorted_map::SortedMap;
 pub use sorted_set::SortedSet;
+pub use summary::Summary;

@@ -1,0 +1,89 @@
+-- Unions by what they have.
+use Rattle.std.proofs.Common.{◌≡◌, Bool, true, false, cond, List, [], ◌∷◌, ◌++◌, Option, Some, None, refl, sym, ap, ◌∙◌, inl, inr, ⊎_elim}
+use mathlib.Core.Bool.{◌||◌, true≢false}
+use Rattle.std.specs.Prelude.{◌↔◌, ◌⊎◌, Contains, is_some}
+use Rattle.std.specs.Option.{option_map, option_or}
+use Rattle.std.specs.List.{list_any}
+use Rattle.std.specs.Ordering.{eq_by_cmp, is_eq}
+use Rattle.std.specs.declared.cmp.Ordering.{Ordering}
+use Rattle.std.specs.declared.cmp.Ordering.TheVariants.{Equal}
+use Rattle.std.specs.Cmp.{IsTotalOrder, Equal-is, eq_by_cmp_equiv}
+use Rattle.std.proofs.lemmas.Map.Views.{Contains-from_any, list_any-from_Contains}
+use Rattle.merge_laws.specs.Sorted.{IsRising, IsSet, item_at, has_key, itself, entry_key, value_at}
+use Rattle.merge_laws.specs.Union.{either_or_both, older, merged_entries, set_with, set_union, map_with, map_union, IsSetOfBoth, SetUnionHasBoth, SetWithHasItem, IsMapOfBoth, MapUnionHasBoth, MapWithMerges}
+use Rattle.merge_laws.specs.Items.{alone, rises_with, rises_union, item_at-with, item_at-union}
+
+either : (a b : Bool) → (a || b) ≡ true → (a ≡ true) ⊎ (b ≡ true)
+either true b e = inl refl
+either false b e = inr e
+
+left_so : (a b : Bool) → a ≡ true → (a || b) ≡ true
+left_so true b e = refl
+left_so false b e = absurd (true≢false (sym e))
+
+right_so : (a b : Bool) → b ≡ true → (a || b) ≡ true
+right_so true b e = refl
+right_so false b e = e
+
+found_some : {A : Type 0} (p : A → Bool) (xs : List A) → is_some (Rattle.std.specs.List.find p xs) ≡ list_any p xs
+found_some p [] = refl
+found_some p (x ∷ xs) = elim (p x) as (λ b. is_some (cond b (Some x) (Rattle.std.specs.List.find p xs)) ≡ (b || list_any p xs)) [ true ↦ refl | false ↦ found_some p xs ]
+
+some_of_both : {A : Type 0} (join : A → A → A) (a b : Option A) → is_some (either_or_both join a b) ≡ (is_some a || is_some b)
+some_of_both join None b = refl
+some_of_both join (Some x) None = refl
+some_of_both join (Some x) (Some y) = refl
+
+module _ {K : Type 0} {R : K → K → Ordering} (o : IsTotalOrder R) (exact : (x y : K) → R x y ≡ Equal → x ≡ y) where
+  there : (xs : List K) (x : K) → has_key R itself x xs ≡ true → Contains xs x
+  there xs x has = Contains-from_any (λ x y e. exact x y ((Equal-is (R x y)).0 e)) x xs (sym (found_some (eq_by_cmp R x) xs) ∙ has)
+
+  tested : (xs : List K) (x : K) → Contains xs x → has_key R itself x xs ≡ true
+  tested xs x one = found_some (eq_by_cmp R x) xs ∙ list_any-from_Contains (eq_by_cmp_equiv o) x xs one
+
+  of_both : (xs ys set : List K) → IsSet R set → ((q : K) → has_key R itself q set ≡ (has_key R itself q xs || has_key R itself q ys)) → IsSetOfBoth R xs ys set
+  of_both xs ys set h has = record {
+    rises = h;
+    members = λ x. (
+      λ one. ⊎_elim (λ l. inl (there xs x l)) (λ r. inr (there ys x r)) (either _ _ (sym (has x) ∙ tested set x one)),
+      ⊎_elim (λ l. there set x (has x ∙ left_so _ _ (tested xs x l))) (λ r. there set x (has x ∙ right_so _ _ (tested ys x r))),
+    );
+  }
+
+  pub set_union_has_both : SetUnionHasBoth R
+  set_union_has_both xs ys g h = of_both xs ys (set_union R xs ys) (rises_union itself o older (λ _ _. refl) xs ys g) (λ q.
+      ap is_some (item_at-union itself o older (λ _ _. refl) q xs ys g h) ∙ some_of_both older (item_at R itself q xs) (item_at R itself q ys))
+
+  pub set_with_has_item : SetWithHasItem R
+  set_with_has_item xs x g = of_both xs (x ∷ []) (set_with R x xs) (rises_with itself o older (λ _ _. refl) x xs g) (λ q.
+      ap is_some (item_at-with itself o older (λ _ _. refl) q x xs g)
+      ∙ elim (is_eq (R q x)) as (λ b. is_some (cond b (either_or_both older (item_at R itself q xs) (Some x)) (item_at R itself q xs)) ≡ (is_some (item_at R itself q xs) || is_some (cond b (Some x) None))) [
+        | true ↦ some_of_both older (item_at R itself q xs) (Some x)
+        | false ↦ or_false (is_some (item_at R itself q xs))
+      ])
+    where
+      or_false : (b : Bool) → b ≡ (b || false)
+      or_false true = refl
+      or_false false = refl
+
+value_of : {K V : Type 0} (merged : V → V → V) (a b : Option (K × V)) → option_map (λ e. e.1) (either_or_both (merged_entries merged) a b) ≡ either_or_both merged (option_map (λ e. e.1) a) (option_map (λ e. e.1) b)
+value_of merged None b = refl
+value_of merged (Some x) None = refl
+value_of merged (Some x) (Some y) = refl
+
+module _ {K V : Type 0} {R : K → K → Ordering} (o : IsTotalOrder R) (merged : V → V → V) where
+  pub map_union_has_both : MapUnionHasBoth R merged
+  map_union_has_both es fs g h = record {
+    rises = rises_union entry_key o (merged_entries merged) (λ _ _. refl) es fs g;
+    values = λ k. ap (λ (a : Option (K × V)). option_map (λ e. e.1) a) (item_at-union entry_key o (merged_entries merged) (λ _ _. refl) k es fs g h) ∙ value_of merged (item_at R entry_key k es) (item_at R entry_key k fs);
+  }
+
+  pub map_with_merges : MapWithMerges R merged
+  map_with_merges es k v g = record {
+    rises = rises_with entry_key o (merged_entries merged) (λ _ _. refl) (k, v) es g;
+    values = λ q. ap (λ (a : Option (K × V)). option_map (λ e. e.1) a) (item_at-with entry_key o (merged_entries merged) (λ _ _. refl) q (k, v) es g)
+    ∙ elim (is_eq (R q k)) as (λ b. option_map (λ (e : K × V). e.1) (cond b (either_or_both (merged_entries merged) (item_at R entry_key q es) (Some (k, v))) (item_at R entry_key q es)) ≡ either_or_both merged (value_at R q es) (option_map (λ (e : K × V). e.1) (cond b (Some (k, v)) None))) [
+      | true ↦ value_of merged (item_at R entry_key q es) (Some (k, v))
+      | false ↦ sym (alone merged (value_at R q es))
+    ];
+  }

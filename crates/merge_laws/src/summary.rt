@@ -1,0 +1,105 @@
+ghost use Rattle.std.specs.Prelude.{◌≡◌};
+ghost use Rattle.merge_laws.specs.Ends.{summary_of};
+ghost use Rattle.merge_laws.specs.Union.{either_or_both};
+ghost use Rattle.oim_value.specs.Interval.{common_part};
+
+use crate::merge::Merge;
+use oim_names::Copied;
+use oim_value::{Interval, Value, common, interval_of};
+use std::alloc::{AllocError, Global};
+use std::marker::Model;
+
+/// What is to be known of values to tell whether each two meet: whether a nil was among them, and
+/// where numbers were, the greatest low end and the least high end of their rounding intervals.
+#[derive(Clone, Copy, Debug, PartialEq, Eq)]
+pub struct Summary {
+    nil: bool,
+    ends: Option<Interval>,
+}
+
+impl Model for Summary {
+    ghost use Rattle.merge_laws.specs.Ends.{Summarised};
+
+    ghost Value = { Summarised };
+
+    ghost view = { λ a. record { nil = a.nil; ends = a.ends } };
+
+    ghost inverse = { λ s. record { nil = s.nil; ends = s.ends } };
+}
+
+impl Summary {
+    /// The summary of one value.
+    pub fn of(value: &Value) -> Self
+        ensures { result ≡ summary_of value.now }
+    {
+        Summary {
+            nil: matches!(value, Value::Nil),
+            ends: match value {
+                Value::Number(number, decimals) => Some(interval_of(*number, *decimals)),
+                _ => None,
+            },
+        }
+    }
+
+    /// From the greatest low end to the least high end, in units of 10 to the power of minus
+    /// `UNIT_PLACES`, where there was a number. Low is above high where not each two numbers meet.
+    pub fn ends(&self) -> Option<Interval>
+        ensures { result ≡ self.now.ends }
+    {
+        self.ends
+    }
+
+    /// Whether there was a nil.
+    pub fn nil(&self) -> bool
+        ensures { result ≡ self.now.nil }
+    {
+        self.nil
+    }
+}
+
+impl Copied for Summary {
+    fn copied(&self, _alloc: Global) -> Result<Self, AllocError> {
+        Ok(*self)
+    }
+}
+
+/// What two tell together. It always succeeds.
+impl Merge for Summary {
+    ghost use Rattle.std.specs.Prelude.{◌≡◌, IsOk};
+    ghost use Rattle.merge_laws.specs.Ends.{both_summaries};
+    ghost use Rattle.merge_laws.specs.SummaryLaws.{summary_associates, summary_commutes, summary_idempotent};
+
+    ghost is_known = { λ _. Unit {0} };
+
+    ghost merged = { both_summaries };
+
+    ghost closed = { λ _ _ _ _. tt };
+
+    ghost associative = { λ a b c _ _ _. summary_associates a b c };
+
+    ghost commutative = { λ a b _ _. summary_commutes a b };
+
+    ghost idempotent = { λ a _. summary_idempotent a };
+
+    fn merge(&mut self, _alloc: Global, other: &Self) -> Result<(), AllocError>
+        ensures succeeds { IsOk result }
+        ensures merged { self.new ≡ both_summaries self.old other.now }
+    {
+        self.nil = self.nil || other.nil;
+        self.ends = ends_of_both(self.ends, other.ends);
+        Ok(())
+    }
+
+    fn known(&self) {
+        let _nil = self.nil;
+    }
+}
+
+fn ends_of_both(first: Option<Interval>, second: Option<Interval>) -> Option<Interval>
+    ensures { result ≡ either_or_both common_part first second }
+{
+    match (first, second) {
+        (Some(first), Some(second)) => Some(common(first, second)),
+        (ends, None) | (None, ends) => ends,
+    }
+}
