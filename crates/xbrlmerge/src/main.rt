@@ -5,6 +5,8 @@
 mod asked_again;
 mod base;
 mod bundle;
+#[cfg(test)]
+mod canonical_parts;
 mod concept_kind;
 #[cfg(test)]
 mod devices;
