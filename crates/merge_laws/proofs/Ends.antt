@@ -1,5 +1,5 @@
 -- Intervals and their ends; what a summary tells.
-use Rattle.std.proofs.Common.{◌≡◌, ℕ, zero, suc, ◌+◌, ◌<◌, ◌≤◌, Bool, true, false, cond, List, [], ◌∷◌, ◌++◌, length, get_or, Option, Some, None, refl, sym, ap, subst, ◌∙◌, arith, inl, inr}
+use Rattle.std.proofs.Common.{◌≡◌, ℕ, zero, suc, ◌<◌, Bool, true, false, cond, List, [], ◌∷◌, length, get_or, Option, Some, None, refl, sym, ap, subst, ◌∙◌, arith, inl, inr}
 use mathlib.Core.Bool.{◌||◌, true≢false}
 use Rattle.std.specs.Prelude.{◌↔◌, ◌⊎◌, Contains, ℤ, ◌≤ℤ◌, int_le, ◌&&◌, IsTrue, IfSome, is_some}
 use Rattle.std.specs.Int.{int_max, int_min}
@@ -7,11 +7,11 @@ use Rattle.std.specs.List.{All, Any, AllPairs, flat_map, list_any}
 use Rattle.std.proofs.lemmas.Bool.{cases_lt}
 use Rattle.std.proofs.lemmas.Int.{ints, clamps}
 use Rattle.std.proofs.lemmas.List.{get_or_default}
-use Rattle.oim_value.specs.Interval.{HasPoints, common_part, interval, intervals_meet}
+use Rattle.oim_value.specs.Interval.{HasPoints, common_part, interval}
 use Rattle.oim_value.specs.declared.interval.Interval.{Interval}
 use Rattle.oim_value.specs.declared.value.Value.{Value}
 use Rattle.oim_value.specs.declared.value.Value.TheVariants.{Nil, Number, Text as AText, Name as AName}
-use Rattle.merge_laws.specs.Ends.{AreEnds, EachTwoMeet, AllMeetIffEndsMeet, Summarised, summary_of, both_summaries, summary_of_all, interval_of_one, intervals_of, is_number, TellsAll, SummaryTellsAll}
+use Rattle.merge_laws.specs.Ends.{AreEnds, EachTwoMeet, AllMeetIffEndsMeet, summary_of_all, intervals_of, is_number, SummaryTellsAll}
 use Rattle.merge_laws.specs.Union.{either_or_both}
 
 both_true : (a b : Bool) → a ≡ true → b ≡ true → (a && b) ≡ true

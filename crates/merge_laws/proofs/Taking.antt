@@ -1,12 +1,12 @@
 -- Items that are put in where a search found their place, from the last on, make the union.
-use Rattle.std.proofs.Common.{◌≡◌, ℕ, zero, suc, ◌+◌, ◌≤◌, arith, Bool, true, false, not, cond, List, [], ◌∷◌, ◌++◌, append-nil, take, drop, take-append-drop, Option, Some, None, refl, sym, ap, subst, ◌∙◌}
+use Rattle.std.proofs.Common.{◌≡◌, suc, ◌+◌, ◌≤◌, arith, true, false, not, cond, List, [], ◌∷◌, ◌++◌, append-nil, take, drop, take-append-drop, Option, Some, None, refl, sym, ap, subst, ◌∙◌}
 use Rattle.std.specs.Prelude.{reverse, is_some}
 use Rattle.std.specs.Option.{option_or}
 use Rattle.std.specs.declared.cmp.Ordering.{Ordering}
 use Rattle.std.specs.declared.cmp.Ordering.TheVariants.{Less, Equal, Greater}
 use Rattle.std.specs.Ordering.{is_lt, is_eq}
-use Rattle.std.specs.Cmp.{IsTotalOrder, Equal-is, tied_back, alike_right}
-use Rattle.std.specs.List.{AllByRecursion, find, flat_map}
+use Rattle.std.specs.Cmp.{IsTotalOrder, Equal-is, alike_right}
+use Rattle.std.specs.List.{AllByRecursion}
 use Rattle.std.specs.List.Sorted.{IsStrictlySortedBy}
 use mathlib.Core.Bool.{true≢false}
 use Rattle.std.proofs.lemmas.Grind.{flat_map-append}
@@ -14,8 +14,7 @@ use Rattle.std.proofs.lemmas.List.{reverse-append}
 use Rattle.std.proofs.lemmas.List.Folds.{find-append}
 use Rattle.merge_laws.specs.Insertions.{IsFirstLeast, inserted, new_item, new_items}
 use Rattle.merge_laws.specs.Sorted.{IsRising, item_at, has_key, place_of}
-use Rattle.merge_laws.specs.Union.{union_of, either_or_both}
-use Rattle.merge_laws.specs.Items.{Below, none_below, none_tied, below_less, same_found, same_items, rises_union, item_at-union, turned_less, turned_greater}
+use Rattle.merge_laws.specs.Items.{Below, none_below, none_tied, below_less, same_found, turned_less, turned_greater}
 use Rattle.merge_laws.proofs.Edits.{place_behind, place_here, not_here, below_rest, rest_rises}
 use Rattle.merge_laws.proofs.Lists.{AllBelow, from_end, all_both, all_front, all_back, or_none, rises_front, rises_back, below_last, rises_around}
 
@@ -74,6 +73,7 @@ module _ {K E : Type 0} {R : K → K → Ordering} (key : E → K) (o : IsTotalO
     where
       less_from : is_lt (R (key e) k) ≡ true → R (key e) k ≡ Less
       less_from t = elim (R (key e) k) as (λ r. is_lt r ≡ true → r ≡ Less) [ Less ↦ λ _. refl | Equal ↦ λ u. absurd (true≢false (sym u)) | Greater ↦ λ u. absurd (true≢false (sym u)) ] t
+
       under : is_lt (R (key e) k) ≡ false → R w (key e) ≡ Less
       under t = elim (R (key e) k) as (λ r. R (key e) k ≡ r → is_lt r ≡ false → R w (key e) ≡ Less) [
         | Less ↦ λ q u. absurd (true≢false u)

@@ -7,7 +7,10 @@ use std::alloc::AllocError;
 
 /// Asks for all the memory that `insert_all` wants: room among the items, and room for those that
 /// are moved.
-pub(crate) fn room_for<E: Drop>(items: &mut Vec<E>, news: &[(usize, E)]) -> Result<Vec<E>, AllocError>
+pub(crate) fn room_for<E: Drop>(
+    items: &mut Vec<E>,
+    news: &[(usize, E)],
+) -> Result<Vec<E>, AllocError>
     ensures kept { items.new.items ≡ items.old.items }
     ensures among { IfOk result (λ above. vec_len items.new + length news.now ≤ vec_capacity items.new) }
     ensures above { IfOk result (λ above. vec_len items.new - first_place news.now + length news.now ≤ vec_capacity above) }
