@@ -10,6 +10,8 @@ mod search;
 mod sorted_map;
 mod sorted_set;
 mod summary;
+#[cfg(test)]
+mod tests;
 
 pub use merge::Merge;
 pub use sorted_map::SortedMap;
