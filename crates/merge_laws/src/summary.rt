@@ -90,9 +90,7 @@ impl Merge for Summary {
         Ok(())
     }
 
-    fn known(&self) {
-        let _nil = self.nil;
-    }
+    fn known(&self) {}
 }
 
 fn ends_of_both(first: Option<Interval>, second: Option<Interval>) -> Option<Interval>
