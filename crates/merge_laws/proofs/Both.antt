@@ -1,7 +1,7 @@
 -- Unions by what they have.
-use Rattle.std.proofs.Common.{◌≡◌, Bool, true, false, cond, List, [], ◌∷◌, ◌++◌, Option, Some, None, refl, sym, ap, ◌∙◌, inl, inr, ⊎_elim}
+use Rattle.std.proofs.Common.{◌≡◌, Bool, true, false, cond, List, [], ◌∷◌, Option, Some, None, refl, sym, ap, ◌∙◌, inl, inr, ⊎_elim}
 use mathlib.Core.Bool.{◌||◌, true≢false}
-use Rattle.std.specs.Prelude.{◌↔◌, ◌⊎◌, Contains, is_some}
+use Rattle.std.specs.Prelude.{◌⊎◌, Contains, is_some}
 use Rattle.std.specs.Option.{option_map, option_or}
 use Rattle.std.specs.List.{list_any}
 use Rattle.std.specs.Ordering.{eq_by_cmp, is_eq}
@@ -9,8 +9,8 @@ use Rattle.std.specs.declared.cmp.Ordering.{Ordering}
 use Rattle.std.specs.declared.cmp.Ordering.TheVariants.{Equal}
 use Rattle.std.specs.Cmp.{IsTotalOrder, Equal-is, eq_by_cmp_equiv}
 use Rattle.std.proofs.lemmas.Map.Views.{Contains-from_any, list_any-from_Contains}
-use Rattle.merge_laws.specs.Sorted.{IsRising, IsSet, item_at, has_key, itself, entry_key, value_at}
-use Rattle.merge_laws.specs.Union.{either_or_both, older, merged_entries, set_with, set_union, map_with, map_union, IsSetOfBoth, SetUnionHasBoth, SetWithHasItem, IsMapOfBoth, MapUnionHasBoth, MapWithMerges}
+use Rattle.merge_laws.specs.Sorted.{IsSet, item_at, has_key, itself, entry_key, value_at}
+use Rattle.merge_laws.specs.Union.{either_or_both, older, merged_entries, set_with, set_union, IsSetOfBoth, SetUnionHasBoth, SetWithHasItem, MapUnionHasBoth, MapWithMerges}
 use Rattle.merge_laws.specs.Items.{alone, rises_with, rises_union, item_at-with, item_at-union}
 
 either : (a b : Bool) → (a || b) ≡ true → (a ≡ true) ⊎ (b ≡ true)
@@ -82,8 +82,8 @@ module _ {K V : Type 0} {R : K → K → Ordering} (o : IsTotalOrder R) (merged 
   map_with_merges es k v g = record {
     rises = rises_with entry_key o (merged_entries merged) (λ _ _. refl) (k, v) es g;
     values = λ q. ap (λ (a : Option (K × V)). option_map (λ e. e.1) a) (item_at-with entry_key o (merged_entries merged) (λ _ _. refl) q (k, v) es g)
-    ∙ elim (is_eq (R q k)) as (λ b. option_map (λ (e : K × V). e.1) (cond b (either_or_both (merged_entries merged) (item_at R entry_key q es) (Some (k, v))) (item_at R entry_key q es)) ≡ either_or_both merged (value_at R q es) (option_map (λ (e : K × V). e.1) (cond b (Some (k, v)) None))) [
-      | true ↦ value_of merged (item_at R entry_key q es) (Some (k, v))
-      | false ↦ sym (alone merged (value_at R q es))
-    ];
+        ∙ elim (is_eq (R q k)) as (λ b. option_map (λ (e : K × V). e.1) (cond b (either_or_both (merged_entries merged) (item_at R entry_key q es) (Some (k, v))) (item_at R entry_key q es)) ≡ either_or_both merged (value_at R q es) (option_map (λ (e : K × V). e.1) (cond b (Some (k, v)) None))) [
+          | true ↦ value_of merged (item_at R entry_key q es) (Some (k, v))
+          | false ↦ sym (alone merged (value_at R q es))
+        ];
   }

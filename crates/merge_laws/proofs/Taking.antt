@@ -1,21 +1,20 @@
 -- Items that are put in where a search found their place, from the last on, make the union.
-use Rattle.std.proofs.Common.{◌≡◌, ℕ, zero, suc, ◌+◌, Bool, true, false, not, cond, List, [], ◌∷◌, ◌++◌, append-nil, take, drop, take-append-drop, Option, Some, None, refl, sym, ap, subst, ◌∙◌}
+use Rattle.std.proofs.Common.{◌≡◌, suc, ◌+◌, ◌≤◌, arith, true, false, not, cond, List, [], ◌∷◌, ◌++◌, append-nil, take, drop, take-append-drop, Option, Some, None, refl, sym, ap, subst, ◌∙◌}
 use Rattle.std.specs.Prelude.{reverse, is_some}
 use Rattle.std.specs.Option.{option_or}
 use Rattle.std.specs.declared.cmp.Ordering.{Ordering}
 use Rattle.std.specs.declared.cmp.Ordering.TheVariants.{Less, Equal, Greater}
 use Rattle.std.specs.Ordering.{is_lt, is_eq}
-use Rattle.std.specs.Cmp.{IsTotalOrder, Equal-is, tied_back, alike_right}
-use Rattle.std.specs.List.{find, flat_map}
+use Rattle.std.specs.Cmp.{IsTotalOrder, Equal-is, alike_right}
+use Rattle.std.specs.List.{AllByRecursion}
 use Rattle.std.specs.List.Sorted.{IsStrictlySortedBy}
 use mathlib.Core.Bool.{true≢false}
 use Rattle.std.proofs.lemmas.Grind.{flat_map-append}
 use Rattle.std.proofs.lemmas.List.{reverse-append}
 use Rattle.std.proofs.lemmas.List.Folds.{find-append}
-use Rattle.merge_laws.specs.Insertions.{inserted, new_item, new_items}
+use Rattle.merge_laws.specs.Insertions.{IsFirstLeast, inserted, new_item, new_items}
 use Rattle.merge_laws.specs.Sorted.{IsRising, item_at, has_key, place_of}
-use Rattle.merge_laws.specs.Union.{union_of, either_or_both}
-use Rattle.merge_laws.specs.Items.{Below, none_below, none_tied, below_less, same_found, same_items, rises_union, item_at-union, turned_less, turned_greater}
+use Rattle.merge_laws.specs.Items.{Below, none_below, none_tied, below_less, same_found, turned_less, turned_greater}
 use Rattle.merge_laws.proofs.Edits.{place_behind, place_here, not_here, below_rest, rest_rises}
 use Rattle.merge_laws.proofs.Lists.{AllBelow, from_end, all_both, all_front, all_back, or_none, rises_front, rises_back, below_last, rises_around}
 
@@ -74,6 +73,7 @@ module _ {K E : Type 0} {R : K → K → Ordering} (key : E → K) (o : IsTotalO
     where
       less_from : is_lt (R (key e) k) ≡ true → R (key e) k ≡ Less
       less_from t = elim (R (key e) k) as (λ r. is_lt r ≡ true → r ≡ Less) [ Less ↦ λ _. refl | Equal ↦ λ u. absurd (true≢false (sym u)) | Greater ↦ λ u. absurd (true≢false (sym u)) ] t
+
       under : is_lt (R (key e) k) ≡ false → R w (key e) ≡ Less
       under t = elim (R (key e) k) as (λ r. R (key e) k ≡ r → is_lt r ≡ false → R w (key e) ≡ Less) [
         | Less ↦ λ q u. absurd (true≢false u)
@@ -180,3 +180,33 @@ module _ {K E : Type 0} {R : K → K → Ordering} (key : E → K) (o : IsTotalO
 
   pub takes_all : (es fs : List E) → IsRising R key es → IsRising R key fs → IsTaken es fs (inserted es (reverse (new_items R key es fs)))
   takes_all es fs = from_end Takes (λ es h g. record { rises = h; at = λ q. sym (or_none (item_at R key q es)); below = λ k low_es low_fs. low_es }) takes_more fs es
+
+  -- a greater key goes no further to the front
+  places_rise : (j k : K) (es : List E) → R j k ≡ Less → place_of R key j es ≤ place_of R key k es
+  places_rise j k [] p = omega arith
+  places_rise j k (e ∷ es) p =
+      elim (R (key e) j) as (λ r. R (key e) j ≡ r → place_of R key j (e ∷ es) ≤ place_of R key k (e ∷ es)) [
+        | Less ↦ λ t.
+            let first : place_of R key j (e ∷ es) ≡ suc (place_of R key j es) = place_behind key o j e es t in
+            let second : place_of R key k (e ∷ es) ≡ suc (place_of R key k es) = place_behind key o k e es (o.trans (key e) j k t p) in
+            let rest = places_rise j k es p in
+            omega (arith, first, second, rest)
+        | Equal ↦ λ t. let here : place_of R key j (e ∷ es) ≡ 0 = place_here key o j e es (ap is_lt t) in omega (arith, here)
+        | Greater ↦ λ t. let here : place_of R key j (e ∷ es) ≡ 0 = place_here key o j e es (ap is_lt t) in omega (arith, here)
+      ] refl
+
+  none_before : (k : K) (es fs : List E) → Below key o k fs → AllByRecursion (λ n. place_of R key k es ≤ n.0) (new_items R key es fs)
+  none_before k es [] h = tt
+  none_before k es (f ∷ fs) h = elim (has_key R key (key f) es) as (λ b. AllByRecursion (λ n. place_of R key k es ≤ n.0) (cond b [] ((place_of R key (key f) es, f) ∷ []) ++ new_items R key es fs)) [
+    | true ↦ none_before k es fs h.1
+    | false ↦ (places_rise k (key f) es h.0, none_before k es fs h.1)
+  ]
+
+  -- new items come with the first one's place first
+  pub first_least : (es fs : List E) → IsRising R key fs → IsFirstLeast (new_items R key es fs)
+  unfolding IsStrictlySortedBy
+  first_least es [] h = tt
+  first_least es (f ∷ fs) h = elim (has_key R key (key f) es) as (λ b. IsFirstLeast (cond b [] ((place_of R key (key f) es, f) ∷ []) ++ new_items R key es fs)) [
+    | true ↦ first_least es fs h.1
+    | false ↦ (omega arith, none_before (key f) es fs h.0)
+  ]

@@ -1,10 +1,10 @@
 -- What a merge makes is the union.
-use Rattle.std.proofs.Common.{◌≡◌, cond, List, [], ◌∷◌, ◌++◌, Option, Some, None, refl, sym, ap, subst, ◌∙◌}
+use Rattle.std.proofs.Common.{◌≡◌, cond, List, [], ◌∷◌, ◌++◌, Option, Some, None, refl, sym, ap, ◌∙◌}
 use Rattle.std.specs.Prelude.{reverse}
 use Rattle.std.specs.Option.{option_or}
 use Rattle.std.specs.declared.cmp.Ordering.{Ordering}
 use Rattle.std.specs.Cmp.{IsTotalOrder}
-use Rattle.merge_laws.specs.Insertions.{inserted, new_item, new_items, new_values, with_values}
+use Rattle.merge_laws.specs.Insertions.{inserted, new_items, new_values, with_values}
 use Rattle.merge_laws.specs.Sorted.{IsRising, IsSet, item_at, itself, entry_key}
 use Rattle.merge_laws.specs.Union.{either_or_both, older, merged_entries, set_union, map_union}
 use Rattle.merge_laws.specs.Items.{same_items, rises_union, item_at-union}

@@ -1,19 +1,19 @@
 -- Values that are put in the places of others, for keys of both.
-use Rattle.std.proofs.Common.{◌≡◌, ℕ, zero, suc, ◌+◌, ◌<◌, Bool, true, false, not, cond, List, [], ◌∷◌, ◌++◌, append-nil, length, get_or, set, Option, Some, None, refl, sym, ap, subst, ◌∙◌, arith}
+use Rattle.std.proofs.Common.{◌≡◌, ℕ, zero, suc, ◌+◌, ◌<◌, true, false, not, cond, List, [], ◌∷◌, ◌++◌, append-nil, length, get_or, set, Option, Some, None, refl, sym, ap, subst, ◌∙◌, arith}
 use Rattle.std.specs.Prelude.{is_some}
 use Rattle.std.specs.Option.{option_or}
 use Rattle.std.specs.declared.cmp.Ordering.{Ordering}
 use Rattle.std.specs.declared.cmp.Ordering.TheVariants.{Less, Equal, Greater}
 use Rattle.std.specs.Ordering.{is_lt, is_eq, ordering_reverse}
 use Rattle.std.specs.Cmp.{IsTotalOrder, Equal-is, tied_back, alike_right}
-use Rattle.std.specs.List.{AllByRecursion, flat_map}
+use Rattle.std.specs.List.{AllByRecursion}
 use Rattle.std.specs.List.Sorted.{IsStrictlySortedBy}
 use mathlib.Core.Bool.{true≢false}
 use Rattle.std.proofs.lemmas.Grind.{flat_map-append}
 use Rattle.std.proofs.lemmas.List.Folds.{find-append}
-use Rattle.merge_laws.specs.Insertions.{new_item, new_items, new_value, new_values, shared_value, with_value, with_values}
+use Rattle.merge_laws.specs.Insertions.{new_value, new_values, shared_value, with_value, with_values}
 use Rattle.merge_laws.specs.Sorted.{IsRising, item_at, has_key, place_of, entry_key}
-use Rattle.merge_laws.specs.Items.{Below, none_below, same_found, turned_less, turned_greater}
+use Rattle.merge_laws.specs.Items.{Below, none_below, same_found}
 use Rattle.merge_laws.proofs.Edits.{place_behind, place_here, not_here, below_rest, rest_rises}
 use Rattle.merge_laws.proofs.Lists.{AllBelow, from_end, or_none, rises_front, below_last}
 

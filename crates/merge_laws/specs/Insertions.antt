@@ -1,6 +1,6 @@
 -- What one list takes from another: new items, each with the place before which it goes, and merged values (own).
-use Rattle.std.specs.Prelude.{ℕ, zero, suc, if◌then◌else◌, List, [], ◌∷◌, ◌++◌, take, drop, Option, Some, None, Result, Ok, Err}
-use Rattle.std.specs.List.{flat_map}
+use Rattle.std.specs.Prelude.{ℕ, zero, suc, ◌≤◌, if◌then◌else◌, List, [], ◌∷◌, ◌++◌, take, drop, Option, Some, None, Result, Ok, Err}
+use Rattle.std.specs.List.{AllByRecursion, flat_map}
 use Rattle.std.specs.declared.cmp.Ordering.{Ordering}
 use Rattle.merge_laws.specs.Sorted.{item_at, has_key, place_of, entry_key}
 
@@ -8,6 +8,15 @@ use Rattle.merge_laws.specs.Sorted.{item_at, has_key, place_of, entry_key}
 abbrev pub inserted : {E : Type 0} → List E → List (ℕ × E) → List E
 inserted es [] = es
 inserted es (n ∷ ns) = inserted (take n.0 es) ns ++ n.1 ∷ drop n.0 es
+
+-- the place of the first new item
+abbrev pub first_place : {E : Type 0} → List (ℕ × E) → ℕ
+first_place [] = 0
+first_place (n ∷ ns) = n.0
+
+-- no new item goes before the first one's place
+abbrev pub IsFirstLeast : {E : Type 0} → List (ℕ × E) → Type 0
+IsFirstLeast ns = AllByRecursion (λ n. first_place ns ≤ n.0) ns
 
 module _ {K E : Type 0} (R : K → K → Ordering) (key : E → K) where
   -- where a key is, or where it would go

@@ -1,5 +1,5 @@
 -- Lists of items in the strict order of their keys (own). The items of a set are keys themselves; those of a map have a value beside the key.
-use Rattle.std.specs.Prelude.{◌≡◌, Bool, not, ℕ, List, Option, is_some}
+use Rattle.std.specs.Prelude.{Bool, not, ℕ, List, Option, is_some}
 use Rattle.std.specs.List.{AllByRecursion, find, position_or_len}
 use Rattle.std.specs.List.Sorted.{IsStrictlySortedBy}
 use Rattle.std.specs.Option.{option_map}

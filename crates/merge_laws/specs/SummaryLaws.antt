@@ -5,7 +5,6 @@ use Rattle.oim_value.specs.Interval.{common_part}
 use Rattle.oim_value.specs.declared.interval.Interval.{Interval}
 use Rattle.merge_laws.specs.Ends.{Summarised, both_summaries}
 use Rattle.merge_laws.specs.Union.{either_or_both}
-use Rattle.std.specs.Prelude.{ℤ}
 use Rattle.std.specs.Int.{int_max, int_min}
 use Rattle.std.proofs.Common.{arith}
 use Rattle.std.proofs.lemmas.Int.{ints, clamps}

@@ -1,5 +1,5 @@
-ghost use Rattle.std.specs.Prelude.{◌≡◌, ◌+◌, ◌-◌, ◌≤◌, [], ◌++◌, take, drop, length, reverse, vec_len, vec_capacity, IfOk};
-ghost use Rattle.merge_laws.specs.Insertions.{inserted};
+ghost use Rattle.std.specs.Prelude.{◌≡◌, ◌+◌, ◌-◌, ◌<◌, ◌≤◌, [], ◌++◌, take, drop, length, reverse, vec_len, vec_capacity, IfOk};
+ghost use Rattle.merge_laws.specs.Insertions.{IsFirstLeast, first_place, inserted};
 
 use std::alloc::AllocError;
 
@@ -7,21 +7,30 @@ use std::alloc::AllocError;
 
 /// Asks for all the memory that `insert_all` wants: room among the items, and room for those that
 /// are moved.
-pub(crate) fn room_for<E: Drop>(items: &mut Vec<E>, news: &[(usize, E)]) -> Result<Vec<E>, AllocError>
+pub(crate) fn room_for<E: Drop>(
+    items: &mut Vec<E>,
+    news: &[(usize, E)],
+) -> Result<Vec<E>, AllocError>
     ensures kept { items.new.items ≡ items.old.items }
     ensures among { IfOk result (λ above. vec_len items.new + length news.now ≤ vec_capacity items.new) }
-    ensures above { IfOk result (λ above. vec_len items.new + length news.now ≤ vec_capacity above) }
+    ensures above { IfOk result (λ above. vec_len items.new - first_place news.now + length news.now ≤ vec_capacity above) }
     ensures empty { IfOk result (λ above. above.items ≡ []) }
 {
     items.reserve(news.len())?;
-    Vec::with_capacity(*items.allocator(), items.len() + news.len())
+    let first = match news.first() {
+        Some((place, _)) => *place,
+        None => 0,
+    };
+    let moved = items.len().saturating_sub(first);
+    Vec::with_capacity(*items.allocator(), moved + news.len())
 }
 
 /// Puts the new items in. The items behind the first of them are moved, and no others.
 pub(crate) fn insert_all<E: Drop>(items: &mut Vec<E>, mut news: Vec<(usize, E)>, mut above: Vec<E>)
+    requires order { IsFirstLeast news.items }
     requires empty { above.items ≡ [] }
     requires among { vec_len items.old + vec_len news ≤ vec_capacity items.old }
-    requires above { vec_len items.old + vec_len news ≤ vec_capacity above }
+    requires above { vec_len items.old - first_place news.items + vec_len news ≤ vec_capacity above }
     ensures { items.new.items ≡ inserted items.old.items (reverse news.items) }
 {
     while let Some((place, item)) = news.pop() {
@@ -33,10 +42,11 @@ pub(crate) fn insert_all<E: Drop>(items: &mut Vec<E>, mut news: Vec<(usize, E)>,
 
 // Moves the items from a place on above the others, the last first.
 fn lift<E: Drop>(items: &mut Vec<E>, place: usize, above: &mut Vec<E>)
-    requires { vec_len above.old + vec_len items.old ≤ vec_capacity above.old }
+    requires { vec_len above.old + (vec_len items.old - place) ≤ vec_capacity above.old }
     ensures items { items.new.items ≡ take place items.old.items }
     ensures above { reverse above.new.items ≡ drop place items.old.items ++ reverse above.old.items }
     ensures together { vec_len above.new + vec_len items.new ≡ vec_len above.old + vec_len items.old }
+    ensures untouched { vec_len items.new < place → vec_len items.new ≡ vec_len items.old }
     ensures room { vec_capacity above.new ≡ vec_capacity above.old }
     ensures kept { vec_capacity items.new ≡ vec_capacity items.old }
 {

@@ -94,7 +94,10 @@ impl<K: Key, V: Merge> Copied for SortedMap<K, V> {
     }
 }
 
-fn copies_of<K: Copied, V: Copied>(alloc: Global, entries: &[(K, V)]) -> Result<Vec<(K, V)>, AllocError>
+fn copies_of<K: Copied, V: Copied>(
+    alloc: Global,
+    entries: &[(K, V)],
+) -> Result<Vec<(K, V)>, AllocError>
     ensures { IfOk result (λ copies. copies.items ≡ entries.now) }
 {
     let mut copies = Vec::with_capacity(alloc, entries.len())?;

@@ -42,7 +42,7 @@ pub is_real : (y m d : ℕ) → 1 ≤ y → IsCivilDate (pos y) m d → (nat_le 
 is_real y m d low h = grind (arith, nat_tests)
 
 -- tests of an order
-le_true : (a b : ℤ) → a ≤ℤ b → int_le a b ≡ true
+pub le_true : (a b : ℤ) → a ≤ℤ b → int_le a b ≡ true
 le_true a b h = grind (arith, ints)
 
 le_false : (a b : ℤ) → b <ℤ a → int_le a b ≡ false

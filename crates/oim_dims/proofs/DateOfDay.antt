@@ -7,7 +7,7 @@ use Rattle.jiff_core.specs.Calendar.{days_from_civil, days_in_month, days_in_yea
 use Rattle.jiff_core.proofs.CalendarLemmas.{day_count-next_year, day_count-next_month, day_count-last_of_year, day_count-day, days_in_month_bounds, days_from_civil-day_count, day_count-end}
 use Rattle.jiff_core.proofs.SignedLemmas.{signed_arith}
 use Rattle.oim_dims.specs.DateTime.{greatest, year_of, month_of, day_of}
-use Rattle.oim_dims.proofs.Calendar.{first_day}
+use Rattle.oim_dims.proofs.Calendar.{first_day, le_true}
 
 -- the greatest number that passes passes, and none above it does
 record IsGreatest (p : ℕ → Bool) (n k g : ℕ) : Type 0 where
@@ -45,9 +45,6 @@ le_is a b h = grind (arith, ints)
 
 lt_is : (a b : ℤ) → int_le a b ≡ false → b <ℤ a
 lt_is a b h = grind (arith, ints)
-
-le_true : (a b : ℤ) → a ≤ℤ b → int_le a b ≡ true
-le_true a b h = grind (arith, ints)
 
 -- the days of the year hold the day
 year_holds : (z : ℤ) → IsBetween (neg_ℤ (pos 719_162)) (pos 2_932_896) z → (y : ℕ) → IsGreatest (λ n. int_le (days_from_civil (pos n) 1 1) z) 9999 1 y → (days_from_civil (pos y) 1 1 ≤ℤ z) × (z <ℤ (days_from_civil (pos y) 1 1 +ℤ pos (days_in_year (pos y))))

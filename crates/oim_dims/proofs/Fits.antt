@@ -1,6 +1,7 @@
 -- A period that was read is one of moments, and ends after its start.
 use Rattle.std.proofs.Common.{◌≡◌, ℕ, ◌<◌, ◌≤◌, Bool, true, false, List, length, refl, subst, arith, ℤ, pos, neg_ℤ, ◌<ℤ◌, ◌≤ℤ◌}
 use Rattle.std.specs.Prelude.{Option, Some, None, Result, Ok, Err, nat_le, int_le, int_lt, ◌&&◌, if◌then◌else◌, slice_range}
+use Rattle.std.proofs.lemmas.Bool.{and_parts}
 use Rattle.std.specs.Int.{is_in_range}
 use Rattle.std.specs.Ordering.{int_eq}
 use Rattle.std.proofs.lemmas.Bool.Decides.{nat_tests}
@@ -13,18 +14,18 @@ use Rattle.oim_names.specs.declared.reason.Reason.TheVariants.{PeriodOrder}
 use Rattle.oim_dims.specs.declared.period.Period.{Period}
 use Rattle.oim_dims.specs.declared.period.Period.TheVariants.{Instant, Duration}
 use Rattle.oim_dims.specs.DateTime.{has_picture, has_date, has_time, day_number, second_at, moment_of, year, month, day, is_date_time, IsMoment}
-use Rattle.oim_dims.specs.Period.{from_to, period_of, start_part, end_part, IsPeriod}
+use Rattle.oim_dims.specs.Period.{from_to, start_part, end_part, IsPeriod, ReadPeriodsFit}
 use Rattle.oim_dims.proofs.Calendar.{day_range}
-use Rattle.oim_dims.proofs.Digits.{both_true, after_lt}
+use Rattle.oim_value.proofs.Numerals.{after_lt}
 use Rattle.oim_dims.proofs.Picture.{pictured_length, pictured_digits}
 
 -- the tests of a date, read back
 real_is : (y m d : ℕ) → y < 10_000 → (nat_le 1 y && is_in_range 1 12 m && is_in_range 1 (days_in_month (pos y) m) d) ≡ true → (1 ≤ y) × IsCivilDate (pos y) m d
 real_is y m d few h =
-    let a = both_true (nat_le 1 y && is_in_range 1 12 m) (is_in_range 1 (days_in_month (pos y) m) d) h in
-    let b = both_true (nat_le 1 y) (is_in_range 1 12 m) a.0 in
-    let c = both_true (nat_le 1 m) (nat_le m 12) b.1 in
-    let e = both_true (nat_le 1 d) (nat_le d (days_in_month (pos y) m)) a.1 in
+    let a = and_parts (nat_le 1 y && is_in_range 1 12 m) (is_in_range 1 (days_in_month (pos y) m) d) h in
+    let b = and_parts (nat_le 1 y) (is_in_range 1 12 m) a.0 in
+    let c = and_parts (nat_le 1 m) (nat_le m 12) b.1 in
+    let e = and_parts (nat_le 1 d) (nat_le d (days_in_month (pos y) m)) a.1 in
     let low : 1 ≤ y = le_is 1 y b.0 in
     (low, ((omega (arith, signed_arith), omega (arith, signed_arith)), (le_is 1 m c.0, le_is m 12 c.1), (le_is 1 d e.0, le_is d _ e.1)))
   where
@@ -50,9 +51,9 @@ not_none false y z h = absurd (cc)
 pub moment_fits : (t : List ℕ) (z : ℤ) → moment_of t ≡ Some z → IsMoment z
 moment_fits t z h =
     let e = not_none (is_date_time t) (second_at t) z h in
-    let a = both_true (has_picture t && has_date t && has_time t) (int_le (second_at t) (pos 253_402_300_799)) e.0 in
-    let b = both_true (has_picture t && has_date t) (has_time t) a.0 in
-    let c = both_true (has_picture t) (has_date t) b.0 in
+    let a = and_parts (has_picture t && has_date t && has_time t) (int_le (second_at t) (pos 253_402_300_799)) e.0 in
+    let b = and_parts (has_picture t && has_date t) (has_time t) a.0 in
+    let c = and_parts (has_picture t) (has_date t) b.0 in
     let day = day_is t c.0 c.1 in
     let within = last_is (second_at t) a.1 in
     let is = e.1 in
@@ -73,5 +74,5 @@ from_to_fits (Some s) (Some e) p hs he h =
       ] refl q
     ] refl h
 
-pub period_fits : (t : List ℕ) (p : Period) → period_of t ≡ Ok p → IsPeriod p
+pub period_fits : ReadPeriodsFit
 period_fits t p h = from_to_fits (moment_of (start_part t)) (moment_of (end_part t)) p (moment_fits (start_part t)) (moment_fits (end_part t)) h

@@ -5,7 +5,7 @@ use Rattle.std.specs.Char.{is_ascii_alphabetic, is_ascii_alphanumeric, to_ascii_
 use Rattle.std.specs.Str.{str_to_ascii_lowercase}
 use Rattle.std.proofs.lemmas.Bool.Decides.{nat_tests}
 use Rattle.std.proofs.lemmas.List.{length-map}
-use Rattle.oim_dims.specs.Language.{is_hyphen, is_group, is_language}
+use Rattle.oim_dims.specs.Language.{is_hyphen, is_group, is_language, LanguagesAreKept}
 
 lower_hyphen : (c : ℕ) → is_hyphen (to_ascii_lowercase c) ≡ is_hyphen c
 lower_hyphen c = grind (arith, nat_tests)
@@ -60,5 +60,5 @@ pub lower_again : (t : List ℕ) → str_to_ascii_lowercase (str_to_ascii_lowerc
 lower_again [] = refl
 lower_again (c ∷ cs) = rw (lower_twice c, lower_again cs) refl
 
-pub language_kept : (t : List ℕ) → is_language t ≡ true → (is_language (str_to_ascii_lowercase t) ≡ true) × (str_to_ascii_lowercase (str_to_ascii_lowercase t) ≡ str_to_ascii_lowercase t)
-language_kept t h = (lower_language t ∙ h, lower_again t)
+pub language_kept : LanguagesAreKept
+language_kept t h = record { language = lower_language t ∙ h; same = lower_again t }

@@ -1,4 +1,3 @@
-pub mod Digits
 pub mod Picture
 pub mod Calendar
 pub mod DateOfDay

@@ -1,16 +1,15 @@
 -- The text of a moment denotes it.
-use Rattle.std.proofs.Common.{◌≡◌, ℕ, ◌+◌, ◌*◌, ◌/◌, ◌%◌, ◌<◌, true, List, ◌∷◌, ◌++◌, refl, arith, ℤ, pos, negsuc, neg_ℤ, ◌+ℤ◌, ◌*ℤ◌, ◌≤ℤ◌}
-use Rattle.std.specs.Prelude.{Bool, false, ◌==◌, Some, unsigned_abs, int_le, nat_le, ◌&&◌}
+use Rattle.std.proofs.Common.{◌≡◌, ℕ, ◌+◌, ◌*◌, ◌/◌, ◌%◌, ◌<◌, true, List, ◌∷◌, ◌++◌, refl, arith, ℤ, pos, negsuc, neg_ℤ, ◌+ℤ◌, ◌*ℤ◌}
+use Rattle.std.specs.Prelude.{Bool, false, ◌==◌, Some, unsigned_abs, nat_le, ◌&&◌}
 use Rattle.std.specs.Int.{int_div_euclid, int_rem_euclid}
 use Rattle.std.proofs.lemmas.Bool.Decides.{nat_tests}
-use Rattle.std.proofs.lemmas.Int.{ints}
 use Rattle.std.specs.List.{list_any}
 use Rattle.std.specs.Char.{is_ascii_digit, digit_value}
 use Rattle.jiff_core.specs.Calendar.{days_from_civil, IsBetween}
 use Rattle.jiff_core.proofs.CalendarLemmas.{days_in_month_bounds}
 use Rattle.jiff_core.proofs.SignedLemmas.{signed_arith}
 use Rattle.oim_dims.specs.DateTime.{two_digits, four_digits, has_picture, has_date, has_time, day_number, second_of_day, number, moment_of, moment_text, date_text, time_text, year_of, month_of, day_of, IsMoment}
-use Rattle.oim_dims.proofs.Calendar.{is_real}
+use Rattle.oim_dims.proofs.Calendar.{is_real, le_true}
 use Rattle.oim_dims.proofs.DateOfDay.{IsDateOf, date_of_day}
 
 abbrev spelled : ℕ → ℕ → ℕ → ℕ → ℕ → ℕ → List ℕ
@@ -83,9 +82,6 @@ parts z h =
 
 clock_shows : (h n s : ℕ) → h < 24 → n < 60 → s < 60 → (nat_le n 59 && nat_le s 59 && nat_le (3600 * h + 60 * n + s) 86_400) ≡ true
 clock_shows h n s hh hn hs = grind (arith, nat_tests)
-
-le_true : (a b : ℤ) → a ≤ℤ b → int_le a b ≡ true
-le_true a b h = grind (arith, ints)
 
 -- what the text says
 spelled_back : (z : ℤ) (y m d h n s : ℕ) → IsMoment z → AreParts z y m d h n s → moment_of (spelled y m d h n s) ≡ Some z

@@ -1,6 +1,7 @@
 -- The measures that the pieces of a unit name.
 use Rattle.std.proofs.Common.{◌≡◌, ◌≢◌, ◌⊎◌, inl, inr, ◌∙◌, ℕ, zero, suc, ◌<◌, Bool, true, false, cond, List, [], ◌∷◌, length, drop, get_or, refl, sym, ap, arith}
-use Rattle.std.specs.Prelude.{Option, Some, None, All, IsTrue, not, ◌||◌, if◌then◌else◌, ◌==◌}
+use Rattle.std.specs.Prelude.{Option, Some, None, All, IsTrue, not, if◌then◌else◌, ◌==◌}
+use Rattle.std.proofs.lemmas.Bool.{and_parts, or_parts, not-true}
 use Rattle.std.proofs.lemmas.Bool.Decides.{nat_tests}
 use Rattle.std.specs.Option.{option_map_or}
 use Rattle.std.specs.List.{AllZip, list_all, list_any, slice_split, onto_first}
@@ -12,7 +13,6 @@ use Rattle.oim_names.specs.Expansion.{Expands, name_refusal, is_unbound, is_rese
 use Rattle.oim_names.specs.declared.reason.Reason.{Reason}
 use Rattle.oim_names.specs.declared.reason.Reason.TheVariants.{OutOfMemory, NameForm, UnboundPrefix, ReservedNamespace, UnitForm}
 use Rattle.oim_dims.specs.Unit.{is_mark, is_star, is_piece, is_unit_text, is_refused, some_piece, unit_refusal, numerator_pieces, denominator_pieces, IsMeasure}
-use Rattle.oim_dims.proofs.Digits.{both_true}
 
 -- the refusal of a name, by its three tests
 abbrev first_of_three : Bool → Bool → Bool → Option Reason
@@ -33,16 +33,12 @@ none_of_three true false false h k l = refl
 piece_named : (bs : List Binding) (p : List ℕ) → is_refused bs NameForm p ≡ false → is_refused bs UnboundPrefix p ≡ false → is_refused bs ReservedNamespace p ≡ false → name_refusal bs p ≡ None
 piece_named bs p h k l = none_of_three (is_name p) (is_unbound bs p) (is_reserved bs p) h k l
 
-neither : (a b : Bool) → (a || b) ≡ false → (a ≡ false) × (b ≡ false)
-neither true b h = cc
-neither false b h = (refl, h)
-
 all_named : (bs : List Binding) (ps : List (List ℕ)) → list_any (is_refused bs NameForm) ps ≡ false → list_any (is_refused bs UnboundPrefix) ps ≡ false → list_any (is_refused bs ReservedNamespace) ps ≡ false → All (λ p. name_refusal bs p ≡ None) ps
 all_named bs [] h k l = λ j d lt. absurd (omega arith)
 all_named bs (p ∷ ps) h k l =
-    let a = neither (is_refused bs NameForm p) (list_any (is_refused bs NameForm) ps) h in
-    let b = neither (is_refused bs UnboundPrefix p) (list_any (is_refused bs UnboundPrefix) ps) k in
-    let c = neither (is_refused bs ReservedNamespace p) (list_any (is_refused bs ReservedNamespace) ps) l in
+    let a = or_parts (is_refused bs NameForm p) (list_any (is_refused bs NameForm) ps) h in
+    let b = or_parts (is_refused bs UnboundPrefix p) (list_any (is_refused bs UnboundPrefix) ps) k in
+    let c = or_parts (is_refused bs ReservedNamespace p) (list_any (is_refused bs ReservedNamespace) ps) l in
     All-cons (λ q. name_refusal bs q ≡ None) p ps (piece_named bs p a.0 b.0 c.0) (all_named bs ps a.1 b.1 c.1)
 
 -- what a text that is not refused has
@@ -66,9 +62,9 @@ none_of_four true false false false h = (refl, refl, refl, refl)
 pub unit_named : (bs : List Binding) (t : List ℕ) → unit_refusal bs t ≡ None → IsNamed bs t
 unit_named bs t h =
     let e = none_of_four (is_unit_text t) (some_piece (is_refused bs NameForm) t) (some_piece (is_refused bs UnboundPrefix) t) (some_piece (is_refused bs ReservedNamespace) t) h in
-    let a = neither _ _ e.1 in
-    let b = neither _ _ e.2 in
-    let c = neither _ _ e.3 in
+    let a = or_parts _ _ e.1 in
+    let b = or_parts _ _ e.2 in
+    let c = or_parts _ _ e.3 in
     record { form = e.0; numerators = all_named bs (numerator_pieces t) a.0 b.0 c.0; denominators = all_named bs (denominator_pieces t) a.1 b.1 c.1 }
 
 -- the only error of a name that is not refused
@@ -79,17 +75,13 @@ only_memory bs p e none h = elim h [ inl memory ↦ memory | inr refused ↦ abs
 no_mark_after : (n : ℕ) (p : List ℕ) → list_any is_mark p ≡ false → list_any is_mark (drop n p) ≡ false
 no_mark_after zero p h = h
 no_mark_after (suc n) [] h = refl
-no_mark_after (suc n) (c ∷ cs) h = no_mark_after n cs (neither (is_mark c) (list_any is_mark cs) h).1
-
-not_true : (b : Bool) → not b ≡ true → b ≡ false
-not_true true h = cc
-not_true false h = refl
+no_mark_after (suc n) (c ∷ cs) h = no_mark_after n cs (or_parts (is_mark c) (list_any is_mark cs) h).1
 
 measure_of_piece : (bs : List Binding) (p : List ℕ) (n : QName) → Expands bs p n → is_piece p ≡ true → IsMeasure n
 measure_of_piece bs p n e h =
-    let parts = both_true (not (length p == 0)) (not (list_any is_mark p)) h in
-    let plain : list_any is_mark p ≡ false = not_true (list_any is_mark p) parts.1 in
-    let form : IsTrue (is_part (local_part p)) = (both_true (is_part (prefix_part p)) (is_part (local_part p)) e.form).1 in
+    let parts = and_parts (not (length p == 0)) (not (list_any is_mark p)) h in
+    let plain : list_any is_mark p ≡ false = not-true (list_any is_mark p) parts.1 in
+    let form : IsTrue (is_part (local_part p)) = (and_parts (is_part (prefix_part p)) (is_part (local_part p)) e.form).1 in
     record {
       allowed = e.allowed;
       form = rw e.local_part form;
@@ -102,7 +94,7 @@ measures_of_pieces bs [] [] z h = λ j d lt. absurd (omega arith)
 measures_of_pieces bs [] (n ∷ ns) z h = absurd z
 measures_of_pieces bs (p ∷ ps) [] z h = absurd z
 measures_of_pieces bs (p ∷ ps) (n ∷ ns) z h =
-    let b = both_true (is_piece p) (list_all is_piece ps) h in
+    let b = and_parts (is_piece p) (list_all is_piece ps) h in
     All-cons IsMeasure n ns (measure_of_piece bs p n z.0 b.0) (measures_of_pieces bs ps ns z.1 b.1)
 
 -- a side has a piece

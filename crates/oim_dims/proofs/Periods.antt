@@ -7,7 +7,7 @@ use Rattle.std.proofs.lemmas.Int.{ints}
 use Rattle.oim_dims.specs.declared.period.Period.{Period}
 use Rattle.oim_dims.specs.declared.period.Period.TheVariants.{Forever, Instant, Duration}
 use Rattle.oim_dims.specs.DateTime.{moment_of, moment_text, IsMoment}
-use Rattle.oim_dims.specs.Period.{is_slash, start_part, period_of, period_text, IsPeriod}
+use Rattle.oim_dims.specs.Period.{is_slash, start_part, period_of, period_text, IsPeriod, PeriodsReadBack}
 use Rattle.oim_dims.proofs.Cuts.{none_passes, no_place, cut}
 use Rattle.oim_dims.proofs.MomentText.{moment_back, moment_has_no}
 
@@ -33,7 +33,7 @@ two_moments start end s e rises =
     rw (h.some, h.before, h.after, moment_back start s, moment_back end e, later, earlier) refl
 
 -- the text of a period denotes it
-pub period_back : (p : Period) → IsPeriod p → IfSome (period_text p) (λ t. period_of t ≡ Ok p)
+pub period_back : PeriodsReadBack
 period_back Forever h = tt
 period_back (Instant m) h = moment_alone m h
 period_back (Duration start end) h = two_moments start end h.0 h.1 h.2

@@ -1,13 +1,13 @@
 -- What the picture of a date-time says of its parts.
 use Rattle.std.proofs.Common.{◌≡◌, ℕ, zero, suc, ◌+◌, ◌-◌, ◌<◌, Bool, true, false, List, [], ◌∷◌, length, get_or, take, drop, refl, sym, ◌∙◌, add-one, arith}
 use Rattle.std.specs.Prelude.{◌==◌, slice_range}
+use Rattle.std.proofs.lemmas.Bool.{and_parts}
 use mathlib.Core.Bool.{◌&&◌}
 use Rattle.std.proofs.lemmas.Bool.Decides.{nat_tests}
 use Rattle.std.specs.Char.{is_ascii_digit}
 use Rattle.std.specs.List.{list_all, zip}
 use Rattle.std.proofs.Math.Seq.{drop-cons}
 use Rattle.oim_dims.specs.DateTime.{fits, picture, has_picture}
-use Rattle.oim_dims.proofs.Digits.{both_true}
 
 -- where the picture has a 0, the text has a digit
 digit_there : (sign c : ℕ) → fits (sign, c) ≡ true → (sign == 48) ≡ true → is_ascii_digit c ≡ true
@@ -20,8 +20,8 @@ front_digits (suc n) [] [] same h zeros = refl
 front_digits (suc n) [] (c ∷ cs) same h zeros = absurd (omega arith)
 front_digits (suc n) (p ∷ ps) [] same h zeros = absurd (omega arith)
 front_digits (suc n) (p ∷ ps) (c ∷ cs) same h zeros =
-    let fit = both_true (fits (p, c)) (list_all fits (zip ps cs)) h in
-    let zero_signs = both_true (p == 48) (list_all (λ sign. sign == 48) (take n ps)) zeros in
+    let fit = and_parts (fits (p, c)) (list_all fits (zip ps cs)) h in
+    let zero_signs = and_parts (p == 48) (list_all (λ sign. sign == 48) (take n ps)) zeros in
     rw (digit_there p c fit.0 zero_signs.0) (front_digits n ps cs (omega arith) fit.1 zero_signs.1)
 
 -- n characters after the first i
@@ -31,16 +31,16 @@ part_digits (suc i) zero [] [] same h zeros = refl
 part_digits (suc i) (suc n) [] [] same h zeros = refl
 part_digits (suc i) n [] (c ∷ cs) same h zeros = absurd (omega arith)
 part_digits (suc i) n (p ∷ ps) [] same h zeros = absurd (omega arith)
-part_digits (suc i) n (p ∷ ps) (c ∷ cs) same h zeros = part_digits i n ps cs (omega arith) (both_true (fits (p, c)) (list_all fits (zip ps cs)) h).1 zeros
+part_digits (suc i) n (p ∷ ps) (c ∷ cs) same h zeros = part_digits i n ps cs (omega arith) (and_parts (fits (p, c)) (list_all fits (zip ps cs)) h).1 zeros
 
 pub pictured_length : (t : List ℕ) → has_picture t ≡ true → length t ≡ 19
 unfolding has_picture
-pictured_length t h = let e = both_true (length t == 19) (list_all fits (zip picture t)) h in let f : (length t == 19) ≡ true = e.0 in grind (arith, nat_tests)
+pictured_length t h = let e = and_parts (length t == 19) (list_all fits (zip picture t)) h in let f : (length t == 19) ≡ true = e.0 in grind (arith, nat_tests)
 
 pub pictured_digits : (t : List ℕ) (i j : ℕ) → has_picture t ≡ true → list_all (λ sign. sign == 48) (slice_range picture i j) ≡ true → list_all is_ascii_digit (slice_range t i j) ≡ true
 unfolding has_picture
 pictured_digits t i j h zeros =
-    let e = both_true (length t == 19) (list_all fits (zip picture t)) h in
+    let e = and_parts (length t == 19) (list_all fits (zip picture t)) h in
     let same : 19 ≡ length t = omega (arith, pictured_length t h) in
     part_digits i (j - i) picture t same e.1 zeros
 

@@ -1,6 +1,7 @@
 -- Where a member goes among members in the order of names.
 use Rattle.std.proofs.Common.{◌≡◌, ℕ, suc, ◌<◌, Bool, true, false, List, [], ◌∷◌, ◌++◌, length, get_or, take, drop, refl, sym, ap, ◌∙◌}
 use Rattle.std.specs.Prelude.{if◌then◌else◌, Result, Ok, Err, OnOk, OnErr}
+use Rattle.std.proofs.lemmas.Bool.{and_parts}
 use Rattle.std.specs.List.{insert}
 use Rattle.std.specs.Ordering.{is_lt, ordering_reverse}
 use Rattle.std.specs.declared.cmp.Ordering.{Ordering}
@@ -11,7 +12,6 @@ use Rattle.oim_names.specs.contracts.name.NameOrd.TheImpl.Laws.{total-law as nam
 use Rattle.oim_dims.specs.declared.member.Member.{Member}
 use Rattle.oim_value.specs.ValueOrder.{name_cmp}
 use Rattle.oim_dims.specs.DimensionSet.{is_below, rises, has_name, with_member}
-use Rattle.oim_dims.proofs.Digits.{both_true}
 
 -- the place is not before i
 pub record IsPast (n : QName) (es : List (QName × Member)) (i : ℕ) : Type 0 where
@@ -28,7 +28,7 @@ less_is Greater h = cc
 below_none : (n k : QName) (es : List (QName × Member)) → name_cmp n k ≡ Less → is_below k es ≡ true → has_name n es ≡ false
 below_none n k [] less h = refl
 below_none n k (e ∷ es) less h =
-    let b = both_true (is_lt (name_cmp k e.0)) (is_below k es) h in
+    let b = and_parts (is_lt (name_cmp k e.0)) (is_below k es) h in
     let here : name_cmp n e.0 ≡ Less = name_total.trans n k e.0 less (less_is _ b.0) in
     rw here (below_none n k es less b.1)
 
@@ -36,13 +36,13 @@ below_none n k (e ∷ es) less h =
 pub below_here : (n : QName) (es : List (QName × Member)) (i : ℕ) (e : QName × Member) → i < length es → e ≡ get_or es i e → name_cmp n e.0 ≡ Less → IsPast n es i → has_name n es ≡ false
 below_here n es i e within is less h =
     let here : drop i es ≡ e ∷ drop (suc i) es = drop-cons es i e within ∙ ap (λ x. x ∷ drop (suc i) es) (sym is) in
-    let rest = both_true (is_below e.0 (drop (suc i) es)) (rises (drop (suc i) es)) (rw here at h.rising) in
+    let rest = and_parts (is_below e.0 (drop (suc i) es)) (rises (drop (suc i) es)) (rw here at h.rising) in
     h.none ∙ rw (here, less) (below_none n e.0 (drop (suc i) es) less rest.0)
 
 below_all : (n k : QName) (es : List (QName × Member)) → name_cmp n k ≡ Less → is_below k es ≡ true → is_below n es ≡ true
 below_all n k [] less h = refl
 below_all n k (e ∷ es) less h =
-    let b = both_true (is_lt (name_cmp k e.0)) (is_below k es) h in
+    let b = and_parts (is_lt (name_cmp k e.0)) (is_below k es) h in
     let here : name_cmp n e.0 ≡ Less = name_total.trans n k e.0 less (less_is _ b.0) in
     rw here (below_all n k es less b.1)
 
@@ -52,14 +52,14 @@ below_with k n m [] less h = rw less refl
 below_with k n m (e ∷ es) less h =
     elim (is_lt (name_cmp n e.0)) as (λ b. is_below k (if b then (n, m) ∷ e ∷ es else e ∷ with_member n m es) ≡ true) [
       | true ↦ rw less h
-      | false ↦ let b = both_true (is_lt (name_cmp k e.0)) (is_below k es) h in rw (b.0, below_with k n m es less b.1) refl
+      | false ↦ let b = and_parts (is_lt (name_cmp k e.0)) (is_below k es) h in rw (b.0, below_with k n m es less b.1) refl
     ]
 
 -- names still rise with one more
 pub rises_with : (n : QName) (m : Member) (es : List (QName × Member)) → rises es ≡ true → has_name n es ≡ false → rises (with_member n m es) ≡ true
 rises_with n m [] h none = refl
 rises_with n m (e ∷ es) h none =
-    let b = both_true (is_below e.0 es) (rises es) h in
+    let b = and_parts (is_below e.0 es) (rises es) h in
     elim (name_cmp n e.0) as (λ o. name_cmp n e.0 ≡ o → rises (with_member n m (e ∷ es)) ≡ true) [
       | Less ↦ λ o. rw o (rw (o, b.0, b.1, below_all n e.0 es o b.0) refl)
       | Equal ↦ λ o. absurd (cc (rw o at none))

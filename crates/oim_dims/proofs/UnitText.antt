@@ -1,6 +1,7 @@
 -- The text of a unit denotes it.
 use Rattle.std.proofs.Common.{◌≡◌, ◌≢◌, ℕ, suc, ◌<◌, Bool, true, false, List, [], ◌∷◌, ◌++◌, length, map, refl, sym, ap, ◌∙◌, arith}
 use Rattle.std.specs.Prelude.{Some, None, All, not, ◌==◌, if◌then◌else◌}
+use Rattle.std.proofs.lemmas.Bool.{and_parts, not-true}
 use Rattle.std.specs.Option.{option_map_or, unwrap_or}
 use Rattle.std.specs.List.{AllZip, list_all, list_any, slice_split, join_with_byte}
 use Rattle.std.proofs.lemmas.Bool.Decides.{nat_tests}
@@ -11,8 +12,7 @@ use Rattle.oim_names.specs.QName.{QName}
 use Rattle.oim_names.specs.Bindings.{Binding, AreBindings, prefix_of}
 use Rattle.oim_names.specs.Expansion.{Expands}
 use Rattle.oim_names.proofs.Spelling.{spelled_back}
-use Rattle.oim_dims.specs.Unit.{is_mark, is_star, is_slash, inner, pieces, is_piece, numerator_pieces, denominator_pieces, is_writable, can_write, measure_text, product_text, side_text, unit_text, Measures, IsMeasure, IsUnit, NamesEach, HasMeasures, UnitOf}
-use Rattle.oim_dims.proofs.Digits.{both_true}
+use Rattle.oim_dims.specs.Unit.{is_mark, is_star, is_slash, inner, pieces, is_piece, numerator_pieces, denominator_pieces, is_writable, measure_text, product_text, side_text, unit_text, Measures, IsMeasure, NamesEach, HasMeasures, UnitOf, UnitsReadBack}
 use Rattle.std.proofs.lemmas.List.Sorted.{IsPermutation-refl}
 use Rattle.oim_dims.proofs.Prefixes.{bound_back}
 use Rattle.oim_dims.proofs.Sides.{unopened, closed, one_side}
@@ -23,10 +23,6 @@ record IsSpelled (bs : List Binding) (t : List ℕ) (n : QName) : Type 0 where
   plain : list_any is_mark t ≡ false
   some : 0 < length t
   expands : Expands bs t n
-
-not_true : (b : Bool) → not b ≡ true → b ≡ false
-not_true true h = cc
-not_true false h = refl
 
 neither_in : (p : ℕ → Bool) (xs : List ℕ) (c : ℕ) (ys : List ℕ) → list_any p xs ≡ false → p c ≡ false → list_any p ys ≡ false → list_any p (xs ++ c ∷ ys) ≡ false
 neither_in p xs c ys h k l = rw (list_any-append p xs (c ∷ ys), h, k, l) refl
@@ -40,7 +36,7 @@ spelled bs n were h w =
     elim (prefix_of bs n.uri) as (λ o. prefix_of bs n.uri ≡ o → option_map_or (λ p. not (list_any is_mark p)) o false ≡ true → IsSpelled bs (unwrap_or o [] ++ 58 ∷ n.local_part) n) [
       | None ↦ λ e k. absurd (cc)
       | Some p ↦ λ e k. record {
-        plain = neither_in is_mark p 58 n.local_part (not_true (list_any is_mark p) k) refl h.plain;
+        plain = neither_in is_mark p 58 n.local_part (not-true (list_any is_mark p) k) refl h.plain;
         some = some_after p n.local_part 58;
         expands = spelled_back bs p (p ++ 58 ∷ n.local_part) n were refl (bound_back bs p n.uri were.distinct e) h.allowed h.form;
       }
@@ -50,7 +46,7 @@ spelled bs n were h w =
 each_spelled : (bs : List Binding) (ns : List QName) → AreBindings bs → All IsMeasure ns → list_all (is_writable bs) ns ≡ true → AllZip (IsSpelled bs) (map (measure_text bs) ns) ns
 each_spelled bs [] were h w = tt
 each_spelled bs (n ∷ ns) were h w =
-    let b = both_true (is_writable bs n) (list_all (is_writable bs) ns) w in
+    let b = and_parts (is_writable bs n) (list_all (is_writable bs) ns) w in
     (spelled bs n were (h 0 n (omega arith)) b.0, each_spelled bs ns were (All-tail IsMeasure n ns h) b.1)
 
 -- texts without a mark have none of its characters
@@ -192,10 +188,10 @@ module _ (bs : List Binding) (m : Measures) (nz : AllZip (IsSpelled bs) (map (me
       let parts = cut is_slash (side_text bs m.numerators) (side_text bs m.denominators) 47 (side_slash bs m.numerators up) refl in
       (ap pieces parts.before ∙ side_pieces bs m.numerators up, rw parts.some (ap pieces parts.after ∙ side_pieces bs m.denominators down))
 
-pub unit_back : (bs : List Binding) (m : Measures) → AreBindings bs → IsUnit m → can_write bs m ≡ true → UnitOf bs (unit_text bs m) (Some m)
+pub unit_back : UnitsReadBack
 unfolding unit_text
 unit_back bs m were h w =
-    let b = both_true (list_all (is_writable bs) m.numerators) (list_all (is_writable bs) m.denominators) w in
+    let b = and_parts (list_all (is_writable bs) m.numerators) (list_all (is_writable bs) m.denominators) w in
     let nz = each_spelled bs m.numerators were h.multiplied b.0 in
     let dz = each_spelled bs m.denominators were h.divided b.1 in
     let some = some_names m.numerators h.some in

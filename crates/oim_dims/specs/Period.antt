@@ -1,5 +1,5 @@
 -- Periods (OIM Common 1.0, the core dimension period; xBRL-JSON 1.0, periods as one date-time or two).
-use Rattle.std.specs.Prelude.{ℕ, ℤ, Bool, ◌==◌, int_lt, if◌then◌else◌, List, ◌∷◌, ◌++◌, Option, Some, None, Result, Ok, Err, ⊤, ◌<ℤ◌}
+use Rattle.std.specs.Prelude.{◌≡◌, ℕ, ℤ, Bool, ◌==◌, int_lt, if◌then◌else◌, List, ◌∷◌, ◌++◌, Option, Some, None, Result, Ok, Err, ⊤, ◌<ℤ◌, IfSome}
 use Rattle.std.specs.Ordering.{int_eq}
 use Rattle.std.specs.List.{list_any, before_first, after_first}
 use Rattle.oim_names.specs.declared.reason.Reason.{Reason}
@@ -40,3 +40,11 @@ abbrev pub IsPeriod : Period → Type 0
 IsPeriod Forever = ⊤
 IsPeriod (Instant m) = IsMoment m
 IsPeriod (Duration start end) = IsMoment start × IsMoment end × (start <ℤ end)
+
+-- the text of a period denotes it
+abbrev pub PeriodsReadBack : Type 0
+PeriodsReadBack = (p : Period) → IsPeriod p → IfSome (period_text p) (λ t. period_of t ≡ Ok p)
+
+-- a period that is read is one of moments, and a duration ends after its start
+abbrev pub ReadPeriodsFit : Type 0
+ReadPeriodsFit = (t : List ℕ) (p : Period) → period_of t ≡ Ok p → IsPeriod p

@@ -4,7 +4,7 @@ use Rattle.std.specs.List.{AllZip, list_all, list_any, slice_split, before_first
 use Rattle.std.specs.List.Sorted.{IsPermutation, IsSorted}
 use Rattle.std.specs.Option.{option_map_or, unwrap_or}
 use Rattle.oim_names.specs.QName.{QName, is_part}
-use Rattle.oim_names.specs.Bindings.{Binding, prefix_of}
+use Rattle.oim_names.specs.Bindings.{Binding, AreBindings, prefix_of}
 use Rattle.oim_names.specs.Expansion.{Expands, name_refusal, reserved_uri}
 use Rattle.oim_names.specs.Reasons.{entry_of}
 use Rattle.oim_names.specs.declared.reason.Reason.{Reason}
@@ -129,3 +129,7 @@ unfoldable pub unit_text : List Binding → Measures → List ℕ
 unit_text bs m =
     if length m.denominators == 0 then product_text bs m.numerators
     else side_text bs m.numerators ++ 47 ∷ side_text bs m.denominators
+
+-- the text of a unit denotes it
+abbrev pub UnitsReadBack : Type 0
+UnitsReadBack = (bs : List Binding) (m : Measures) → AreBindings bs → IsUnit m → IsTrue (can_write bs m) → UnitOf bs (unit_text bs m) (Some m)

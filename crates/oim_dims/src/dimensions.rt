@@ -84,7 +84,7 @@ impl Dimensions {
         self.unit.as_ref()
     }
 
-    /// The language of a text, in lower case.
+    /// The language of a text, as it was set; `read_language` gives it in lower case.
     pub fn language(&self) -> Option<&Text>
         ensures { option_copied result ≡ self.now.language }
     {
@@ -129,9 +129,7 @@ impl Dimensions {
 
     /// Adds the member of a taxonomy-defined dimension. After an error nothing has changed.
     ///
-    /// # Errors
-    ///
-    /// `DimensionValue` exactly where the dimension is there; `OutOfMemory`.
+    /// Errors: `DimensionValue` exactly where the dimension is there; `OutOfMemory`.
     pub fn add(&mut self, name: Name, member: Member) -> Result<(), Reason>
         ensures ok { OnOk result (self.new ≡ record self.old { members = with_member name member self.old.members }) }
         ensures refused { (result ≡ Err Reason.DimensionValue) ↔ IsTrue (has_name name self.old.members) }

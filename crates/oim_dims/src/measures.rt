@@ -15,10 +15,8 @@ use std::alloc::Global;
 /// `/` and the same of them, each side with or without parentheses round it (xBRL-JSON 1.0). `None`
 /// for `pure` alone, which is no unit.
 ///
-/// # Errors
-///
-/// `UnitForm` exactly where the text has not the form; else the first that holds of any piece of
-/// `NameForm`, `UnboundPrefix`, `ReservedNamespace`; `OutOfMemory`.
+/// Errors: `UnitForm` exactly where the text has not the form; else the first that holds of any piece
+/// of `NameForm`, `UnboundPrefix`, `ReservedNamespace`; `OutOfMemory`.
 pub fn read_unit(alloc: Global, aliases: &Aliases, text: &str) -> Result<Option<Unit>, Reason>
     ensures unit { IfOk result (UnitOf aliases.now text.now) }
     ensures errors { IfErr result (λ e. (e ≡ Reason.OutOfMemory) ⊎ (unit_refusal aliases.now text.now ≡ Some e)) }

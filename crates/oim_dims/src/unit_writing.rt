@@ -9,6 +9,8 @@ use std::alloc::{AllocError, Global};
 
 /// The text of a unit under these aliases, each side in the order of names (xBRL-JSON 1.0). It
 /// reads back. `can_write_unit` is the test for its condition.
+///
+/// Errors: want of memory.
 pub fn write_unit(alloc: Global, aliases: &Aliases, unit: &Unit) -> Result<Text, AllocError>
     requires { IsTrue (can_write aliases.now unit.now) }
     ensures text { IfOk result (λ text. text ≡ unit_text aliases.now unit.now) }

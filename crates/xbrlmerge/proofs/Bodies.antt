@@ -1,6 +1,7 @@
 -- Bodies by membership.
-use Rattle.std.proofs.Common.{◌≡◌, List, [], ◌∷◌, ◌++◌, append-nil, Bool, true, false, refl, sym, ap, ◌∙◌, inl, inr, ⊎_elim}
-use mathlib.Core.Bool.{◌||◌, true≢false}
+use Rattle.std.proofs.Common.{◌≡◌, List, [], ◌∷◌, ◌++◌, append-nil, Bool, true, refl, sym, ap, ◌∙◌, inl, inr, ⊎_elim}
+use mathlib.Core.Bool.{◌||◌}
+use Rattle.std.proofs.lemmas.Bool.{or_cases, or_left, or_right}
 use Rattle.std.specs.Prelude.{◌↔◌, ◌⊎◌, flat_map, Contains}
 use Rattle.std.specs.List.{list_any}
 use Rattle.std.specs.List.Sorted.{IsStrictlySortedBy}
@@ -18,18 +19,6 @@ use Rattle.xbrlmerge.specs.Sets.{IsSetOf, set_of}
 use Rattle.xbrlmerge.specs.declared.fact.Fact.{Fact}
 use Rattle.xbrlmerge.proofs.FactOrder.{fact_cmp_total, fact_cmp_exact}
 use Rattle.xbrlmerge.proofs.Members.{passes_there, sorted-set_of, has-set_of, set_of-same, set_of-sorted, set_of-both}
-
-one_so : (a b : Bool) → (a || b) ≡ true → (a ≡ true) ⊎ (b ≡ true)
-one_so true b e = inl refl
-one_so false b e = inr e
-
-first_so : (a b : Bool) → a ≡ true → (a || b) ≡ true
-first_so true b e = refl
-first_so false b e = absurd (true≢false (sym e))
-
-second_so : (a b : Bool) → b ≡ true → (a || b) ≡ true
-second_so true b e = refl
-second_so false b e = e
 
 module _ {K : Type 0} {R : K → K → Ordering} (o : IsTotalOrder R) (exact : (x y : K) → R x y ≡ Equal → x ≡ y) where
   same : (x y : K) → eq_by_cmp R x y ≡ true → x ≡ y
@@ -52,8 +41,8 @@ module _ {K : Type 0} {R : K → K → Ordering} (o : IsTotalOrder R) (exact : (
   pub in_one : (xs ys : List K) (x : K) → Contains (xs ++ ys) x ↔ (Contains xs x ⊎ Contains ys x)
   in_one xs ys x =
       let both : list_any (eq_by_cmp R x) (xs ++ ys) ≡ (list_any (eq_by_cmp R x) xs || list_any (eq_by_cmp R x) ys) = list_any-append (eq_by_cmp R x) xs ys in (
-        λ one. ⊎_elim (λ l. inl (there xs x l)) (λ r. inr (there ys x r)) (one_so _ _ (sym both ∙ tested _ x one)),
-        ⊎_elim (λ l. there _ x (both ∙ first_so _ _ (tested xs x l))) (λ r. there _ x (both ∙ second_so _ _ (tested ys x r))),
+        λ one. ⊎_elim (λ l. inl (there xs x l)) (λ r. inr (there ys x r)) (or_cases _ _ (sym both ∙ tested _ x one)),
+        ⊎_elim (λ l. there _ x (both ∙ or_left _ _ (tested xs x l))) (λ r. there _ x (both ∙ or_right _ _ (tested ys x r))),
       )
 
 pub body_is_set_of_facts : BodyIsSetOfFacts

@@ -2,15 +2,13 @@
 use Rattle.std.proofs.Common.{◌≡◌, ℕ, zero, suc, ◌+◌, ◌<◌, ◌≤◌, List, [], ◌∷◌, ◌++◌, length, get_or, take, drop, take-append-drop, append_assoc, Bool, true, false, refl, sym, ap, subst, ◌∙◌, arith}
 use mathlib.Core.Bool.{◌||◌}
 use Rattle.std.specs.List.{list_any, AllByRecursion}
-use Rattle.std.specs.List.Sorted.{IsStrictlySortedBy, IsPartitionPoint, IsNonDecreasingBy}
+use Rattle.std.specs.List.Sorted.{IsStrictlySortedBy, IsPartitionPoint}
 use Rattle.std.specs.declared.cmp.Ordering.{Ordering}
 use Rattle.std.specs.declared.cmp.Ordering.TheVariants.{Less, Equal, Greater}
-use Rattle.std.specs.Ordering.{eq_by_cmp, is_lt, ordering_index, ordering_reverse}
+use Rattle.std.specs.Ordering.{eq_by_cmp, ordering_reverse}
 use Rattle.std.specs.Cmp.{IsTotalOrder}
 use Rattle.std.proofs.lemmas.List.{drop_more}
 use Rattle.std.proofs.lemmas.List.Folds.{list_any-append}
-use Rattle.std.proofs.lemmas.List.Sorted.{searchable_from_sorted}
-use Rattle.std.proofs.lemmas.Map.Keys.{Less-from_sorted}
 use Rattle.xbrlmerge.specs.Sets.{set_of}
 use Rattle.xbrlmerge.proofs.Members.{set_of-same, set_of-sorted}
 
@@ -175,11 +173,3 @@ module _ {K : Type 0} {R : K → K → Ordering} (o : IsTotalOrder R) (exact : (
 
   pub set_rises : (set more above all : List K) → Grows set more above all → IsStrictlySortedBy R set
   set_rises set more above all grows = sorted_front set above grows.rises
-
-  -- what a binary search says of a set
-  pub place_in : (set : List K) (x : K) (i : ℕ) → IsStrictlySortedBy R set
-      → (IsNonDecreasingBy (λ y. ordering_index (R y x)) set → IsPartitionPoint (λ y. R y x ≡ Less) (λ y. R y x ≡ Greater) set i)
-      → IsPartitionPoint (λ y. R y x ≡ Less) (λ y. R y x ≡ Greater) set i
-  place_in set x i rises found =
-      found (searchable_from_sorted o (λ y. y) set x (λ k d low high.
-      ap is_lt (o.antisymm (get_or set (k + 1) d) (get_or set k d) ∙ ap ordering_reverse (Less-from_sorted R set k (k + 1) d rises (omega arith) high))))

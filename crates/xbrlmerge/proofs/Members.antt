@@ -1,6 +1,7 @@
 -- Sets as rising lists: what they have, and that this tells them apart.
 use Rattle.std.proofs.Common.{◌≡◌, ◌≢◌, List, [], ◌∷◌, ◌++◌, Bool, true, false, refl, sym, ap, ◌∙◌}
 use mathlib.Core.Bool.{◌||◌, true≢false}
+use Rattle.std.proofs.lemmas.Bool.{or_left}
 use Rattle.std.specs.Prelude.{Contains}
 use Rattle.std.specs.List.{list_any, AllByRecursion}
 use Rattle.std.specs.List.Sorted.{IsStrictlySortedBy}
@@ -23,10 +24,6 @@ or_swap false b c = refl
 or_rest : (a b c : Bool) → a ≡ false → (a || b) ≡ (a || c) → b ≡ c
 or_rest true b c e is = absurd (true≢false e)
 or_rest false b c e is = is
-
-or_first : (a b : Bool) → a ≡ true → (a || b) ≡ true
-or_first true b e = refl
-or_first false b e = absurd (true≢false (sym e))
 
 -- what stands in one list stands in another
 pub passes_there : {A : Type 0} (p : A → Bool) (xs ys : List A) → ((x : A) → Contains xs x → Contains ys x) → list_any p xs ≡ true → list_any p ys ≡ true
@@ -86,7 +83,7 @@ module _ {K : Type 0} {R : K → K → Ordering} (o : IsTotalOrder R) where
   none_above q (x ∷ xs) h = (λ i. is_eq (h.0 i) || none_above q xs h.1 i)
 
   has_first : (x : K) (xs : List K) → has x (x ∷ xs) ≡ true
-  has_first x xs = or_first _ _ (ap is_eq (tied_itself o x))
+  has_first x xs = or_left _ _ (ap is_eq (tied_itself o x))
 
   all_tied : (q x : K) (xs : List K) → R q x ≡ Equal → AllByRecursion (λ y. R x y ≡ Less) xs → AllByRecursion (λ y. R q y ≡ Less) xs
   all_tied q x [] p h = tt

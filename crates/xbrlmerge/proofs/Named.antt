@@ -1,6 +1,7 @@
 -- Names that are not refused.
 use Rattle.std.proofs.Common.{◌≡◌, ℕ, List, [], ◌∷◌, Bool, true, false, cond, not, ◌||◌, ◌&&◌, ◌⊎◌, inl, inr, Some, None, Result, Ok, Err, string_bytes, refl, sym}
 use Rattle.std.specs.Prelude.{OnOk, is_err}
+use Rattle.std.proofs.lemmas.Bool.{or_parts}
 use Rattle.std.specs.Option.{unwrap_or}
 use Rattle.oim_names.specs.QName.{QName, is_name}
 use Rattle.oim_names.specs.Bindings.{Binding}
@@ -11,10 +12,6 @@ use Rattle.serde_json.specs.View.{members_view}
 use Rattle.serde_json.proofs.Views.{Entry}
 use Rattle.xbrlmerge.specs.Json.{any_member}
 use Rattle.xbrlmerge.specs.Names.{named, of_key, is_refused}
-
-pub both_false : (a b : Bool) → (a || b) ≡ false → (a ≡ false) × (b ≡ false)
-both_false true b e = absurd (cc)
-both_false false b e = (refl, e)
 
 pub on_ok : {T E : Type 0} (P : Type 0) (r : Result T E) → is_err r ≡ false → OnOk r P → P
 on_ok P (Ok x) e h = h
@@ -36,4 +33,4 @@ only_memory bs t r kept (inr refused) = let none : name_refusal bs t ≡ None = 
 
 -- a test that no key passes
 pub none_of_keys : (test : List ℕ → Bool) (es rest : List Entry) (e : Entry) → any_member (of_key test) (members_view es) ≡ false → es ≡ e ∷ rest → (test (string_bytes e.0) ≡ false) × (any_member (of_key test) (members_view rest) ≡ false)
-none_of_keys test es rest e none is = both_false (test (string_bytes e.0)) (any_member (of_key test) (members_view rest)) (rw is at none)
+none_of_keys test es rest e none is = or_parts (test (string_bytes e.0)) (any_member (of_key test) (members_view rest)) (rw is at none)

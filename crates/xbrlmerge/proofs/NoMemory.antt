@@ -1,6 +1,7 @@
 -- Want of memory is no refusal of a report's or a sheet's own.
 use Rattle.std.proofs.Common.{◌≡◌, ◌≢◌, ℕ, ◌+◌, List, [], ◌∷◌, map, Bool, true, false, cond, not, Option, Some, None, Result, Ok, Err, refl, sym, ap, ◌∙◌}
-use mathlib.Core.Bool.{◌&&◌, false≢true}
+use mathlib.Core.Bool.{false≢true}
+use Rattle.std.proofs.lemmas.Bool.{and_parts}
 use Rattle.std.specs.List.{list_all}
 use Rattle.oim_names.specs.Bindings.{Binding}
 use Rattle.oim_names.specs.declared.reason.Reason.{Reason}
@@ -26,17 +27,13 @@ is_memory r = false
 abbrev are_other : List Condition → Bool
 are_other cs = list_all (λ c. not (is_memory c.1)) cs
 
-both : (a b : Bool) → (a && b) ≡ true → (a ≡ true) × (b ≡ true)
-both true b h = (refl, h)
-both false b h = absurd (false≢true h)
-
 not_memory : (r : Reason) → not (is_memory r) ≡ true → Some r ≢ Some OutOfMemory
 not_memory r other e = let same : r ≡ OutOfMemory = cc in absurd (false≢true (ap (λ s. not (is_memory s)) (sym same) ∙ other))
 
 first_other : (cs : List Condition) → are_other cs ≡ true → first_holding cs ≢ Some OutOfMemory
 first_other [] other = λ e. absurd (cc)
 first_other (c ∷ cs) other =
-    let here = both (not (is_memory c.1)) (are_other cs) other in
+    let here = and_parts (not (is_memory c.1)) (are_other cs) other in
     elim c.0 as (λ b. cond b (Some c.1) (first_holding cs) ≢ Some OutOfMemory) [ true ↦ not_memory c.1 here.0 | false ↦ first_other cs here.1 ]
 
 unless_other : {A : Type 0} (o : Option Reason) (a : A) → o ≢ Some OutOfMemory → unless o a ≢ Err OutOfMemory
@@ -62,8 +59,8 @@ map_ok_other : {A B : Type 0} (f : A → B) (r : Result A Refusal) (p : Place) �
 map_ok_other f (Ok a) p other e = absurd (cc)
 map_ok_other f (Err q) p other e = let same : q ≡ at p OutOfMemory = cc in other (ap Err same)
 
-one_other : (sheet : Sheet) (bs : List Binding) (fact : Data) → fact_outcome sheet bs fact ≢ Err OutOfMemory
-one_other sheet bs fact = unless_other (first_holding (fact_conditions sheet bs fact)) (said_fact bs fact) (first_other (fact_conditions sheet bs fact) refl)
+pub fact_other : (sheet : Sheet) (bs : List Binding) (fact : Data) → fact_outcome sheet bs fact ≢ Err OutOfMemory
+fact_other sheet bs fact = unless_other (first_holding (fact_conditions sheet bs fact)) (said_fact bs fact) (first_other (fact_conditions sheet bs fact) refl)
 
 next_other : (n : ℕ) (o : Result Fact Reason) (os : List (Result Fact Reason)) (p : Place) → o ≢ Err OutOfMemory → all_or_first (n + 1) os ≢ Err (at p OutOfMemory) → all_or_first n (o ∷ os) ≢ Err (at p OutOfMemory)
 next_other n (Ok fact) os p here there = map_ok_other (λ facts. fact ∷ facts) (all_or_first (n + 1) os) p there
@@ -71,7 +68,7 @@ next_other n (Err r) os p here there = λ e. let same : at (AtFact n) r ≡ at p
 
 all_other : (sheet : Sheet) (bs : List Binding) (n : ℕ) (facts : List Data) (p : Place) → all_or_first n (map (fact_outcome sheet bs) facts) ≢ Err (at p OutOfMemory)
 all_other sheet bs n [] p = λ e. absurd (cc)
-all_other sheet bs n (fact ∷ facts) p = next_other n (fact_outcome sheet bs fact) (map (fact_outcome sheet bs) facts) p (one_other sheet bs fact) (all_other sheet bs (n + 1) facts p)
+all_other sheet bs n (fact ∷ facts) p = next_other n (fact_outcome sheet bs fact) (map (fact_outcome sheet bs) facts) p (fact_other sheet bs fact) (all_other sheet bs (n + 1) facts p)
 
 unless_refused_other : (o : Option Reason) (said : Result Document Refusal) (p : Place) → o ≢ Some OutOfMemory → said ≢ Err (at p OutOfMemory) → unless_refused o said ≢ Err (at p OutOfMemory)
 unless_refused_other None said p here there = there

@@ -3,7 +3,7 @@ use Rattle.std.proofs.Common.{◌≡◌, ℕ, ◌+◌, ◌-◌, ◌^◌, ◌≤�
 use Rattle.std.specs.Io.KnownBytes.{Appends}
 use Rattle.std.proofs.KnownBytes.{Appends-nil, Appends-trans}
 use Rattle.xbrlmerge.specs.Sink.{AppendsFirst, AppendsFront, saturated, written_of}
-use Rattle.xbrlmerge.specs.Pieces.{Pending, Passes, Breaks, nothing_yet}
+use Rattle.xbrlmerge.specs.SinkBuffer.{Pending, Passes, Breaks, nothing_yet}
 use Rattle.xbrlmerge.specs.declared.write_fault.WriteFault.{WriteFault}
 
 -- no text came

@@ -1,13 +1,13 @@
 -- The first condition that holds, in lists that are joined.
 use Rattle.std.proofs.Common.{◌≡◌, ℕ, List, [], ◌∷◌, ◌++◌, Bool, true, false, cond, Option, Some, None, Ok, Err, refl, sym, ap, ◌∙◌}
 use Rattle.oim_names.specs.Bindings.{Binding}
+use Rattle.std.proofs.lemmas.Bool.{or_parts}
 use Rattle.oim_names.specs.declared.reason.Reason.{Reason}
 use Rattle.oim_names.specs.declared.reason.Reason.TheVariants.{NameForm, UnboundPrefix, ReservedNamespace}
 use Rattle.serde_json.specs.Data.{Members, no_members, member}
 use Rattle.xbrlmerge.specs.Json.{any_member, any_in}
 use Rattle.xbrlmerge.specs.Names.{of_key, lacks_form, lacks_binding, lies_in_reserved, is_refused, name_conditions}
 use Rattle.xbrlmerge.specs.Refusal.{Condition, first_holding, unless}
-use Rattle.xbrlmerge.proofs.Named.{both_false}
 
 pub passes_on : (cs ds : List Condition) → None ≡ first_holding cs → first_holding (cs ++ ds) ≡ first_holding ds
 passes_on [] ds e = refl
@@ -52,9 +52,9 @@ no_name_refused some bs e = three (some lacks_form) (some (lacks_binding bs)) (s
 pub no_key_refused : (bs : List Binding) (ms : Members) → any_member (of_key lacks_form) ms ≡ false → any_member (of_key (lacks_binding bs)) ms ≡ false → any_member (of_key (lies_in_reserved bs)) ms ≡ false → any_member (of_key (is_refused bs)) ms ≡ false
 no_key_refused bs no_members p q r = refl
 no_key_refused bs (member key d ms) p q r =
-    let f = both_false (lacks_form key) (any_member (of_key lacks_form) ms) p in
-    let g = both_false (lacks_binding bs key) (any_member (of_key (lacks_binding bs)) ms) q in
-    let h = both_false (lies_in_reserved bs key) (any_member (of_key (lies_in_reserved bs)) ms) r in
+    let f = or_parts (lacks_form key) (any_member (of_key lacks_form) ms) p in
+    let g = or_parts (lacks_binding bs key) (any_member (of_key (lacks_binding bs)) ms) q in
+    let h = or_parts (lies_in_reserved bs key) (any_member (of_key (lies_in_reserved bs)) ms) r in
     rw (f.0, g.0, h.0) (no_key_refused bs ms f.1 g.1 h.1)
 
 pub no_key_refused_in : (bs : List Binding) (ms : Option Members) → any_in (of_key lacks_form) ms ≡ false → any_in (of_key (lacks_binding bs)) ms ≡ false → any_in (of_key (lies_in_reserved bs)) ms ≡ false → any_in (of_key (is_refused bs)) ms ≡ false

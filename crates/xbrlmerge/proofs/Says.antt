@@ -1,6 +1,7 @@
 -- Where no condition holds, the outcome is what the objects say.
 use Rattle.std.proofs.Common.{◌≡◌, ℕ, ◌+◌, ℤ, List, [], ◌∷◌, ◌++◌, map, Bool, true, false, not, ◌&&◌, cond, bytes_eq, Option, Some, None, option_and_then, is_none, Result, Ok, Err, refl, sym, ap, subst, ◌∙◌}
 use Rattle.std.specs.Option.{option_map_or, unwrap_or}
+use Rattle.std.proofs.lemmas.Bool.{or_parts}
 use Rattle.std.specs.List.{AllZip}
 use Rattle.std.proofs.lemmas.Slice.Eq.{bytes_eq-Decides}
 use Rattle.oim_names.specs.QName.{is_name, prefix_part, local_part}
@@ -27,7 +28,6 @@ use Rattle.xbrlmerge.specs.Refusal.{Condition, first_holding, unless, map_ok}
 use Rattle.xbrlmerge.specs.ReportParts.{concept_of, value_of, decimals_of, whole_number, dimensions_of, bindings_of, facts_of}
 use Rattle.xbrlmerge.specs.Sheet.{Sheet}
 use Rattle.xbrlmerge.proofs.FactRefused.{kind_at}
-use Rattle.xbrlmerge.proofs.Named.{both_false}
 use Rattle.xbrlmerge.proofs.Refused.{no_name_refused}
 
 -- ---- conditions of which none holds
@@ -131,7 +131,7 @@ says_fact sheet bs fact none =
     let three = none_of_three (is_none (concept_of fact)) (not (is_numeric (kind_of sheet bs fact))) (any_in is_other_dimension (dimensions_of fact)) MissingConcept UnknownConcept UnknownDimension dimensions.0 in
     let text = there (concept_of fact) three.0 in
     let kept = no_name_refused (some_name fact) bs (sym names.0) in
-    let test = λ (p : List ℕ → Bool) (e : some_name fact p ≡ false). ap (λ o. option_map_or p o false) (sym text.1) ∙ (both_false (option_map_or p (concept_of fact) false) (any_in (of_defined p) (dimensions_of fact)) e).0 in
+    let test = λ (p : List ℕ → Bool) (e : some_name fact p ≡ false). ap (λ o. option_map_or p o false) (sym text.1) ∙ (or_parts (option_map_or p (concept_of fact) false) (any_in (of_defined p) (dimensions_of fact)) e).0 in
     let concept_is : unwrap_or (concept_of fact) [] ≡ text.0 = ap (λ o. unwrap_or o []) text.1 in record {
       text = text.0;
       written = text.1;

@@ -20,8 +20,9 @@ use Rattle.xbrlmerge.specs.Sheet.{Sheet}
 
 -- ---- a document
 
-abbrev pub has_other_parts : Data → Bool
-has_other_parts tree =
+-- whether a part of it is missing, or of another kind of value
+abbrev pub has_misshapen_part : Data → Bool
+has_misshapen_part tree =
     not (is_object tree) || is_none (object_at (codes "documentInfo") tree) || is_no_object (info (codes "namespaces") tree) || is_no_object (get (codes "facts") tree) || is_no_array (info (codes "taxonomy") tree)
 
 abbrev pub root_keys : List (List ℕ)
@@ -41,7 +42,7 @@ abbrev pub has_other_type : Data → Bool
 has_other_type tree = not (is_text document_type (option_and_then as_str (info (codes "documentType") tree)))
 
 abbrev pub shape_conditions : Data → List Condition
-shape_conditions tree = (has_other_parts tree, MemberForm) ∷ (has_unknown_part tree, UnknownMember) ∷ (has_other_type tree, DocumentType) ∷ []
+shape_conditions tree = (has_misshapen_part tree, MemberForm) ∷ (has_unknown_part tree, UnknownMember) ∷ (has_other_type tree, DocumentType) ∷ []
 
 -- the conditions of a document, in the order in which they are answered; for now no reference is known
 abbrev pub document_conditions : Data → List Condition
@@ -49,8 +50,9 @@ document_conditions tree = shape_conditions tree ++ ((any_in binds_nothing (name
 
 -- ---- a fact
 
-abbrev pub has_other_members : Data → Bool
-has_other_members fact =
+-- the same of a fact object
+abbrev pub has_misshapen_member : Data → Bool
+has_misshapen_member fact =
     not (is_object fact) || is_none (get (codes "value") fact) || is_no_object (get (codes "dimensions") fact) || is_no_object (get (codes "links") fact) || is_no_text (dimension (codes "concept") fact)
 
 abbrev pub fact_keys : List (List ℕ)
@@ -65,7 +67,7 @@ has_unknown_member fact = any_in (is_unknown fact_keys) (as_object fact) || any_
 -- links and notes are left out (own)
 abbrev pub form_conditions : Data → List Condition
 form_conditions fact =
-    (has_other_members fact, MemberForm)
+    (has_misshapen_member fact, MemberForm)
     ∷ (has_unknown_member fact, UnknownMember)
     ∷ (has_member (object_at (codes "links") fact), Links)
     ∷ (is_some (dimension (codes "noteId") fact), Notes)

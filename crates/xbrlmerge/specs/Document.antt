@@ -1,4 +1,4 @@
--- What a report says.
+-- What a report says (xBRL-JSON 1.0, section 3; the order of facts is own).
 use Rattle.std.specs.Prelude.{◌≡◌, ℕ, List, Some}
 use Rattle.std.specs.List.{AllZip}
 use Rattle.serde_json.specs.Data.{Data}

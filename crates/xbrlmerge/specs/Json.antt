@@ -22,12 +22,9 @@ json bytes = json_text (without_mark bytes)
 
 -- ---- members
 
--- the object, the array and the text at a key
+-- the object and the text at a key
 abbrev pub object_at : List ℕ → Data → Option Members
 object_at key d = option_and_then as_object (get key d)
-
-abbrev pub array_at : List ℕ → Data → Option Items
-array_at key d = option_and_then as_array (get key d)
 
 abbrev pub text_at : List ℕ → Data → Option (List ℕ)
 text_at key d = option_and_then as_str (get key d)

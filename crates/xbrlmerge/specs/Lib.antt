@@ -8,7 +8,6 @@ pub mod Json
 pub mod Names
 pub mod Outcome
 pub mod Parts
-pub mod Pieces
 pub mod Prefixes
 pub mod Rank
 pub mod ReportParts
@@ -17,5 +16,6 @@ pub mod Run
 pub mod Sets
 pub mod Sheet
 pub mod Sink
+pub mod SinkBuffer
 pub mod Source
 pub mod Tree

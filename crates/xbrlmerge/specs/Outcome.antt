@@ -1,4 +1,4 @@
--- What a report's bytes say, or the first refusal.
+-- What a report's bytes say, or the first refusal (own).
 use Rattle.std.specs.Prelude.{◌≢◌, ℕ, ◌+◌, List, [], ◌∷◌, map, codes, Option, Some, None, Result, Ok, Err, option_and_then}
 use Rattle.std.specs.Option.{unwrap_or}
 use Rattle.oim_names.specs.Bindings.{Binding}

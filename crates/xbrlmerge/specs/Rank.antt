@@ -11,7 +11,7 @@ use Rattle.std.specs.Str.Parse.{AllDigits, digits_value}
 abbrev pub rank : {K : Type 0} → (K → K → Ordering) → K → List K → ℕ
 rank R x members = suc (count_by (λ y. is_lt (R y x)) members)
 
--- the last `width` digits of n, with zeros where it has no more
+-- the last `width` digits of n, with zeros on the left where it has fewer
 unfoldable pub padded : ℕ → ℕ → List ℕ
 padded zero n = []
 padded (suc width) n = padded width (n / 10) ++ (48 + n % 10) ∷ []

@@ -1,4 +1,4 @@
--- Conditions of refusals, and which is answered.
+-- Conditions of refusals, and which is answered (own).
 use Rattle.std.specs.Prelude.{Bool, List, [], ◌∷◌, if◌then◌else◌, Option, Some, None, Result, Ok, Err}
 use Rattle.oim_names.specs.declared.reason.Reason.{Reason}
 

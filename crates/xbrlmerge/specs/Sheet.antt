@@ -31,8 +31,9 @@ concepts_of tree = object_at (codes "concepts") tree
 abbrev pub dimensions_of : Data → Option Members
 dimensions_of tree = object_at (codes "dimensions") tree
 
-abbrev pub has_other_form : Data → Bool
-has_other_form tree = not (is_object tree) || is_no_object (get (codes "namespaces") tree) || is_no_object (get (codes "concepts") tree) || is_no_object (get (codes "dimensions") tree)
+-- whether it is no object, or a member of it is none
+abbrev pub is_misshapen : Data → Bool
+is_misshapen tree = not (is_object tree) || is_no_object (get (codes "namespaces") tree) || is_no_object (get (codes "concepts") tree) || is_no_object (get (codes "dimensions") tree)
 
 abbrev pub known_keys : List (List ℕ)
 known_keys = codes "namespaces" ∷ codes "concepts" ∷ codes "dimensions" ∷ []
@@ -46,7 +47,7 @@ abbrev pub is_no_kind : List ℕ → Data → Bool
 is_no_kind key d = not (is_text (codes "numeric") (as_str d))
 
 abbrev pub form_conditions : Data → List Condition
-form_conditions tree = (has_other_form tree, MemberForm) ∷ (any_in (is_unknown known_keys) (as_object tree), UnknownMember) ∷ []
+form_conditions tree = (is_misshapen tree, MemberForm) ∷ (any_in (is_unknown known_keys) (as_object tree), UnknownMember) ∷ []
 
 -- for now no dimension is known either
 abbrev pub kind_conditions : Data → List Condition

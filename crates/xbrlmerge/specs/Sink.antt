@@ -1,4 +1,4 @@
--- What a sink took of a text. (own)
+-- What a sink took of a text (own).
 use Rattle.std.specs.Prelude.{◌≡◌, ℕ, ◌+◌, ◌-◌, ◌^◌, ◌≤◌, ◌++◌, min, List, Option, Result, Ok, Err, take, length}
 use Rattle.std.specs.Io.KnownBytes.{Appends}
 use Rattle.xbrlmerge.specs.declared.write_fault.WriteFault.{WriteFault}

@@ -1,4 +1,4 @@
--- What a source gave. (own)
+-- What a source gave (own).
 use Rattle.std.specs.Prelude.{◌≡◌, ℕ, ◌+◌, ◌<◌, List, Option, Result, Ok, Err, length}
 use Rattle.std.specs.Io.KnownBytes.{Consumes}
 use Rattle.xbrlmerge.specs.declared.read_fault.ReadFault.{ReadFault}

@@ -1,7 +1,7 @@
 ghost use Rattle.std.specs.Prelude.{◌≡◌, ◌⊎◌, ◌||◌, None, Some, IfOk, IfErr};
 ghost use Rattle.std.specs.Result.{result_err};
 ghost use Rattle.serde_json.specs.View.{view};
-ghost use Rattle.xbrlmerge.specs.Conditions.{document_conditions, has_other_parts, has_unknown_part, has_other_type, shape_conditions};
+ghost use Rattle.xbrlmerge.specs.Conditions.{document_conditions, has_misshapen_part, has_unknown_part, has_other_type, shape_conditions};
 ghost use Rattle.xbrlmerge.specs.ReportParts.{bindings_of};
 ghost use Rattle.xbrlmerge.specs.Refusal.{first_holding};
 
@@ -35,7 +35,7 @@ pub(crate) fn read_info(alloc: Global, tree: &Value) -> Result<Aliases, Reason>
 fn check_shape(tree: &Value) -> Result<(), Reason>
     ensures { result_err result ≡ first_holding (shape_conditions (view tree.now)) }
 {
-    if has_other_parts(tree) {
+    if has_misshapen_part(tree) {
         return Err(Reason::MemberForm);
     }
     if has_unknown_part(tree) {
@@ -47,8 +47,8 @@ fn check_shape(tree: &Value) -> Result<(), Reason>
     Ok(())
 }
 
-fn has_other_parts(tree: &Value) -> bool
-    ensures { result ≡ has_other_parts (view tree.now) }
+fn has_misshapen_part(tree: &Value) -> bool
+    ensures { result ≡ has_misshapen_part (view tree.now) }
 {
     !tree.is_object()
         || object_at(tree, "documentInfo").is_none()

@@ -2,7 +2,7 @@ ghost use Rattle.std.specs.Prelude.{◌≡◌, ◌⊎◌, ◌||◌, [], IfOk, If
 ghost use Rattle.std.specs.Option.{unwrap_or, option_map_or};
 ghost use Rattle.std.specs.Result.{result_err};
 ghost use Rattle.serde_json.specs.View.{view, members_view};
-ghost use Rattle.xbrlmerge.specs.Conditions.{has_other_members, has_unknown_member, form_conditions, some_name, is_other_dimension};
+ghost use Rattle.xbrlmerge.specs.Conditions.{has_misshapen_member, has_unknown_member, form_conditions, some_name, is_other_dimension};
 ghost use Rattle.xbrlmerge.specs.ReportParts.{dimensions_of, concept_of};
 ghost use Rattle.xbrlmerge.specs.Json.{any_in, any_member};
 ghost use Rattle.xbrlmerge.specs.Names.{named, name_conditions, is_refused};
@@ -19,7 +19,7 @@ use serde_json::{Map, Value};
 pub(crate) fn check_form(fact: &Value) -> Result<(), Reason>
     ensures { result_err result ≡ first_holding (form_conditions (view fact.now)) }
 {
-    if has_other_members(fact) {
+    if has_misshapen_member(fact) {
         return Err(Reason::MemberForm);
     }
     if has_unknown_member(fact) {
@@ -37,8 +37,8 @@ pub(crate) fn check_form(fact: &Value) -> Result<(), Reason>
     Ok(())
 }
 
-fn has_other_members(fact: &Value) -> bool
-    ensures { result ≡ has_other_members (view fact.now) }
+fn has_misshapen_member(fact: &Value) -> bool
+    ensures { result ≡ has_misshapen_member (view fact.now) }
 {
     !fact.is_object()
         || fact.get("value").is_none()

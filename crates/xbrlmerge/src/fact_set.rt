@@ -1,5 +1,7 @@
-ghost use Rattle.std.specs.Prelude.{◌≡◌, ◌+◌, ◌-◌, ◌≤◌, ◌++◌, take, drop, reverse, vec_len, vec_capacity, OnOk, OnErr};
-ghost use Rattle.std.specs.List.Sorted.{IsStrictlySortedBy};
+ghost use Rattle.std.specs.Prelude.{◌≡◌, ◌+◌, ◌-◌, ◌≤◌, ◌++◌, length, take, drop, reverse, vec_len, vec_capacity, IfOk, IfErr, OnOk, OnErr};
+ghost use Rattle.std.specs.List.{AllWithin, HoldsAt};
+ghost use Rattle.std.specs.List.Sorted.{IsPartitionPoint, IsSearchInRange, IsStrictlySortedBy};
+ghost use Rattle.std.specs.declared.cmp.Ordering.TheVariants.{Less, Equal, Greater};
 ghost use Rattle.xbrlmerge.specs.Fact.{fact_cmp};
 ghost use Rattle.xbrlmerge.specs.Sets.{set_of};
 
@@ -20,7 +22,7 @@ pub(crate) fn add_all(set: &mut Vec<Fact>, mut more: Vec<Fact>) -> Result<(), Al
     set.reserve(more.len())?;
     let mut above = Vec::with_capacity(*set.allocator(), set.len() + more.len())?;
     while let Some(fact) = more.pop() {
-        match set.binary_search(&fact) {
+        match place_of(set, &fact) {
             Ok(at) => {
                 drop(fact);
                 lift(set, at, &mut above);
@@ -33,6 +35,35 @@ pub(crate) fn add_all(set: &mut Vec<Fact>, mut more: Vec<Fact>) -> Result<(), Al
     }
     lower(set, above);
     Ok(())
+}
+
+/// The place of a fact in a set, or else the one where it would stand. The places near the end are
+/// looked at first, since there `add_all` finds most.
+fn place_of(set: &[Fact], fact: &Fact) -> Result<usize, usize>
+    requires { IsStrictlySortedBy fact_cmp set.now }
+    ensures bound { IsSearchInRange result (length set.now) }
+    ensures known { IfOk result (HoldsAt (λ f. fact_cmp f fact.now ≡ Equal) set.now) }
+    ensures new { IfErr result
+        (IsPartitionPoint (λ f. fact_cmp f fact.now ≡ Less) (λ f. fact_cmp f fact.now ≡ Greater) set.now) }
+{
+    let low = place_below(set, fact);
+    match set[low..].binary_search(fact) {
+        Ok(at) => Ok(low + at),
+        Err(at) => Err(low + at),
+    }
+}
+
+/// A place with lesser facts alone before it, looked for from the end by steps that double.
+fn place_below(set: &[Fact], fact: &Fact) -> usize
+    requires { IsStrictlySortedBy fact_cmp set.now }
+    ensures bound { result ≤ length set.now }
+    ensures below { AllWithin (λ f. fact_cmp f fact.now ≡ Less) set.now 0 result }
+{
+    let mut low = set.len();
+    while low > 0 && set[low - 1].cmp(fact).is_ge() {
+        low = low.saturating_sub(set.len() - low + 1);
+    }
+    low
 }
 
 // Moves the facts from a place on above the others, the greatest first.

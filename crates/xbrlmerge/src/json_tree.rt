@@ -2,7 +2,7 @@ ghost use Rattle.std.specs.Prelude.{◌≡◌, ◌⊎◌, Some, None, IfOk, IfEr
 ghost use Rattle.std.specs.List.{list_any};
 ghost use Rattle.serde_json.specs.Data.{null};
 ghost use Rattle.serde_json.specs.View.{view, members_view, items_view};
-ghost use Rattle.xbrlmerge.specs.Json.{without_mark, json, object_at, array_at, text_at, within, any_member, any_in, has_member, has_item, has_colon, is_unknown, is_no_object, is_no_array, is_no_text};
+ghost use Rattle.xbrlmerge.specs.Json.{without_mark, json, object_at, text_at, within, any_member, any_in, has_member, has_item, has_colon, is_unknown, is_no_object, is_no_array, is_no_text};
 
 use oim_names::Reason;
 use serde_json::{Map, Value};
@@ -39,13 +39,6 @@ pub(crate) fn object_at<'a>(value: &'a Value, key: &str) -> Option<&'a Map<Strin
         ≡ object_at key.now (view value.now) }
 {
     value.get(key).and_then(Value::as_object)
-}
-
-/// The array at a key.
-pub(crate) fn array_at<'a>(value: &'a Value, key: &str) -> Option<&'a Vec<Value>>
-    ensures { option_map (λ v. items_view v.now.items) result ≡ array_at key.now (view value.now) }
-{
-    value.get(key).and_then(Value::as_array)
 }
 
 /// The text at a key.

@@ -5,6 +5,8 @@
 mod asked_again;
 mod base;
 mod bundle;
+#[cfg(test)]
+mod canonical_parts;
 mod concept_kind;
 #[cfg(test)]
 mod devices;
@@ -24,7 +26,6 @@ mod merging;
 mod name_faults;
 mod namespaces;
 mod parts;
-mod pieces;
 mod place;
 mod prefix_table;
 mod ranked;
@@ -37,6 +38,7 @@ mod run;
 mod sets;
 mod sheet;
 mod sink;
+mod sink_buffer;
 mod source;
 mod std_sink;
 mod std_source;

@@ -1,4 +1,4 @@
-ghost use Rattle.std.specs.Prelude.{◌≡◌, ◌⊎◌};
+ghost use Rattle.std.specs.Prelude.{◌≡◌, ◌≢◌};
 ghost use Rattle.xbrlmerge.specs.Outcome.{at};
 ghost use Rattle.xbrlmerge.specs.declared.place.Place.TheVariants.{Document, Fact};
 ghost use Rattle.oim_names.specs.declared.reason.Reason.TheVariants.{OutOfMemory};
@@ -19,7 +19,7 @@ pub struct Refusal {
 impl Refusal {
     /// The refusal of the fact at `place`; but want of memory lies nowhere in the report.
     pub(crate) fn of_fact(reason: Reason, place: u64) -> Refusal
-        ensures place { (result ≡ at Document OutOfMemory) ⊎ (result ≡ at (Fact place) reason) }
+        ensures fact { reason ≢ OutOfMemory → result ≡ at (Fact place) reason }
         ensures memory { reason ≡ OutOfMemory → result ≡ at Document OutOfMemory }
     {
         match reason {

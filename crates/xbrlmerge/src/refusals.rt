@@ -32,10 +32,8 @@ impl Refusals {
         ensures ok { OnOk result (self.new ≡ self.old ++ (report, refusal) ∷ []) }
         ensures err { OnErr result (self.new ≡ self.old) }
     {
-        match self.entries.push((report, refusal)) {
-            Ok(()) => Ok(()),
-            Err(_) => Err(AllocError),
-        }
+        self.entries.push((report, refusal))?;
+        Ok(())
     }
 
     /// The numbers and refusals.

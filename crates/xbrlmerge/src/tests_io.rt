@@ -2,10 +2,10 @@ ghost use Rattle.std.specs.Prelude.{◌≡◌, ◌-◌, ◌^◌, ◌<◌, IfOk};
 
 use crate::devices::{TestReader, TestWriter, Then};
 use crate::encoded::Encoded;
-use crate::pieces::Pieces;
 use crate::read_all::read_all;
 use crate::read_fault::ReadFault;
 use crate::sink::{Sink, put_all};
+use crate::sink_buffer::SinkBuffer;
 use crate::source::Source;
 use crate::std_sink::StdSink;
 use crate::std_source::StdSource;
@@ -62,13 +62,13 @@ fn read(
 fn write_parts<S: Sink>(rt: &HostRuntime, sink: &mut S, parts: &[&[u8]]) -> Result<(), WriteFault>
     requires { S.failures sink.old < 2 ^ 64 - 1 }
 {
-    let Ok(mut pieces) = Pieces::new(rt.alloc()) else {
+    let Ok(mut buffer) = SinkBuffer::new(rt.alloc()) else {
         return Err(WriteFault::OutOfMemory(0));
     };
     for part in parts {
-        pieces.push(sink, part)?;
+        buffer.push(sink, part)?;
     }
-    pieces.flush(sink)
+    buffer.flush(sink)
 }
 
 #[test]
@@ -117,7 +117,7 @@ fn sources_are_read_to_their_end(rt: HostRuntime) -> Result<(), Fail> {
 }
 
 #[test]
-fn long_sources_are_read_in_pieces(rt: HostRuntime) -> Result<(), Fail> {
+fn long_sources_are_read_in_chunks(rt: HostRuntime) -> Result<(), Fail> {
     let limit = 200_000;
     let (answer, calls, _) = read(&rt, TestReader::new(b"", 30_000, Then::GoesOn), limit);
     assert!(rt; matches!(answer, Err(ReadFault::TooLong)));
@@ -162,7 +162,7 @@ fn a_sink_holds_what_came_before_its_fault(rt: HostRuntime) -> Result<(), Fail> 
 }
 
 #[test]
-fn pieces_follow_each_other(rt: HostRuntime) -> Result<(), Fail> {
+fn chunks_follow_each_other(rt: HostRuntime) -> Result<(), Fail> {
     let (long, short) = ([b'x'; 40_000], [b'y'; 1]);
     let parts: [&[u8]; 4] = [&short, &long, &long, &short];
     for room in [0, 1, 40_000, 80_000, 80_001, 80_002] {

@@ -1,3 +1,5 @@
+use crate::asked_again::{INFO, SHEET, joined, tell_refused};
+use crate::canonical_parts::{END, HEAD, MIDDLE, ONE_URI, WRITTEN_HUNDRED};
 use crate::devices::{NeverFlushed, TestReader, TestWriter, Then};
 use crate::lines::print_read_fault;
 use crate::read_fault::ReadFault;
@@ -10,14 +12,7 @@ use std::test::Fail;
 
 const ROOM: usize = 1 << 16;
 
-/// Names and a sheet of two numeric concepts.
-const SHEET: &str =
-    r#"{"namespaces":{"eg":"http://example.org/t"},"concepts":{"eg:A":"numeric","eg:B":"numeric"}}"#;
-
-const INFO: &str =
-    r#"{"documentInfo":{"documentType":"https://xbrl.org/2021/xbrl-json","namespaces":{"eg":"http://example.org/t","x":"http://example.org/u","xbrli":"http://www.xbrl.org/2003/instance","xbrl":"https://xbrl.org/2021"}},"facts":{"#;
-
-/// The same with `zz` in place of `eg`.
+/// `INFO` with `zz` in place of `eg`.
 const OTHER_INFO: &str =
     r#"{"documentInfo":{"documentType":"https://xbrl.org/2021/xbrl-json","namespaces":{"zz":"http://example.org/t","x":"http://example.org/u","xbrli":"http://www.xbrl.org/2003/instance","xbrl":"https://xbrl.org/2021"}},"facts":{"#;
 
@@ -27,37 +22,6 @@ const HUNDRED: &str = r#""a":{"value":"100","decimals":0,"dimensions":{"concept"
 const JUST_HUNDRED: &str = r#""a":{"value":"100","decimals":0,"dimensions":{"concept":"eg:A"}}}}"#;
 
 const OTHER_HUNDRED: &str = r#""a":{"value":"100","decimals":0,"dimensions":{"concept":"zz:A"}}"#;
-
-// The canonical text, but for its namespaces and its facts.
-const HEAD: &str =
-    r#"{"documentInfo":{"documentType":"https://xbrl.org/2021/xbrl-json","namespaces":{"#;
-
-const MIDDLE: &str = r#"},"taxonomy":[]},"facts":{"#;
-
-const END: &str = "}}";
-
-const ONE_URI: &str = r#""n1":"http://example.org/t""#;
-
-const WRITTEN_HUNDRED: &str =
-    r#""f1":{"decimals":0,"dimensions":{"concept":"n1:A"},"value":"100"}"#;
-
-fn tell_refused(rt: &HostRuntime) {
-    let _ = eprintln!(rt; "refused");
-}
-
-fn joined(rt: &HostRuntime, parts: &[&str]) -> Result<Vec<u8>, AllocError> {
-    let mut all = match Vec::with_capacity(rt.alloc(), ROOM) {
-        Ok(made) => made,
-        Err(_) => {
-            tell_refused(rt);
-            Vec::with_capacity(rt.alloc(), ROOM)?
-        }
-    };
-    for part in parts {
-        all.extend_from_slice(part.as_bytes())?;
-    }
-    Ok(all)
-}
 
 fn writer(rt: &HostRuntime, room: usize) -> Result<TestWriter, AllocError> {
     match TestWriter::new(rt.alloc(), room, room, Then::Fails) {
@@ -346,7 +310,10 @@ fn words_are_not_taken_yet(rt: HostRuntime) -> Result<(), Fail> {
     let mut out = writer(&rt, ROOM)?;
     let mut err = writer(&rt, ROOM)?;
     let word = match String::from_str(rt.alloc(), "--help") {
-        Err(_) => String::from_str(rt.alloc(), "--help")?,
+        Err(_) => {
+            tell_refused(&rt);
+            String::from_str(rt.alloc(), "--help")?
+        }
         Ok(word) => word,
     };
     let input = TestReader::new(SHEET.as_bytes(), ROOM, Then::Ends);

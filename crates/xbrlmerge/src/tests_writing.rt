@@ -1,6 +1,7 @@
 ghost use Rattle.std.specs.Prelude.{◌≡◌, IfOk};
 
 use crate::base::Base;
+use crate::canonical_parts::{END, HEAD, MIDDLE, ONE_URI, WRITTEN_HUNDRED};
 use crate::devices::{TestWriter, Then};
 use crate::document::Document;
 use crate::fact::Fact;
@@ -16,20 +17,7 @@ use std::test::Fail;
 // Where a request for memory is refused, the next one is not, so the call is made again. The line
 // on standard error tells `tests/refused_memory` of it.
 
-// The canonical text, but for its namespaces and its facts.
-const HEAD: &str =
-    r#"{"documentInfo":{"documentType":"https://xbrl.org/2021/xbrl-json","namespaces":{"#;
-
-const MIDDLE: &str = r#"},"taxonomy":[]},"facts":{"#;
-
-const END: &str = "}}";
-
 const T: &str = "http://example.org/t";
-
-const ONE_URI: &str = r#""n1":"http://example.org/t""#;
-
-const WRITTEN_HUNDRED: &str =
-    r#""f1":{"decimals":0,"dimensions":{"concept":"n1:A"},"value":"100"}"#;
 
 const BEFORE_VALUE: &str = r#""f1":{"dimensions":{"concept":"n1:A"},"value":"#;
 
@@ -345,7 +333,7 @@ fn a_text_goes_to_a_sink(rt: HostRuntime) -> Result<(), Fail> {
 }
 
 #[test]
-fn a_long_text_goes_in_pieces(rt: HostRuntime) -> Result<(), Fail> {
+fn a_long_text_goes_in_chunks(rt: HostRuntime) -> Result<(), Fail> {
     let base = sure_counted_base(&rt, 1_500, false)?;
     let text = text_of(&rt, &base)?;
     let room = 100_000;

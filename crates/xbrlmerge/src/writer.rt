@@ -4,16 +4,16 @@ ghost use Rattle.std.specs.List.Sorted.{IsStrictlySortedBy};
 ghost use Rattle.xbrlmerge.specs.Bytes.{canonical};
 ghost use Rattle.xbrlmerge.specs.Fact.{fact_cmp};
 ghost use Rattle.xbrlmerge.specs.Parts.{facts_text};
-ghost use Rattle.xbrlmerge.specs.Pieces.{Breaks, Passes};
+ghost use Rattle.xbrlmerge.specs.SinkBuffer.{Breaks, Passes};
 ghost use Rattle.xbrlmerge.specs.Sink.{AppendsFront, failures_after, written_of};
 
 use crate::base::Base;
 use crate::fact::Fact;
 use crate::parts::{append_fact, head};
-use crate::pieces::Pieces;
 use crate::prefix_table::PrefixTable;
 use crate::ranked::width_of;
 use crate::sink::Sink;
+use crate::sink_buffer::SinkBuffer;
 use crate::write_fault::WriteFault;
 use std::alloc::{AllocError, Global};
 
@@ -44,7 +44,7 @@ fn append_facts(
     Ok(())
 }
 
-/// Appends the canonical text of the base to the sink, in pieces of at least 64 kB but the last.
+/// Appends the canonical text of the base to the sink, in chunks of at least 64 kB but the last.
 /// On a fault the sink has the front of it whose length the fault tells.
 pub fn write_to<S: Sink>(alloc: Global, base: &Base, out: &mut S) -> Result<(), WriteFault>
     requires { S.failures out.old < 2 ^ 64 - 1 }
@@ -59,16 +59,16 @@ pub fn write_to<S: Sink>(alloc: Global, base: &Base, out: &mut S) -> Result<(), 
     let Ok(head) = head(alloc, &table) else {
         return Err(WriteFault::OutOfMemory(0));
     };
-    let Ok(mut pieces) = Pieces::new(alloc) else {
+    let Ok(mut buffer) = SinkBuffer::new(alloc) else {
         return Err(WriteFault::OutOfMemory(0));
     };
-    write_parts(alloc, &mut pieces, out, &head, &table, base.facts())?;
-    pieces.flush(out)
+    write_parts(alloc, &mut buffer, out, &head, &table, base.facts())?;
+    buffer.flush(out)
 }
 
 fn write_parts<S: Sink>(
     alloc: Global,
-    pieces: &mut Pieces,
+    buffer: &mut SinkBuffer,
     out: &mut S,
     head: &[u8],
     table: &PrefixTable,
@@ -76,29 +76,29 @@ fn write_parts<S: Sink>(
 ) -> Result<(), WriteFault>
     requires failures { S.failures out.old < 2 ^ 64 - 1 }
     requires facts { IsStrictlySortedBy fact_cmp facts.now }
-    ensures ok { OnOk result (Passes (S.told out.old) (S.told out.new) pieces.old pieces.new
+    ensures ok { OnOk result (Passes (S.told out.old) (S.told out.new) buffer.old buffer.new
         (head.now ++ (facts_text table.now facts.now ++ codes "}}"))) }
-    ensures err { IfErr result (λ fault. Breaks (S.told out.old) (S.told out.new) pieces.old
+    ensures err { IfErr result (λ fault. Breaks (S.told out.old) (S.told out.new) buffer.old
         (head.now ++ (facts_text table.now facts.now ++ codes "}}")) (written_of fault)) }
     ensures failures { S.failures out.new ≡ failures_after result (S.failures out.old) }
 {
-    pieces.push(out, head)?;
-    write_facts(alloc, pieces, out, table, facts)?;
-    pieces.push(out, b"}}")
+    buffer.push(out, head)?;
+    write_facts(alloc, buffer, out, table, facts)?;
+    buffer.push(out, b"}}")
 }
 
 fn write_facts<S: Sink>(
     alloc: Global,
-    pieces: &mut Pieces,
+    buffer: &mut SinkBuffer,
     out: &mut S,
     table: &PrefixTable,
     facts: &[Fact],
 ) -> Result<(), WriteFault>
     requires failures { S.failures out.old < 2 ^ 64 - 1 }
     requires facts { IsStrictlySortedBy fact_cmp facts.now }
-    ensures ok { OnOk result (Passes (S.told out.old) (S.told out.new) pieces.old pieces.new
+    ensures ok { OnOk result (Passes (S.told out.old) (S.told out.new) buffer.old buffer.new
         (facts_text table.now facts.now)) }
-    ensures err { IfErr result (λ fault. Breaks (S.told out.old) (S.told out.new) pieces.old
+    ensures err { IfErr result (λ fault. Breaks (S.told out.old) (S.told out.new) buffer.old
         (facts_text table.now facts.now) (written_of fault)) }
     ensures failures { S.failures out.new ≡ failures_after result (S.failures out.old) }
 {
@@ -107,9 +107,9 @@ fn write_facts<S: Sink>(
     for (i, fact) in facts.iter().enumerate() {
         part.clear();
         let Ok(()) = append_fact(alloc, &mut part, table, digits, i + 1, fact) else {
-            return Err(WriteFault::OutOfMemory(pieces.written()));
+            return Err(WriteFault::OutOfMemory(buffer.written()));
         };
-        pieces.push(out, &part)?;
+        buffer.push(out, &part)?;
     }
     Ok(())
 }

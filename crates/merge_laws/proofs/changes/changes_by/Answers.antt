@@ -1,4 +1,4 @@
-use Rattle.std.proofs.Common.{◌≡◌, ◌++◌, sym, ap, ◌∙◌}
+use Rattle.std.proofs.Common.{◌++◌, sym, ap, ◌∙◌}
 use Rattle.merge_laws.specs.Insertions.{new_item, new_items, new_value}
 use Rattle.merge_laws.specs.Sorted.{entry_key}
 use Rattle.merge_laws.proofs.Lists.{flat_map_more, whole}

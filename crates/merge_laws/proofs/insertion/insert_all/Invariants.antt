@@ -1,13 +1,17 @@
-use Rattle.std.proofs.Common.{◌≡◌, ◌+◌, ◌≤◌, ◌++◌, vec_len, vec_capacity}
+use Rattle.std.proofs.Common.{◌≡◌, ◌+◌, ◌<◌, ◌≤◌, ◌++◌, vec_len, vec_capacity}
 use Rattle.std.specs.Prelude.{reverse}
-use Rattle.merge_laws.specs.Insertions.{inserted}
+use Rattle.std.specs.List.{AllByRecursion}
+use Rattle.merge_laws.specs.Insertions.{first_place, inserted}
 use Rattle.merge_laws.proofs.insertion.insert_all.Given as goal
 
 abbrev pub invariant-loop-place : goal.invariant-loop-place
 invariant-loop-place g l = record {
   whole : inserted l.items.items (reverse l.news.items) ++ reverse l.above.items ≡ inserted l.initial.items.items (reverse l.initial.news.items);
-  room : vec_len l.items + vec_len l.above + vec_len l.news ≤ vec_capacity l.above;
-  kept : vec_len l.items + vec_len l.above + vec_len l.news ≤ vec_capacity l.items;
+  order : AllByRecursion (λ n. first_place l.initial.news.items ≤ n.0) l.news.items;
+  together : vec_len l.items + vec_len l.above + vec_len l.news ≡ vec_len l.initial.items + vec_len l.initial.news;
+  untouched : vec_len l.items < first_place l.initial.news.items → vec_len l.items ≡ vec_len l.initial.items;
+  room : vec_capacity l.above ≡ vec_capacity l.initial.above;
+  kept : vec_capacity l.items ≡ vec_capacity l.initial.items;
 }
 
 abbrev pub decreases-loop-place : goal.decreases-loop-place

@@ -4,7 +4,7 @@ use Rattle.std.proofs.lemmas.List.{drop_all}
 use Rattle.std.proofs.Math.Nat.{pow-le-pow_right}
 use Rattle.std.specs.Char.{digit_value}
 use Rattle.std.specs.Str.Parse.{digits_value_after}
-use Rattle.oim_dims.proofs.Digits.{after_grows, after_lt, digit_here}
+use Rattle.oim_value.proofs.Numerals.{after_grows, after_lt, digit_here}
 use Rattle.oim_dims.proofs.moment.number_of.Goals as goal
 
 next_le : (n i m : ℕ) (s : List ℕ) → i < length s → digits_value_after 10 n (drop i s) ≡ m → n * 10 + digit_value (get_or s i 0) ≤ m

@@ -1,15 +1,18 @@
 use Rattle.std.proofs.Common.{◌≡◌, ◌<◌, ◌≤◌, ◌∷◌, ◌++◌, [], get_or, take, drop, length, sym, ap, subst, ◌∙◌, arith, rules}
 use Rattle.std.specs.Prelude.{reverse}
-use Rattle.std.specs.List.Sorted.{IsNonDecreasingBy, IsPartitionPoint}
-use Rattle.std.specs.Ordering.{ordering_index}
+use Rattle.std.specs.List.Sorted.{IsPartitionPoint, IsStrictlySortedBy}
 use Rattle.std.specs.declared.cmp.Ordering.TheVariants.{Less, Equal, Greater}
 use Rattle.std.proofs.lemmas.List.{reverse-append}
 use Rattle.xbrlmerge.specs.Fact.{fact_cmp}
 use Rattle.xbrlmerge.specs.Sets.{set_of}
-use Rattle.xbrlmerge.specs.contracts.fact.FactOrd.TheImpl as order
-use Rattle.xbrlmerge.proofs.FactOrder.{fact_cmp_is, fact_cmp_total, fact_cmp_exact, derived_order_is}
-use Rattle.xbrlmerge.proofs.Growth.{Grows, fresh_at, known_at, grown, set_rises, place_in}
+use Rattle.xbrlmerge.proofs.FactOrder.{fact_cmp_total, fact_cmp_exact}
+use Rattle.xbrlmerge.proofs.Growth.{Grows, fresh_at, known_at, grown, set_rises}
 use Rattle.xbrlmerge.proofs.fact_set.add_all.Goals as goal
+
+pub place_of-requires : goal.place_of-requires
+place_of-requires c =
+    subst (IsStrictlySortedBy fact_cmp) (sym c.deref.ensures.value)
+    (set_rises fact_cmp_total fact_cmp_exact _ _ _ _ c.loop-fact.invariant.grows)
 
 pub loop-fact-preserved-in-Ok : goal.loop-fact-preserved-in-Ok
 loop-fact-preserved-in-Ok c =
@@ -20,8 +23,7 @@ loop-fact-preserved-in-Ok c =
     let at = c.in-Ok.at in
     let before = subst (λ m. Grows fact_cmp_total fact_cmp_exact l.set.items m (reverse l.above.items) all) c.in-Some.ensures.items l.invariant.grows in
     let within : at < length l.set.items = omega (arith, c.in-Ok.ensures.bound, ap length c.deref.ensures.value) in
-    let tied : fact_cmp (get_or l.set.items at fact) fact ≡ Equal =
-    sym (fact_cmp_is (get_or l.set.items at fact) fact) ∙ subst (λ s. order.ghosts.cmp (get_or s at fact) fact ≡ Equal) c.deref.ensures.value (c.in-Ok.ensures.ok fact) in
+    let tied : fact_cmp (get_or l.set.items at fact) fact ≡ Equal = subst (λ s. fact_cmp (get_or s at fact) fact ≡ Equal) c.deref.ensures.value (c.in-Ok.ensures.known fact) in
     record {
       grows = subst (λ s. Grows fact_cmp_total fact_cmp_exact s more (reverse c.lift.new.above.items) all) (sym c.lift.ensures.set)
           (subst (λ a. Grows fact_cmp_total fact_cmp_exact (take at l.set.items) more a all) (sym c.lift.ensures.above)
@@ -39,9 +41,7 @@ loop-fact-preserved c =
     let at = c.in-Err.at in
     let before = subst (λ m. Grows fact_cmp_total fact_cmp_exact l.set.items m (reverse l.above.items) all) c.in-Some.ensures.items l.invariant.grows in
     let within : at ≤ length l.set.items = omega (arith, c.in-Err.ensures.bound, ap length c.deref.ensures.value) in
-    let found = subst (λ s. IsNonDecreasingBy (λ y. ordering_index (fact_cmp y fact)) s → IsPartitionPoint (λ y. fact_cmp y fact ≡ Less) (λ y. fact_cmp y fact ≡ Greater) s at) c.deref.ensures.value
-    (subst (λ R. IsNonDecreasingBy (λ y. ordering_index (R y fact)) c.deref.result.now → IsPartitionPoint (λ y. R y fact ≡ Less) (λ y. R y fact ≡ Greater) c.deref.result.now at) derived_order_is c.in-Err.ensures.position) in
-    let place = place_in fact_cmp_total fact_cmp_exact l.set.items fact at (set_rises fact_cmp_total fact_cmp_exact _ _ _ _ before) found in
+    let place = subst (λ s. IsPartitionPoint (λ f. fact_cmp f fact ≡ Less) (λ f. fact_cmp f fact ≡ Greater) s at) c.deref.ensures.value c.in-Err.ensures.new in
     let above : reverse c.push_reserved.new.self.items ≡ fact ∷ (drop at l.set.items ++ reverse l.above.items) =
     ap reverse c.push_reserved.ensures.items ∙ reverse-append c.lift-in-Err.new.above.items (fact ∷ []) ∙ ap (λ a. fact ∷ a) c.lift-in-Err.ensures.above in
     record {

@@ -1,6 +1,5 @@
 use Rattle.std.proofs.Common.{◌≡◌, ◌∷◌, ◌++◌, [], sym, ap, ◌∙◌, get_or}
-use Rattle.merge_laws.specs.Sorted.{entry_key}
-use Rattle.merge_laws.proofs.Edits.{value_shared, not_new, no_value, is_new}
+use Rattle.merge_laws.proofs.Edits.{value_shared}
 use Rattle.merge_laws.proofs.changes.Changes.add.Goals as goal
 
 pub returns-in_ok-push-in-Ok-clause-values : goal.returns-in_ok-push-in-Ok-clause-values

@@ -1,10 +1,11 @@
 use Rattle.std.proofs.Common.{◌≡◌, ◌<◌, length, vec_len, arith, sym, ap, subst, ◌∙◌}
 use Rattle.std.specs.Prelude.{reverse}
 use Rattle.std.specs.List.{AllByRecursion}
-use Rattle.merge_laws.specs.Insertions.{inserted, new_items, new_values, with_values}
+use Rattle.merge_laws.specs.Insertions.{IsFirstLeast, inserted, new_items, new_values, with_values}
 use Rattle.merge_laws.specs.Sorted.{IsMap, entry_key}
 use Rattle.merge_laws.specs.Union.{map_union}
 use Rattle.merge_laws.specs.UnionLaws.{map_closed}
+use Rattle.merge_laws.proofs.Taking.{first_least}
 use Rattle.merge_laws.proofs.Unions.{map_taken}
 use Rattle.merge_laws.proofs.Values.{values_within}
 use Rattle.merge_laws.proofs.sorted_map.SortedMapMerge.merge.Goals as goal
@@ -17,6 +18,11 @@ set_values-requires g c =
     let told = c.in_ok-changes.ensures.values ∙ (λ i. new_values g.K.Ord.cmp g.V.Merge.merged (c.as_slice.ensures.value i) (c.as_slice-2.ensures.value i)) in
     subst (AllByRecursion (λ d. d.0 < vec_len c.room_for.new.items)) (sym told)
     (subst (λ n. AllByRecursion (λ d. d.0 < n) (new_values g.K.Ord.cmp g.V.Merge.merged es fs)) (omega (arith, ap length c.in_ok-above.ensures.kept)) (values_within g.met.K.Ord.total g.V.Merge.merged es fs c.self.invariant.rises))
+
+pub insert_all-requires-clause-order : goal.insert_all-requires-clause-order
+insert_all-requires-clause-order g c =
+    let news = c.in_ok-changes.ensures.news ∙ (λ i. new_items g.K.Ord.cmp entry_key (c.as_slice.ensures.value i) (c.as_slice-2.ensures.value i)) in
+    subst IsFirstLeast (sym news) (first_least entry_key g.met.K.Ord.total c.self.inside.entries.items c.other.inside.entries.items c.other.invariant.rises)
 
 made : (g : _) (c : goal.After-insert_all g) → c.insert_all.new.items.items ≡ map_union g.K.Ord.cmp g.V.Merge.merged c.self.inside.entries.items c.other.inside.entries.items
 made g c =

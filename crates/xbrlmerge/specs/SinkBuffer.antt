@@ -1,4 +1,4 @@
--- A text on its way to a sink. (own)
+-- A text on its way to a sink (own).
 use Rattle.std.specs.Prelude.{◌≡◌, ℕ, ◌+◌, ◌++◌, List, [], Option, length}
 use Rattle.std.specs.Io.KnownBytes.{Appends}
 use Rattle.xbrlmerge.specs.Sink.{saturated}

@@ -1,5 +1,5 @@
 use Rattle.xbrlmerge.proofs.Passing.{Breaks-first}
-use Rattle.xbrlmerge.proofs.pieces.Pieces.flush.Goals as goal
+use Rattle.xbrlmerge.proofs.sink_buffer.SinkBuffer.flush.Goals as goal
 
 pub returns-in-Err-clause-err : goal.returns-in-Err-clause-err
 returns-in-Err-clause-err g c =

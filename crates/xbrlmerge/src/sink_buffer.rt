@@ -1,5 +1,5 @@
 ghost use Rattle.std.specs.Prelude.{◌≡◌, ◌-◌, ◌^◌, ◌<◌, [], IfOk, IfErr, OnOk};
-ghost use Rattle.xbrlmerge.specs.Pieces.{Breaks, Passes, nothing_yet};
+ghost use Rattle.xbrlmerge.specs.SinkBuffer.{Breaks, Passes, nothing_yet};
 ghost use Rattle.xbrlmerge.specs.Sink.{failures_after, written_of};
 
 use crate::sink::{Sink, put_all};
@@ -8,19 +8,19 @@ use std::alloc::{AllocError, Global};
 use std::marker::Model;
 
 /// How many bytes wait, at least, before a sink is given them.
-const PIECE: usize = 1 << 16;
+const CHUNK: usize = 1 << 16;
 
 /// A text on its way to a sink. What the sink took is counted; the end of the text waits in memory
-/// until it is a piece, or is flushed. After a fault it is of no further use.
+/// until it fills a chunk, or is flushed. After a fault it is of no further use.
 #[derive(Drop)]
-pub struct Pieces {
+pub struct SinkBuffer {
     buffer: Vec<u8>,
     written: u64,
 }
 
-impl Model for Pieces {
+impl Model for SinkBuffer {
     ghost use Rattle.std.specs.Prelude.{◌-◌, ◌^◌, ◌≤◌};
-    ghost use Rattle.xbrlmerge.specs.Pieces.{Pending};
+    ghost use Rattle.xbrlmerge.specs.SinkBuffer.{Pending};
 
     ghost Value = { Pending };
 
@@ -29,18 +29,18 @@ impl Model for Pieces {
     ghost invariant = { λ p. p.written ≤ 2 ^ 64 - 1 };
 }
 
-impl Pieces {
-    /// No text yet, and room for a piece, where there is memory.
-    pub fn new(alloc: Global) -> Result<Pieces, AllocError>
+impl SinkBuffer {
+    /// No text yet, and room for a chunk, where there is memory.
+    pub fn new(alloc: Global) -> Result<SinkBuffer, AllocError>
         ensures { IfOk result (λ made. made ≡ nothing_yet) }
     {
-        Ok(Pieces {
-            buffer: Vec::with_capacity(alloc, PIECE)?,
+        Ok(SinkBuffer {
+            buffer: Vec::with_capacity(alloc, CHUNK)?,
             written: 0,
         })
     }
 
-    /// Lets these bytes follow. The sink is given what waits once that is a piece.
+    /// Lets these bytes follow. The sink is given what waits once that fills a chunk.
     pub fn push<S: Sink>(&mut self, sink: &mut S, bytes: &[u8]) -> Result<(), WriteFault>
         requires { S.failures sink.old < 2 ^ 64 - 1 }
         ensures ok { OnOk result
@@ -52,7 +52,7 @@ impl Pieces {
         if self.buffer.extend_from_slice(bytes).is_err() {
             return Err(WriteFault::OutOfMemory(self.written));
         }
-        if self.buffer.len() < PIECE {
+        if self.buffer.len() < CHUNK {
             return Ok(());
         }
         self.flush(sink)
@@ -76,6 +76,7 @@ impl Pieces {
             Err(taken) => Err(WriteFault::Device(self.written.saturating_add(taken as u64))),
         }
     }
+
     /// How many bytes the sink took.
     pub fn written(&self) -> u64
         ensures { result ≡ self.now.written }

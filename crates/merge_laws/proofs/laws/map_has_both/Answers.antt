@@ -1,0 +1,8 @@
+use Rattle.merge_laws.proofs.Both.{map_union_has_both, map_with_merges}
+use Rattle.merge_laws.proofs.laws.map_has_both.Goals as goal
+
+pub returns-clause-union : goal.returns-clause-union
+returns-clause-union g c = map_union_has_both g.met.K.Ord.total g.V.Merge.merged
+
+pub returns-clause-put : goal.returns-clause-put
+returns-clause-put g c = map_with_merges g.met.K.Ord.total g.V.Merge.merged
