@@ -252,7 +252,7 @@ fn place(number: i64) -> Place {
 fn put_all(rt: &HostRuntime, step: i64) -> Result<SortedMap<Place, Summary>, AllocError> {
     let mut map = SortedMap::new(rt.alloc());
     for number in 0..2000i64 {
-        if number % step == 0 {
+        if number.checked_rem(step) == Some(0) {
             let (key, value) = (place(number), rounded("1"));
             if map.put(&key, &value).is_err() {
                 tell_refused(rt);
