@@ -83,3 +83,24 @@ module _ {K E : Type 0} {R : K → K → Ordering} (key : E → K) (o : IsTotalO
         | inl under ↦ turned_less key o _ _ (o.trans _ _ _ (turned_greater key o _ _ read) (rising_at es h i j d under within))
         | inr over ↦ let same : j ≡ i = omega (arith, over, ge) in ap (λ n. R (key (get_or es n d)) k) same ∙ read
       ]
+
+  -- a place is one of an item, or the end
+  pub place_bound : (k : K) (es : List E) → place_of R key k es ≤ length es
+  place_bound k [] = omega arith
+  place_bound k (e ∷ es) = let rest = place_bound k es in elim (is_lt (R (key e) k)) as (λ b. cond (not (not b)) (1 + place_of R key k es) 0 ≤ length (e ∷ es)) [ true ↦ omega (arith, rest) | false ↦ omega arith ]
+
+  -- what stands before a key's place is below the key
+  pub before_place : (k : K) (es : List E) (j : ℕ) (d : E) → j < place_of R key k es → R (key (get_or es j d)) k ≡ Less
+  before_place k [] j d lt = absurd (omega (arith, lt))
+  before_place k (e ∷ es) j d lt = before k e es j d (is_lt (R (key e) k)) refl lt
+    where
+      before : (k : K) (e : E) (es : List E) (j : ℕ) (d : E) (b : Bool) → is_lt (R (key e) k) ≡ b → j < place_of R key k (e ∷ es) → R (key (get_or (e ∷ es) j d)) k ≡ Less
+      before k e es zero d true t lt = less (R (key e) k) (sym t)
+      before k e es (suc j) d true t lt = let count : place_of R key k (e ∷ es) ≡ 1 + place_of R key k es = ap (λ b. cond (not (not b)) (1 + place_of R key k es) 0) t in before_place k es j d (omega (arith, lt, count))
+      before k e es j d false t lt = let count : place_of R key k (e ∷ es) ≡ 0 = ap (λ b. cond (not (not b)) (1 + place_of R key k es) 0) t in absurd (omega (arith, lt, count))
+
+  -- so that the next of the others is above all that was passed
+  pub passed_next : (es fs : List E) (i : ℕ) (x d : E) → IsRising R key fs → i + 1 < length fs → x ≡ get_or fs i x → (j : ℕ) (e : E) → j < place_of R key (key x) es → R (key (get_or es j e)) (key (get_or fs (i + 1) d)) ≡ Less
+  passed_next es fs i x d h within is j e lt =
+      o.trans _ _ _ (before_place (key x) es j e lt)
+      (ap (λ f. R (key f) (key (get_or fs (i + 1) d))) (is ∙ get_or_default fs i x d (omega (arith, within))) ∙ rising_at fs h i (i + 1) d (omega arith) within)

@@ -203,10 +203,10 @@ module _ {K E : Type 0} {R : K → K → Ordering} (key : E → K) (o : IsTotalO
   ]
 
   -- new items come with the first one's place first
-  pub first_least : (es fs : List E) → IsRising R key fs → IsFirstLeast (new_items R key es fs)
+  pub first_least : (end : ℕ) (es fs : List E) → IsRising R key fs → IsFirstLeast end (new_items R key es fs)
   unfolding IsStrictlySortedBy
-  first_least es [] h = tt
-  first_least es (f ∷ fs) h = elim (has_key R key (key f) es) as (λ b. IsFirstLeast (cond b [] ((place_of R key (key f) es, f) ∷ []) ++ new_items R key es fs)) [
-    | true ↦ first_least es fs h.1
+  first_least end es [] h = tt
+  first_least end es (f ∷ fs) h = elim (has_key R key (key f) es) as (λ b. IsFirstLeast end (cond b [] ((place_of R key (key f) es, f) ∷ []) ++ new_items R key es fs)) [
+    | true ↦ first_least end es fs h.1
     | false ↦ (omega arith, none_before (key f) es fs h.0)
   ]

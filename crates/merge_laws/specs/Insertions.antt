@@ -9,14 +9,14 @@ abbrev pub inserted : {E : Type 0} → List E → List (ℕ × E) → List E
 inserted es [] = es
 inserted es (n ∷ ns) = inserted (take n.0 es) ns ++ n.1 ∷ drop n.0 es
 
--- the place of the first new item
-abbrev pub first_place : {E : Type 0} → List (ℕ × E) → ℕ
-first_place [] = 0
-first_place (n ∷ ns) = n.0
+-- the place of the first new item; where there is none, the end of the items
+abbrev pub first_place : {E : Type 0} → ℕ → List (ℕ × E) → ℕ
+first_place end [] = end
+first_place end (n ∷ ns) = n.0
 
 -- no new item goes before the first one's place
-abbrev pub IsFirstLeast : {E : Type 0} → List (ℕ × E) → Type 0
-IsFirstLeast ns = AllByRecursion (λ n. first_place ns ≤ n.0) ns
+abbrev pub IsFirstLeast : {E : Type 0} → ℕ → List (ℕ × E) → Type 0
+IsFirstLeast end ns = AllByRecursion (λ n. first_place end ns ≤ n.0) ns
 
 module _ {K E : Type 0} (R : K → K → Ordering) (key : E → K) where
   -- where a key is, or where it would go

@@ -1,10 +1,11 @@
-ghost use Rattle.std.specs.Prelude.{◌≡◌, ◌<◌, ◌++◌, vec_len, vec_capacity, IfOk, OnOk};
-ghost use Rattle.std.specs.List.{AllByRecursion};
+ghost use Rattle.std.specs.Prelude.{◌≡◌, ◌<◌, ◌≤◌, ◌++◌, length, vec_len, vec_capacity, IfOk, OnOk};
+ghost use Rattle.std.specs.List.{AllByRecursion, AllWithin};
+ghost use Rattle.std.specs.declared.cmp.Ordering.TheVariants.{Less as Below};
 ghost use Rattle.merge_laws.specs.Insertions.{new_item, new_items, new_value, new_values, with_values};
-ghost use Rattle.merge_laws.specs.Sorted.{IsRising, entry_key};
+ghost use Rattle.merge_laws.specs.Sorted.{IsRising, entry_key, place_of};
 
 use crate::merge::Merge;
-use crate::search::find_key;
+use crate::search::find_from;
 use oim_names::{Copied, Key};
 use std::alloc::{AllocError, Global};
 
@@ -23,7 +24,8 @@ pub(crate) fn changes_by<K: Key, V: Merge>(
     entries: &[(K, V)],
     others: &[(K, V)],
 ) -> Result<Changes<K, V>, AllocError>
-    requires { IsRising K.cmp entry_key entries.now }
+    requires entries { IsRising K.cmp entry_key entries.now }
+    requires others { IsRising K.cmp entry_key others.now }
     ensures values { IfOk result (λ changes. changes.values.items ≡ new_values K.cmp V.merged entries.now others.now) }
     ensures news { IfOk result (λ changes. changes.news.items ≡ new_items K.cmp entry_key entries.now others.now) }
 {
@@ -31,28 +33,42 @@ pub(crate) fn changes_by<K: Key, V: Merge>(
         values: Vec::new(alloc),
         news: Vec::new(alloc),
     };
+    let mut from = 0;
     for other in others {
-        changes.add(alloc, entries, other)?;
+        from = changes.add(alloc, entries, other, from)?;
     }
     Ok(changes)
 }
 
 impl<K: Key, V: Merge> Changes<K, V> {
-    // What the entries are to take from one more.
-    fn add(&mut self, alloc: Global, entries: &[(K, V)], other: &(K, V)) -> Result<(), AllocError>
-        requires { IsRising K.cmp entry_key entries.now }
+    // What the entries are to take from one more, and its key's place. The key is above those before
+    // the place `from`.
+    fn add(
+        &mut self,
+        alloc: Global,
+        entries: &[(K, V)],
+        other: &(K, V),
+        from: usize,
+    ) -> Result<usize, AllocError>
+        requires rises { IsRising K.cmp entry_key entries.now }
+        requires within { from ≤ length entries.now }
+        requires below { AllWithin (λ e. K.cmp e.0 other.now.0 ≡ Below) entries.now 0 from }
         ensures values { OnOk result (self.new.values.items ≡ self.old.values.items ++ new_value K.cmp V.merged entries.now other.now) }
         ensures news { OnOk result (self.new.news.items ≡ self.old.news.items ++ new_item K.cmp entry_key entries.now other.now) }
+        ensures place { IfOk result (λ place. place ≡ place_of K.cmp entry_key other.now.0 entries.now) }
     {
-        match find_key(entries, &other.0) {
+        match find_from(entries, &other.0, from) {
             Ok(place) => {
                 let mut value = entries[place].1.copied(alloc)?;
                 value.merge(alloc, &other.1)?;
                 self.values.push((place, value))?;
+                Ok(place)
             }
-            Err(place) => self.news.push((place, other.copied(alloc)?))?,
+            Err(place) => {
+                self.news.push((place, other.copied(alloc)?))?;
+                Ok(place)
+            }
         }
-        Ok(())
     }
 }
 

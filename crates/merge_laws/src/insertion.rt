@@ -13,13 +13,13 @@ pub(crate) fn room_for<E: Drop>(
 ) -> Result<Vec<E>, AllocError>
     ensures kept { items.new.items ≡ items.old.items }
     ensures among { IfOk result (λ above. vec_len items.new + length news.now ≤ vec_capacity items.new) }
-    ensures above { IfOk result (λ above. vec_len items.new - first_place news.now + length news.now ≤ vec_capacity above) }
+    ensures above { IfOk result (λ above. vec_len items.new - first_place (vec_len items.new) news.now + length news.now ≤ vec_capacity above) }
     ensures empty { IfOk result (λ above. above.items ≡ []) }
 {
     items.reserve(news.len())?;
     let first = match news.first() {
         Some((place, _)) => *place,
-        None => 0,
+        None => items.len(),
     };
     let moved = items.len().saturating_sub(first);
     Vec::with_capacity(*items.allocator(), moved + news.len())
@@ -27,10 +27,10 @@ pub(crate) fn room_for<E: Drop>(
 
 /// Puts the new items in. The items behind the first of them are moved, and no others.
 pub(crate) fn insert_all<E: Drop>(items: &mut Vec<E>, mut news: Vec<(usize, E)>, mut above: Vec<E>)
-    requires order { IsFirstLeast news.items }
+    requires order { IsFirstLeast (vec_len items.old) news.items }
     requires empty { above.items ≡ [] }
     requires among { vec_len items.old + vec_len news ≤ vec_capacity items.old }
-    requires above { vec_len items.old - first_place news.items + vec_len news ≤ vec_capacity above }
+    requires above { vec_len items.old - first_place (vec_len items.old) news.items + vec_len news ≤ vec_capacity above }
     ensures { items.new.items ≡ inserted items.old.items (reverse news.items) }
 {
     while let Some((place, item)) = news.pop() {
@@ -40,7 +40,7 @@ pub(crate) fn insert_all<E: Drop>(items: &mut Vec<E>, mut news: Vec<(usize, E)>,
     lower(items, above);
 }
 
-// Moves the items from a place on above the others, the last first.
+// Moves the items from a place on to the end of `above`, the last one first.
 fn lift<E: Drop>(items: &mut Vec<E>, place: usize, above: &mut Vec<E>)
     requires { vec_len above.old + (vec_len items.old - place) ≤ vec_capacity above.old }
     ensures items { items.new.items ≡ take place items.old.items }
@@ -55,7 +55,7 @@ fn lift<E: Drop>(items: &mut Vec<E>, place: usize, above: &mut Vec<E>)
     }
 }
 
-// Moves the items above back, the last that came first.
+// Moves them back, the last that came first.
 fn lower<E: Drop>(items: &mut Vec<E>, mut above: Vec<E>)
     requires { vec_len items.old + vec_len above ≤ vec_capacity items.old }
     ensures { items.new.items ≡ items.old.items ++ reverse above.items }

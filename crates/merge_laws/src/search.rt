@@ -1,47 +1,104 @@
-ghost use Rattle.std.specs.Prelude.{◌≡◌, length};
+ghost use Rattle.std.specs.Prelude.{◌≡◌, ◌≤◌, length};
+ghost use Rattle.std.specs.List.{AllWithin};
 ghost use Rattle.std.specs.List.Sorted.{IsSearchInRange};
+ghost use Rattle.std.specs.declared.cmp.Ordering.TheVariants.{Less as Below, Greater as Above};
 ghost use Rattle.merge_laws.specs.Insertions.{found_at};
-ghost use Rattle.merge_laws.specs.Sorted.{IsRising, IsSet, itself, entry_key};
+ghost use Rattle.merge_laws.specs.Sorted.{IsRising};
 
 use oim_names::Key;
 use std::cmp::Ordering;
 
-// What comes last in order is found at once, so that adding in order costs no search.
+/// What stands in a list in the order of its keys.
+pub(crate) trait Keyed<K: Key> {
+    /// Its key.
+    ghost key_of: { Self → K };
 
-/// Where an item of a set is, or where it would go.
-pub(crate) fn find_item<T: Key>(items: &[T], item: &T) -> Result<usize, usize>
-    requires { IsSet T.cmp items.now }
-    ensures place { result ≡ found_at T.cmp itself item.now items.now }
+    fn key(&self) -> &K
+        ensures { result.now ≡ key_of self.now };
+}
+
+/// An item of a set is its own key.
+impl<T: Key> Keyed<T> for T {
+    ghost use Rattle.merge_laws.specs.Sorted.{itself};
+
+    ghost key_of = { itself };
+
+    fn key(&self) -> &T {
+        self
+    }
+}
+
+impl<K: Key, V> Keyed<K> for (K, V) {
+    ghost use Rattle.merge_laws.specs.Sorted.{entry_key};
+
+    ghost key_of = { entry_key };
+
+    fn key(&self) -> &K {
+        &self.0
+    }
+}
+
+/// Where a key is, or where it would go. What goes behind the last item costs one comparison, so
+/// that adding in order costs no search.
+pub(crate) fn find<K: Key, E: Keyed<K>>(items: &[E], key: &K) -> Result<usize, usize>
+    requires { IsRising K.cmp E.key_of items.now }
+    ensures place { result ≡ found_at K.cmp E.key_of key.now items.now }
     ensures bound { IsSearchInRange result (length items.now) }
 {
     match items.last() {
-        Some(last) if last.cmp(item).is_lt() => Err(items.len()),
-        _ => items.binary_search(item),
+        Some(last) if last.key().cmp(key).is_lt() => Err(items.len()),
+        _ => halve(items, key, 0, items.len()),
     }
 }
 
-/// Where a key of a map is, or where it would go.
-pub(crate) fn find_key<K: Key, V>(entries: &[(K, V)], key: &K) -> Result<usize, usize>
-    requires { IsRising K.cmp entry_key entries.now }
-    ensures place { result ≡ found_at K.cmp entry_key key.now entries.now }
-    ensures bound { IsSearchInRange result (length entries.now) }
+/// The same where the key is above those before a place: the search goes on from there in steps
+/// that double, so that what is near is found soon.
+pub(crate) fn find_from<K: Key, E: Keyed<K>>(
+    items: &[E],
+    key: &K,
+    from: usize,
+) -> Result<usize, usize>
+    requires rises { IsRising K.cmp E.key_of items.now }
+    requires within { from ≤ length items.now }
+    requires below { AllWithin (λ e. K.cmp (E.key_of e) key.now ≡ Below) items.now 0 from }
+    ensures place { result ≡ found_at K.cmp E.key_of key.now items.now }
+    ensures bound { IsSearchInRange result (length items.now) }
 {
-    match entries.last() {
-        Some((last, _)) if last.cmp(key).is_lt() => Err(entries.len()),
-        _ => halve(entries, key),
+    let mut low = from;
+    let mut step = 0usize;
+    while step < items.len() - low {
+        let probe = low + step;
+        match items[probe].key().cmp(key) {
+            Ordering::Less => low = probe + 1,
+            Ordering::Equal => return Ok(probe),
+            Ordering::Greater => return halve(items, key, low, probe),
+        }
+        step = step.saturating_mul(2).saturating_add(1);
     }
+    halve(items, key, low, items.len())
 }
 
-fn halve<K: Key, V>(entries: &[(K, V)], key: &K) -> Result<usize, usize>
-    requires { IsRising K.cmp entry_key entries.now }
-    ensures place { result ≡ found_at K.cmp entry_key key.now entries.now }
-    ensures bound { IsSearchInRange result (length entries.now) }
+// The same by halving, where the key is above those before one place and below those from another
+// on.
+fn halve<K: Key, E: Keyed<K>>(
+    items: &[E],
+    key: &K,
+    from: usize,
+    to: usize,
+) -> Result<usize, usize>
+    requires rises { IsRising K.cmp E.key_of items.now }
+    requires order { from ≤ to }
+    requires within { to ≤ length items.now }
+    requires below { AllWithin (λ e. K.cmp (E.key_of e) key.now ≡ Below) items.now 0 from }
+    requires above { AllWithin (λ e. K.cmp (E.key_of e) key.now ≡ Above) items.now to (length items.now) }
+    ensures place { result ≡ found_at K.cmp E.key_of key.now items.now }
+    ensures bound { IsSearchInRange result (length items.now) }
 {
-    let mut low = 0;
-    let mut high = entries.len();
+    let mut low = from;
+    let mut high = to;
     while low < high {
         let middle = low + (high - low) / 2;
-        match entries[middle].0.cmp(key) {
+        match items[middle].key().cmp(key) {
             Ordering::Less => low = middle + 1,
             Ordering::Equal => return Ok(middle),
             Ordering::Greater => high = middle,

@@ -6,7 +6,7 @@ ghost use Rattle.merge_laws.specs.Union.{map_with};
 use crate::changes::{changes_by, set_values};
 use crate::insertion::{insert_all, room_for};
 use crate::merge::Merge;
-use crate::search::find_key;
+use crate::search::find;
 use oim_names::{Copied, Key};
 use std::alloc::{AllocError, Global};
 use std::marker::Model;
@@ -47,7 +47,7 @@ impl<K: Key, V: Merge> SortedMap<K, V> {
     {
         value.known();
         let alloc = *self.entries.allocator();
-        match find_key(self.entries.as_slice(), key) {
+        match find(self.entries.as_slice(), key) {
             Ok(place) => self.entries[place].1.merge(alloc, value),
             Err(place) => {
                 let entry = (key.copied(alloc)?, value.copied(alloc)?);
@@ -61,7 +61,7 @@ impl<K: Key, V: Merge> SortedMap<K, V> {
     pub fn get(&self, key: &K) -> Option<&V>
         ensures { option_copied result ≡ value_at K.cmp key.now self.now }
     {
-        match find_key(self.entries.as_slice(), key) {
+        match find(self.entries.as_slice(), key) {
             Ok(place) => Some(&self.entries[place].1),
             Err(_) => None,
         }

@@ -5,7 +5,7 @@ ghost use Rattle.merge_laws.specs.Union.{set_with};
 
 use crate::insertion::{insert_all, room_for};
 use crate::merge::Merge;
-use crate::search::find_item;
+use crate::search::{find, find_from};
 use oim_names::{Copied, Key};
 use std::alloc::{AllocError, Global};
 use std::marker::Model;
@@ -45,7 +45,7 @@ impl<T: Key> SortedSet<T> {
         ensures new { IfOk result (λ new. new ≡ not (has_key T.cmp itself item.now self.old)) }
         ensures err { OnErr result (self.new ≡ self.old) }
     {
-        match find_item(self.items.as_slice(), item) {
+        match find(self.items.as_slice(), item) {
             Ok(_) => Ok(false),
             Err(place) => {
                 let copy = item.copied(*self.items.allocator())?;
@@ -88,13 +88,19 @@ fn new_among<T: Key>(
     items: &[T],
     others: &[T],
 ) -> Result<Vec<(usize, T)>, AllocError>
-    requires { IsSet T.cmp items.now }
+    requires items { IsSet T.cmp items.now }
+    requires others { IsSet T.cmp others.now }
     ensures { IfOk result (λ news. news.items ≡ new_items T.cmp itself items.now others.now) }
 {
     let mut news = Vec::new(alloc);
+    let mut from = 0;
     for other in others {
-        if let Err(place) = find_item(items, other) {
-            news.push((place, other.copied(alloc)?))?;
+        match find_from(items, other, from) {
+            Ok(place) => from = place,
+            Err(place) => {
+                news.push((place, other.copied(alloc)?))?;
+                from = place;
+            }
         }
     }
     Ok(news)

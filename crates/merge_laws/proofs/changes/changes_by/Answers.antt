@@ -1,22 +1,26 @@
-use Rattle.std.proofs.Common.{◌++◌, sym, ap, ◌∙◌}
+use Rattle.std.proofs.Common.{◌≡◌, ◌+◌, ◌<◌, ◌++◌, get_or, length, sym, ap, subst, ◌∙◌, arith}
 use Rattle.merge_laws.specs.Insertions.{new_item, new_items, new_value}
 use Rattle.merge_laws.specs.Sorted.{entry_key}
 use Rattle.merge_laws.proofs.Lists.{flat_map_more, whole}
+use Rattle.merge_laws.proofs.Places.{passed_next, place_bound}
 use Rattle.merge_laws.proofs.changes.changes_by.Goals as goal
 
 pub loop-other-preserved : goal.loop-other-preserved
 loop-other-preserved g c =
     let es = c.args.entries.now in
+    let fs = c.args.others.now in
     let i = c.loop-other.other-index in
     record {
       values =
           c.in_ok-add.ensures.values
           ∙ ap (λ cs. cs ++ new_value g.K.Ord.cmp g.V.Merge.merged es c.other-item.result) c.loop-other.invariant.values
-          ∙ sym (flat_map_more (new_value g.K.Ord.cmp g.V.Merge.merged es) c.args.others.now i c.other-item.result c.loop-other-test.true c.other-item.is);
+          ∙ sym (flat_map_more (new_value g.K.Ord.cmp g.V.Merge.merged es) fs i c.other-item.result c.loop-other-test.true c.other-item.is);
       news =
           c.in_ok-add.ensures.news
           ∙ ap (λ cs. cs ++ new_item g.K.Ord.cmp entry_key es c.other-item.result) c.loop-other.invariant.news
-          ∙ sym (flat_map_more (new_item g.K.Ord.cmp entry_key es) c.args.others.now i c.other-item.result c.loop-other-test.true c.other-item.is);
+          ∙ sym (flat_map_more (new_item g.K.Ord.cmp entry_key es) fs i c.other-item.result c.loop-other-test.true c.other-item.is);
+      within = ?;
+      passed = ?;
     }
 
 pub returns-clause-news : goal.returns-clause-news

@@ -1,4 +1,4 @@
-use Rattle.std.proofs.Common.{◌≡◌, ◌≤◌, ◌∷◌, ◌++◌, [], append_assoc, take, drop, sym, ap, subst, ◌∙◌, arith}
+use Rattle.std.proofs.Common.{◌≡◌, ◌≤◌, ◌∷◌, ◌++◌, [], append_assoc, take, drop, sym, ap, subst, ◌∙◌, arith, vec_len}
 use Rattle.std.specs.Prelude.{reverse}
 use Rattle.std.specs.List.{AllByRecursion}
 use Rattle.std.proofs.lemmas.List.{reverse-append}
@@ -14,8 +14,8 @@ loop-place-preserved g c =
     let item = c.in-Some.item in
     let rest = c.pop.new.self.items in
     let popped = c.in-Some.ensures.items in
-    let each = subst (AllByRecursion (λ n. first_place c.args.news.items ≤ n.0)) popped l.invariant.order in
-    let last : first_place c.args.news.items ≤ place = (all_back (λ n. first_place c.args.news.items ≤ n.0) rest ((place, item) ∷ []) each).0 in
+    let each = subst (AllByRecursion (λ n. first_place (vec_len c.args.items.now) c.args.news.items ≤ n.0)) popped l.invariant.order in
+    let last : first_place (vec_len c.args.items.now) c.args.news.items ≤ place = (all_back (λ n. first_place (vec_len c.args.items.now) c.args.news.items ≤ n.0) rest ((place, item) ∷ []) each).0 in
     let lifted : reverse c.push_reserved.new.self.items ≡ item ∷ (drop place items ++ reverse l.above.items) =
     ap reverse c.push_reserved.ensures.items ∙ reverse-append c.lift.new.above.items (item ∷ []) ∙ ap (λ a. item ∷ a) c.lift.ensures.above in
     record {
@@ -24,7 +24,7 @@ loop-place-preserved g c =
           ∙ sym (append_assoc (inserted (take place items) (reverse rest)) (item ∷ drop place items) (reverse l.above.items))
           ∙ ap (λ ns. inserted items ns ++ reverse l.above.items) (sym (reverse-append rest ((place, item) ∷ [])) ∙ ap reverse (sym popped))
           ∙ l.invariant.whole;
-      order = all_front (λ n. first_place c.args.news.items ≤ n.0) rest ((place, item) ∷ []) each;
+      order = all_front (λ n. first_place (vec_len c.args.items.now) c.args.news.items ≤ n.0) rest ((place, item) ∷ []) each;
       together = omega (arith, l.invariant.together, c.lift.ensures.together, c.push_reserved.ensures.len, c.in-Some.ensures.cases);
       untouched = λ low. let same = c.lift.ensures.untouched (omega (arith, low, last)) in same ∙ l.invariant.untouched (omega (arith, low, same));
       room = c.push_reserved.ensures.capacity ∙ c.lift.ensures.room ∙ l.invariant.room;

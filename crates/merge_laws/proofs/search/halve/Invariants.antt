@@ -1,13 +1,14 @@
-use Rattle.std.proofs.Common.{◌≡◌, ℕ, ◌-◌, ◌<◌, ◌≤◌, length, get_or}
+use Rattle.std.proofs.Common.{◌≡◌, ◌-◌, ◌≤◌, length}
+use Rattle.std.specs.List.{AllWithin}
 use Rattle.std.specs.declared.cmp.Ordering.TheVariants.{Less, Greater}
 use Rattle.merge_laws.proofs.search.halve.Given as goal
 
 abbrev pub invariant-loop-low : goal.invariant-loop-low
 invariant-loop-low g l = record {
   order : l.low ≤ l.high;
-  within : l.high ≤ length l.entries;
-  below : (j : ℕ) (d : g.row.K.Denot × g.row.V.Denot) → j < l.low → g.K.Ord.cmp (get_or l.entries j d).0 l.key ≡ Less;
-  above : (j : ℕ) (d : g.row.K.Denot × g.row.V.Denot) → l.high ≤ j → j < length l.entries → g.K.Ord.cmp (get_or l.entries j d).0 l.key ≡ Greater;
+  within : l.high ≤ length l.items;
+  below : AllWithin (λ e. g.K.Ord.cmp (g.E.Keyed.key_of e) l.key ≡ Less) l.items 0 l.low;
+  above : AllWithin (λ e. g.K.Ord.cmp (g.E.Keyed.key_of e) l.key ≡ Greater) l.items l.high (length l.items);
 }
 
 abbrev pub decreases-loop-low : goal.decreases-loop-low

@@ -1,7 +1,14 @@
-use Rattle.std.proofs.Common.{◌≡◌, take}
+use Rattle.std.proofs.Common.{◌≡◌, ◌<◌, ◌≤◌, get_or, length, take}
+use Rattle.std.specs.List.{AllWithin}
+use Rattle.std.specs.declared.cmp.Ordering.TheVariants.{Less}
 use Rattle.merge_laws.specs.Insertions.{new_items}
 use Rattle.merge_laws.specs.Sorted.{itself}
 use Rattle.merge_laws.proofs.sorted_set.new_among.Given as goal
 
+-- the next of the others is above the items that were passed
 abbrev pub invariant-loop-other : goal.invariant-loop-other
-invariant-loop-other g l = l.news.items ≡ new_items g.T.Ord.cmp itself l.items (take l.other-index l.others)
+invariant-loop-other g l = record {
+  news : l.news.items ≡ new_items g.T.Ord.cmp itself l.items (take l.other-index l.others);
+  within : l.from ≤ length l.items;
+  passed : (d : g.row.T.Denot) → l.other-index < length l.others → AllWithin (λ e. g.T.Ord.cmp e (get_or l.others l.other-index d) ≡ Less) l.items 0 l.from;
+}

@@ -9,4 +9,4 @@ returns-in_ok-push-in-Ok-clause-values g c =
     c.in_ok-merge-in-Ok.ensures.ok ∙ ap (λ v. g.V.Merge.merged v c.args.other.now.1) c.in_ok-value-in-Ok.ensures in
     c.in_ok-push-in-Ok.ensures.items
     ∙ ap (λ v. c.args.self.now.values.items ++ (c.in-Ok.place, v) ∷ []) made
-    ∙ ap (λ cs. c.args.self.now.values.items ++ cs) (sym (value_shared g.met.K.Ord.total g.V.Merge.merged c.args.other.now c.args.entries.now c.in-Ok.place c.index-entries-place.result c.requires c.in-Ok.ensures.place))
+    ∙ ap (λ cs. c.args.self.now.values.items ++ cs) (sym (value_shared g.met.K.Ord.total g.V.Merge.merged c.args.other.now c.args.entries.now c.in-Ok.place c.index-entries-place.result c.requires.rises c.in-Ok.ensures.place))

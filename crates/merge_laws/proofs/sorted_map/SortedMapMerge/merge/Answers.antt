@@ -22,7 +22,7 @@ set_values-requires g c =
 pub insert_all-requires-clause-order : goal.insert_all-requires-clause-order
 insert_all-requires-clause-order g c =
     let news = c.in_ok-changes.ensures.news ∙ (λ i. new_items g.K.Ord.cmp entry_key (c.as_slice.ensures.value i) (c.as_slice-2.ensures.value i)) in
-    subst IsFirstLeast (sym news) (first_least entry_key g.met.K.Ord.total c.self.inside.entries.items c.other.inside.entries.items c.other.invariant.rises)
+    subst (IsFirstLeast (vec_len c.set_values.new.entries)) (sym news) (first_least entry_key g.met.K.Ord.total (vec_len c.set_values.new.entries) c.self.inside.entries.items c.other.inside.entries.items c.other.invariant.rises)
 
 made : (g : _) (c : goal.After-insert_all g) → c.insert_all.new.items.items ≡ map_union g.K.Ord.cmp g.V.Merge.merged c.self.inside.entries.items c.other.inside.entries.items
 made g c =

@@ -1,4 +1,4 @@
-use Rattle.std.proofs.Common.{◌≡◌, sym, subst, ◌∙◌}
+use Rattle.std.proofs.Common.{◌≡◌, vec_len, sym, subst, ◌∙◌}
 use Rattle.std.specs.Prelude.{reverse}
 use Rattle.merge_laws.specs.Insertions.{IsFirstLeast, inserted, new_items}
 use Rattle.merge_laws.specs.Sorted.{IsSet, itself}
@@ -11,7 +11,7 @@ use Rattle.merge_laws.proofs.sorted_set.SortedSetMerge.merge.Goals as goal
 pub insert_all-requires-clause-order : goal.insert_all-requires-clause-order
 insert_all-requires-clause-order g c =
     let news = c.in_ok-news.ensures ∙ (λ i. new_items g.T.Ord.cmp itself (c.as_slice.ensures.value i) (c.as_slice-2.ensures.value i)) in
-    subst IsFirstLeast (sym news) (first_least itself g.met.T.Ord.total c.self.inside.items.items c.other.inside.items.items c.other.invariant)
+    subst (IsFirstLeast (vec_len c.room_for.new.items)) (sym news) (first_least itself g.met.T.Ord.total (vec_len c.room_for.new.items) c.self.inside.items.items c.other.inside.items.items c.other.invariant)
 
 made : (g : _) (c : goal.After-insert_all g) → c.insert_all.new.items.items ≡ set_union g.T.Ord.cmp c.self.inside.items.items c.other.inside.items.items
 made g c =
