@@ -1,5 +1,5 @@
 -- What a search in a list that rises finds.
-use Rattle.std.proofs.Common.{◌≡◌, ℕ, zero, suc, ◌+◌, ◌<◌, ◌≤◌, ◌-◌, true, false, not, cond, List, [], ◌∷◌, length, get_or, Some, Ok, Err, refl, sym, ap, ◌∙◌, arith, inl, inr}
+use Rattle.std.proofs.Common.{◌≡◌, ℕ, zero, suc, ◌+◌, ◌<◌, ◌≤◌, ◌-◌, true, false, not, cond, List, [], ◌∷◌, length, get_or, Some, Ok, Err, refl, sym, ap, ◌∙◌, arith, inl, inr, Bool}
 use Rattle.std.specs.Prelude.{is_some}
 use mathlib.Core.Bool.{true≢false}
 use Rattle.std.specs.declared.cmp.Ordering.{Ordering}
@@ -92,12 +92,14 @@ module _ {K E : Type 0} {R : K → K → Ordering} (key : E → K) (o : IsTotalO
   -- what stands before a key's place is below the key
   pub before_place : (k : K) (es : List E) (j : ℕ) (d : E) → j < place_of R key k es → R (key (get_or es j d)) k ≡ Less
   before_place k [] j d lt = absurd (omega (arith, lt))
-  before_place k (e ∷ es) j d lt = before k e es j d (is_lt (R (key e) k)) refl lt
-    where
-      before : (k : K) (e : E) (es : List E) (j : ℕ) (d : E) (b : Bool) → is_lt (R (key e) k) ≡ b → j < place_of R key k (e ∷ es) → R (key (get_or (e ∷ es) j d)) k ≡ Less
-      before k e es zero d true t lt = less (R (key e) k) (sym t)
-      before k e es (suc j) d true t lt = let count : place_of R key k (e ∷ es) ≡ 1 + place_of R key k es = ap (λ b. cond (not (not b)) (1 + place_of R key k es) 0) t in before_place k es j d (omega (arith, lt, count))
-      before k e es j d false t lt = let count : place_of R key k (e ∷ es) ≡ 0 = ap (λ b. cond (not (not b)) (1 + place_of R key k es) 0) t in absurd (omega (arith, lt, count))
+  before_place k (e ∷ es) zero d lt = elim (is_lt (R (key e) k)) as (λ b. is_lt (R (key e) k) ≡ b → R (key e) k ≡ Less) [
+    | true ↦ λ t. less (R (key e) k) (sym t)
+    | false ↦ λ t. let count : place_of R key k (e ∷ es) ≡ 0 = ap (λ b. cond (not (not b)) (1 + place_of R key k es) 0) t in absurd (omega (arith, lt, count))
+  ] refl
+  before_place k (e ∷ es) (suc j) d lt = before_place k es j d (elim (is_lt (R (key e) k)) as (λ b. is_lt (R (key e) k) ≡ b → j < place_of R key k es) [
+    | true ↦ λ t. let count : place_of R key k (e ∷ es) ≡ 1 + place_of R key k es = ap (λ b. cond (not (not b)) (1 + place_of R key k es) 0) t in omega (arith, lt, count)
+    | false ↦ λ t. let count : place_of R key k (e ∷ es) ≡ 0 = ap (λ b. cond (not (not b)) (1 + place_of R key k es) 0) t in absurd (omega (arith, lt, count))
+  ] refl)
 
   -- so that the next of the others is above all that was passed
   pub passed_next : (es fs : List E) (i : ℕ) (x d : E) → IsRising R key fs → i + 1 < length fs → x ≡ get_or fs i x → (j : ℕ) (e : E) → j < place_of R key (key x) es → R (key (get_or es j e)) (key (get_or fs (i + 1) d)) ≡ Less

@@ -1,4 +1,4 @@
-use Rattle.std.proofs.Common.{◌≡◌, ◌+◌, ◌<◌, ◌++◌, get_or, length, sym, ap, subst, ◌∙◌, arith}
+use Rattle.std.proofs.Common.{◌≡◌, ◌+◌, ◌<◌, ◌≤◌, ◌++◌, get_or, length, sym, ap, subst, ◌∙◌, arith}
 use Rattle.merge_laws.specs.Insertions.{new_item, new_items, new_value}
 use Rattle.merge_laws.specs.Sorted.{entry_key}
 use Rattle.merge_laws.proofs.Lists.{flat_map_more, whole}
@@ -12,15 +12,16 @@ loop-other-preserved g c =
     let i = c.loop-other.other-index in
     record {
       values =
-          c.in_ok-add.ensures.values
+          c.in_ok-from.ensures.values
           ∙ ap (λ cs. cs ++ new_value g.K.Ord.cmp g.V.Merge.merged es c.other-item.result) c.loop-other.invariant.values
           ∙ sym (flat_map_more (new_value g.K.Ord.cmp g.V.Merge.merged es) fs i c.other-item.result c.loop-other-test.true c.other-item.is);
       news =
-          c.in_ok-add.ensures.news
+          c.in_ok-from.ensures.news
           ∙ ap (λ cs. cs ++ new_item g.K.Ord.cmp entry_key es c.other-item.result) c.loop-other.invariant.news
           ∙ sym (flat_map_more (new_item g.K.Ord.cmp entry_key es) fs i c.other-item.result c.loop-other-test.true c.other-item.is);
-      within = ?;
-      passed = ?;
+      within = subst (λ n. n ≤ length es) (sym c.in_ok-from.ensures.place) (place_bound entry_key g.met.K.Ord.total c.other-item.result.0 es);
+      passed = λ d within j e _ lt.
+          passed_next entry_key g.met.K.Ord.total es fs i c.other-item.result d c.requires.others within c.other-item.is j e (subst (λ n. j < n) c.in_ok-from.ensures.place lt);
     }
 
 pub returns-clause-news : goal.returns-clause-news
