@@ -1,17 +1,19 @@
 -- Unions by what they have.
-use Rattle.std.proofs.Common.{◌≡◌, Bool, true, false, cond, List, [], ◌∷◌, Option, Some, None, refl, sym, ap, ◌∙◌, inl, inr, ⊎_elim}
+use Rattle.std.proofs.Common.{◌≡◌, Bool, true, false, cond, List, [], ◌∷◌, Option, Some, None, refl, sym, ap, ◌∙◌, inl, inr, ⊎_elim, ℕ, zero, suc, ◌<◌, length, get_or, subst, arith}
 use mathlib.Core.Bool.{◌||◌, true≢false}
-use Rattle.std.specs.Prelude.{◌⊎◌, Contains, is_some}
+use Rattle.std.specs.Prelude.{◌⊎◌, Contains, is_some, unwrap_or}
 use Rattle.std.specs.Option.{option_map, option_or}
 use Rattle.std.specs.List.{list_any}
 use Rattle.std.specs.Ordering.{eq_by_cmp, is_eq}
 use Rattle.std.specs.declared.cmp.Ordering.{Ordering}
 use Rattle.std.specs.declared.cmp.Ordering.TheVariants.{Equal}
-use Rattle.std.specs.Cmp.{IsTotalOrder, Equal-is, eq_by_cmp_equiv}
+use Rattle.std.specs.Cmp.{IsTotalOrder, Equal-is, eq_by_cmp_equiv, tied_itself}
 use Rattle.std.proofs.lemmas.Map.Views.{Contains-from_any, list_any-from_Contains}
-use Rattle.merge_laws.specs.Sorted.{IsSet, item_at, has_key, itself, entry_key, value_at}
-use Rattle.merge_laws.specs.Union.{either_or_both, older, merged_entries, set_with, set_union, IsSetOfBoth, SetUnionHasBoth, SetWithHasItem, MapUnionHasBoth, MapWithMerges}
+use Rattle.merge_laws.specs.Sorted.{IsSet, item_at, has_key, itself, entry_key, value_at, IsRising}
+use Rattle.merge_laws.specs.Union.{either_or_both, older, merged_entries, set_with, set_union, IsSetOfBoth, SetUnionHasBoth, SetWithHasItem, MapTellsEntry, MapUnionHasBoth, MapWithMerges, SetTellsItem}
 use Rattle.merge_laws.specs.Items.{alone, rises_with, rises_union, item_at-with, item_at-union}
+use Rattle.merge_laws.proofs.Edits.{item_found}
+use Rattle.merge_laws.proofs.Places.{found_here}
 
 either : (a b : Bool) → (a || b) ≡ true → (a ≡ true) ⊎ (b ≡ true)
 either true b e = inl refl
@@ -50,6 +52,9 @@ module _ {K : Type 0} {R : K → K → Ordering} (o : IsTotalOrder R) (exact : (
     );
   }
 
+  pub set_tells_item : SetTellsItem R
+  set_tells_item xs x = (there xs x, tested xs x)
+
   pub set_union_has_both : SetUnionHasBoth R
   set_union_has_both xs ys g h = of_both xs ys (set_union R xs ys) (rises_union itself o older (λ _ _. refl) xs ys g) (λ q.
       ap is_some (item_at-union itself o older (λ _ _. refl) q xs ys g h) ∙ some_of_both older (item_at R itself q xs) (item_at R itself q ys))
@@ -87,3 +92,30 @@ module _ {K V : Type 0} {R : K → K → Ordering} (o : IsTotalOrder R) (merged 
           | false ↦ sym (alone merged (value_at R q es))
         ];
   }
+
+module _ {K V : Type 0} {R : K → K → Ordering} (o : IsTotalOrder R) (exact : (x y : K) → R x y ≡ Equal → x ≡ y) (merged : V → V → V) where
+  -- the entry that is found is there, and has the key
+  found_entry : (k : K) (es : List (K × V)) (e : K × V) → item_at R entry_key k es ≡ Some e → Contains es e × (k ≡ e.0)
+  found_entry k [] e is = absurd (true≢false (sym (ap is_some is)))
+  found_entry k (f ∷ es) e is = elim (is_eq (R k f.0)) as (λ b. is_eq (R k f.0) ≡ b → cond b (Some f) (item_at R entry_key k es) ≡ Some e → Contains (f ∷ es) e × (k ≡ e.0)) [
+    | true ↦ λ t here. let same : f ≡ e = ap (λ a. unwrap_or a f) here in ((zero, omega arith, same), exact k f.0 ((Equal-is (R k f.0)).0 t) ∙ ap (λ x. x.0) same)
+    | false ↦ λ t here. let rest = found_entry k es e here in ((suc rest.0.0, omega (arith, rest.0.1), rest.0.2), rest.1)
+  ] refl is
+
+  entry_found : (k : K) (v : V) (es : List (K × V)) → IsRising R entry_key es → (i : ℕ) → i < length es → get_or es i (k, v) ≡ (k, v) → item_at R entry_key k es ≡ Some (k, v)
+  entry_found k v es h i within is =
+      let tied : R (get_or es i (k, v)).0 k ≡ Equal = ap (λ (e : K × V). R e.0 k) is ∙ tied_itself o k in
+      item_found entry_key o k es i (k, v) h (found_here entry_key o es k i (k, v) h within tied) ∙ ap Some is
+
+  pub map_tells_entry : MapTellsEntry R merged
+  map_tells_entry es k v h = (
+    λ told. one_found (item_at R entry_key k es) refl told,
+    λ one. ap (λ (a : Option (K × V)). option_map (λ e. e.1) a) (entry_found k v es h one.0 one.1 one.2),
+  )
+    where
+      one_found : (a : Option (K × V)) → item_at R entry_key k es ≡ a → option_map (λ (e : K × V). e.1) a ≡ Some v → Contains es (k, v)
+      one_found None is told = absurd (true≢false (sym (ap is_some told)))
+      one_found (Some e) is told =
+          let found = found_entry k es e is in
+          let value : e.1 ≡ v = ap (λ a. unwrap_or a e.1) told in
+          subst (Contains es) (λ n. (sym found.1 n, value n)) found.0

@@ -1,4 +1,4 @@
--- Lists that rise are told apart by what stands at each key.
+-- Lists that rise are told apart by what stands at each key (own).
 use Rattle.std.specs.Prelude.{◌≡◌, ◌≢◌, true, false, cond, List, [], ◌∷◌, Option, Some, None, is_some, unwrap_or, refl}
 use Rattle.std.proofs.Common.{sym, ap, ◌∙◌}
 use Rattle.std.specs.declared.cmp.Ordering.{Ordering}

@@ -19,7 +19,7 @@ module _ {K E : Type 0} (R : K → K → Ordering) (key : E → K) where
   abbrev pub has_key : K → List E → Bool
   has_key k es = is_some (item_at k es)
 
-  -- the place of the first item whose key is not below k
+  -- the place of the first item whose key is not below k, or how many there are where none is
   abbrev pub place_of : K → List E → ℕ
   place_of k es = position_or_len (λ e. not (is_lt (R (key e) k))) es
 
@@ -35,7 +35,7 @@ entry_key e = e.0
 abbrev pub IsSet : {K : Type 0} → (K → K → Ordering) → List K → Type 0
 IsSet R ks = IsRising R itself ks
 
--- a map: entries whose keys rise, and whose values are all of a kind
+-- a map: entries whose keys rise, and whose values all have P
 pub record IsMap {K V : Type 0} (R : K → K → Ordering) (P : V → Type 0) (es : List (K × V)) : Type 0 where
   pub rises : IsRising R entry_key es
   pub values : AllByRecursion (λ e. P e.1) es

@@ -1,8 +1,8 @@
 -- What two sets, or two maps, make together (own).
-use Rattle.std.specs.Prelude.{◌≡◌, ◌↔◌, ◌⊎◌, List, [], ◌∷◌, Contains, Option, Some, None}
+use Rattle.std.specs.Prelude.{◌≡◌, ◌↔◌, ◌⊎◌, IsTrue, List, [], ◌∷◌, Contains, Option, Some, None}
 use Rattle.std.specs.declared.cmp.Ordering.{Ordering}
 use Rattle.std.specs.Ordering.{match_ordering}
-use Rattle.merge_laws.specs.Sorted.{IsRising, IsSet, itself, entry_key, value_at}
+use Rattle.merge_laws.specs.Sorted.{IsRising, IsSet, has_key, itself, entry_key, value_at}
 
 module _ {K E : Type 0} (R : K → K → Ordering) (key : E → K) (join : E → E → E) where
   -- the items with x among them; where one has its key already, that one and x are joined
@@ -10,7 +10,7 @@ module _ {K E : Type 0} (R : K → K → Ordering) (key : E → K) (join : E →
   with_item x [] = x ∷ []
   with_item x (e ∷ es) = match_ordering (R (key x) (key e)) (x ∷ e ∷ es) (join e x ∷ es) (e ∷ with_item x es)
 
-  -- the items of the first, and those of the second one after another
+  -- the items of the first, and into them those of the second, the last one first
   abbrev pub union_of : List E → List E → List E
   union_of es [] = es
   union_of es (f ∷ fs) = with_item f (union_of es fs)
@@ -49,6 +49,10 @@ module _ {K : Type 0} (R : K → K → Ordering) where
     pub rises : IsSet R set
     pub members : (x : K) → Contains set x ↔ (Contains xs x ⊎ Contains ys x)
 
+  -- a key is told to be there exactly where the set has it
+  abbrev pub SetTellsItem : Type 0
+  SetTellsItem = (xs : List K) (x : K) → IsTrue (has_key R itself x xs) ↔ Contains xs x
+
   abbrev pub SetUnionHasBoth : Type 0
   SetUnionHasBoth = (xs ys : List K) → IsSet R xs → IsSet R ys → IsSetOfBoth xs ys (set_union R xs ys)
 
@@ -60,6 +64,10 @@ module _ {K V : Type 0} (R : K → K → Ordering) (merged : V → V → V) wher
   pub record IsMapOfBoth (es fs map : List (K × V)) : Type 0 where
     pub rises : IsRising R entry_key map
     pub values : (k : K) → value_at R k map ≡ either_or_both merged (value_at R k es) (value_at R k fs)
+
+  -- a value is told at a key exactly where the map has both as an entry
+  abbrev pub MapTellsEntry : Type 0
+  MapTellsEntry = (es : List (K × V)) (k : K) (v : V) → IsRising R entry_key es → (value_at R k es ≡ Some v) ↔ Contains es (k, v)
 
   abbrev pub MapUnionHasBoth : Type 0
   MapUnionHasBoth = (es fs : List (K × V)) → IsRising R entry_key es → IsRising R entry_key fs → IsMapOfBoth es fs (map_union R merged es fs)

@@ -1,4 +1,4 @@
--- The laws of unions, for every kind of item whose join has them.
+-- The laws of unions, for every kind of item whose join has them (own).
 use Rattle.std.specs.Prelude.{◌≡◌, true, false, cond, List, [], ◌∷◌, Option, Some, None, IfSome, refl}
 use Rattle.std.proofs.Common.{sym, ap, ◌∙◌}
 use Rattle.std.specs.declared.cmp.Ordering.{Ordering}

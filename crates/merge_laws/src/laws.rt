@@ -1,19 +1,22 @@
 ghost use Rattle.merge_laws.specs.Ends.{AllMeetIffEndsMeet, SummaryTellsAll};
-ghost use Rattle.merge_laws.specs.Union.{MapUnionHasBoth, MapWithMerges, SetUnionHasBoth, SetWithHasItem};
+ghost use Rattle.merge_laws.specs.Union.{MapTellsEntry, MapUnionHasBoth, MapWithMerges, SetTellsItem, SetUnionHasBoth, SetWithHasItem};
 
 use crate::merge::Merge;
 use oim_names::Key;
 
 /// The union of two sets has just the items of both, and a set with an item in it those of the set
-/// and that item.
+/// and that item. An item is told to be there exactly where the set has it.
 pub fn set_has_both<T: Key>()
+    ensures told { SetTellsItem T.cmp }
     ensures union { SetUnionHasBoth T.cmp }
     ensures item { SetWithHasItem T.cmp }
 {}
 
-/// The union of two maps has the keys of both, with the merge of their values where both have one;
-/// and so has a map with a value put at a key.
+/// The union of two maps has the keys of both, with the merge of their values where both have one.
+/// A map with a value put at a key has that key besides, with the merge where it had one. A value is
+/// told at a key exactly where the map has the two as an entry.
 pub fn map_has_both<K: Key, V: Merge>()
+    ensures told { MapTellsEntry K.cmp V.merged }
     ensures union { MapUnionHasBoth K.cmp V.merged }
     ensures put { MapWithMerges K.cmp V.merged }
 {}

@@ -23,15 +23,15 @@ pub trait Merge: Copied {
     fn known(&self)
         ensures { is_known self.now };
 
-    /// What two values make is a value of the type,
+    /// What two values make is a value of the type.
     ghost closed: { (x y : Self) → is_known x → is_known y → is_known (merged x y) };
 
-    /// whatever is merged first,
+    /// Three make the same, whichever two are merged first.
     ghost associative: { (x y z : Self) → is_known x → is_known y → is_known z → merged (merged x y) z ≡ merged x (merged y z) };
 
-    /// in either order,
+    /// Two make the same in either order.
     ghost commutative: { (x y : Self) → is_known x → is_known y → merged x y ≡ merged y x };
 
-    /// and merging what is there already changes nothing.
+    /// A value merged with itself is itself.
     ghost idempotent: { (x : Self) → is_known x → merged x x ≡ x };
 }

@@ -80,12 +80,7 @@ pub(crate) fn find_from<K: Key, E: Keyed<K>>(
 
 // The same by halving, where the key is above those before one place and below those from another
 // on.
-fn halve<K: Key, E: Keyed<K>>(
-    items: &[E],
-    key: &K,
-    from: usize,
-    to: usize,
-) -> Result<usize, usize>
+fn halve<K: Key, E: Keyed<K>>(items: &[E], key: &K, from: usize, to: usize) -> Result<usize, usize>
     requires rises { IsRising K.cmp E.key_of items.now }
     requires order { from ≤ to }
     requires within { to ≤ length items.now }

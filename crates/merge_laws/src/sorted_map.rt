@@ -77,7 +77,7 @@ impl<K: Key, V: Merge> SortedMap<K, V> {
         }
     }
 
-    /// How many keys there are.
+    /// How many keys there are. They rise, and each value is one of its type.
     pub fn len(&self) -> usize
         ensures count { result ≡ length self.now }
         ensures map { IsMap K.cmp V.is_known self.now }
@@ -107,8 +107,8 @@ fn copies_of<K: Copied, V: Copied>(
     Ok(copies)
 }
 
-/// The keys of both; a key of both gets what its two values make together. The entries of the map
-/// stay, and those that are new to it are copied.
+/// The keys of both. A key of both gets what its two values make together, in a copy of the map's own,
+/// so that a refusal changes nothing; all other entries of the map stay, and new ones are copied.
 impl<K: Key, V: Merge> Merge for SortedMap<K, V> {
     ghost use Rattle.merge_laws.specs.Sorted.{IsMap};
     ghost use Rattle.merge_laws.specs.Union.{map_union};

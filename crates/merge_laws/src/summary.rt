@@ -9,8 +9,9 @@ use oim_value::{Interval, Value, common, interval_of};
 use std::alloc::{AllocError, Global};
 use std::marker::Model;
 
-/// What is to be known of values to tell whether each two meet: whether a nil was among them, and
-/// where numbers were, the greatest low end and the least high end of their rounding intervals.
+/// What is kept of several values: whether a nil was among them, and where numbers were, the greatest
+/// low end and the least high end of their rounding intervals, which tell whether each two numbers
+/// meet. Texts and names leave no trace.
 #[derive(Clone, Copy, Debug, PartialEq, Eq)]
 pub struct Summary {
     nil: bool,

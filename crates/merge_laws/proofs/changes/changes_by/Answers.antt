@@ -1,4 +1,4 @@
-use Rattle.std.proofs.Common.{◌≡◌, ◌+◌, ◌<◌, ◌≤◌, ◌++◌, get_or, length, sym, ap, subst, ◌∙◌, arith}
+use Rattle.std.proofs.Common.{◌<◌, ◌≤◌, ◌++◌, length, sym, ap, subst, ◌∙◌}
 use Rattle.merge_laws.specs.Insertions.{new_item, new_items, new_value}
 use Rattle.merge_laws.specs.Sorted.{entry_key}
 use Rattle.merge_laws.proofs.Lists.{flat_map_more, whole}

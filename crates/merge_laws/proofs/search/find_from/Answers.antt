@@ -1,4 +1,4 @@
-use Rattle.std.proofs.Common.{◌≡◌, ◌+◌, ◌-◌, ◌<◌, sym, ap, ◌∙◌, arith, length}
+use Rattle.std.proofs.Common.{◌+◌, ◌<◌, sym, ap, ◌∙◌, arith, length}
 use Rattle.merge_laws.proofs.Places.{found_here, less_before, greater_after}
 use Rattle.merge_laws.proofs.search.find_from.Goals as goal
 

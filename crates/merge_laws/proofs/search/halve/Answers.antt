@@ -1,4 +1,4 @@
-use Rattle.std.proofs.Common.{◌≡◌, ◌+◌, ◌-◌, ◌/◌, ◌<◌, sym, ap, ◌∙◌, arith, length}
+use Rattle.std.proofs.Common.{◌+◌, ◌-◌, ◌/◌, ◌<◌, sym, ap, ◌∙◌, arith, length}
 use Rattle.merge_laws.proofs.Places.{found_here, found_gap, less_before, greater_after}
 use Rattle.merge_laws.proofs.search.halve.Goals as goal
 
