@@ -1,13 +1,20 @@
 use crate::{Merge, SortedMap, SortedSet, Summary, laws};
-use oim_names::{Copied, Text};
+use oim_names::{Copied, Key, Text};
 use oim_value::{Decimals, Interval, Value, read_fixed};
 use std::alloc::AllocError;
 use std::test::Fail;
 
 const UNIT: i128 = 1_000_000_000_000_000_000;
 
-// Where a request for memory is refused, the next one is not: the callee is asked again, and must
-// not have changed anything. The line on standard error tells `tests/refused_memory` of it.
+type Items = SortedSet<Text>;
+
+type ItemsAt = SortedMap<Text, Items>;
+
+type Pair = (Items, Items);
+
+// Where a request for memory is refused, the next one is not: the callee is asked again, unless it
+// has changed something; then the test fails. The line on standard error tells
+// `tests/refused_memory` of it.
 
 fn tell_refused(rt: &HostRuntime) {
     let _ = eprintln!(rt; "refused");
@@ -43,10 +50,58 @@ fn merge<M: Merge>(rt: &HostRuntime, value: &mut M, other: &M) -> Result<(), All
     }
 }
 
-fn insert(rt: &HostRuntime, set: &mut SortedSet<Text>, item: &str) -> Result<bool, AllocError> {
+fn merge_sets(rt: &HostRuntime, set: &mut Items, other: &Items) -> Result<(), AllocError> {
+    let before = copied(rt, set)?;
+    match set.merge(rt.alloc(), other) {
+        Err(_) if same_items(set, &before) => {
+            tell_refused(rt);
+            set.merge(rt.alloc(), other)
+        }
+        merged => merged,
+    }
+}
+
+fn merge_maps(rt: &HostRuntime, map: &mut ItemsAt, other: &ItemsAt) -> Result<(), AllocError> {
+    let before = copied(rt, map)?;
+    match map.merge(rt.alloc(), other) {
+        Err(_) if same_entries(map, &before) => {
+            tell_refused(rt);
+            map.merge(rt.alloc(), other)
+        }
+        merged => merged,
+    }
+}
+
+fn merge_pairs(rt: &HostRuntime, pair: &mut Pair, other: &Pair) -> Result<(), AllocError> {
+    let before = copied(rt, pair)?;
+    match pair.merge(rt.alloc(), other) {
+        Err(_) if same_items(&pair.0, &before.0) && same_items(&pair.1, &before.1) => {
+            tell_refused(rt);
+            pair.merge(rt.alloc(), other)
+        }
+        merged => merged,
+    }
+}
+
+fn same_items(set: &Items, other: &Items) -> bool {
+    set.as_slice() == other.as_slice()
+}
+
+fn same_entries(map: &ItemsAt, other: &ItemsAt) -> bool {
+    for i in 0..map.len() {
+        match (map.at(i), other.at(i)) {
+            (Some(a), Some(b)) if a.0 == b.0 && same_items(a.1, b.1) => {}
+            _ => return false,
+        }
+    }
+    map.len() == other.len()
+}
+
+fn insert(rt: &HostRuntime, set: &mut Items, item: &str) -> Result<bool, AllocError> {
     let item = text(rt, item)?;
+    let many = set.as_slice().len();
     match set.insert(&item) {
-        Err(_) => {
+        Err(_) if set.as_slice().len() == many => {
             tell_refused(rt);
             set.insert(&item)
         }
@@ -54,23 +109,35 @@ fn insert(rt: &HostRuntime, set: &mut SortedSet<Text>, item: &str) -> Result<boo
     }
 }
 
-fn put<V: Merge>(
+fn put<K: Key>(
     rt: &HostRuntime,
-    map: &mut SortedMap<Text, V>,
-    key: &str,
-    value: &V,
+    map: &mut SortedMap<K, Summary>,
+    key: &K,
+    value: &Summary,
 ) -> Result<(), AllocError> {
-    let key = text(rt, key)?;
-    match map.put(&key, value) {
-        Err(_) => {
+    let many = map.len();
+    match map.put(key, value) {
+        Err(_) if map.len() == many => {
             tell_refused(rt);
-            map.put(&key, value)
+            map.put(key, value)
         }
         done => done,
     }
 }
 
-fn set(rt: &HostRuntime, items: &[&str]) -> Result<SortedSet<Text>, AllocError> {
+fn put_item(rt: &HostRuntime, map: &mut ItemsAt, key: &str, item: &str) -> Result<(), AllocError> {
+    let (key, items) = (text(rt, key)?, set(rt, &[item])?);
+    let before = copied(rt, map)?;
+    match map.put(&key, &items) {
+        Err(_) if same_entries(map, &before) => {
+            tell_refused(rt);
+            map.put(&key, &items)
+        }
+        done => done,
+    }
+}
+
+fn set(rt: &HostRuntime, items: &[&str]) -> Result<Items, AllocError> {
     let mut set = SortedSet::new(rt.alloc());
     for item in items {
         insert(rt, &mut set, item)?;
@@ -78,7 +145,7 @@ fn set(rt: &HostRuntime, items: &[&str]) -> Result<SortedSet<Text>, AllocError> 
     Ok(set)
 }
 
-fn has_just(set: &SortedSet<Text>, items: &[&str]) -> bool {
+fn has_just(set: &Items, items: &[&str]) -> bool {
     let found = set.as_slice();
     if found.len() != items.len() {
         return false;
@@ -92,7 +159,7 @@ fn has_just(set: &SortedSet<Text>, items: &[&str]) -> bool {
 }
 
 // The items at a key, where there is the key.
-fn has_at(map: &SortedMap<Text, SortedSet<Text>>, key: &Text, items: &[&str]) -> bool {
+fn has_at(map: &ItemsAt, key: &Text, items: &[&str]) -> bool {
     match map.get(key) {
         Some(set) => has_just(set, items),
         None => false,
@@ -104,11 +171,11 @@ fn a_union_has_the_items_of_both(rt: HostRuntime) -> Result<(), Fail> {
     let mut first = set(&rt, &["c", "a"])?;
     let mut second = set(&rt, &["b", "c"])?;
     let copy = copied(&rt, &first)?;
-    merge(&rt, &mut first, &second)?;
+    merge_sets(&rt, &mut first, &second)?;
     assert!(rt; has_just(&first, &["a", "b", "c"]));
-    merge(&rt, &mut second, &copy)?;
+    merge_sets(&rt, &mut second, &copy)?;
     assert!(rt; has_just(&second, &["a", "b", "c"]));
-    merge(&rt, &mut first, &second)?;
+    merge_sets(&rt, &mut first, &second)?;
     assert!(rt; has_just(&first, &["a", "b", "c"]));
     assert!(rt; has_just(&copy, &["a", "c"]));
     Ok(())
@@ -132,12 +199,16 @@ fn finite(number: i64) -> Decimals {
     }
 }
 
-// A number that is rounded to units.
-fn rounded(spelled: &str) -> Summary {
+// A number that is known to so many places.
+fn rounded_to(spelled: &str, places: i64) -> Summary {
     match read_fixed(spelled) {
-        Ok(number) => Summary::of(&Value::Number(number, finite(0))),
+        Ok(number) => Summary::of(&Value::Number(number, finite(places))),
         Err(_) => Summary::of(&Value::Nil),
     }
+}
+
+fn rounded(spelled: &str) -> Summary {
+    rounded_to(spelled, 0)
 }
 
 #[test]
@@ -154,6 +225,17 @@ fn a_summary_has_the_greatest_low_and_the_least_high_end(rt: HostRuntime) -> Res
     assert!(rt; second == first);
     merge(&rt, &mut first, &rounded("101"))?;
     assert!(rt; first.ends() == crossed && !first.nil());
+    Ok(())
+}
+
+#[test]
+fn ends_are_of_different_numbers(rt: HostRuntime) -> Result<(), Fail> {
+    let mut all = rounded("100");
+    merge(&rt, &mut all, &rounded("103"))?;
+    merge(&rt, &mut all, &rounded_to("104", -2))?;
+    let (low, high) = (1025 * (UNIT / 10), 1005 * (UNIT / 10));
+    assert!(rt; all.ends() == Some(Interval { low, high }) && !all.nil());
+    assert!(rt; copied(&rt, &all)? == all);
     Ok(())
 }
 
@@ -175,41 +257,67 @@ fn a_map_merges_what_is_put_at_a_key(rt: HostRuntime) -> Result<(), Fail> {
     let mut both = rounded("100");
     merge(&rt, &mut both, &rounded("102"))?;
     let mut map = SortedMap::new(rt.alloc());
-    put(&rt, &mut map, "k", &rounded("100"))?;
-    put(&rt, &mut map, "k", &rounded("102"))?;
+    let key = text(&rt, "k")?;
+    put(&rt, &mut map, &key, &rounded("100"))?;
+    put(&rt, &mut map, &key, &rounded("102"))?;
     assert!(rt; map.len() == 1);
-    assert!(rt; map.get(&text(&rt, "k")?) == Some(&both));
+    assert!(rt; map.get(&key) == Some(&both));
     assert!(rt; map.get(&text(&rt, "j")?) == None);
     assert!(rt; map.get(&text(&rt, "l")?) == None);
+    let copy = copied(&rt, &map)?;
+    assert!(rt; copy.get(&key) == Some(&both));
+    Ok(())
+}
+
+#[test]
+fn sets_put_at_a_key_are_united(rt: HostRuntime) -> Result<(), Fail> {
+    let mut map = SortedMap::new(rt.alloc());
+    put_item(&rt, &mut map, "k", "b")?;
+    put_item(&rt, &mut map, "j", "c")?;
+    put_item(&rt, &mut map, "k", "a")?;
+    assert!(rt; map.len() == 2);
+    assert!(rt; has_at(&map, &text(&rt, "j")?, &["c"]));
+    assert!(rt; has_at(&map, &text(&rt, "k")?, &["a", "b"]));
     Ok(())
 }
 
 #[test]
 fn maps_merge_key_by_key(rt: HostRuntime) -> Result<(), Fail> {
     let mut first = SortedMap::new(rt.alloc());
-    put(&rt, &mut first, "k", &set(&rt, &["a"])?)?;
+    put_item(&rt, &mut first, "k", "a")?;
     let mut second = SortedMap::new(rt.alloc());
-    put(&rt, &mut second, "m", &set(&rt, &["c"])?)?;
-    put(&rt, &mut second, "k", &set(&rt, &["b"])?)?;
-    merge(&rt, &mut first, &second)?;
+    put_item(&rt, &mut second, "m", "c")?;
+    put_item(&rt, &mut second, "k", "b")?;
     let copy = copied(&rt, &first)?;
-    assert!(rt; copy.len() == 2 && copy.at(2).is_none());
-    assert!(rt; has_at(&copy, &text(&rt, "k")?, &["a", "b"]));
-    assert!(rt; has_at(&copy, &text(&rt, "m")?, &["c"]));
-    match copy.at(0) {
-        Some((key, items)) => {
-            assert!(rt; key.as_str() == "k" && has_just(items, &["a", "b"]));
-        }
-        None => panic!(rt; "there is no first entry"),
-    }
+    merge_maps(&rt, &mut first, &second)?;
+    assert!(rt; is_merged(&first));
+    merge_maps(&rt, &mut second, &copy)?;
+    assert!(rt; is_merged(&second));
+    assert!(rt; is_merged(&copied(&rt, &first)?));
     Ok(())
+}
+
+fn is_merged(map: &ItemsAt) -> bool {
+    map.len() == 2
+        && map.at(2).is_none()
+        && is_entry(map, 0, "k", &["a", "b"])
+        && is_entry(map, 1, "m", &["c"])
+}
+
+fn is_entry(map: &ItemsAt, place: usize, key: &str, items: &[&str]) -> bool {
+    match map.at(place) {
+        Some((found, set)) => {
+            found.as_str() == key && has_just(set, items) && has_at(map, found, items)
+        }
+        None => false,
+    }
 }
 
 #[test]
 fn pairs_merge_part_by_part(rt: HostRuntime) -> Result<(), Fail> {
     let mut first = (set(&rt, &["a"])?, set(&rt, &["x"])?);
     let second = (set(&rt, &["b"])?, set(&rt, &["w"])?);
-    merge(&rt, &mut first, &second)?;
+    merge_pairs(&rt, &mut first, &second)?;
     first.known();
     let copy = copied(&rt, &first)?;
     assert!(rt; has_just(&copy.0, &["a", "b"]));
@@ -232,32 +340,31 @@ fn what_is_there_already_changes_nothing(rt: HostRuntime) -> Result<(), Fail> {
     let items = set(&rt, &["a", "b"])?;
     assert!(rt; has_just(&doubled(&rt, &items)?, &["a", "b"]));
     let mut map = SortedMap::new(rt.alloc());
-    put(&rt, &mut map, "k", &items)?;
+    put_item(&rt, &mut map, "k", "a")?;
+    put_item(&rt, &mut map, "k", "b")?;
     let map = doubled(&rt, &map)?;
     assert!(rt; map.len() == 1);
     assert!(rt; has_at(&map, &text(&rt, "k")?, &["a", "b"]));
     Ok(())
 }
 
-type Place = (Decimals, (Decimals, Decimals));
+type Place = ((Decimals, Decimals), (Decimals, Decimals));
 
 // A key that wants no memory; a greater number gives a greater key.
 fn place(number: i64) -> Place {
-    (
-        finite(number / 625 - 12),
-        (finite(number / 25 % 25 - 12), finite(number % 25 - 12)),
-    )
+    (digits(number / 625), digits(number))
+}
+
+fn digits(number: i64) -> (Decimals, Decimals) {
+    (finite(number / 25 % 25 - 12), finite(number % 25 - 12))
 }
 
 fn put_all(rt: &HostRuntime, step: i64) -> Result<SortedMap<Place, Summary>, AllocError> {
     let mut map = SortedMap::new(rt.alloc());
-    for number in 0..2000i64 {
+    let value = rounded("1");
+    for number in 0..200_000i64 {
         if number.checked_rem(step) == Some(0) {
-            let (key, value) = (place(number), rounded("1"));
-            if map.put(&key, &value).is_err() {
-                tell_refused(rt);
-                map.put(&key, &value)?;
-            }
+            put(rt, &mut map, &place(number), &value)?;
         }
     }
     Ok(map)
@@ -266,14 +373,19 @@ fn put_all(rt: &HostRuntime, step: i64) -> Result<SortedMap<Place, Summary>, All
 #[test]
 fn many_keys_are_kept_in_order(rt: HostRuntime) -> Result<(), Fail> {
     let mut thirds = put_all(&rt, 3)?;
-    assert!(rt; thirds.len() == 667);
-    merge(&rt, &mut thirds, &put_all(&rt, 2)?)?;
-    assert!(rt; thirds.len() == 1333);
-    for number in 0..2000i64 {
-        let there = number % 3 == 0 || number % 2 == 0;
-        assert!(rt; thirds.get(&place(number)).is_some() == there, "{number}");
+    assert!(rt; thirds.len() == 66_667);
+    let halves = put_all(&rt, 2)?;
+    assert!(rt; halves.len() == 100_000);
+    merge(&rt, &mut thirds, &halves)?;
+    assert!(rt; thirds.len() == 133_333);
+    for number in 0..200_000i64 {
+        if number % 997 == 0 {
+            let there = number % 3 == 0 || number % 2 == 0;
+            assert!(rt; thirds.get(&place(number)).is_some() == there, "{number}");
+        }
     }
-    assert!(rt; thirds.at(1332).is_some_and(|entry| *entry.0 == place(1998)));
+    let last = thirds.at(133_332);
+    assert!(rt; last.is_some_and(|entry| *entry.0 == place(199_998)));
     Ok(())
 }
 

@@ -133,6 +133,12 @@ fn common_part_may_be_empty(rt: HostRuntime) {
             99 * UNIT + HALF,
             100 * UNIT + HALF,
         ),
+        (
+            interval("1", finite(0)),
+            interval("1", Decimals::INFINITE),
+            UNIT,
+            UNIT,
+        ),
     ];
     for (a, b, low, high) in rows {
         assert!(rt; common(a, b) == Interval { low, high });
