@@ -89,9 +89,11 @@ fn same_items(set: &Items, other: &Items) -> bool {
 
 fn same_entries(map: &ItemsAt, other: &ItemsAt) -> bool {
     for i in 0..map.len() {
-        match (map.at(i), other.at(i)) {
-            (Some(a), Some(b)) if a.0 == b.0 && same_items(a.1, b.1) => {}
-            _ => return false,
+        let (Some(entry), Some(before)) = (map.at(i), other.at(i)) else {
+            return false;
+        };
+        if entry.0 != before.0 || !same_items(entry.1, before.1) {
+            return false;
         }
     }
     map.len() == other.len()
