@@ -36,11 +36,17 @@ all_weaker P Q [] f h = tt
 all_weaker P Q (x ∷ xs) f h = (f x h.0, all_weaker P Q xs f h.1)
 
 -- a walk over a list, step by step and at its end
+pub all_more : {A : Type 0} (P : A → Type 0) (xs : List A) (i : ℕ) (x : A) → i < length xs → x ≡ get_or xs i x → AllByRecursion P (take i xs) → P x → AllByRecursion P (take (i + 1) xs)
+all_more P xs i x within is all p = subst (AllByRecursion P) (sym (take_more xs i x within ∙ ap (λ y. take i xs ++ y ∷ []) (sym is))) (all_both P (take i xs) (x ∷ []) all (p, tt))
+
 pub flat_map_more : {A B : Type 0} (f : A → List B) (xs : List A) (i : ℕ) (x : A) → i < length xs → x ≡ get_or xs i x → flat_map f (take (i + 1) xs) ≡ flat_map f (take i xs) ++ f x
 flat_map_more f xs i x within is =
     ap (flat_map f) (take_more xs i x within ∙ ap (λ y. take i xs ++ y ∷ []) (sym is))
     ∙ flat_map-append f (take i xs) (x ∷ [])
     ∙ ap (λ ys. flat_map f (take i xs) ++ ys) (append-nil (f x))
+
+pub flat_map_next : {A B : Type 0} (f : A → List B) (xs : List A) (n m : ℕ) (x : A) → n < length xs → x ≡ get_or xs n x → m ≡ n + 1 → flat_map f (take n xs) ++ f x ≡ flat_map f (take m xs)
+flat_map_next f xs n m x within is next = sym (flat_map_more f xs n x within is) ∙ ap (λ i. flat_map f (take i xs)) (sym next)
 
 pub whole : {A : Type 0} (xs : List A) (i : ℕ) → length xs ≤ i → take i xs ≡ xs
 whole [] zero le = refl

@@ -1,11 +1,12 @@
 -- What a search in a list that rises finds.
-use Rattle.std.proofs.Common.{◌≡◌, ℕ, zero, suc, ◌+◌, ◌<◌, ◌≤◌, ◌-◌, true, false, not, cond, List, [], ◌∷◌, length, get_or, Some, Ok, Err, refl, sym, ap, ◌∙◌, arith, inl, inr}
+use Rattle.std.proofs.Common.{◌≡◌, ℕ, zero, suc, ◌+◌, ◌<◌, ◌≤◌, ◌-◌, true, false, not, cond, List, [], ◌∷◌, length, get_or, Some, Ok, Err, refl, sym, ap, subst, ◌∙◌, arith, inl, inr}
 use Rattle.std.specs.Prelude.{is_some}
 use mathlib.Core.Bool.{true≢false}
 use Rattle.std.specs.declared.cmp.Ordering.{Ordering}
 use Rattle.std.specs.declared.cmp.Ordering.TheVariants.{Less, Equal, Greater}
 use Rattle.std.specs.Ordering.{is_lt, is_eq, ordering_index}
 use Rattle.std.specs.Cmp.{IsTotalOrder, alike_right, tied_back}
+use Rattle.std.specs.List.{AllWithin}
 use Rattle.std.specs.List.Sorted.{IsNonDecreasingBy, IsPartitionPoint}
 use Rattle.std.proofs.lemmas.Bool.{cases_lt}
 use Rattle.std.proofs.lemmas.List.{get_or_default}
@@ -106,3 +107,6 @@ module _ {K E : Type 0} {R : K → K → Ordering} (key : E → K) (o : IsTotalO
   passed_next es fs i x d h within is j e lt =
       o.trans _ _ _ (before_place (key x) es j e lt)
       (ap (λ f. R (key f) (key (get_or fs (i + 1) d))) (is ∙ get_or_default fs i x d (omega (arith, within))) ∙ rising_at fs h i (i + 1) d (omega arith) within)
+
+  pub passed_more : (es fs : List E) (n m : ℕ) (x d : E) → IsRising R key fs → x ≡ get_or fs n x → m ≡ n + 1 → m < length fs → (p : ℕ) → p ≡ place_of R key (key x) es → AllWithin (λ e. R (key e) (key (get_or fs m d)) ≡ Less) es 0 p
+  passed_more es fs n m x d h is next within p at j e _ lt = subst (λ i. R (key (get_or es j e)) (key (get_or fs i d)) ≡ Less) (sym next) (passed_next es fs n x d h (subst (λ i. i < length fs) next within) is j e (subst (λ i. j < i) at lt))

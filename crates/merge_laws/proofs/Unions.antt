@@ -1,13 +1,16 @@
 -- What a merge makes is the union.
-use Rattle.std.proofs.Common.{◌≡◌, cond, List, [], ◌∷◌, ◌++◌, Option, Some, None, refl, sym, ap, ◌∙◌}
+use Rattle.std.proofs.Common.{◌≡◌, cond, List, [], ◌∷◌, ◌++◌, length, arith, Option, Some, None, Result, Ok, Err, OnOk, OnErr, refl, sym, ap, subst, ◌∙◌}
 use Rattle.std.specs.Prelude.{reverse}
 use Rattle.std.specs.Option.{option_or}
 use Rattle.std.specs.declared.cmp.Ordering.{Ordering}
+use Rattle.std.specs.declared.cmp.Ordering.TheVariants.{Equal}
 use Rattle.std.specs.Cmp.{IsTotalOrder}
 use Rattle.merge_laws.specs.Insertions.{inserted, new_items, new_values, with_values}
-use Rattle.merge_laws.specs.Sorted.{IsRising, IsSet, item_at, itself, entry_key}
+use Rattle.merge_laws.specs.Sorted.{IsRising, IsSet, IsMap, item_at, itself, entry_key}
 use Rattle.merge_laws.specs.Union.{either_or_both, older, merged_entries, set_union, map_union}
 use Rattle.merge_laws.specs.Items.{same_items, rises_union, item_at-union}
+use Rattle.merge_laws.specs.UnionLaws.{set_closed, set_commutes, map_closed, map_commutes}
+use Rattle.merge_laws.proofs.Edits.{nothing_rises}
 use Rattle.merge_laws.proofs.Taking.{takes_all}
 use Rattle.merge_laws.proofs.Values.{revalued, IsRevalued, revalues_all}
 
@@ -22,6 +25,16 @@ module _ {K : Type 0} {R : K → K → Ordering} (o : IsTotalOrder R) where
       let taken = takes_all itself o xs ys g h in
       same_items itself o _ _ taken.rises (rises_union itself o older (λ _ _. refl) xs ys g) (λ q.
       taken.at q ∙ older_or (item_at R itself q xs) (item_at R itself q ys) ∙ sym (item_at-union itself o older (λ _ _. refl) q xs ys g h))
+
+  -- with nothing it is the other
+  pub set_of_other : ((x y : K) → R x y ≡ Equal → x ≡ y) → (xs ys : List K) → length xs ≡ 0 → IsSet R ys → set_union R xs ys ≡ ys
+  set_of_other exact [] ys none h = set_commutes o exact [] ys (nothing_rises itself o) h
+  set_of_other exact (x ∷ xs) ys none h = absurd (omega (arith, none))
+
+  -- and whether or not a merge was refused, there is a set
+  pub set_stays : {A B : Type 0} (r : Result A B) (xs ys zs : List K) → IsSet R xs → IsSet R ys → OnOk r (zs ≡ set_union R xs ys) → OnErr r (zs ≡ xs) → IsSet R zs
+  set_stays (Ok a) xs ys zs g h made kept = subst (IsSet R) (sym made) (set_closed o xs ys g h)
+  set_stays (Err e) xs ys zs g h made kept = subst (IsSet R) (sym kept) g
 
 module _ {K V : Type 0} {R : K → K → Ordering} (o : IsTotalOrder R) (merged : V → V → V) where
   revalued_or : (a b : Option (K × V)) → option_or (revalued o merged a b) b ≡ either_or_both (merged_entries merged) a b
@@ -45,3 +58,11 @@ module _ {K V : Type 0} {R : K → K → Ordering} (o : IsTotalOrder R) (merged 
       ∙ ap (λ a. option_or a (item_at R entry_key q fs)) (is.at q)
       ∙ revalued_or (item_at R entry_key q es) (item_at R entry_key q fs)
       ∙ sym (item_at-union entry_key o (merged_entries merged) (λ _ _. refl) q es fs g h))
+
+  pub map_stays : {A B : Type 0} (P : V → Type 0) (closed : (v w : V) → P v → P w → P (merged v w)) (r : Result A B) (es fs gs : List (K × V)) → IsMap R P es → IsMap R P fs → OnOk r (gs ≡ map_union R merged es fs) → OnErr r (gs ≡ es) → IsMap R P gs
+  map_stays P closed (Ok a) es fs gs g h made kept = subst (IsMap R P) (sym made) (map_closed o P merged closed es fs g h)
+  map_stays P closed (Err e) es fs gs g h made kept = subst (IsMap R P) (sym kept) g
+
+  pub map_of_other : (P : V → Type 0) → ((x y : K) → R x y ≡ Equal → x ≡ y) → ((v w : V) → P v → P w → merged v w ≡ merged w v) → (es fs : List (K × V)) → length es ≡ 0 → IsMap R P fs → map_union R merged es fs ≡ fs
+  map_of_other P exact law [] fs none h = map_commutes o P merged exact law [] fs (record { rises = nothing_rises entry_key o; values = tt }) h
+  map_of_other P exact law (e ∷ es) fs none h = absurd (omega (arith, none))

@@ -1,9 +1,25 @@
-ghost use Rattle.std.specs.Prelude.{◌≡◌, ◌+◌, ◌-◌, ◌<◌, ◌≤◌, [], ◌++◌, take, drop, length, reverse, vec_len, vec_capacity, IfOk};
+ghost use Rattle.std.specs.Prelude.{◌≡◌, ◌+◌, ◌-◌, ◌<◌, ◌≤◌, [], ◌++◌, take, drop, length, reverse, vec_len, vec_capacity, IfOk, OnOk, OnErr};
 ghost use Rattle.merge_laws.specs.Insertions.{IsFirstLeast, first_place, inserted};
 
 use std::alloc::AllocError;
 
 // New items stand with the place of the item before which they go, the least place first.
+
+/// Puts the new items in.
+///
+/// Errors: want of memory; the items are then as before.
+pub(crate) fn insert_new<E: Drop>(
+    items: &mut Vec<E>,
+    news: Vec<(usize, E)>,
+) -> Result<(), AllocError>
+    requires { IsFirstLeast (vec_len items.old) news.items }
+    ensures ok { OnOk result (items.new.items ≡ inserted items.old.items (reverse news.items)) }
+    ensures err { OnErr result (items.new.items ≡ items.old.items) }
+{
+    let above = room_for(items, news.as_slice())?;
+    insert_all(items, news, above);
+    Ok(())
+}
 
 /// Asks for all the memory that `insert_all` wants: room among the items, and room for those that
 /// are moved.

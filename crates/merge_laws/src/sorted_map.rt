@@ -1,10 +1,10 @@
 ghost use Rattle.std.specs.Prelude.{◌≡◌, [], length, slice_get, IfOk, OnOk, OnErr};
 ghost use Rattle.std.specs.Option.{option_copied, option_map};
-ghost use Rattle.merge_laws.specs.Sorted.{IsMap, value_at};
-ghost use Rattle.merge_laws.specs.Union.{map_with};
+ghost use Rattle.std.specs.List.{AllByRecursion};
+ghost use Rattle.merge_laws.specs.Sorted.{IsMap, IsRising, entry_key, value_at};
+ghost use Rattle.merge_laws.specs.Union.{map_union, map_with};
 
-use crate::changes::{changes_by, set_values};
-use crate::insertion::{insert_all, room_for};
+use crate::changes::{changes_by, changes_of};
 use crate::merge::Merge;
 use crate::search::find;
 use oim_names::{Copied, Key};
@@ -38,6 +38,15 @@ impl<K: Key, V: Merge> SortedMap<K, V> {
         }
     }
 
+    /// The map of entries that stand in the order of their keys already, each key once.
+    pub fn of_rising(entries: Vec<(K, V)>) -> Self
+        requires { IsRising K.cmp entry_key entries.items }
+        ensures { result ≡ entries.items }
+    {
+        know_values(entries.as_slice());
+        SortedMap { entries }
+    }
+
     /// Merges the value into what stands at the key, or puts copies of both there.
     ///
     /// Errors: want of memory; the map is then as before.
@@ -55,6 +64,23 @@ impl<K: Key, V: Merge> SortedMap<K, V> {
                 Ok(())
             }
         }
+    }
+
+    /// Merges the other map in, as `merge` does, where it is given up: its new entries are moved, and
+    /// of a value at a key of both no copy is made.
+    ///
+    /// Errors: want of memory; the map is then as before, and the other is lost.
+    pub fn absorb(&mut self, other: Self) -> Result<(), AllocError>
+        ensures ok { OnOk result (self.new ≡ map_union K.cmp V.merged self.old other) }
+        ensures err { OnErr result (self.new ≡ self.old) }
+    {
+        if self.entries.is_empty() {
+            self.entries = other.entries;
+            return Ok(());
+        }
+        let alloc = *self.entries.allocator();
+        let moved = changes_of(alloc, self.entries.as_slice(), other.entries)?;
+        moved.make(&mut self.entries)
     }
 
     /// The value at a key.
@@ -94,6 +120,15 @@ impl<K: Key, V: Merge> Copied for SortedMap<K, V> {
     }
 }
 
+// Does nothing, and promises what holds of each value.
+fn know_values<K, V: Merge>(entries: &[(K, V)])
+    ensures { AllByRecursion (λ e. V.is_known e.1) entries.now }
+{
+    for entry in entries {
+        entry.1.known();
+    }
+}
+
 fn copies_of<K: Copied, V: Copied>(
     alloc: Global,
     entries: &[(K, V)],
@@ -128,10 +163,7 @@ impl<K: Key, V: Merge> Merge for SortedMap<K, V> {
 
     fn merge(&mut self, alloc: Global, other: &Self) -> Result<(), AllocError> {
         let changes = changes_by(alloc, self.entries.as_slice(), other.entries.as_slice())?;
-        let above = room_for(&mut self.entries, changes.news.as_slice())?;
-        set_values(&mut self.entries, changes.values);
-        insert_all(&mut self.entries, changes.news, above);
-        Ok(())
+        changes.make(&mut self.entries)
     }
 
     fn known(&self) {

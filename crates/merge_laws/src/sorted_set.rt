@@ -1,9 +1,9 @@
 ghost use Rattle.std.specs.Prelude.{◌≡◌, [], not, IfOk, OnOk, OnErr};
 ghost use Rattle.merge_laws.specs.Insertions.{new_items};
 ghost use Rattle.merge_laws.specs.Sorted.{IsSet, has_key, itself};
-ghost use Rattle.merge_laws.specs.Union.{set_with};
+ghost use Rattle.merge_laws.specs.Union.{set_union, set_with};
 
-use crate::insertion::{insert_all, room_for};
+use crate::insertion::insert_new;
 use crate::merge::Merge;
 use crate::search::{find, find_from};
 use oim_names::{Copied, Key};
@@ -37,6 +37,14 @@ impl<T: Key> SortedSet<T> {
         }
     }
 
+    /// The set of items that stand in order already, each once.
+    pub fn of_rising(items: Vec<T>) -> Self
+        requires { IsSet T.cmp items.items }
+        ensures { result ≡ items.items }
+    {
+        SortedSet { items }
+    }
+
     /// Adds a copy of the item, and answers whether it is new.
     ///
     /// Errors: want of memory; the set is then as before.
@@ -53,6 +61,22 @@ impl<T: Key> SortedSet<T> {
                 Ok(true)
             }
         }
+    }
+
+    /// Merges the other set in, as `merge` does, where it is given up: its new items are moved.
+    ///
+    /// Errors: want of memory; the set is then as before, and the other is lost.
+    pub fn absorb(&mut self, other: Self) -> Result<(), AllocError>
+        ensures ok { OnOk result (self.new ≡ set_union T.cmp self.old other) }
+        ensures err { OnErr result (self.new ≡ self.old) }
+    {
+        if self.items.is_empty() {
+            self.items = other.items;
+            return Ok(());
+        }
+        let alloc = *self.items.allocator();
+        let moved = new_of(alloc, self.items.as_slice(), other.items)?;
+        insert_new(&mut self.items, moved)
     }
 
     /// The items in order, each once.
@@ -106,6 +130,26 @@ fn new_among<T: Key>(
     Ok(news)
 }
 
+// The same where the others are given up: those that are new are moved.
+fn new_of<T: Key>(alloc: Global, items: &[T], others: Vec<T>) -> Result<Vec<(usize, T)>, AllocError>
+    requires items { IsSet T.cmp items.now }
+    requires others { IsSet T.cmp others.items }
+    ensures { IfOk result (λ news. news.items ≡ new_items T.cmp itself items.now others.items) }
+{
+    let mut news = Vec::new(alloc);
+    let mut from = 0;
+    for other in others {
+        match find_from(items, &other, from) {
+            Ok(found) => from = found,
+            Err(place) => {
+                news.push((place, other))?;
+                from = place;
+            }
+        }
+    }
+    Ok(news)
+}
+
 /// The union: the items of both. Those of the set stay, and those that are new to it are copied.
 impl<T: Key> Merge for SortedSet<T> {
     ghost use Rattle.merge_laws.specs.Sorted.{IsSet};
@@ -126,9 +170,7 @@ impl<T: Key> Merge for SortedSet<T> {
 
     fn merge(&mut self, alloc: Global, other: &Self) -> Result<(), AllocError> {
         let news = new_among(alloc, self.items.as_slice(), other.items.as_slice())?;
-        let above = room_for(&mut self.items, news.as_slice())?;
-        insert_all(&mut self.items, news, above);
-        Ok(())
+        insert_new(&mut self.items, news)
     }
 
     fn known(&self) {

@@ -1,172 +1,17 @@
+mod absorbing;
+mod again;
+
 use crate::{Merge, SortedMap, SortedSet, Summary, laws};
-use oim_names::{Copied, Key, Text};
+use again::{
+    Items, ItemsAt, copied, has_at, has_just, insert, merge, merge_maps, merge_pairs, merge_sets,
+    put, put_item, set, text,
+};
+use oim_names::Text;
 use oim_value::{Decimals, Interval, Value, read_fixed};
 use std::alloc::AllocError;
 use std::test::Fail;
 
 const UNIT: i128 = 1_000_000_000_000_000_000;
-
-type Items = SortedSet<Text>;
-
-type ItemsAt = SortedMap<Text, Items>;
-
-type Pair = (Items, Items);
-
-// Where a request for memory is refused, the next one is not: the callee is asked again, unless it
-// has changed something; then the test fails. The line on standard error tells
-// `tests/refused_memory` of it.
-
-fn tell_refused(rt: &HostRuntime) {
-    let _ = eprintln!(rt; "refused");
-}
-
-fn text(rt: &HostRuntime, bytes: &str) -> Result<Text, AllocError> {
-    match Text::new(rt.alloc(), bytes) {
-        Err(_) => {
-            tell_refused(rt);
-            Text::new(rt.alloc(), bytes)
-        }
-        made => made,
-    }
-}
-
-fn copied<T: Copied>(rt: &HostRuntime, value: &T) -> Result<T, AllocError> {
-    match value.copied(rt.alloc()) {
-        Err(_) => {
-            tell_refused(rt);
-            value.copied(rt.alloc())
-        }
-        copy => copy,
-    }
-}
-
-fn merge<M: Merge>(rt: &HostRuntime, value: &mut M, other: &M) -> Result<(), AllocError> {
-    match value.merge(rt.alloc(), other) {
-        Err(_) => {
-            tell_refused(rt);
-            value.merge(rt.alloc(), other)
-        }
-        merged => merged,
-    }
-}
-
-fn merge_sets(rt: &HostRuntime, set: &mut Items, other: &Items) -> Result<(), AllocError> {
-    let before = copied(rt, set)?;
-    match set.merge(rt.alloc(), other) {
-        Err(_) if same_items(set, &before) => {
-            tell_refused(rt);
-            set.merge(rt.alloc(), other)
-        }
-        merged => merged,
-    }
-}
-
-fn merge_maps(rt: &HostRuntime, map: &mut ItemsAt, other: &ItemsAt) -> Result<(), AllocError> {
-    let before = copied(rt, map)?;
-    match map.merge(rt.alloc(), other) {
-        Err(_) if same_entries(map, &before) => {
-            tell_refused(rt);
-            map.merge(rt.alloc(), other)
-        }
-        merged => merged,
-    }
-}
-
-fn merge_pairs(rt: &HostRuntime, pair: &mut Pair, other: &Pair) -> Result<(), AllocError> {
-    let before = copied(rt, pair)?;
-    match pair.merge(rt.alloc(), other) {
-        Err(_) if same_items(&pair.0, &before.0) && same_items(&pair.1, &before.1) => {
-            tell_refused(rt);
-            pair.merge(rt.alloc(), other)
-        }
-        merged => merged,
-    }
-}
-
-fn same_items(set: &Items, other: &Items) -> bool {
-    set.as_slice() == other.as_slice()
-}
-
-fn same_entries(map: &ItemsAt, other: &ItemsAt) -> bool {
-    for i in 0..map.len() {
-        let (Some(entry), Some(before)) = (map.at(i), other.at(i)) else {
-            return false;
-        };
-        if entry.0 != before.0 || !same_items(entry.1, before.1) {
-            return false;
-        }
-    }
-    map.len() == other.len()
-}
-
-fn insert(rt: &HostRuntime, set: &mut Items, item: &str) -> Result<bool, AllocError> {
-    let item = text(rt, item)?;
-    let many = set.as_slice().len();
-    match set.insert(&item) {
-        Err(_) if set.as_slice().len() == many => {
-            tell_refused(rt);
-            set.insert(&item)
-        }
-        new => new,
-    }
-}
-
-fn put<K: Key>(
-    rt: &HostRuntime,
-    map: &mut SortedMap<K, Summary>,
-    key: &K,
-    value: &Summary,
-) -> Result<(), AllocError> {
-    let many = map.len();
-    match map.put(key, value) {
-        Err(_) if map.len() == many => {
-            tell_refused(rt);
-            map.put(key, value)
-        }
-        done => done,
-    }
-}
-
-fn put_item(rt: &HostRuntime, map: &mut ItemsAt, key: &str, item: &str) -> Result<(), AllocError> {
-    let (key, items) = (text(rt, key)?, set(rt, &[item])?);
-    let before = copied(rt, map)?;
-    match map.put(&key, &items) {
-        Err(_) if same_entries(map, &before) => {
-            tell_refused(rt);
-            map.put(&key, &items)
-        }
-        done => done,
-    }
-}
-
-fn set(rt: &HostRuntime, items: &[&str]) -> Result<Items, AllocError> {
-    let mut set = SortedSet::new(rt.alloc());
-    for item in items {
-        insert(rt, &mut set, item)?;
-    }
-    Ok(set)
-}
-
-fn has_just(set: &Items, items: &[&str]) -> bool {
-    let found = set.as_slice();
-    if found.len() != items.len() {
-        return false;
-    }
-    for i in 0..found.len() {
-        if found[i].as_str() != items[i] {
-            return false;
-        }
-    }
-    true
-}
-
-// The items at a key, where there is the key.
-fn has_at(map: &ItemsAt, key: &Text, items: &[&str]) -> bool {
-    match map.get(key) {
-        Some(set) => has_just(set, items),
-        None => false,
-    }
-}
 
 #[test]
 fn a_union_has_the_items_of_both(rt: HostRuntime) -> Result<(), Fail> {
@@ -397,4 +242,8 @@ fn laws_hold(_rt: HostRuntime) {
     laws::map_has_both::<Text, SortedSet<Text>>();
     laws::all_meet_iff_ends_meet();
     laws::summary_tells_all();
+    laws::set_is_its_members::<Text>();
+    laws::map_is_its_values::<Text, SortedSet<Text>>();
+    laws::map_keeps_what_merging_keeps::<Text, SortedSet<Text>>();
+    laws::summary_is_of_members();
 }

@@ -8,8 +8,10 @@ pub mod Sides
 pub mod Naming
 pub mod Places
 pub mod Products
+pub mod SortedOnce
+pub mod OneUnit
 pub mod Prefixes
 pub mod UnitText
 pub mod Orders
-pub mod Fits
+pub mod ReadPeriods
 pub mod Languages

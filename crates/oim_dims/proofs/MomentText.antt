@@ -1,6 +1,6 @@
 -- The text of a moment denotes it.
 use Rattle.std.proofs.Common.{◌≡◌, ℕ, ◌+◌, ◌*◌, ◌/◌, ◌%◌, ◌<◌, true, List, ◌∷◌, ◌++◌, refl, arith, ℤ, pos, negsuc, neg_ℤ, ◌+ℤ◌, ◌*ℤ◌}
-use Rattle.std.specs.Prelude.{Bool, false, ◌==◌, Some, unsigned_abs, nat_le, ◌&&◌}
+use Rattle.std.specs.Prelude.{false, Some, unsigned_abs, nat_le, ◌&&◌}
 use Rattle.std.specs.Int.{int_div_euclid, int_rem_euclid}
 use Rattle.std.proofs.lemmas.Bool.Decides.{nat_tests}
 use Rattle.std.specs.List.{list_any}
@@ -8,6 +8,8 @@ use Rattle.std.specs.Char.{is_ascii_digit, digit_value}
 use Rattle.jiff_core.specs.Calendar.{days_from_civil, IsBetween}
 use Rattle.jiff_core.proofs.CalendarLemmas.{days_in_month_bounds}
 use Rattle.jiff_core.proofs.SignedLemmas.{signed_arith}
+use Rattle.oim_dims.specs.declared.limits.TheConstants.{DAY_SECONDS, LAST_MOMENT}
+use Rattle.oim_dims.specs.Separators.{is_slash}
 use Rattle.oim_dims.specs.DateTime.{two_digits, four_digits, has_picture, has_date, has_time, day_number, second_of_day, number, moment_of, moment_text, date_text, time_text, year_of, month_of, day_of, IsMoment}
 use Rattle.oim_dims.proofs.Calendar.{is_real, le_true}
 use Rattle.oim_dims.proofs.DateOfDay.{IsDateOf, date_of_day}
@@ -40,32 +42,32 @@ pair_back : (n : ℕ) → n < 100 → (0 * 10 + digit_value (48 + n / 10)) * 10 
 pair_back n h = rw (digit_of (n / 10) (tens n h), digit_of (n % 10) (ones n)) (omega arith)
 
 -- a day and the time since it began
-euclid : (z : ℤ) → int_div_euclid z (pos 86_400) *ℤ pos 86_400 +ℤ pos (unsigned_abs (int_rem_euclid z (pos 86_400))) ≡ z
+euclid : (z : ℤ) → int_div_euclid z (pos DAY_SECONDS) *ℤ pos DAY_SECONDS +ℤ pos (unsigned_abs (int_rem_euclid z (pos DAY_SECONDS))) ≡ z
 euclid (pos a) = omega (arith, signed_arith)
 euclid (negsuc a) = omega (arith, signed_arith)
 
-second_bound : (z : ℤ) → unsigned_abs (int_rem_euclid z (pos 86_400)) < 86_400
+second_bound : (z : ℤ) → unsigned_abs (int_rem_euclid z (pos DAY_SECONDS)) < DAY_SECONDS
 second_bound (pos a) = omega (arith, signed_arith)
 second_bound (negsuc a) = omega (arith, signed_arith)
 
-day_bound : (z : ℤ) → IsMoment z → IsBetween (neg_ℤ (pos 719_162)) (pos 2_932_896) (int_div_euclid z (pos 86_400))
+day_bound : (z : ℤ) → IsMoment z → IsBetween (neg_ℤ (pos 719_162)) (pos 2_932_896) (int_div_euclid z (pos DAY_SECONDS))
 day_bound (pos a) h = (omega (arith, signed_arith, h.0), omega (arith, signed_arith, h.1))
 day_bound (negsuc a) h = (omega (arith, signed_arith, h.0), omega (arith, signed_arith, h.1))
 
 -- the parts of a moment
 record AreParts (z : ℤ) (y m d h n s : ℕ) : Type 0 where
-  date : IsDateOf (int_div_euclid z (pos 86_400)) y m d
+  date : IsDateOf (int_div_euclid z (pos DAY_SECONDS)) y m d
   year_bound : y < 10000
   month_bound : m < 100
   day_bound : d < 100
   hour_bound : h < 24
   minute_bound : n < 60
   second_bound : s < 60
-  time : 3600 * h + 60 * n + s ≡ unsigned_abs (int_rem_euclid z (pos 86_400))
+  time : 3600 * h + 60 * n + s ≡ unsigned_abs (int_rem_euclid z (pos DAY_SECONDS))
 
-parts : (z : ℤ) → IsMoment z → let day = int_div_euclid z (pos 86_400) in let s = unsigned_abs (int_rem_euclid z (pos 86_400)) in AreParts z (year_of day) (month_of day) (day_of day) (s / 3600) (s / 60 % 60) (s % 60)
+parts : (z : ℤ) → IsMoment z → let day = int_div_euclid z (pos DAY_SECONDS) in let s = unsigned_abs (int_rem_euclid z (pos DAY_SECONDS)) in AreParts z (year_of day) (month_of day) (day_of day) (s / 3600) (s / 60 % 60) (s % 60)
 parts z h =
-    let day = int_div_euclid z (pos 86_400) in
+    let day = int_div_euclid z (pos DAY_SECONDS) in
     let date = date_of_day day (day_bound z h) in
     let few = days_in_month_bounds (pos (year_of day)) (month_of day) in
     let late = second_bound z in
@@ -80,7 +82,7 @@ parts z h =
       time = omega arith;
     }
 
-clock_shows : (h n s : ℕ) → h < 24 → n < 60 → s < 60 → (nat_le n 59 && nat_le s 59 && nat_le (3600 * h + 60 * n + s) 86_400) ≡ true
+clock_shows : (h n s : ℕ) → h < 24 → n < 60 → s < 60 → (nat_le n 59 && nat_le s 59 && nat_le (3600 * h + 60 * n + s) DAY_SECONDS) ≡ true
 clock_shows h n s hh hn hs = grind (arith, nat_tests)
 
 -- what the text says
@@ -95,9 +97,9 @@ spelled_back z y m d h n s moment p =
     let minute = pair_back n (omega (arith, p.minute_bound)) in
     let second = pair_back s (omega (arith, p.second_bound)) in
     let real = is_real y m d p.date.first p.date.civil in
-    let same : days_from_civil (pos y) m d *ℤ pos 86_400 +ℤ pos (3600 * h + 60 * n + s) ≡ z = rw (p.date.number, p.time) (euclid z) in
+    let same : days_from_civil (pos y) m d *ℤ pos DAY_SECONDS +ℤ pos (3600 * h + 60 * n + s) ≡ z = rw (p.date.number, p.time) (euclid z) in
     let clock = clock_shows h n s p.hour_bound p.minute_bound p.second_bound in
-    let within = le_true z (pos 253_402_300_799) moment.1 in
+    let within = le_true z LAST_MOMENT moment.1 in
     rw (picture, year, month, day, hour, minute, second, real, clock, same, within) refl
 
 pub moment_back : (z : ℤ) → IsMoment z → moment_of (moment_text z) ≡ Some z
@@ -105,9 +107,6 @@ unfolding moment_text date_text time_text
 moment_back z h = spelled_back z _ _ _ _ _ _ h (parts z h)
 
 -- a text with digits for its numbers holds no other byte than those of the picture
-abbrev is_slash : ℕ → Bool
-is_slash c = c == 47
-
 not_slash : (k : ℕ) → is_slash (48 + k) ≡ false
 not_slash k = grind (arith, nat_tests)
 

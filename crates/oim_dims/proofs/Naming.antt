@@ -1,18 +1,21 @@
 -- The measures that the pieces of a unit name.
 use Rattle.std.proofs.Common.{◌≡◌, ◌≢◌, ◌⊎◌, inl, inr, ◌∙◌, ℕ, zero, suc, ◌<◌, Bool, true, false, cond, List, [], ◌∷◌, length, drop, get_or, refl, sym, ap, arith}
-use Rattle.std.specs.Prelude.{Option, Some, None, All, IsTrue, not, if◌then◌else◌, ◌==◌}
+use Rattle.std.specs.Prelude.{Option, Some, None, is_none, All, IsTrue, not, if◌then◌else◌, ◌&&◌, ◌==◌}
 use Rattle.std.proofs.lemmas.Bool.{and_parts, or_parts, not-true}
 use Rattle.std.proofs.lemmas.Bool.Decides.{nat_tests}
-use Rattle.std.specs.Option.{option_map_or}
+use Rattle.std.specs.Option.{option_eq, option_map_or}
+use Rattle.std.specs.Str.{bytes_eq}
 use Rattle.std.specs.List.{AllZip, list_all, list_any, slice_split, onto_first}
 use Rattle.std.proofs.lemmas.List.Elements.{All-cons}
 use Rattle.oim_names.specs.QName.{QName, is_name, is_part, prefix_part, local_part}
-use Rattle.oim_names.specs.Bindings.{Binding}
-use Rattle.oim_names.specs.Reasons.{entry_of}
-use Rattle.oim_names.specs.Expansion.{Expands, name_refusal, is_unbound, is_reserved}
+use Rattle.oim_names.specs.Bindings.{Binding, AreBindings, uri_of}
+use Rattle.oim_names.proofs.Lookups.{bound_filled}
+use Rattle.oim_names.specs.contracts.reason.ReasonPartialEq.TheImpl.{eq-value as same_reason}
+use Rattle.oim_names.specs.Expansion.{Expands, name_refusal, is_unbound, is_reserved, lacks_form, lacks_binding, lies_in_reserved, prefix_refusal, reserved_uri}
 use Rattle.oim_names.specs.declared.reason.Reason.{Reason}
 use Rattle.oim_names.specs.declared.reason.Reason.TheVariants.{OutOfMemory, NameForm, UnboundPrefix, ReservedNamespace, UnitForm}
-use Rattle.oim_dims.specs.Unit.{is_mark, is_star, is_piece, is_unit_text, is_refused, some_piece, unit_refusal, numerator_pieces, denominator_pieces, IsMeasure}
+use Rattle.oim_dims.specs.Separators.{is_star}
+use Rattle.oim_dims.specs.Unit.{is_mark, is_piece, is_unit_text, refuses, some_piece, unit_refusal, numerator_pieces, denominator_pieces, IsMeasure}
 
 -- the refusal of a name, by its three tests
 abbrev first_of_three : Bool → Bool → Bool → Option Reason
@@ -20,26 +23,51 @@ first_of_three form unbound reserved =
     if form then (if unbound then Some UnboundPrefix else (if reserved then Some ReservedNamespace else None))
     else Some NameForm
 
-abbrev is_it : Reason → Option Reason → Bool
-is_it r o = option_map_or (λ e. (entry_of e).number == (entry_of r).number) o false
-
-none_of_three : (a b c : Bool) → is_it NameForm (first_of_three a b c) ≡ false → is_it UnboundPrefix (first_of_three a b c) ≡ false → is_it ReservedNamespace (first_of_three a b c) ≡ false → first_of_three a b c ≡ None
+none_of_three : (a b c : Bool) → not a ≡ false → (a && b) ≡ false → (a && c) ≡ false → first_of_three a b c ≡ None
 none_of_three false b c h k l = cc
 none_of_three true true c h k l = cc
 none_of_three true false true h k l = cc
 none_of_three true false false h k l = refl
 
 -- a piece with none of the three is named
-piece_named : (bs : List Binding) (p : List ℕ) → is_refused bs NameForm p ≡ false → is_refused bs UnboundPrefix p ≡ false → is_refused bs ReservedNamespace p ≡ false → name_refusal bs p ≡ None
+piece_named : (bs : List Binding) (p : List ℕ) → lacks_form is_name p ≡ false → lacks_binding is_name bs p ≡ false → lies_in_reserved is_name bs p ≡ false → name_refusal bs p ≡ None
 piece_named bs p h k l = none_of_three (is_name p) (is_unbound bs p) (is_reserved bs p) h k l
 
-all_named : (bs : List Binding) (ps : List (List ℕ)) → list_any (is_refused bs NameForm) ps ≡ false → list_any (is_refused bs UnboundPrefix) ps ≡ false → list_any (is_refused bs ReservedNamespace) ps ≡ false → All (λ p. name_refusal bs p ≡ None) ps
+all_named : (bs : List Binding) (ps : List (List ℕ)) → list_any (lacks_form is_name) ps ≡ false → list_any (lacks_binding is_name bs) ps ≡ false → list_any (lies_in_reserved is_name bs) ps ≡ false → All (λ p. name_refusal bs p ≡ None) ps
 all_named bs [] h k l = λ j d lt. absurd (omega arith)
 all_named bs (p ∷ ps) h k l =
-    let a = or_parts (is_refused bs NameForm p) (list_any (is_refused bs NameForm) ps) h in
-    let b = or_parts (is_refused bs UnboundPrefix p) (list_any (is_refused bs UnboundPrefix) ps) k in
-    let c = or_parts (is_refused bs ReservedNamespace p) (list_any (is_refused bs ReservedNamespace) ps) l in
+    let a = or_parts (lacks_form is_name p) (list_any (lacks_form is_name) ps) h in
+    let b = or_parts (lacks_binding is_name bs p) (list_any (lacks_binding is_name bs) ps) k in
+    let c = or_parts (lies_in_reserved is_name bs p) (list_any (lies_in_reserved is_name bs) ps) l in
     All-cons (λ q. name_refusal bs q ≡ None) p ps (piece_named bs p a.0 b.0 c.0) (all_named bs ps a.1 b.1 c.1)
+
+-- the same tests, of whether a piece is a name and of what its prefix is bound to
+abbrev refuses_so : Reason → Bool → Option (List ℕ) → Bool
+refuses_so NameForm named uri = not named
+refuses_so UnboundPrefix named uri = named && is_none uri
+refuses_so ReservedNamespace named uri = named && option_map_or (λ u. bytes_eq u reserved_uri) uri false
+refuses_so r named uri = false
+
+told_so : (r : Reason) (named : Bool) (uri : Option (List ℕ)) → option_eq same_reason.it (if named then prefix_refusal uri else Some NameForm) (Some r) ≡ refuses_so r named uri
+told_so NameForm false uri = refl
+told_so UnboundPrefix false uri = refl
+told_so ReservedNamespace false uri = refl
+told_so r false uri = refl
+told_so NameForm true None = refl
+told_so UnboundPrefix true None = refl
+told_so ReservedNamespace true None = refl
+told_so r true None = refl
+told_so NameForm true (Some u) = elim (bytes_eq u reserved_uri) as (λ b. option_eq same_reason.it (if b then Some ReservedNamespace else None) (Some NameForm) ≡ false) [ true ↦ refl | false ↦ refl ]
+told_so UnboundPrefix true (Some u) = elim (bytes_eq u reserved_uri) as (λ b. option_eq same_reason.it (if b then Some ReservedNamespace else None) (Some UnboundPrefix) ≡ false) [ true ↦ refl | false ↦ refl ]
+told_so ReservedNamespace true (Some u) = elim (bytes_eq u reserved_uri) as (λ b. option_eq same_reason.it (if b then Some ReservedNamespace else None) (Some ReservedNamespace) ≡ b) [ true ↦ refl | false ↦ refl ]
+told_so r true (Some u) = elim (bytes_eq u reserved_uri) as (λ b. option_eq same_reason.it (if b then Some ReservedNamespace else None) (Some r) ≡ false) [ true ↦ refl | false ↦ refl ]
+
+-- a refusal is told where its test holds
+pub told : (r : Reason) (bs : List Binding) (p : List ℕ) → option_eq same_reason.it (name_refusal bs p) (Some r) ≡ refuses r bs p
+told NameForm bs p = told_so NameForm (is_name p) (uri_of bs (prefix_part p))
+told UnboundPrefix bs p = told_so UnboundPrefix (is_name p) (uri_of bs (prefix_part p))
+told ReservedNamespace bs p = told_so ReservedNamespace (is_name p) (uri_of bs (prefix_part p))
+told r bs p = told_so r (is_name p) (uri_of bs (prefix_part p))
 
 -- what a text that is not refused has
 pub record IsNamed (bs : List Binding) (t : List ℕ) : Type 0 where
@@ -61,7 +89,7 @@ none_of_four true false false false h = (refl, refl, refl, refl)
 
 pub unit_named : (bs : List Binding) (t : List ℕ) → unit_refusal bs t ≡ None → IsNamed bs t
 unit_named bs t h =
-    let e = none_of_four (is_unit_text t) (some_piece (is_refused bs NameForm) t) (some_piece (is_refused bs UnboundPrefix) t) (some_piece (is_refused bs ReservedNamespace) t) h in
+    let e = none_of_four (is_unit_text t) (some_piece (lacks_form is_name) t) (some_piece (lacks_binding is_name bs) t) (some_piece (lies_in_reserved is_name bs) t) h in
     let a = or_parts _ _ e.1 in
     let b = or_parts _ _ e.2 in
     let c = or_parts _ _ e.3 in
@@ -77,25 +105,26 @@ no_mark_after zero p h = h
 no_mark_after (suc n) [] h = refl
 no_mark_after (suc n) (c ∷ cs) h = no_mark_after n cs (or_parts (is_mark c) (list_any is_mark cs) h).1
 
-measure_of_piece : (bs : List Binding) (p : List ℕ) (n : QName) → Expands bs p n → is_piece p ≡ true → IsMeasure n
-measure_of_piece bs p n e h =
+measure_of_piece : (bs : List Binding) (p : List ℕ) (n : QName) → AreBindings bs → Expands bs p n → is_piece p ≡ true → IsMeasure n
+measure_of_piece bs p n were e h =
     let parts = and_parts (not (length p == 0)) (not (list_any is_mark p)) h in
     let plain : list_any is_mark p ≡ false = not-true (list_any is_mark p) parts.1 in
     let form : IsTrue (is_part (local_part p)) = (and_parts (is_part (prefix_part p)) (is_part (local_part p)) e.form).1 in
     record {
+      filled = bound_filled bs (prefix_part p) n.uri were.uris e.uri;
       allowed = e.allowed;
       form = rw e.local_part form;
       plain = rw e.local_part (no_mark_after _ p plain);
     }
 
 -- each piece names a measure
-pub measures_of_pieces : (bs : List Binding) (ps : List (List ℕ)) (ns : List QName) → AllZip (Expands bs) ps ns → list_all is_piece ps ≡ true → All IsMeasure ns
-measures_of_pieces bs [] [] z h = λ j d lt. absurd (omega arith)
-measures_of_pieces bs [] (n ∷ ns) z h = absurd z
-measures_of_pieces bs (p ∷ ps) [] z h = absurd z
-measures_of_pieces bs (p ∷ ps) (n ∷ ns) z h =
+pub measures_of_pieces : (bs : List Binding) (ps : List (List ℕ)) (ns : List QName) → AreBindings bs → AllZip (Expands bs) ps ns → list_all is_piece ps ≡ true → All IsMeasure ns
+measures_of_pieces bs [] [] were z h = λ j d lt. absurd (omega arith)
+measures_of_pieces bs [] (n ∷ ns) were z h = absurd z
+measures_of_pieces bs (p ∷ ps) [] were z h = absurd z
+measures_of_pieces bs (p ∷ ps) (n ∷ ns) were z h =
     let b = and_parts (is_piece p) (list_all is_piece ps) h in
-    All-cons IsMeasure n ns (measure_of_piece bs p n z.0 b.0) (measures_of_pieces bs ps ns z.1 b.1)
+    All-cons IsMeasure n ns (measure_of_piece bs p n were z.0 b.0) (measures_of_pieces bs ps ns were z.1 b.1)
 
 -- a side has a piece
 onto_some : (c : ℕ) (ps : List (List ℕ)) → 0 < length (onto_first c ps)

@@ -1,16 +1,19 @@
 -- The derived orders, in words.
-use Rattle.std.proofs.Common.{◌≡◌, refl}
+use Rattle.std.proofs.Common.{◌≡◌, refl, subst, ◌∙◌}
 use Rattle.std.specs.Ordering.{nat_cmp, ordering_then}
 use Rattle.std.specs.Option.{option_cmp}
 use Rattle.std.specs.Cmp.Lexicographic.{slice_cmp}
+use Rattle.std.specs.Cmp.{IsTotalOrder}
+use Rattle.std.specs.declared.cmp.Ordering.TheVariants.{Equal}
+use Rattle.oim_dims.specs.contracts.dimensions.DimensionsOrd.TheImpl.Laws.{total-law as dimensions_total}
+use Rattle.oim_dims.specs.contracts.dimensions.DimensionsKey.TheImpl.Laws.{exact-law as exact_dimensions}
+use Rattle.oim_dims.specs.contracts.fact.FactOrd.TheImpl.Laws.{total-law as facts_total}
+use Rattle.oim_dims.specs.contracts.fact.FactKey.TheImpl.Laws.{exact-law as exact_fact}
 use Rattle.oim_names.specs.QName.{QName}
-use Rattle.oim_value.specs.ValueOrder.{name_cmp, value_cmp}
-use Rattle.oim_value.specs.declared.value.Value.{Value}
-use Rattle.oim_value.specs.declared.value.Value.TheVariants.{Nil as Missing, Number, Text as VText, Name as VName}
-use Rattle.oim_value.specs.contracts.value.ValueOrd.TheImpl.{cmp-value as derived_value}
+use Rattle.oim_value.specs.ValueOrder.{name_cmp}
+use Rattle.oim_value.proofs.ValueOrders.{values_agree}
 use Rattle.oim_dims.specs.contracts.fact.FactOrd.TheImpl.{cmp-value as derived_fact}
 use Rattle.oim_dims.specs.declared.fact.Fact.{Fact}
-use Rattle.std.specs.Prelude.{ℤ, Option, Some, None}
 use Rattle.oim_dims.specs.contracts.dimensions.DimensionsOrd.TheImpl.{cmp-value as derived_dimensions}
 use Rattle.oim_dims.specs.contracts.member.MemberOrd.TheImpl.{cmp-value as derived_member}
 use Rattle.oim_dims.specs.contracts.period.PeriodOrd.TheImpl.{cmp-value as derived_period}
@@ -44,20 +47,18 @@ dimensions_agree x y = λ i.
     (ordering_then (option_cmp (slice_cmp nat_cmp) x.language y.language)
     (slice_cmp (λ (e f : QName × Member). ordering_then (name_cmp e.0 f.0) (members_agree e.1 f.1 i)) x.members y.members)))))
 
-numbers_agree : (m n : ℤ) (d e : Option ℤ) → derived_value.it (Number m d) (Number n e) ≡ value_cmp (Number m d) (Number n e)
-numbers_agree m n (Some d) (Some e) = refl
-numbers_agree m n (Some d) None = refl
-numbers_agree m n None (Some e) = refl
-numbers_agree m n None None = refl
-
--- the order of values is that of its own crate
-values_agree : (x y : Value) → derived_value.it x y ≡ value_cmp x y
-values_agree = elim [
-  | Missing ↦ elim [ Missing ↦ refl | Number n e ↦ refl | VText t ↦ refl | VName n ↦ refl ]
-  | Number m d ↦ elim [ Missing ↦ refl | Number n e ↦ numbers_agree m n d e | VText t ↦ refl | VName n ↦ refl ]
-  | VText s ↦ elim [ Missing ↦ refl | Number n e ↦ refl | VText t ↦ refl | VName n ↦ refl ]
-  | VName m ↦ elim [ Missing ↦ refl | Number n e ↦ refl | VText t ↦ refl | VName n ↦ refl ]
-]
-
 pub facts_agree : (x y : Fact) → derived_fact.it x y ≡ fact_cmp x y
 facts_agree x y = λ i. ordering_then (dimensions_agree x.dimensions y.dimensions i) (values_agree x.value y.value i)
+
+-- both orders are total, and tie no two values
+pub dimensions_cmp_total : IsTotalOrder dimensions_cmp
+dimensions_cmp_total = subst IsTotalOrder (λ i x y. dimensions_agree x y i) dimensions_total
+
+pub dimensions_cmp_exact : (x y : DimensionSet) → dimensions_cmp x y ≡ Equal → x ≡ y
+dimensions_cmp_exact x y h = exact_dimensions x y (dimensions_agree x y ∙ h)
+
+pub fact_cmp_total : IsTotalOrder fact_cmp
+fact_cmp_total = subst IsTotalOrder (λ i x y. facts_agree x y i) facts_total
+
+pub fact_cmp_exact : (x y : Fact) → fact_cmp x y ≡ Equal → x ≡ y
+fact_cmp_exact x y h = exact_fact x y (facts_agree x y ∙ h)

@@ -7,7 +7,8 @@ use Rattle.std.proofs.lemmas.Int.{ints}
 use Rattle.oim_dims.specs.declared.period.Period.{Period}
 use Rattle.oim_dims.specs.declared.period.Period.TheVariants.{Forever, Instant, Duration}
 use Rattle.oim_dims.specs.DateTime.{moment_of, moment_text, IsMoment}
-use Rattle.oim_dims.specs.Period.{is_slash, start_part, period_of, period_text, IsPeriod, PeriodsReadBack}
+use Rattle.oim_dims.specs.Separators.{is_slash}
+use Rattle.oim_dims.specs.Period.{start_part, period_of, period_text, HasMoments, EndsAfterStart, PeriodsReadBack}
 use Rattle.oim_dims.proofs.Cuts.{none_passes, no_place, cut}
 use Rattle.oim_dims.proofs.MomentText.{moment_back, moment_has_no}
 
@@ -35,8 +36,8 @@ two_moments start end s e rises =
 -- the text of a period denotes it
 pub period_back : PeriodsReadBack
 period_back Forever h = tt
-period_back (Instant m) h = moment_alone m h
-period_back (Duration start end) h = two_moments start end h.0 h.1 h.2
+period_back (Instant m) h = moment_alone m h.moments
+period_back (Duration start end) h = two_moments start end h.moments.0 h.moments.1 h.forward
 
-pub written_back : (p : Period) (t : List ℕ) → Some t ≡ period_text p → IsPeriod p → period_of t ≡ Ok p
-written_back p t e h = let P : Option (List ℕ) → Type 0 = λ o. IfSome o (λ u. period_of u ≡ Ok p) in subst P (sym e) (period_back p h)
+pub written_back : (p : Period) (t : List ℕ) → Some t ≡ period_text p → HasMoments p → EndsAfterStart p → period_of t ≡ Ok p
+written_back p t e moments forward = let P : Option (List ℕ) → Type 0 = λ o. IfSome o (λ u. period_of u ≡ Ok p) in subst P (sym e) (period_back p (record { moments = moments; forward = forward }))

@@ -1,17 +1,18 @@
 -- Where a member goes among members in the order of names.
-use Rattle.std.proofs.Common.{◌≡◌, ℕ, suc, ◌<◌, Bool, true, false, List, [], ◌∷◌, ◌++◌, length, get_or, take, drop, refl, sym, ap, ◌∙◌}
-use Rattle.std.specs.Prelude.{if◌then◌else◌, Result, Ok, Err, OnOk, OnErr}
+use Rattle.std.proofs.Common.{◌≡◌, ◌⊎◌, inl, inr, ℕ, zero, suc, ◌<◌, Bool, true, false, List, [], ◌∷◌, ◌++◌, length, get_or, take, drop, refl, subst, sym, ap, ◌∙◌, arith}
+use Rattle.std.specs.Prelude.{◌||◌, if◌then◌else◌, Result, Ok, Err, OnOk, OnErr, Contains, IsTrue}
 use Rattle.std.proofs.lemmas.Bool.{and_parts}
 use Rattle.std.specs.List.{insert}
-use Rattle.std.specs.Ordering.{is_lt, ordering_reverse}
+use Rattle.std.specs.Ordering.{is_lt, is_eq, ordering_reverse}
 use Rattle.std.specs.declared.cmp.Ordering.{Ordering}
 use Rattle.std.specs.declared.cmp.Ordering.TheVariants.{Less, Equal, Greater}
+use Rattle.std.specs.Cmp.{tied_itself}
 use Rattle.std.proofs.Math.Seq.{drop-cons}
-use Rattle.oim_names.specs.QName.{QName}
+use Rattle.oim_names.specs.QName.{QName, exact_name}
 use Rattle.oim_names.specs.contracts.name.NameOrd.TheImpl.Laws.{total-law as name_total}
 use Rattle.oim_dims.specs.declared.member.Member.{Member}
 use Rattle.oim_value.specs.ValueOrder.{name_cmp}
-use Rattle.oim_dims.specs.DimensionSet.{is_below, rises, has_name, with_member}
+use Rattle.oim_dims.specs.DimensionSet.{is_below, rises, has_name, with_member, MembersGrow, NamesAreThere}
 
 -- the place is not before i
 pub record IsPast (n : QName) (es : List (QName × Member)) (i : ℕ) : Type 0 where
@@ -76,3 +77,81 @@ not_there false h = refl
 pub still_rises : {T E : Type 0} (r : Result T E) (new es : List (QName × Member)) (place : ℕ) (n : QName) (m : Member) → rises es ≡ true → (has_name n es ≡ true → ⊥) → insert es place (n, m) ≡ with_member n m es → OnOk r (new ≡ insert es place (n, m)) → OnErr r (new ≡ es) → rises new ≡ true
 still_rises (Ok x) new es place n m h none is ok err = rw (ok, is) (rises_with n m es h (not_there (has_name n es) none))
 still_rises (Err e) new es place n m h none is ok err = rw err h
+
+-- each dimension that is there has its member
+there : (n : QName) (es : List (QName × Member)) → IsTrue (has_name n es) → (m : Member) × Contains es (n, m)
+there n [] h = absurd (cc)
+there n (e ∷ es) h =
+    elim (name_cmp n e.0) as (λ r. name_cmp n e.0 ≡ r → (m : Member) × Contains (e ∷ es) (n, m)) [
+      | Less ↦ λ o. later (there n es (rw o at h))
+      | Equal ↦ λ o. (e.1, (0, omega arith, λ i. (sym (exact_name n e.0 o) i, e.1)))
+      | Greater ↦ λ o. later (there n es (rw o at h))
+    ] refl
+  where
+    later : ((m : Member) × Contains es (n, m)) → (m : Member) × Contains (e ∷ es) (n, m)
+    later found = (found.0, (suc found.1.0, omega (arith, found.1.1), found.1.2))
+
+here_at : (n : QName) (es : List (QName × Member)) (m : Member) (k : ℕ) → k < length es → get_or es k (n, m) ≡ (n, m) → has_name n es ≡ true
+here_at n [] m k within is = absurd (omega arith)
+here_at n (e ∷ es) m zero within is = let tie : name_cmp n e.0 ≡ Equal = ap (λ (f : QName × Member). name_cmp n f.0) is ∙ tied_itself name_total n in rw tie refl
+here_at n (e ∷ es) m (suc k) within is = rw (here_at n es m k (omega arith) is) (or_true (is_eq (name_cmp n e.0)))
+  where
+    or_true : (b : Bool) → (b || true) ≡ true
+    or_true true = refl
+    or_true false = refl
+
+pub names_are_there : NamesAreThere
+names_are_there n es = (there n es, λ found. here_at n es found.0 found.1.0 found.1.1 found.1.2)
+
+-- the items of a list with one more before it
+head_or_tail : (e f : QName × Member) (es : List (QName × Member)) → Contains (e ∷ es) f → (e ≡ f) ⊎ Contains es f
+head_or_tail e f es c = at c.0 c.1 c.2
+  where
+    at : (k : ℕ) → k < length (e ∷ es) → get_or (e ∷ es) k f ≡ f → (e ≡ f) ⊎ Contains es f
+    at zero within is = inl is
+    at (suc k) within is = inr (k, omega arith, is)
+
+head_is : (e f : QName × Member) (es : List (QName × Member)) → e ≡ f → Contains (e ∷ es) f
+head_is e f es is = (0, omega arith, is)
+
+tail_has : (e f : QName × Member) (es : List (QName × Member)) → Contains es f → Contains (e ∷ es) f
+tail_has e f es c = (suc c.0, omega (arith, c.1), c.2)
+
+old_or_new : (n : QName) (m : Member) (f : QName × Member) (es : List (QName × Member)) → Contains (with_member n m es) f → Contains es f ⊎ (f ≡ (n, m))
+old_or_new n m f [] c = elim (head_or_tail (n, m) f [] c) [ inl is ↦ inr (sym is) | inr none ↦ absurd (omega (arith, none.1)) ]
+old_or_new n m f (e ∷ es) c =
+    elim (is_lt (name_cmp n e.0)) as (λ b. Contains (if b then (n, m) ∷ e ∷ es else e ∷ with_member n m es) f → Contains (e ∷ es) f ⊎ (f ≡ (n, m))) [
+      | true ↦ λ d. elim (head_or_tail (n, m) f (e ∷ es) d) [ inl is ↦ inr (sym is) | inr old ↦ inl old ]
+      | false ↦ λ d. elim (head_or_tail e f (with_member n m es) d) [
+        | inl is ↦ inl (head_is e f es is)
+        | inr more ↦ elim (old_or_new n m f es more) [ inl old ↦ inl (tail_has e f es old) | inr is ↦ inr is ]
+      ]
+    ] c
+
+old_is_kept : (n : QName) (m : Member) (f : QName × Member) (es : List (QName × Member)) → Contains es f → Contains (with_member n m es) f
+old_is_kept n m f [] c = absurd (omega (arith, c.1))
+old_is_kept n m f (e ∷ es) c =
+    elim (is_lt (name_cmp n e.0)) as (λ b. Contains (if b then (n, m) ∷ e ∷ es else e ∷ with_member n m es) f) [
+      | true ↦ tail_has (n, m) f (e ∷ es) c
+      | false ↦ elim (head_or_tail e f es c) [ inl is ↦ head_is e f (with_member n m es) is | inr old ↦ tail_has e f (with_member n m es) (old_is_kept n m f es old) ]
+    ]
+
+new_is_there : (n : QName) (m : Member) (es : List (QName × Member)) → Contains (with_member n m es) (n, m)
+new_is_there n m [] = head_is (n, m) (n, m) [] refl
+new_is_there n m (e ∷ es) =
+    elim (is_lt (name_cmp n e.0)) as (λ b. Contains (if b then (n, m) ∷ e ∷ es else e ∷ with_member n m es) (n, m)) [
+      | true ↦ head_is (n, m) (n, m) (e ∷ es) refl
+      | false ↦ tail_has e (n, m) (with_member n m es) (new_is_there n m es)
+    ]
+
+pub members_grow : MembersGrow
+members_grow n m es h none = record {
+  rises = rises_with n m es h (not_there (has_name n es) none);
+  members = λ f. (
+    old_or_new n m f es,
+    λ known. elim known [
+      | inl old ↦ old_is_kept n m f es old
+      | inr is ↦ subst (Contains (with_member n m es)) (sym is) (new_is_there n m es)
+    ],
+  );
+}

@@ -5,7 +5,8 @@ use Rattle.std.specs.List.{position_or_len, before_first, after_first}
 use Rattle.std.proofs.lemmas.List.{take_more, take_all}
 use Rattle.std.proofs.Math.Seq.{take-append_seam, get_or-append_seam}
 use Rattle.std.proofs.lemmas.Bool.Decides.{nat_tests}
-use Rattle.oim_dims.specs.Unit.{inner, is_slash, pieces, numerator_pieces, denominator_pieces}
+use Rattle.oim_dims.specs.Separators.{is_slash}
+use Rattle.oim_dims.specs.Unit.{inner, side_pieces, numerator_pieces, denominator_pieces}
 use Rattle.oim_dims.proofs.Cuts.{none_passes, some_passes}
 
 -- a list is its front and its last element
@@ -56,11 +57,11 @@ closed s rest body is ends =
     rw (is, ends) (sym (inner_open (body ++ 41 ∷ []) ∙ rw (long, get_or-append_seam body 41 [] 0, back) (take-append_seam body (41 ∷ []))))
 
 -- a text with no second side
-pub one_side : (t : List ℕ) → position_or_len is_slash t ≡ length t → (numerator_pieces t ≡ pieces t) × (denominator_pieces t ≡ [])
+pub one_side : (t : List ℕ) → position_or_len is_slash t ≡ length t → (numerator_pieces t ≡ side_pieces t) × (denominator_pieces t ≡ [])
 unfolding numerator_pieces denominator_pieces
 one_side t whole = (let front : before_first is_slash t ≡ t = rw whole (take_all (length t) t (omega arith)) in rw front refl, rw (none_passes is_slash t whole) refl)
 
 -- a text with one
-pub two_sides : (t : List ℕ) → position_or_len is_slash t < length t → (numerator_pieces t ≡ pieces (before_first is_slash t)) × (denominator_pieces t ≡ pieces (after_first is_slash t))
+pub two_sides : (t : List ℕ) → position_or_len is_slash t < length t → (numerator_pieces t ≡ side_pieces (before_first is_slash t)) × (denominator_pieces t ≡ side_pieces (after_first is_slash t))
 unfolding numerator_pieces denominator_pieces
 two_sides t some = (refl, rw (some_passes is_slash t some) refl)

@@ -1,5 +1,5 @@
 -- The text of a unit denotes it.
-use Rattle.std.proofs.Common.{◌≡◌, ◌≢◌, ℕ, suc, ◌<◌, Bool, true, false, List, [], ◌∷◌, ◌++◌, length, map, refl, sym, ap, ◌∙◌, arith}
+use Rattle.std.proofs.Common.{◌≡◌, ◌≢◌, ℕ, suc, ◌<◌, Bool, true, false, List, [], ◌∷◌, ◌++◌, length, length-append, map, refl, sym, ap, ◌∙◌, arith}
 use Rattle.std.specs.Prelude.{Some, None, All, not, ◌==◌, if◌then◌else◌}
 use Rattle.std.proofs.lemmas.Bool.{and_parts, not-true}
 use Rattle.std.specs.Option.{option_map_or, unwrap_or}
@@ -12,42 +12,53 @@ use Rattle.oim_names.specs.QName.{QName}
 use Rattle.oim_names.specs.Bindings.{Binding, AreBindings, prefix_of}
 use Rattle.oim_names.specs.Expansion.{Expands}
 use Rattle.oim_names.proofs.Spelling.{spelled_back}
-use Rattle.oim_dims.specs.Unit.{is_mark, is_star, is_slash, inner, pieces, is_piece, numerator_pieces, denominator_pieces, is_writable, measure_text, product_text, side_text, unit_text, Measures, IsMeasure, NamesEach, HasMeasures, UnitOf, UnitsReadBack}
+use Rattle.oim_dims.specs.Separators.{is_slash, is_star}
+use Rattle.oim_dims.specs.Unit.{is_mark, inner, side_pieces, is_piece, numerator_pieces, denominator_pieces, is_writable, measure_text, product_text, side_text, unit_text, Measures, IsMeasure, IsUnit, NamesEach, HasMeasures, UnitOf, Spells, SpellsEach, BindingsSpell, UnitsReadBack}
 use Rattle.std.proofs.lemmas.List.Sorted.{IsPermutation-refl}
+use Rattle.oim_dims.proofs.OneUnit.{not_refused, one_unit}
 use Rattle.oim_dims.proofs.Prefixes.{bound_back}
 use Rattle.oim_dims.proofs.Sides.{unopened, closed, one_side}
 use Rattle.oim_dims.proofs.Cuts.{cut, no_place}
 
--- the text of a measure: no mark in it, and it names the measure
-record IsSpelled (bs : List Binding) (t : List ℕ) (n : QName) : Type 0 where
-  plain : list_any is_mark t ≡ false
-  some : 0 < length t
-  expands : Expands bs t n
+-- a piece has none of the characters that a unit is built with
+plain_piece : (t : List ℕ) → is_piece t ≡ true → list_any is_mark t ≡ false
+plain_piece t h = not-true (list_any is_mark t) (and_parts (not (length t == 0)) (not (list_any is_mark t)) h).1
 
 neither_in : (p : ℕ → Bool) (xs : List ℕ) (c : ℕ) (ys : List ℕ) → list_any p xs ≡ false → p c ≡ false → list_any p ys ≡ false → list_any p (xs ++ c ∷ ys) ≡ false
 neither_in p xs c ys h k l = rw (list_any-append p xs (c ∷ ys), h, k, l) refl
 
-some_after : (xs ys : List ℕ) (c : ℕ) → 0 < length (xs ++ c ∷ ys)
-some_after [] ys c = omega arith
-some_after (x ∷ xs) ys c = omega arith
+some_after : (xs ys : List ℕ) (c : ℕ) → not (length (xs ++ c ∷ ys) == 0) ≡ true
+some_after xs ys c = some_long (length (xs ++ c ∷ ys)) (omega (arith, length-append xs (c ∷ ys)))
+  where
+    some_long : (n : ℕ) → 0 < n → not (n == 0) ≡ true
+    some_long n h = grind (arith, nat_tests)
 
-spelled : (bs : List Binding) (n : QName) → AreBindings bs → IsMeasure n → is_writable bs n ≡ true → IsSpelled bs (measure_text bs n) n
+-- the text of a measure by bindings spells it
+spelled : (bs : List Binding) (n : QName) → AreBindings bs → IsMeasure n → is_writable bs n ≡ true → Spells bs (measure_text bs n) n
 spelled bs n were h w =
-    elim (prefix_of bs n.uri) as (λ o. prefix_of bs n.uri ≡ o → option_map_or (λ p. not (list_any is_mark p)) o false ≡ true → IsSpelled bs (unwrap_or o [] ++ 58 ∷ n.local_part) n) [
+    elim (prefix_of bs n.uri) as (λ o. prefix_of bs n.uri ≡ o → option_map_or (λ p. not (list_any is_mark p)) o false ≡ true → Spells bs (unwrap_or o [] ++ 58 ∷ n.local_part) n) [
       | None ↦ λ e k. absurd (cc)
-      | Some p ↦ λ e k. record {
-        plain = neither_in is_mark p 58 n.local_part (not-true (list_any is_mark p) k) refl h.plain;
-        some = some_after p n.local_part 58;
+      | Some p ↦ λ e k. let plain = neither_in is_mark p 58 n.local_part (not-true (list_any is_mark p) k) refl h.plain in record {
+        piece = rw (some_after p n.local_part 58, plain) refl;
         expands = spelled_back bs p (p ++ 58 ∷ n.local_part) n were refl (bound_back bs p n.uri were.distinct e) h.allowed h.form;
       }
     ] refl w
 
--- each text of a list spells the name at its place
-each_spelled : (bs : List Binding) (ns : List QName) → AreBindings bs → All IsMeasure ns → list_all (is_writable bs) ns ≡ true → AllZip (IsSpelled bs) (map (measure_text bs) ns) ns
-each_spelled bs [] were h w = tt
-each_spelled bs (n ∷ ns) were h w =
+all_spelled : (bs : List Binding) (ns : List QName) → AreBindings bs → All IsMeasure ns → list_all (is_writable bs) ns ≡ true → All (λ n. Spells bs (measure_text bs n) n) ns
+all_spelled bs [] were h w = λ k d lt. absurd (omega arith)
+all_spelled bs (n ∷ ns) were h w =
     let b = and_parts (is_writable bs n) (list_all (is_writable bs) ns) w in
-    (spelled bs n were (h 0 n (omega arith)) b.0, each_spelled bs ns were (All-tail IsMeasure n ns h) b.1)
+    All-cons (λ m. Spells bs (measure_text bs m) m) n ns (spelled bs n were (h 0 n (omega arith)) b.0) (all_spelled bs ns were (All-tail IsMeasure n ns h) b.1)
+
+pub bindings_spell : BindingsSpell
+bindings_spell bs m were h w =
+    let b = and_parts (list_all (is_writable bs) m.numerators) (list_all (is_writable bs) m.denominators) w in
+    record { numerators = all_spelled bs m.numerators were h.multiplied b.0; denominators = all_spelled bs m.denominators were h.divided b.1 }
+
+-- each text of a list spells the name at its place
+each_spelled : (bs : List Binding) (f : QName → List ℕ) (ns : List QName) → All (λ n. Spells bs (f n) n) ns → AllZip (Spells bs) (map f ns) ns
+each_spelled bs f [] h = tt
+each_spelled bs f (n ∷ ns) h = (h 0 n (omega arith), each_spelled bs f ns (All-tail (λ m. Spells bs (f m) m) n ns h))
 
 -- texts without a mark have none of its characters
 without : (p : ℕ → Bool) → ((c : ℕ) → is_mark c ≡ false → p c ≡ false) → (xs : List ℕ) → list_any is_mark xs ≡ false → list_any p xs ≡ false
@@ -58,11 +69,11 @@ without p under (x ∷ xs) h =
       | false ↦ λ e. rw (under x e, without p under xs (rw e at h)) refl
     ] refl
 
-joined_without : (bs : List Binding) (p : ℕ → Bool) → ((c : ℕ) → is_mark c ≡ false → p c ≡ false) → p 42 ≡ false → (ts : List (List ℕ)) (ns : List QName) → AllZip (IsSpelled bs) ts ns → list_any p (join_with_byte 42 ts) ≡ false
+joined_without : (bs : List Binding) (p : ℕ → Bool) → ((c : ℕ) → is_mark c ≡ false → p c ≡ false) → p 42 ≡ false → (ts : List (List ℕ)) (ns : List QName) → AllZip (Spells bs) ts ns → list_any p (join_with_byte 42 ts) ≡ false
 joined_without bs p under star [] ns z = refl
 joined_without bs p under star (t ∷ ts) [] z = absurd z
-joined_without bs p under star (t ∷ []) (n ∷ ns) z = without p under t z.0.plain
-joined_without bs p under star (t ∷ u ∷ ts) (n ∷ ns) z = neither_in p t 42 (join_with_byte 42 (u ∷ ts)) (without p under t z.0.plain) star (joined_without bs p under star (u ∷ ts) ns z.1)
+joined_without bs p under star (t ∷ []) (n ∷ ns) z = without p under t (plain_piece t z.0.piece)
+joined_without bs p under star (t ∷ u ∷ ts) (n ∷ ns) z = neither_in p t 42 (join_with_byte 42 (u ∷ ts)) (without p under t (plain_piece t z.0.piece)) star (joined_without bs p under star (u ∷ ts) ns z.1)
 
 none_all : (p : ℕ → Bool) (xs : List ℕ) → list_any p xs ≡ false → All (λ x. p x ≡ false) xs
 none_all p [] h = λ k d lt. absurd (omega arith)
@@ -85,15 +96,15 @@ under_opening : (c : ℕ) → is_mark c ≡ false → is_opening c ≡ false
 under_opening c h = grind (arith, nat_tests)
 
 -- the pieces of a product are its measures
-split_joined : (bs : List Binding) (ts : List (List ℕ)) (ns : List QName) → AllZip (IsSpelled bs) ts ns → 0 < length ns → slice_split is_star (join_with_byte 42 ts) ≡ ts
+split_joined : (bs : List Binding) (ts : List (List ℕ)) (ns : List QName) → AllZip (Spells bs) ts ns → 0 < length ns → slice_split is_star (join_with_byte 42 ts) ≡ ts
 split_joined bs [] [] z h = absurd (omega arith)
 split_joined bs [] (n ∷ ns) z h = absurd z
 split_joined bs (t ∷ ts) [] z h = absurd z
-split_joined bs (t ∷ []) (n ∷ []) z h = slice_split_none is_star t (none_all is_star t (without is_star under_star t z.0.plain))
+split_joined bs (t ∷ []) (n ∷ []) z h = slice_split_none is_star t (none_all is_star t (without is_star under_star t (plain_piece t z.0.piece)))
 split_joined bs (t ∷ []) (n ∷ m ∷ ns) z h = absurd z.1
 split_joined bs (t ∷ u ∷ ts) (n ∷ []) z h = absurd z.1
 split_joined bs (t ∷ u ∷ ts) (n ∷ m ∷ ns) z h =
-    slice_split_at is_star t 42 (join_with_byte 42 (u ∷ ts)) (none_all is_star t (without is_star under_star t z.0.plain)) refl
+    slice_split_at is_star t 42 (join_with_byte 42 (u ∷ ts)) (none_all is_star t (without is_star under_star t (plain_piece t z.0.piece))) refl
     ∙ ap (λ x. t ∷ x) (split_joined bs (u ∷ ts) (m ∷ ns) z.1 (omega arith))
 
 -- a text with no opening parenthesis is its own inner text
@@ -101,61 +112,56 @@ no_opening : (s : List ℕ) → list_any is_opening s ≡ false → s ≡ inner 
 no_opening s h = unopened s (λ rest is. absurd (cc (rw is at h)))
 
 -- sides of measures that can be written
-record IsSide (bs : List Binding) (ns : List QName) : Type 0 where
+record IsSide (bs : List Binding) (f : QName → List ℕ) (ns : List QName) : Type 0 where
   some : 0 < length ns
-  texts : AllZip (IsSpelled bs) (map (measure_text bs) ns) ns
+  texts : AllZip (Spells bs) (map f ns) ns
 
-product_pieces : (bs : List Binding) (ns : List QName) → IsSide bs ns → pieces (product_text bs ns) ≡ map (measure_text bs) ns
-product_pieces bs ns h =
-    let opening = joined_without bs is_opening under_opening refl (map (measure_text bs) ns) ns h.texts in
-    ap (slice_split is_star) (sym (no_opening (product_text bs ns) opening)) ∙ split_joined bs (map (measure_text bs) ns) ns h.texts h.some
+product_is_of : (bs : List Binding) (f : QName → List ℕ) (ns : List QName) → IsSide bs f ns → side_pieces (product_text f ns) ≡ map f ns
+product_is_of bs f ns h =
+    let opening = joined_without bs is_opening under_opening refl (map f ns) ns h.texts in
+    ap (slice_split is_star) (sym (no_opening (product_text f ns) opening)) ∙ split_joined bs (map f ns) ns h.texts h.some
 
-side_pieces : (bs : List Binding) (ns : List QName) → IsSide bs ns → pieces (side_text bs ns) ≡ map (measure_text bs) ns
-side_pieces bs ns h =
-    elim (length ns == 1) as (λ b. pieces (if b then product_text bs ns else 40 ∷ product_text bs ns ++ 41 ∷ []) ≡ map (measure_text bs) ns) [
-      | true ↦ product_pieces bs ns h
+side_is_of : (bs : List Binding) (f : QName → List ℕ) (ns : List QName) → IsSide bs f ns → side_pieces (side_text f ns) ≡ map f ns
+side_is_of bs f ns h =
+    elim (length ns == 1) as (λ b. side_pieces (if b then product_text f ns else 40 ∷ product_text f ns ++ 41 ∷ []) ≡ map f ns) [
+      | true ↦ product_is_of bs f ns h
       | false ↦
-          ap (slice_split is_star) (sym (closed (40 ∷ product_text bs ns ++ 41 ∷ []) (product_text bs ns ++ 41 ∷ []) (product_text bs ns) refl refl))
-          ∙ split_joined bs (map (measure_text bs) ns) ns h.texts h.some
+          ap (slice_split is_star) (sym (closed (40 ∷ product_text f ns ++ 41 ∷ []) (product_text f ns ++ 41 ∷ []) (product_text f ns) refl refl))
+          ∙ split_joined bs (map f ns) ns h.texts h.some
     ]
 
 -- no side has a `/`
-product_slash : (bs : List Binding) (ns : List QName) → IsSide bs ns → list_any is_slash (product_text bs ns) ≡ false
-product_slash bs ns h = joined_without bs is_slash under_slash refl (map (measure_text bs) ns) ns h.texts
+product_slash : (bs : List Binding) (f : QName → List ℕ) (ns : List QName) → IsSide bs f ns → list_any is_slash (product_text f ns) ≡ false
+product_slash bs f ns h = joined_without bs is_slash under_slash refl (map f ns) ns h.texts
 
-side_slash : (bs : List Binding) (ns : List QName) → IsSide bs ns → list_any is_slash (side_text bs ns) ≡ false
-side_slash bs ns h =
-    elim (length ns == 1) as (λ b. list_any is_slash (if b then product_text bs ns else 40 ∷ product_text bs ns ++ 41 ∷ []) ≡ false) [
-      | true ↦ product_slash bs ns h
-      | false ↦ neither_in is_slash (product_text bs ns) 41 [] (product_slash bs ns h) refl refl
+side_slash : (bs : List Binding) (f : QName → List ℕ) (ns : List QName) → IsSide bs f ns → list_any is_slash (side_text f ns) ≡ false
+side_slash bs f ns h =
+    elim (length ns == 1) as (λ b. list_any is_slash (if b then product_text f ns else 40 ∷ product_text f ns ++ 41 ∷ []) ≡ false) [
+      | true ↦ product_slash bs f ns h
+      | false ↦ neither_in is_slash (product_text f ns) 41 [] (product_slash bs f ns h) refl refl
     ]
 
-not_zero : (n : ℕ) → 0 < n → (n == 0) ≡ false
-not_zero n h = grind (arith, nat_tests)
-
 -- each piece is one, and names its measure
-pieces_are : (bs : List Binding) (ts : List (List ℕ)) (ns : List QName) → AllZip (IsSpelled bs) ts ns → list_all is_piece ts ≡ true
+pieces_are : (bs : List Binding) (ts : List (List ℕ)) (ns : List QName) → AllZip (Spells bs) ts ns → list_all is_piece ts ≡ true
 pieces_are bs [] ns z = refl
 pieces_are bs (t ∷ ts) [] z = absurd z
-pieces_are bs (t ∷ ts) (n ∷ ns) z =
-    let some : (length t == 0) ≡ false = not_zero (length t) z.0.some in
-    rw (some, z.0.plain, pieces_are bs ts ns z.1) refl
+pieces_are bs (t ∷ ts) (n ∷ ns) z = rw (z.0.piece, pieces_are bs ts ns z.1) refl
 
-expand_each : (bs : List Binding) (ts : List (List ℕ)) (ns : List QName) → AllZip (IsSpelled bs) ts ns → AllZip (Expands bs) ts ns
+expand_each : (bs : List Binding) (ts : List (List ℕ)) (ns : List QName) → AllZip (Spells bs) ts ns → AllZip (Expands bs) ts ns
 expand_each bs [] [] z = tt
 expand_each bs [] (n ∷ ns) z = absurd z
 expand_each bs (t ∷ ts) [] z = absurd z
 expand_each bs (t ∷ ts) (n ∷ ns) z = (z.0.expands, expand_each bs ts ns z.1)
 
-names_each : (bs : List Binding) (ns : List QName) → AllZip (IsSpelled bs) (map (measure_text bs) ns) ns → NamesEach bs (map (measure_text bs) ns) ns
-names_each bs ns z = record { spelled = ns; expands = expand_each bs _ ns z; same = IsPermutation-refl ns }
+names_each : (bs : List Binding) (f : QName → List ℕ) (ns : List QName) → AllZip (Spells bs) (map f ns) ns → NamesEach bs (map f ns) ns
+names_each bs f ns z = record { spelled = ns; expands = expand_each bs _ ns z; same = IsPermutation-refl ns }
 
 -- a text whose pieces are those of the unit has its measures
-has_measures : (bs : List Binding) (t : List ℕ) (m : Measures) → numerator_pieces t ≡ map (measure_text bs) m.numerators → denominator_pieces t ≡ map (measure_text bs) m.denominators → AllZip (IsSpelled bs) (map (measure_text bs) m.numerators) m.numerators → AllZip (IsSpelled bs) (map (measure_text bs) m.denominators) m.denominators → HasMeasures bs t m
-has_measures bs t m np dp nz dz = record {
-  form = rw (np, dp) (rw (pieces_are bs (map (measure_text bs) m.numerators) m.numerators nz, pieces_are bs (map (measure_text bs) m.denominators) m.denominators dz) refl);
-  numerators = rw np (names_each bs m.numerators nz);
-  denominators = rw dp (names_each bs m.denominators dz);
+has_measures : (bs : List Binding) (f : QName → List ℕ) (t : List ℕ) (m : Measures) → numerator_pieces t ≡ map f m.numerators → denominator_pieces t ≡ map f m.denominators → AllZip (Spells bs) (map f m.numerators) m.numerators → AllZip (Spells bs) (map f m.denominators) m.denominators → HasMeasures bs t m
+has_measures bs f t m np dp nz dz = record {
+  form = rw (np, dp) (rw (pieces_are bs (map f m.numerators) m.numerators nz, pieces_are bs (map f m.denominators) m.denominators dz) refl);
+  numerators = rw np (names_each bs f m.numerators nz);
+  denominators = rw dp (names_each bs f m.denominators dz);
 }
 
 no_names : (ns : List QName) → (length ns == 0) ≡ true → ns ≡ []
@@ -173,29 +179,38 @@ some_names_by : (ns : List QName) → (length ns == 0) ≡ false → 0 < length 
 some_names_by ns h = grind (arith, nat_tests)
 
 -- the pieces of the text of a unit without denominators, and with some
-module _ (bs : List Binding) (m : Measures) (nz : AllZip (IsSpelled bs) (map (measure_text bs) m.numerators) m.numerators) (some : 0 < length m.numerators) where
-  numerators_alone : m.denominators ≡ [] → (numerator_pieces (product_text bs m.numerators) ≡ map (measure_text bs) m.numerators) × (denominator_pieces (product_text bs m.numerators) ≡ map (measure_text bs) m.denominators)
+module _ (bs : List Binding) (f : QName → List ℕ) (m : Measures) (nz : AllZip (Spells bs) (map f m.numerators) m.numerators) (some : 0 < length m.numerators) where
+  numerators_alone : m.denominators ≡ [] → (numerator_pieces (product_text f m.numerators) ≡ map f m.numerators) × (denominator_pieces (product_text f m.numerators) ≡ map f m.denominators)
   numerators_alone none =
-      let side : IsSide bs m.numerators = record { some = some; texts = nz } in
-      let one = one_side (product_text bs m.numerators) (no_place is_slash (product_text bs m.numerators) (product_slash bs m.numerators side)) in
-      (one.0 ∙ product_pieces bs m.numerators side, rw none one.1)
+      let side : IsSide bs f m.numerators = record { some = some; texts = nz } in
+      let one = one_side (product_text f m.numerators) (no_place is_slash (product_text f m.numerators) (product_slash bs f m.numerators side)) in
+      (one.0 ∙ product_is_of bs f m.numerators side, rw none one.1)
 
-  both_sides : AllZip (IsSpelled bs) (map (measure_text bs) m.denominators) m.denominators → 0 < length m.denominators → let t = side_text bs m.numerators ++ 47 ∷ side_text bs m.denominators in (numerator_pieces t ≡ map (measure_text bs) m.numerators) × (denominator_pieces t ≡ map (measure_text bs) m.denominators)
+  both_sides : AllZip (Spells bs) (map f m.denominators) m.denominators → 0 < length m.denominators → let t = side_text f m.numerators ++ 47 ∷ side_text f m.denominators in (numerator_pieces t ≡ map f m.numerators) × (denominator_pieces t ≡ map f m.denominators)
   unfolding numerator_pieces denominator_pieces
   both_sides dz more =
-      let up : IsSide bs m.numerators = record { some = some; texts = nz } in
-      let down : IsSide bs m.denominators = record { some = more; texts = dz } in
-      let parts = cut is_slash (side_text bs m.numerators) (side_text bs m.denominators) 47 (side_slash bs m.numerators up) refl in
-      (ap pieces parts.before ∙ side_pieces bs m.numerators up, rw parts.some (ap pieces parts.after ∙ side_pieces bs m.denominators down))
+      let up : IsSide bs f m.numerators = record { some = some; texts = nz } in
+      let down : IsSide bs f m.denominators = record { some = more; texts = dz } in
+      let parts = cut is_slash (side_text f m.numerators) (side_text f m.denominators) 47 (side_slash bs f m.numerators up) refl in
+      (ap side_pieces parts.before ∙ side_is_of bs f m.numerators up, rw parts.some (ap side_pieces parts.after ∙ side_is_of bs f m.denominators down))
 
-pub unit_back : UnitsReadBack
+denotes : (bs : List Binding) (f : QName → List ℕ) (m : Measures) → IsUnit m → SpellsEach bs f m → UnitOf bs (unit_text f m) (Some m)
 unfolding unit_text
-unit_back bs m were h w =
-    let b = and_parts (list_all (is_writable bs) m.numerators) (list_all (is_writable bs) m.denominators) w in
-    let nz = each_spelled bs m.numerators were h.multiplied b.0 in
-    let dz = each_spelled bs m.denominators were h.divided b.1 in
+denotes bs f m h spells =
+    let nz = each_spelled bs f m.numerators spells.numerators in
+    let dz = each_spelled bs f m.denominators spells.denominators in
     let some = some_names m.numerators h.some in
-    elim (length m.denominators == 0) as (λ t. (length m.denominators == 0) ≡ t → UnitOf bs (if t then product_text bs m.numerators else side_text bs m.numerators ++ 47 ∷ side_text bs m.denominators) (Some m)) [
-      | true ↦ λ e. let p = numerators_alone bs m nz some (no_names m.denominators e) in (has_measures bs _ m p.0 p.1 nz dz, h.unit)
-      | false ↦ λ e. let p = both_sides bs m nz some dz (some_names_by m.denominators e) in (has_measures bs _ m p.0 p.1 nz dz, h.unit)
+    elim (length m.denominators == 0) as (λ t. (length m.denominators == 0) ≡ t → UnitOf bs (if t then product_text f m.numerators else side_text f m.numerators ++ 47 ∷ side_text f m.denominators) (Some m)) [
+      | true ↦ λ e. let p = numerators_alone bs f m nz some (no_names m.denominators e) in (has_measures bs f _ m p.0 p.1 nz dz, h.unit)
+      | false ↦ λ e. let p = both_sides bs f m nz some dz (some_names_by m.denominators e) in (has_measures bs f _ m p.0 p.1 nz dz, h.unit)
     ] refl
+
+-- the text of a unit denotes it alone
+pub unit_back : UnitsReadBack
+unit_back bs f m h spells =
+    let unit = denotes bs f m h spells in
+    record {
+      unit = unit;
+      accepted = not_refused bs (unit_text f m) (Some m) unit;
+      alone = λ u other sorted. one_unit bs (unit_text f m) u (Some m) other unit sorted h;
+    }

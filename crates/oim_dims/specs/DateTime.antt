@@ -1,9 +1,10 @@
 -- Moments, as texts and as seconds (XML Schema Part 2, section 3.2.7, `dateTime`).
-use Rattle.std.specs.Prelude.{ℕ, zero, suc, ◌+◌, ◌*◌, ◌/◌, ◌%◌, ℤ, pos, neg_ℤ, ◌+ℤ◌, ◌*ℤ◌, Bool, ◌&&◌, ◌==◌, nat_le, int_le, if◌then◌else◌, List, [], ◌∷◌, ◌++◌, length, slice_range, unsigned_abs, Option, Some, None, codes}
+use Rattle.std.specs.Prelude.{ℕ, zero, suc, ◌+◌, ◌*◌, ◌/◌, ◌%◌, ℤ, pos, ◌+ℤ◌, ◌*ℤ◌, Bool, ◌&&◌, ◌==◌, nat_le, int_le, if◌then◌else◌, List, [], ◌∷◌, ◌++◌, length, slice_range, unsigned_abs, Option, Some, None, codes}
 use Rattle.std.specs.List.{list_all, zip}
 use Rattle.std.specs.Int.{is_in_range, int_div_euclid, int_rem_euclid}
 use Rattle.std.specs.Char.{is_ascii_digit}
 use Rattle.std.specs.Str.Parse.{digits_value}
+use Rattle.oim_dims.specs.declared.limits.TheConstants.{DAY_SECONDS, FIRST_MOMENT, LAST_MOMENT}
 use Rattle.jiff.specs.Words.{IsBetween, days_in_month}
 use Rattle.jiff_core.specs.Calendar.{days_from_civil}
 
@@ -11,11 +12,11 @@ use Rattle.jiff_core.specs.Calendar.{days_from_civil}
 abbrev pub picture : List ℕ
 picture = codes "0000-00-00T00:00:00"
 
-abbrev pub fits : ℕ × ℕ → Bool
-fits e = if e.0 == 48 then is_ascii_digit e.1 else e.1 == e.0
+abbrev pub matches_picture : ℕ × ℕ → Bool
+matches_picture e = if e.0 == 48 then is_ascii_digit e.1 else e.1 == e.0
 
 unfoldable pub has_picture : List ℕ → Bool
-has_picture t = length t == 19 && list_all fits (zip picture t)
+has_picture t = length t == 19 && list_all matches_picture (zip picture t)
 
 -- its numbers
 abbrev pub number : List ℕ → ℕ → ℕ → ℕ
@@ -40,7 +41,7 @@ second_of_day t = 3600 * number t 11 13 + 60 * number t 14 16 + number t 17 19
 
 -- a clock shows its time, or the time is 24:00:00, the end of the day
 unfoldable pub has_time : List ℕ → Bool
-has_time t = nat_le (number t 14 16) 59 && nat_le (number t 17 19) 59 && nat_le (second_of_day t) 86_400
+has_time t = nat_le (number t 14 16) 59 && nat_le (number t 17 19) 59 && nat_le (second_of_day t) DAY_SECONDS
 
 -- the number of its day, counted from 1970-01-01
 unfoldable pub day_number : List ℕ → ℤ
@@ -48,15 +49,15 @@ day_number t = days_from_civil (pos (year t)) (month t) (day t)
 
 -- a second of the years 0001 to 9999, from 1970-01-01T00:00:00
 abbrev pub IsMoment : ℤ → Type 0
-IsMoment = IsBetween (neg_ℤ (pos 62_135_596_800)) (pos 253_402_300_799)
+IsMoment = IsBetween FIRST_MOMENT LAST_MOMENT
 
 -- the second that a date-time denotes: whole days of the calendar, and the time since midnight
 abbrev pub second_at : List ℕ → ℤ
-second_at t = day_number t *ℤ pos 86_400 +ℤ pos (second_of_day t)
+second_at t = day_number t *ℤ pos DAY_SECONDS +ℤ pos (second_of_day t)
 
 -- a date-time before the year 10000
 abbrev pub is_date_time : List ℕ → Bool
-is_date_time t = has_picture t && has_date t && has_time t && int_le (second_at t) (pos 253_402_300_799)
+is_date_time t = has_picture t && has_date t && has_time t && int_le (second_at t) LAST_MOMENT
 
 -- the moment of a date-time
 abbrev pub moment_of : List ℕ → Option ℤ
@@ -92,4 +93,4 @@ time_text s = two_digits (s / 3600) ++ 58 ∷ two_digits (s / 60 % 60) ++ 58 ∷
 
 -- how a moment is written, with hours from 00 to 23 (own)
 unfoldable pub moment_text : ℤ → List ℕ
-moment_text z = date_text (int_div_euclid z (pos 86_400)) ++ 84 ∷ time_text (unsigned_abs (int_rem_euclid z (pos 86_400)))
+moment_text z = date_text (int_div_euclid z (pos DAY_SECONDS)) ++ 84 ∷ time_text (unsigned_abs (int_rem_euclid z (pos DAY_SECONDS)))

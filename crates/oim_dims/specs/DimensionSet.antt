@@ -1,12 +1,13 @@
 -- What a fact is about (OIM Common 1.0, dimensions; xBRL-JSON 1.0, the core dimensions).
-use Rattle.std.specs.Prelude.{ℕ, Bool, true, ◌&&◌, if◌then◌else◌, List, [], ◌∷◌, Option}
+use Rattle.std.specs.Prelude.{◌≡◌, ◌⊎◌, ◌↔◌, ℕ, Bool, true, ◌&&◌, if◌then◌else◌, List, [], ◌∷◌, Option, Contains, IsTrue, IfSome}
 use Rattle.std.specs.List.{list_any}
 use Rattle.std.specs.Ordering.{is_lt, is_eq}
 use Rattle.oim_names.specs.QName.{QName}
 use Rattle.oim_dims.specs.declared.member.Member.{Member}
 use Rattle.oim_dims.specs.declared.period.Period.{Period}
 use Rattle.oim_value.specs.ValueOrder.{name_cmp}
-use Rattle.oim_dims.specs.Unit.{Measures}
+use Rattle.oim_dims.specs.Period.{HasMoments}
+use Rattle.oim_dims.specs.Unit.{Measures, IsUnit}
 
 -- whether the name is below those of all
 abbrev pub is_below : QName → List (QName × Member) → Bool
@@ -35,3 +36,22 @@ pub record DimensionSet : Type 0 where
   pub unit : Option Measures
   pub language : Option (List ℕ)
   pub members : List (QName × Member)
+
+-- what each dimension set is: each dimension once, a unit that is one, and moments within their years
+pub record IsDimensionSet (d : DimensionSet) : Type 0 where
+  pub members : IsTrue (rises d.members)
+  pub unit : IfSome d.unit IsUnit
+  pub period : HasMoments d.period
+
+-- a dimension has a name exactly where it stands there with some member
+abbrev pub NamesAreThere : Type 0
+NamesAreThere = (n : QName) (es : List (QName × Member)) → IsTrue (has_name n es) ↔ ((m : Member) × Contains es (n, m))
+
+-- one member more, and no other change
+pub record IsOneMore (old new : List (QName × Member)) (e : QName × Member) : Type 0 where
+  pub rises : IsTrue (rises new)
+  pub members : (f : QName × Member) → Contains new f ↔ (Contains old f ⊎ (f ≡ e))
+
+-- with a member of a new name there is one more
+abbrev pub MembersGrow : Type 0
+MembersGrow = (n : QName) (m : Member) (es : List (QName × Member)) → IsTrue (rises es) → ¬ (IsTrue (has_name n es)) → IsOneMore es (with_member n m es) (n, m)

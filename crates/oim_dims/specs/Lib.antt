@@ -1,3 +1,4 @@
+pub mod Separators
 pub mod DateTime
 pub mod Period
 pub mod Language

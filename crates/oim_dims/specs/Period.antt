@@ -1,15 +1,13 @@
 -- Periods (OIM Common 1.0, the core dimension period; xBRL-JSON 1.0, periods as one date-time or two).
-use Rattle.std.specs.Prelude.{◌≡◌, ℕ, ℤ, Bool, ◌==◌, int_lt, if◌then◌else◌, List, ◌∷◌, ◌++◌, Option, Some, None, Result, Ok, Err, ⊤, ◌<ℤ◌, IfSome}
+use Rattle.std.specs.Prelude.{◌≡◌, ℕ, ℤ, int_lt, if◌then◌else◌, List, ◌∷◌, ◌++◌, Option, Some, None, Result, Ok, Err, ⊤, ◌<ℤ◌, IfSome}
 use Rattle.std.specs.Ordering.{int_eq}
 use Rattle.std.specs.List.{list_any, before_first, after_first}
 use Rattle.oim_names.specs.declared.reason.Reason.{Reason}
 use Rattle.oim_names.specs.declared.reason.Reason.TheVariants.{PeriodForm, PeriodOrder}
 use Rattle.oim_dims.specs.declared.period.Period.{Period}
 use Rattle.oim_dims.specs.declared.period.Period.TheVariants.{Forever, Instant, Duration}
+use Rattle.oim_dims.specs.Separators.{is_slash}
 use Rattle.oim_dims.specs.DateTime.{moment_of, moment_text, IsMoment}
-
-abbrev pub is_slash : ℕ → Bool
-is_slash c = c == 47
 
 -- the parts round the first `/`, each of them the whole text where there is none
 abbrev pub start_part : List ℕ → List ℕ
@@ -35,16 +33,27 @@ period_text Forever = None
 period_text (Instant m) = Some (moment_text m)
 period_text (Duration start end) = Some (moment_text start ++ 47 ∷ moment_text end)
 
--- a period of moments, of which a duration ends after its start
-abbrev pub IsPeriod : Period → Type 0
-IsPeriod Forever = ⊤
-IsPeriod (Instant m) = IsMoment m
-IsPeriod (Duration start end) = IsMoment start × IsMoment end × (start <ℤ end)
+-- the moments of a period are within their years
+abbrev pub HasMoments : Period → Type 0
+HasMoments Forever = ⊤
+HasMoments (Instant m) = IsMoment m
+HasMoments (Duration start end) = IsMoment start × IsMoment end
+
+-- a duration ends after its start
+abbrev pub EndsAfterStart : Period → Type 0
+EndsAfterStart Forever = ⊤
+EndsAfterStart (Instant m) = ⊤
+EndsAfterStart (Duration start end) = start <ℤ end
+
+-- what each period is that a text denotes
+pub record IsPeriod (p : Period) : Type 0 where
+  pub moments : HasMoments p
+  pub forward : EndsAfterStart p
 
 -- the text of a period denotes it
 abbrev pub PeriodsReadBack : Type 0
 PeriodsReadBack = (p : Period) → IsPeriod p → IfSome (period_text p) (λ t. period_of t ≡ Ok p)
 
 -- a period that is read is one of moments, and a duration ends after its start
-abbrev pub ReadPeriodsFit : Type 0
-ReadPeriodsFit = (t : List ℕ) (p : Period) → period_of t ≡ Ok p → IsPeriod p
+abbrev pub ReadPeriodsArePeriods : Type 0
+ReadPeriodsArePeriods = (t : List ℕ) (p : Period) → period_of t ≡ Ok p → IsPeriod p

@@ -1,23 +1,17 @@
 -- Units (OIM Common 1.0, the core dimension unit; xBRL-JSON 1.0, units as texts).
-use Rattle.std.specs.Prelude.{◌≡◌, ◌≢◌, ℕ, ◌-◌, Bool, false, not, ◌&&◌, ◌||◌, ◌==◌, if◌then◌else◌, List, [], ◌∷◌, ◌++◌, length, slice_index, slice_range, map, Option, Some, None, All, IsTrue, codes}
+use Rattle.std.specs.Prelude.{◌≡◌, ◌≢◌, ℕ, ◌-◌, Bool, false, not, ◌&&◌, ◌||◌, ◌==◌, if◌then◌else◌, List, [], ◌∷◌, ◌++◌, length, slice_index, slice_range, map, Option, Some, None, All, IfSome, IsTrue, codes}
 use Rattle.std.specs.List.{AllZip, list_all, list_any, slice_split, before_first, after_first, join_with_byte}
 use Rattle.std.specs.List.Sorted.{IsPermutation, IsSorted}
 use Rattle.std.specs.Option.{option_map_or, unwrap_or}
-use Rattle.oim_names.specs.QName.{QName, is_part}
+use Rattle.oim_dims.specs.Separators.{is_slash, is_star}
+use Rattle.oim_names.specs.QName.{QName, is_name, is_part}
 use Rattle.oim_names.specs.Bindings.{Binding, AreBindings, prefix_of}
-use Rattle.oim_names.specs.Expansion.{Expands, name_refusal, reserved_uri}
-use Rattle.oim_names.specs.Reasons.{entry_of}
+use Rattle.oim_names.specs.Expansion.{Expands, lacks_form, lacks_binding, lies_in_reserved, reserved_uri}
 use Rattle.oim_names.specs.declared.reason.Reason.{Reason}
 use Rattle.oim_value.specs.ValueOrder.{name_cmp}
 use Rattle.oim_names.specs.declared.reason.Reason.TheVariants.{UnitForm, NameForm, UnboundPrefix, ReservedNamespace}
 
 -- the characters that a unit is built with: ( ) * /
-abbrev pub is_star : ℕ → Bool
-is_star c = c == 42
-
-abbrev pub is_slash : ℕ → Bool
-is_slash c = c == 47
-
 abbrev pub is_mark : ℕ → Bool
 is_mark c = c == 40 || c == 41 || c == 42 || c == 47
 
@@ -26,15 +20,15 @@ abbrev pub inner : List ℕ → List ℕ
 inner s = if slice_index s 0 == 40 && slice_index s (length s - 1) == 41 then slice_range s 1 (length s - 1) else s
 
 -- what stands round the `*` of a side
-abbrev pub pieces : List ℕ → List (List ℕ)
-pieces s = slice_split is_star (inner s)
+abbrev pub side_pieces : List ℕ → List (List ℕ)
+side_pieces s = slice_split is_star (inner s)
 
 -- the pieces of both sides: before the first `/`, and after it, where there is one
 unfoldable pub numerator_pieces : List ℕ → List (List ℕ)
-numerator_pieces t = pieces (before_first is_slash t)
+numerator_pieces t = side_pieces (before_first is_slash t)
 
 unfoldable pub denominator_pieces : List ℕ → List (List ℕ)
-denominator_pieces t = if list_any is_slash t then pieces (after_first is_slash t) else []
+denominator_pieces t = if list_any is_slash t then side_pieces (after_first is_slash t) else []
 
 -- a test of each piece of both sides, and of some piece
 abbrev pub each_piece : (List ℕ → Bool) → List ℕ → Bool
@@ -79,20 +73,24 @@ abbrev pub UnitOf : List Binding → List ℕ → Option Measures → Type 0
 UnitOf bs t None = HasMeasures bs t pure_alone
 UnitOf bs t (Some m) = HasMeasures bs t m × (m ≢ pure_alone)
 
--- whether this is why a piece is no name
-abbrev pub is_refused : List Binding → Reason → List ℕ → Bool
-is_refused bs r p = option_map_or (λ e. (entry_of e).number == (entry_of r).number) (name_refusal bs p) false
+-- the test of each refusal of a name
+abbrev pub refuses : Reason → List Binding → List ℕ → Bool
+refuses NameForm bs p = lacks_form is_name p
+refuses UnboundPrefix bs p = lacks_binding is_name bs p
+refuses ReservedNamespace bs p = lies_in_reserved is_name bs p
+refuses r bs p = false
 
 -- why a text is no unit, the first that holds: its form, and then of any piece its form, its prefix, its namespace
 abbrev pub unit_refusal : List Binding → List ℕ → Option Reason
 unit_refusal bs t =
     if not (is_unit_text t) then Some UnitForm else (
-    if some_piece (is_refused bs NameForm) t then Some NameForm else (
-    if some_piece (is_refused bs UnboundPrefix) t then Some UnboundPrefix else (
-    if some_piece (is_refused bs ReservedNamespace) t then Some ReservedNamespace else None)))
+    if some_piece (lacks_form is_name) t then Some NameForm else (
+    if some_piece (lacks_binding is_name bs) t then Some UnboundPrefix else (
+    if some_piece (lies_in_reserved is_name bs) t then Some ReservedNamespace else None)))
 
 -- a measure that a unit can be spelled with
 pub record IsMeasure (n : QName) : Type 0 where
+  pub filled : n.uri ≢ []
   pub allowed : n.uri ≢ reserved_uri
   pub form : IsTrue (is_part n.local_part)
   pub plain : list_any is_mark n.local_part ≡ false
@@ -113,23 +111,56 @@ is_writable bs n = option_map_or (λ p. not (list_any is_mark p)) (prefix_of bs 
 abbrev pub can_write : List Binding → Measures → Bool
 can_write bs m = list_all (is_writable bs) m.numerators && list_all (is_writable bs) m.denominators
 
--- a measure, and measures with `*` between them
+-- the text of a measure, by the first prefix of its URI
 abbrev pub measure_text : List Binding → QName → List ℕ
 measure_text bs n = unwrap_or (prefix_of bs n.uri) [] ++ 58 ∷ n.local_part
 
-abbrev pub product_text : List Binding → List QName → List ℕ
-product_text bs ns = join_with_byte 42 (map (measure_text bs) ns)
+-- measures with `*` between them, each written by a function from names to texts
+abbrev pub product_text : (QName → List ℕ) → List QName → List ℕ
+product_text f ns = join_with_byte 42 (map f ns)
 
 -- a side beside another, in parentheses where it has several measures
-abbrev pub side_text : List Binding → List QName → List ℕ
-side_text bs ns = if length ns == 1 then product_text bs ns else 40 ∷ product_text bs ns ++ 41 ∷ []
+abbrev pub side_text : (QName → List ℕ) → List QName → List ℕ
+side_text f ns = if length ns == 1 then product_text f ns else 40 ∷ product_text f ns ++ 41 ∷ []
 
 -- how a unit is written (xBRL-JSON 1.0)
-unfoldable pub unit_text : List Binding → Measures → List ℕ
-unit_text bs m =
-    if length m.denominators == 0 then product_text bs m.numerators
-    else side_text bs m.numerators ++ 47 ∷ side_text bs m.denominators
+unfoldable pub unit_text : (QName → List ℕ) → Measures → List ℕ
+unit_text f m =
+    if length m.denominators == 0 then product_text f m.numerators
+    else side_text f m.numerators ++ 47 ∷ side_text f m.denominators
 
--- the text of a unit denotes it
+-- a text that spells a measure in a unit's text
+pub record Spells (bs : List Binding) (t : List ℕ) (n : QName) : Type 0 where
+  pub piece : IsTrue (is_piece t)
+  pub expands : Expands bs t n
+
+-- a function that spells each measure of a unit
+pub record SpellsEach (bs : List Binding) (f : QName → List ℕ) (m : Measures) : Type 0 where
+  pub numerators : All (λ n. Spells bs (f n) n) m.numerators
+  pub denominators : All (λ n. Spells bs (f n) n) m.denominators
+
+-- a text denotes this unit alone: it is not refused, and what units it denotes are this one
+pub record DenotesUnit (bs : List Binding) (t : List ℕ) (m : Measures) : Type 0 where
+  pub unit : UnitOf bs t (Some m)
+  pub accepted : unit_refusal bs t ≡ None
+  pub alone : (u : Option Measures) → UnitOf bs t u → IfSome u IsUnit → u ≡ Some m
+
+-- the text of a unit denotes it, where the function spells each of its measures
 abbrev pub UnitsReadBack : Type 0
-UnitsReadBack = (bs : List Binding) (m : Measures) → AreBindings bs → IsUnit m → IsTrue (can_write bs m) → UnitOf bs (unit_text bs m) (Some m)
+UnitsReadBack = (bs : List Binding) (f : QName → List ℕ) (m : Measures) → IsUnit m → SpellsEach bs f m → DenotesUnit bs (unit_text f m) m
+
+-- the spelling by bindings does so where it can write the unit
+abbrev pub BindingsSpell : Type 0
+BindingsSpell = (bs : List Binding) (m : Measures) → AreBindings bs → IsUnit m → IsTrue (can_write bs m) → SpellsEach bs (measure_text bs) m
+
+-- a text that denotes a unit, or `pure` alone, is not refused
+abbrev pub UnitsAreNotRefused : Type 0
+UnitsAreNotRefused = (bs : List Binding) (t : List ℕ) (u : Option Measures) → UnitOf bs t u → unit_refusal bs t ≡ None
+
+-- and a text that is not refused denotes one of them
+abbrev pub OthersAreRefused : Type 0
+OthersAreRefused = (bs : List Binding) (t : List ℕ) → unit_refusal bs t ≡ None → (u : Option Measures) × UnitOf bs t u
+
+-- a text denotes at most one
+abbrev pub TextsDenoteOneUnit : Type 0
+TextsDenoteOneUnit = (bs : List Binding) (t : List ℕ) (u v : Option Measures) → UnitOf bs t u → UnitOf bs t v → IfSome u IsUnit → IfSome v IsUnit → u ≡ v

@@ -3,11 +3,11 @@ ghost use Rattle.std.specs.List.{insert};
 ghost use Rattle.std.specs.Option.{option_copied};
 ghost use Rattle.oim_dims.specs.declared.period.Period.TheVariants.{Forever};
 ghost use Rattle.oim_dims.specs.declared.member.Member.{Member as AMember};
-ghost use Rattle.oim_dims.specs.DimensionSet.{rises, has_name, with_member};
+ghost use Rattle.oim_dims.specs.DimensionSet.{rises, has_name, with_member, IsDimensionSet};
 
-use crate::list::Sequence;
 use crate::member::Member;
 use crate::period::Period;
+use crate::sequence::Sequence;
 use crate::unit::Unit;
 use oim_names::{Copied, Key, Name, Reason, Text};
 use std::alloc::{AllocError, Global};
@@ -53,6 +53,17 @@ impl Dimensions {
             unit: None,
             language: None,
             members: Sequence::new(Vec::new(alloc)),
+        }
+    }
+
+    /// Does nothing, and tells what each dimension set is.
+    pub fn known(&self)
+        ensures { IsDimensionSet self.now }
+    {
+        let _members = &self.members;
+        self.period.known();
+        if let Some(unit) = &self.unit {
+            unit.known();
         }
     }
 

@@ -1,9 +1,11 @@
 ghost use Rattle.std.specs.Prelude.{◌≡◌};
+ghost use Rattle.std.specs.Cmp.{IsTotalOrder};
+ghost use Rattle.std.specs.declared.cmp.Ordering.TheVariants.{Equal};
 ghost use Rattle.oim_dims.specs.declared.fact.Fact.{Fact as AFact};
 ghost use Rattle.oim_dims.specs.Language.{LanguagesAreKept};
-ghost use Rattle.oim_dims.specs.Period.{PeriodsReadBack, ReadPeriodsFit};
-ghost use Rattle.oim_dims.specs.Unit.{UnitsReadBack};
-ghost use Rattle.oim_dims.specs.DimensionSet.{DimensionSet};
+ghost use Rattle.oim_dims.specs.Period.{PeriodsReadBack, ReadPeriodsArePeriods};
+ghost use Rattle.oim_dims.specs.Unit.{BindingsSpell, OthersAreRefused, TextsDenoteOneUnit, UnitsAreNotRefused, UnitsReadBack};
+ghost use Rattle.oim_dims.specs.DimensionSet.{DimensionSet, MembersGrow, NamesAreThere};
 ghost use Rattle.oim_dims.specs.FactOrder.{dimensions_cmp, fact_cmp};
 
 use crate::dimensions::Dimensions;
@@ -15,8 +17,8 @@ pub fn periods_read_back()
 {}
 
 /// A period that is read is one of moments, and a duration ends after its start.
-pub fn read_periods_fit()
-    ensures { ReadPeriodsFit }
+pub fn read_periods_are_periods()
+    ensures { ReadPeriodsArePeriods }
 {}
 
 /// A language in lower case is a language, and is kept as it is.
@@ -24,17 +26,38 @@ pub fn languages_are_kept()
     ensures { LanguagesAreKept }
 {}
 
-/// The text of a unit denotes that unit.
+/// The text of a unit denotes that unit and no other, where each measure is spelled; bindings that
+/// can write the unit spell each.
 pub fn units_read_back()
-    ensures { UnitsReadBack }
+    ensures back { UnitsReadBack }
+    ensures spelled { BindingsSpell }
 {}
 
-/// Dimension sets compare part by part.
+/// A text denotes one unit at most, or none for `pure` alone, and does so exactly where it is not
+/// refused.
+pub fn texts_denote_one_unit()
+    ensures one { TextsDenoteOneUnit }
+    ensures accepted { UnitsAreNotRefused }
+    ensures refused { OthersAreRefused }
+{}
+
+/// A dimension is there exactly where it has a member, and with a member of a new name there is one
+/// member more.
+pub fn members_grow()
+    ensures there { NamesAreThere }
+    ensures more { MembersGrow }
+{}
+
+/// Dimension sets compare part by part. It is a total order, which ties no two of them.
 pub fn dimensions_are_ordered()
-    ensures { (x y : DimensionSet) → ⟦<Dimensions as Ord>⟧.cmp x y ≡ dimensions_cmp x y }
+    ensures derived { (x y : DimensionSet) → ⟦<Dimensions as Ord>⟧.cmp x y ≡ dimensions_cmp x y }
+    ensures total { IsTotalOrder dimensions_cmp }
+    ensures exact { (x y : DimensionSet) → dimensions_cmp x y ≡ Equal → x ≡ y }
 {}
 
-/// Facts compare by dimensions, then by value.
+/// Facts compare by dimensions, then by value. It is a total order, which ties no two of them.
 pub fn facts_are_ordered()
-    ensures { (x y : AFact) → ⟦<Fact as Ord>⟧.cmp x y ≡ fact_cmp x y }
+    ensures derived { (x y : AFact) → ⟦<Fact as Ord>⟧.cmp x y ≡ fact_cmp x y }
+    ensures total { IsTotalOrder fact_cmp }
+    ensures exact { (x y : AFact) → fact_cmp x y ≡ Equal → x ≡ y }
 {}

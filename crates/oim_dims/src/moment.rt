@@ -2,9 +2,11 @@ ghost use Rattle.std.specs.Prelude.{◌≡◌, ◌-◌, ◌^◌, ◌<◌, ◌≤
 ghost use Rattle.std.specs.List.{list_all};
 ghost use Rattle.std.specs.Char.{is_ascii_digit};
 ghost use Rattle.std.specs.Str.Parse.{digits_value};
-ghost use Rattle.oim_dims.specs.DateTime.{fits, has_picture, has_date, has_time, day_number, second_of_day, moment_of, moment_text, date_text, time_text, number, picture, IsMoment};
+ghost use Rattle.oim_dims.specs.declared.limits.TheConstants.{DAY_SECONDS};
+ghost use Rattle.oim_dims.specs.DateTime.{matches_picture, has_picture, has_date, has_time, day_number, second_of_day, moment_of, moment_text, date_text, time_text, number, picture, IsMoment};
 ghost use Rattle.jiff.specs.Words.{IsBetween, date_text as jiff_date_text, time_text as jiff_time_text, iso_datetime_text};
 
+use crate::limits::{DAY_SECONDS, LAST_MOMENT};
 use jiff::ToSpan;
 use jiff::civil::{Date, DateTime, Time, date};
 use std::fmt;
@@ -46,8 +48,8 @@ impl Moment {
     fn date_time(&self) -> DateTime
         ensures { iso_datetime_text result ≡ moment_text self.now }
     {
-        let day = self.seconds.div_euclid(86_400);
-        let second = self.seconds.rem_euclid(86_400) as u32;
+        let day = self.seconds.div_euclid(DAY_SECONDS as i64);
+        let second = self.seconds.rem_euclid(DAY_SECONDS as i64) as u32;
         date_of(day).to_datetime(time_of(second))
     }
 }
@@ -71,7 +73,7 @@ fn date_of(day: i64) -> Date
 // The time with that second of the day.
 #[tactic(auto, unfolding(crate::specs::DateTime::time_text))]
 fn time_of(second: u32) -> Time
-    requires { second < 86_400 }
+    requires { second < DAY_SECONDS }
     ensures { jiff_time_text None result ≡ time_text second }
 {
     let hour = (second / 3600) as i8;
@@ -88,8 +90,8 @@ pub(crate) fn read_moment(text: &[u8]) -> Option<Moment>
     }
     let day = read_day(text)?;
     let second = read_second_of_day(text)?;
-    let seconds = day * 86_400 + second;
-    if seconds > 253_402_300_799 {
+    let seconds = day * DAY_SECONDS as i64 + second;
+    if seconds > LAST_MOMENT {
         return None;
     }
     Some(Moment { seconds })
@@ -103,15 +105,15 @@ fn has_picture(text: &[u8]) -> bool
         return false;
     }
     for (i, c) in text.iter().enumerate() {
-        if !fits(PICTURE[i], *c) {
+        if !matches_picture(PICTURE[i], *c) {
             return false;
         }
     }
     true
 }
 
-fn fits(sign: u8, c: u8) -> bool
-    ensures { result ≡ fits (sign, c) }
+fn matches_picture(sign: u8, c: u8) -> bool
+    ensures { result ≡ matches_picture (sign, c) }
 {
     if sign == b'0' {
         c.is_ascii_digit()
@@ -144,12 +146,12 @@ fn read_day(text: &[u8]) -> Option<i64>
 fn read_second_of_day(text: &[u8]) -> Option<i64>
     requires { has_picture text.now ≡ true }
     ensures second { result ≡ (if has_time text.now then Some (pos (second_of_day text.now)) else None) }
-    ensures range { IfSome result (IsBetween (pos 0) (pos 86_400)) }
+    ensures range { IfSome result (IsBetween (pos 0) (pos DAY_SECONDS)) }
 {
     let minute = number(text, 14, 16);
     let second = number(text, 17, 19);
     let total = 3600 * number(text, 11, 13) + 60 * minute + second;
-    if minute <= 59 && second <= 59 && total <= 86_400 {
+    if minute <= 59 && second <= 59 && total <= DAY_SECONDS {
         Some(i64::from(total))
     } else {
         None

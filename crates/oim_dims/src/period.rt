@@ -1,6 +1,6 @@
 ghost use Rattle.std.specs.Prelude.{◌≡◌, Ok, IfOk, IfSome};
 ghost use Rattle.std.specs.Option.{option_map};
-ghost use Rattle.oim_dims.specs.Period.{from_to, period_of, period_text, IsPeriod};
+ghost use Rattle.oim_dims.specs.Period.{from_to, period_of, period_text, HasMoments, EndsAfterStart};
 
 use crate::moment::{Moment, read_moment};
 use oim_names::{Copied, Key, Reason, Text};
@@ -17,6 +17,23 @@ pub enum Period {
     Instant(Moment),
     /// From the first moment to the second.
     Duration(Moment, Moment),
+}
+
+impl Period {
+    /// Does nothing, and tells that the moments are within their years.
+    pub fn known(&self)
+        ensures { HasMoments self.now }
+    {
+        match self {
+            Period::Forever => {}
+            Period::Instant(moment) => {
+                let _second = moment.seconds();
+            }
+            Period::Duration(start, end) => {
+                let _seconds = (start.seconds(), end.seconds());
+            }
+        }
+    }
 }
 
 /// The period of a text: one date-time, or two with `/` between them.
@@ -54,8 +71,9 @@ fn from_to(start: Option<Moment>, end: Option<Moment>) -> Result<Period, Reason>
 /// Errors: want of memory.
 pub fn write_period(alloc: Global, period: &Period) -> Result<Option<Text>, AllocError>
     ensures text { IfOk result (λ written. written ≡ period_text period.now) }
-    ensures reads_back { IsPeriod period.now → IfOk result (λ written. IfSome written (λ text. period_of text ≡ Ok period.now)) }
+    ensures reads_back { EndsAfterStart period.now → IfOk result (λ written. IfSome written (λ text. period_of text ≡ Ok period.now)) }
 {
+    period.known();
     match period {
         Period::Forever => Ok(None),
         Period::Instant(moment) => {

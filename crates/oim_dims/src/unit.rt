@@ -3,7 +3,7 @@ ghost use Rattle.std.specs.List.Sorted.{IsSorted};
 ghost use Rattle.oim_value.specs.ValueOrder.{name_cmp};
 ghost use Rattle.oim_dims.specs.Unit.{IsMeasure, IsUnit, pure_name};
 
-use crate::list::Sequence;
+use crate::sequence::Sequence;
 use oim_names::{Copied, Key, Name};
 use std::alloc::{AllocError, Global};
 use std::marker::Model;
@@ -45,10 +45,16 @@ impl Unit {
         }
     }
 
+    /// Does nothing, and tells what each unit is.
+    pub fn known(&self)
+        ensures { IsUnit self.now }
+    {
+        let _numerators = &self.numerators;
+    }
+
     /// The measures that are multiplied, sorted.
     pub fn numerators(&self) -> &[Name]
-        ensures numerators { result.now ≡ self.now.numerators }
-        ensures unit { IsUnit self.now }
+        ensures { result.now ≡ self.now.numerators }
     {
         self.numerators.as_slice()
     }

@@ -6,6 +6,7 @@ ghost use Rattle.oim_names.specs.Bindings.{AreBindings, uri_of, prefix_of, bound
 ghost use Rattle.oim_names.specs.Expansion.{Expands, ExpandsEntity, entity_refusal, name_refusal, prefix_refusal, reserved_uri};
 
 use crate::binding::Binding;
+use crate::copied::Copied;
 use crate::form::{is_part, split};
 use crate::name::Name;
 use crate::reason::Reason;
@@ -73,10 +74,8 @@ impl Aliases {
         ensures err { OnErr result (self.new ≡ self.old) }
     {
         let binding = Binding::new(*self.bindings.allocator(), prefix, uri)?;
-        match self.bindings.push(binding) {
-            Ok(()) => Ok(()),
-            Err(_) => Err(Reason::OutOfMemory),
-        }
+        self.bindings.push(binding)?;
+        Ok(())
     }
 
     /// The URI that the prefix is bound to.
@@ -84,10 +83,18 @@ impl Aliases {
         ensures found { option_copied result ≡ uri_of self.now prefix.now }
         ensures filled { IfSome result (λ uri. uri.now ≢ []) }
     {
+        self.uri_text(prefix).map(|uri| uri.as_str())
+    }
+
+    /// The same as a text, which a name can share.
+    fn uri_text(&self, prefix: &str) -> Option<&Text>
+        ensures found { option_copied result ≡ uri_of self.now prefix.now }
+        ensures filled { IfSome result (λ uri. uri.now ≢ []) }
+    {
         self.bindings
             .iter()
             .find(|binding| binding.prefix() == prefix)
-            .map(|binding| binding.uri())
+            .map(|binding| binding.uri_text())
     }
 
     /// Does nothing, and tells that each prefix has its form and is bound once, to a URI that is not
@@ -109,7 +116,7 @@ impl Aliases {
     }
 
     /// The name that the text stands for: a bound prefix, a colon and a local part
-    /// (XML Namespaces 1.0, section 4).
+    /// (XML Namespaces 1.0, section 4). It shares the URI of its prefix.
     ///
     /// Errors: what `name_refusal` answers; `OutOfMemory`.
     pub fn expand(&self, text: &str) -> Result<Name, Reason>
@@ -120,11 +127,21 @@ impl Aliases {
         ensures errors { IfErr result
             (λ r. (r ≡ Reason.OutOfMemory) ⊎ (name_refusal self.now text.now ≡ Some r)) }
     {
-        let (prefix, local) = split(text);
-        if !is_part(prefix.as_bytes()) || !is_part(local.as_bytes()) {
-            return Err(Reason::NameForm);
-        }
-        self.named(prefix, local)
+        let (uri, local) = self.name_parts(text)?;
+        Ok(named(*self.bindings.allocator(), uri, local)?)
+    }
+
+    /// The URI and the local part of the name that the text stands for. It takes no memory.
+    ///
+    /// Errors: what `name_refusal` answers.
+    pub fn resolve<'a>(&'a self, text: &'a str) -> Result<(&'a str, &'a str), Reason>
+        ensures ok { IfOk result (λ parts. Expands self.now text.now
+            (record { uri = parts.0.now; local_part = parts.1.now })) }
+        ensures uri { IfOk result (λ parts. parts.0.now ≢ []) }
+        ensures refused { result_err result ≡ name_refusal self.now text.now }
+    {
+        let (uri, local) = self.name_parts(text)?;
+        Ok((uri.as_str(), local))
     }
 
     /// Why the text is no name under these bindings, the first that holds: `NameForm`,
@@ -132,17 +149,27 @@ impl Aliases {
     pub fn name_refusal(&self, text: &str) -> Option<Reason>
         ensures { result ≡ name_refusal self.now text.now }
     {
+        self.name_parts(text).err()
+    }
+
+    fn name_parts<'a>(&'a self, text: &'a str) -> Result<(&'a Text, &'a str), Reason>
+        ensures ok { IfOk result (λ parts. Expands self.now text.now
+            (record { uri = parts.0.now; local_part = parts.1.now })) }
+        ensures uri { IfOk result (λ parts. parts.0.now ≢ []) }
+        ensures refused { result_err result ≡ name_refusal self.now text.now }
+    {
         let (prefix, local) = split(text);
         if !is_part(prefix.as_bytes()) || !is_part(local.as_bytes()) {
-            return Some(Reason::NameForm);
+            return Err(Reason::NameForm);
         }
-        self.naming_uri(prefix).err()
+        Ok((self.naming_uri(prefix)?, local))
     }
 
     /// The entity that the text stands for: a bound prefix for the URI of its scheme, a colon and an
-    /// identifier, which may be any text but the empty one (xBRL-JSON 1.0, section 3.1.4).
+    /// identifier, which may be any text but the empty one (xBRL-JSON 1.0, section 3.1.4). It shares
+    /// the URI of its prefix.
     ///
-    /// Errors, the first that holds: `NameForm`, `UnboundPrefix`, `ReservedNamespace`; `OutOfMemory`.
+    /// Errors: what `entity_refusal` answers; `OutOfMemory`.
     pub fn expand_entity(&self, text: &str) -> Result<Name, Reason>
         ensures ok { IfOk result (ExpandsEntity self.now text.now) }
         ensures uri { IfOk result (λ entity. entity.uri ≢ []) }
@@ -151,37 +178,55 @@ impl Aliases {
         ensures errors { IfErr result
             (λ r. (r ≡ Reason.OutOfMemory) ⊎ (entity_refusal self.now text.now ≡ Some r)) }
     {
+        let (uri, identifier) = self.entity_parts(text)?;
+        Ok(named(*self.bindings.allocator(), uri, identifier)?)
+    }
+
+    /// The scheme's URI and the identifier of the entity that the text stands for. It takes no
+    /// memory.
+    ///
+    /// Errors: what `entity_refusal` answers.
+    pub fn resolve_entity<'a>(&'a self, text: &'a str) -> Result<(&'a str, &'a str), Reason>
+        ensures ok { IfOk result (λ parts. ExpandsEntity self.now text.now
+            (record { uri = parts.0.now; local_part = parts.1.now })) }
+        ensures uri { IfOk result (λ parts. parts.0.now ≢ []) }
+        ensures refused { result_err result ≡ entity_refusal self.now text.now }
+    {
+        let (uri, identifier) = self.entity_parts(text)?;
+        Ok((uri.as_str(), identifier))
+    }
+
+    /// Why the text is no entity under these bindings, the first that holds: `NameForm`,
+    /// `UnboundPrefix`, `ReservedNamespace`. It is the test for `expand_entity`, and takes no memory.
+    pub fn entity_refusal(&self, text: &str) -> Option<Reason>
+        ensures { result ≡ entity_refusal self.now text.now }
+    {
+        self.entity_parts(text).err()
+    }
+
+    fn entity_parts<'a>(&'a self, text: &'a str) -> Result<(&'a Text, &'a str), Reason>
+        ensures ok { IfOk result (λ parts. ExpandsEntity self.now text.now
+            (record { uri = parts.0.now; local_part = parts.1.now })) }
+        ensures uri { IfOk result (λ parts. parts.0.now ≢ []) }
+        ensures refused { result_err result ≡ entity_refusal self.now text.now }
+    {
         let (prefix, identifier) = split(text);
         if !is_part(prefix.as_bytes()) || identifier.is_empty() {
             return Err(Reason::NameForm);
         }
-        self.named(prefix, identifier)
-    }
-
-    /// The name of the prefix's URI and this local part.
-    fn named(&self, prefix: &str, local: &str) -> Result<Name, Reason>
-        ensures uri { IfOk result (λ name. uri_of self.now prefix.now ≡ Some name.uri) }
-        ensures filled { IfOk result (λ name. name.uri ≢ []) }
-        ensures allowed { IfOk result (λ name. name.uri ≢ reserved_uri) }
-        ensures local { IfOk result (λ name. name.local_part ≡ local.now) }
-        ensures errors { IfErr result
-            (λ r. (r ≡ Reason.OutOfMemory) ⊎ (prefix_refusal (uri_of self.now prefix.now) ≡ Some r)) }
-    {
-        let uri = self.naming_uri(prefix)?;
-        let alloc = *self.bindings.allocator();
-        Ok(Name::new(Text::new(alloc, uri)?, Text::new(alloc, local)?))
+        Ok((self.naming_uri(prefix)?, identifier))
     }
 
     /// The URI that a name with this prefix has.
-    fn naming_uri(&self, prefix: &str) -> Result<&str, Reason>
+    fn naming_uri(&self, prefix: &str) -> Result<&Text, Reason>
         ensures uri { IfOk result (λ uri. uri_of self.now prefix.now ≡ Some uri.now) }
         ensures filled { IfOk result (λ uri. uri.now ≢ []) }
         ensures allowed { IfOk result (λ uri. uri.now ≢ reserved_uri) }
         ensures refused { result_err result ≡ prefix_refusal (uri_of self.now prefix.now) }
     {
-        match self.uri(prefix) {
+        match self.uri_text(prefix) {
             None => Err(Reason::UnboundPrefix),
-            Some(uri) if uri == RESERVED => Err(Reason::ReservedNamespace),
+            Some(uri) if uri.as_str() == RESERVED => Err(Reason::ReservedNamespace),
             Some(uri) => Ok(uri),
         }
     }
@@ -208,5 +253,12 @@ fn joined(alloc: Global, prefix: &str, local: &str) -> Result<Text, AllocError>
     let mut text = String::from_str(alloc, prefix)?;
     text.push_str(":")?;
     text.push_str(local)?;
-    Ok(Text::from_string(text))
+    Text::from_string(alloc, text)
+}
+
+/// The name of the URI, which it shares, and of the local part.
+fn named(alloc: Global, uri: &Text, local: &str) -> Result<Name, AllocError>
+    ensures { IfOk result (λ name. name ≡ record { uri = uri.now; local_part = local.now }) }
+{
+    Ok(Name::new(uri.copied(alloc)?, Text::new(alloc, local)?))
 }

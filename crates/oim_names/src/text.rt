@@ -4,11 +4,13 @@ use crate::copied::{Copied, Key};
 use std::alloc::{AllocError, Global};
 use std::cmp::Ordering;
 use std::marker::Model;
+use std::rc::Rc;
 
-/// A text of its own. Contracts see its bytes, which are always UTF-8; equality and order go by them.
+/// A text, whose copies share its bytes. Contracts see the bytes, which are always UTF-8; equality and
+/// order go by them.
 #[derive(Debug, Drop)]
 pub struct Text {
-    text: String,
+    text: Rc<String>,
 }
 
 impl Model for Text {
@@ -16,9 +18,9 @@ impl Model for Text {
 
     ghost Value = { List ℕ };
 
-    ghost view = { λ a. string_bytes a.text };
+    ghost view = { λ a. string_bytes a.text.value };
 
-    ghost invariant = { λ a. IsUtf8 (string_bytes a.text) };
+    ghost invariant = { λ a. IsUtf8 (string_bytes a.text.value) };
 }
 
 impl Text {
@@ -26,18 +28,17 @@ impl Text {
     pub fn new(alloc: Global, text: &str) -> Result<Text, AllocError>
         ensures { IfOk result (λ made. made ≡ text.now) }
     {
-        Ok(Text {
-            text: String::from_str(alloc, text)?,
-        })
+        Text::from_string(alloc, String::from_str(alloc, text)?)
     }
 
-    /// The text of a string, without a copy.
-    pub fn from_string(text: String) -> Text
-        ensures { result ≡ string_bytes text }
+    /// The text of a string, whose bytes are not copied.
+    pub fn from_string(alloc: Global, text: String) -> Result<Text, AllocError>
+        ensures { IfOk result (λ made. made ≡ string_bytes text) }
     {
         // That the bytes are UTF-8 is known of what `as_str` gives.
         let _utf8 = text.as_str();
-        Text { text }
+        let text = Rc::new(alloc, text)?;
+        Ok(Text { text })
     }
 
     /// The bytes as a text.
@@ -106,8 +107,9 @@ impl PartialOrd for Text {
 }
 
 impl Copied for Text {
-    fn copied(&self, alloc: Global) -> Result<Self, AllocError> {
-        Text::new(alloc, self.as_str())
+    fn copied(&self, _alloc: Global) -> Result<Self, AllocError> {
+        let text = self.text.clone()?;
+        Ok(Text { text })
     }
 }
 

@@ -1,13 +1,14 @@
 -- A text denotes one number of units.
-use Rattle.std.proofs.Common.{◌≡◌, ℕ, zero, suc, ◌+◌, ◌-◌, ◌*◌, ◌/◌, ◌^◌, ◌<◌, ◌≤◌, List, ◌++◌, length, Bool, true, false, refl, sym, ap, subst, ◌∙◌, arith}
-use Rattle.std.specs.Prelude.{ℤ, pos, negsuc, ◌*ℤ◌, unsigned_abs, IsTrue}
+use Rattle.std.proofs.Common.{◌≡◌, ℕ, zero, suc, ◌+◌, ◌-◌, ◌*◌, ◌/◌, ◌^◌, ◌<◌, ◌≤◌, List, ◌++◌, length, Bool, true, false, refl, sym, ap, subst, ◌∙◌, Some, None, arith}
+use Rattle.std.specs.Prelude.{not, if◌then◌else◌, ℤ, pos, negsuc, ◌*ℤ◌, unsigned_abs, IsTrue}
 use Rattle.std.proofs.lemmas.Bool.Decides.{nat_tests}
 use Rattle.std.proofs.Math.IntN.{neg_ℤ}
 use Rattle.std.proofs.Math.Nat.{mul-div_cancel, mul-le-mul_left, pow-le-pow_right}
 use Rattle.std.specs.Str.Parse.{digits_value, digits_value_after}
+use Rattle.oim_names.specs.declared.reason.Reason.TheVariants.{NumberForm, NumberDigits}
 use Rattle.oim_value.specs.declared.limits.TheConstants.{MOST_DIGITS, UNIT_PLACES}
-use Rattle.oim_value.specs.Number.{signed, is_negative, integer_part, both_parts, fraction_part, without_leading, without_trailing, is_number, is_short, Denotes}
-use Rattle.oim_value.specs.Units.{units_of}
+use Rattle.oim_value.specs.Number.{signed, is_negative, integer_part, both_parts, fraction_part, without_leading, without_trailing, is_number, is_short, number_refusal, Denotes}
+use Rattle.oim_value.specs.Units.{units_of, ShortNumbersDenote}
 use Rattle.oim_value.proofs.Units.{unsigned_abs-signed, denotes_from}
 
 magnitude : (z : ℤ) (p : ℕ) → unsigned_abs (z *ℤ pos p) ≡ unsigned_abs z * p
@@ -53,3 +54,24 @@ short_denotes t form short =
     let digits : ℕ = digits_value_after 10 0 (without_leading (integer_part t) ++ without_trailing (fraction_part t)) in
     let says = denotes_from t (integer_part t) (fraction_part t) digits (length (without_trailing (fraction_part t))) (signed (is_negative t) (digits * 10 ^ (UNIT_PLACES - length (without_trailing (fraction_part t))))) refl refl form refl refl (omega arith) refl in
     subst (Denotes t) (denotes_units t _ says) says
+
+accepted_form : (t : List ℕ) → number_refusal t ≡ None → IsTrue (is_number t)
+accepted_form t h = first (is_number t) (is_short t) h
+  where
+    first : (form short : Bool) → (if not form then Some NumberForm else (if not short then Some NumberDigits else None)) ≡ None → form ≡ true
+    first true short h = refl
+    first false short h = cc
+
+accepted_short : (t : List ℕ) → number_refusal t ≡ None → IsTrue (is_short t)
+accepted_short t h = second (is_number t) (is_short t) h
+  where
+    second : (form short : Bool) → (if not form then Some NumberForm else (if not short then Some NumberDigits else None)) ≡ None → short ≡ true
+    second form true h = refl
+    second true false h = cc
+    second false false h = cc
+
+pub short_numbers_denote : ShortNumbersDenote
+short_numbers_denote t units accepted = (
+  denotes_units t units,
+  λ is. subst (Denotes t) (sym is) (short_denotes t (accepted_form t accepted) (accepted_short t accepted)),
+)

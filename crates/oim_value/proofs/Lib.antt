@@ -1,12 +1,15 @@
 pub mod Decimal
 pub mod Fractions
+pub mod Ends
 pub mod Intervals
 pub mod Meeting
 pub mod Numerals
 pub mod PlainLaws
 pub mod PlainLemmas
 pub mod Shapes
+pub mod SeveralMeet
 pub mod ShortLaws
 pub mod Units
 pub mod Denoted
 pub mod Written
+pub mod ValueOrders

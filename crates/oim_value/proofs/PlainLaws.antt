@@ -16,27 +16,27 @@ use Rattle.std.proofs.lemmas.Str.{IsAscii-append, IsAscii-take}
 use Rattle.std.specs.Str.Parse.{digits_value_after}
 use Rattle.oim_value.specs.declared.limits.TheConstants.{UNIT_PLACES}
 use Rattle.oim_value.specs.Number.{onto_digit, is_point, without_trailing, signed, is_numeral, is_negative, integer_part, fraction_part, unsigned}
-use Rattle.oim_value.specs.Plain.{padded, plain, sign_text, with_point, integer_digits, fraction_digits, has_point, IsPlain, IsWritable, FittingIsWritable, ShortIsWritable, PlainIsPlain, PlainIsOne, PlainIsAscii}
+use Rattle.oim_value.specs.Plain.{with_leading_zeros, plain, sign_text, with_point, integer_digits, fraction_digits, has_point, IsPlain, IsWritable, FittingIsWritable, ShortIsWritable, PlainIsPlain, PlainIsOne, PlainIsAscii}
 use Rattle.oim_value.proofs.Decimal.{decimal_some, decimal_first, decimal_of_digits}
 use Rattle.oim_value.proofs.Numerals.{value_without_trailing, digits_without_trailing, parts_of_numeral}
 use Rattle.oim_value.proofs.Fractions.{value_append, value_lt, same_fraction, ten_some, below_product, turned}
 use Rattle.oim_value.proofs.Shapes.{below_zero, unsigned-sign_text, is_negative-sign_text, no_plus-sign_text, before_first-digits, after_first-digits, has_point-text, point_some, some_point, sign_apart, has_point-unsigned, point_apart}
-use Rattle.oim_value.proofs.PlainLemmas.{decimal_digits, decimal_value, zeros_digits, zeros_value, padded_length, take-without_trailing, IsAscii-padded}
+use Rattle.oim_value.proofs.PlainLemmas.{decimal_digits, decimal_value, zeros_digits, zeros_value, length-with_zeros, take-without_trailing, IsAscii-with_zeros}
 use Rattle.oim_value.proofs.Units.{short_bound, signed_times, unsigned_abs-signed}
 
 -- ---- the fraction digits of r units
 
-pub fraction_digits_are : (r : ℕ) → r < 10 ^ UNIT_PLACES → list_all is_ascii_digit (padded UNIT_PLACES (decimal r)) ≡ true
+pub fraction_digits_are : (r : ℕ) → r < 10 ^ UNIT_PLACES → list_all is_ascii_digit (with_leading_zeros UNIT_PLACES (decimal r)) ≡ true
 fraction_digits_are r h = zeros_digits (UNIT_PLACES - length (decimal r)) (decimal r) (decimal_digits r (omega arith))
 
-pub fraction_length : (r : ℕ) → r < 10 ^ UNIT_PLACES → length (padded UNIT_PLACES (decimal r)) ≡ UNIT_PLACES
-fraction_length r h = padded_length UNIT_PLACES (decimal r) (length-decimal-le_wide UNIT_PLACES r (omega arith) h (omega arith))
+pub fraction_length : (r : ℕ) → r < 10 ^ UNIT_PLACES → length (with_leading_zeros UNIT_PLACES (decimal r)) ≡ UNIT_PLACES
+fraction_length r h = length-with_zeros UNIT_PLACES (decimal r) (length-decimal-le_wide UNIT_PLACES r (omega arith) h (omega arith))
 
-pub fraction_value : (r : ℕ) → r < 10 ^ UNIT_PLACES → digits_value_after 10 0 (padded UNIT_PLACES (decimal r)) ≡ r
+pub fraction_value : (r : ℕ) → r < 10 ^ UNIT_PLACES → digits_value_after 10 0 (with_leading_zeros UNIT_PLACES (decimal r)) ≡ r
 fraction_value r h = zeros_value (UNIT_PLACES - length (decimal r)) (decimal r) ∙ decimal_value r (omega arith)
 
-pub fraction_worth : (r : ℕ) → r < 10 ^ UNIT_PLACES → digits_value_after 10 0 (without_trailing (padded UNIT_PLACES (decimal r))) * 10 ^ UNIT_PLACES ≡ r * 10 ^ length (without_trailing (padded UNIT_PLACES (decimal r)))
-fraction_worth r h = sym (rw (fraction_value r h, fraction_length r h) at (value_without_trailing 0 (padded UNIT_PLACES (decimal r))))
+pub fraction_worth : (r : ℕ) → r < 10 ^ UNIT_PLACES → digits_value_after 10 0 (without_trailing (with_leading_zeros UNIT_PLACES (decimal r))) * 10 ^ UNIT_PLACES ≡ r * 10 ^ length (without_trailing (with_leading_zeros UNIT_PLACES (decimal r)))
+fraction_worth r h = sym (rw (fraction_value r h, fraction_length r h) at (value_without_trailing 0 (with_leading_zeros UNIT_PLACES (decimal r))))
 
 kept_onto : (d : ℕ) (ds : List ℕ) → without_trailing ds ≡ ds → without_trailing (onto_digit d ds) ≡ onto_digit d ds
 kept_onto d [] e = elim (eqb d 48) as (λ b. eqb d 48 ≡ b → without_trailing (cond b [] (d ∷ [])) ≡ cond b [] (d ∷ [])) [ true ↦ λ h. refl | false ↦ λ h. rw h ] refl
@@ -125,7 +125,7 @@ plain_is_plain m writable =
     let i : List ℕ = integer_digits s in
     let f : List ℕ = fraction_digits s in
     let parts = parts_of_plain m writable in
-    let df : list_all is_ascii_digit f ≡ true = digits_without_trailing (padded UNIT_PLACES (decimal r)) (fraction_digits_are r small_r) in
+    let df : list_all is_ascii_digit f ≡ true = digits_without_trailing (with_leading_zeros UNIT_PLACES (decimal r)) (fraction_digits_are r small_r) in
     let value : s * 10 ^ length f ≡ 10 ^ UNIT_PLACES * digits_value_after 10 0 (i ++ f) = rw (value_append i f, decimal_value q small_q) (worth s q r (10 ^ UNIT_PLACES) (10 ^ length f) (digits_value_after 10 0 f) (div-add-mod' s (10 ^ UNIT_PLACES)) (fraction_worth r small_r)) in
     plain_from (plain m) i f m
     (sym parts.integer)
@@ -135,7 +135,7 @@ plain_is_plain m writable =
     (has_point-text m i f parts.integer_digits_are)
     parts.integer_digits_are df parts.some_integer
     (lone_zero q small_q)
-    (without_trailing-without_trailing (padded UNIT_PLACES (decimal r)))
+    (without_trailing-without_trailing (with_leading_zeros UNIT_PLACES (decimal r)))
     value
 
 -- ---- a plain text is the plain text
@@ -177,7 +177,7 @@ plain_is_one m t writable plain_text =
     (turned (digits_value_after 10 0 f) (10 ^ UNIT_PLACES) (10 ^ length f) (value_lt f digits.1) (omega arith))
     (places s q r (10 ^ UNIT_PLACES) (10 ^ length f) _ _ (div-add-mod' s (10 ^ UNIT_PLACES)) size) in
     let integer : i ≡ integer_digits s = sym (decimal_of_digits i digits.0 plain_text.some_integer plain_text.no_leading_zero (rw (← split.0) small_q)) ∙ ap decimal (sym split.0) in
-    let fraction : f ≡ fraction_digits s = sym plain_text.no_trailing_zero ∙ same_fraction f (padded UNIT_PLACES (decimal r)) digits.1 (fraction_digits_are r small_r) (rw (fraction_length r small_r, fraction_value r small_r) (sym split.1)) in
+    let fraction : f ≡ fraction_digits s = sym plain_text.no_trailing_zero ∙ same_fraction f (with_leading_zeros UNIT_PLACES (decimal r)) digits.1 (fraction_digits_are r small_r) (rw (fraction_length r small_r, fraction_value r small_r) (sym split.1)) in
     let rest : unsigned t ≡ i ++ with_point f = point_apart (unsigned t) (λ h. plain_text.point.0 (has_point-unsigned t h)) in
     sign_apart t plain_text.no_plus ∙ (λ j. (ap (λ b. cond b (45 ∷ []) []) sign ∙ cond-below_zero m) j ++ (rest ∙ (λ k. integer k ++ with_point (fraction k))) j)
 
@@ -198,8 +198,8 @@ IsAscii-with_point : (fs : List ℕ) → IsAscii fs → IsAscii (with_point fs)
 IsAscii-with_point [] h = IsAscii-nil
 IsAscii-with_point (f ∷ fs) h = IsAscii-cons 46 (f ∷ fs) (omega arith) h
 
-IsAscii-fraction : (r : ℕ) → r < 10 ^ 64 → IsAscii (without_trailing (padded UNIT_PLACES (decimal r)))
-IsAscii-fraction r h = rw (← take-without_trailing (padded UNIT_PLACES (decimal r))) (IsAscii-take (padded UNIT_PLACES (decimal r)) (length (without_trailing (padded UNIT_PLACES (decimal r)))) (IsAscii-padded UNIT_PLACES r h))
+IsAscii-fraction : (r : ℕ) → r < 10 ^ 64 → IsAscii (without_trailing (with_leading_zeros UNIT_PLACES (decimal r)))
+IsAscii-fraction r h = rw (← take-without_trailing (with_leading_zeros UNIT_PLACES (decimal r))) (IsAscii-take (with_leading_zeros UNIT_PLACES (decimal r)) (length (without_trailing (with_leading_zeros UNIT_PLACES (decimal r)))) (IsAscii-with_zeros UNIT_PLACES r h))
 
 pub plain_is_ascii : PlainIsAscii
 plain_is_ascii m writable =

@@ -14,10 +14,10 @@ use Rattle.std.specs.Str.{IsAscii}
 use Rattle.std.specs.Fmt.{decimal, padded_integral, format_spec, char_count}
 use Rattle.oim_value.specs.declared.limits.TheConstants.{UNIT_PLACES}
 use Rattle.oim_value.specs.Number.{onto_digit, without_trailing}
-use Rattle.oim_value.specs.Plain.{padded}
+use Rattle.oim_value.specs.Plain.{with_leading_zeros}
 
 -- what `{:0width$}` writes
-pub padded_integral-zeros : (ds : List ℕ) → padded_integral (format_spec 32 0 4 UNIT_PLACES (2 ^ 64 - 1)) false [] ds ≡ padded UNIT_PLACES ds
+pub padded_integral-zeros : (ds : List ℕ) → padded_integral (format_spec 32 0 4 UNIT_PLACES (2 ^ 64 - 1)) false [] ds ≡ with_leading_zeros UNIT_PLACES ds
 unfolding padded_integral char_count
 padded_integral-zeros ds =
     let same : UNIT_PLACES - length ds - 0 - 0 ≡ UNIT_PLACES - length ds = omega arith in
@@ -37,8 +37,8 @@ IsAscii-replicate zero i = omega arith
 IsAscii-replicate (suc n) zero = omega arith
 IsAscii-replicate (suc n) (suc i) = IsAscii-replicate n i
 
-pub IsAscii-padded : (w n : ℕ) → n < 10 ^ 64 → IsAscii (padded w (decimal n))
-IsAscii-padded w n h = IsAscii-append (replicate (w - length (decimal n)) 48) (decimal n) (IsAscii-replicate (w - length (decimal n))) (IsAscii-decimal_wide n h)
+pub IsAscii-with_zeros : (w n : ℕ) → n < 10 ^ 64 → IsAscii (with_leading_zeros w (decimal n))
+IsAscii-with_zeros w n h = IsAscii-append (replicate (w - length (decimal n)) 48) (decimal n) (IsAscii-replicate (w - length (decimal n))) (IsAscii-decimal_wide n h)
 
 -- ---- numerals, with zeros before them
 
@@ -62,5 +62,5 @@ pub zeros_value : (k : ℕ) (ds : List ℕ) → digits_value_after 10 0 (replica
 zeros_value zero ds = refl
 zeros_value (suc k) ds = zeros_value k ds
 
-pub padded_length : (w : ℕ) (ds : List ℕ) → length ds ≤ w → length (padded w ds) ≡ w
-padded_length w ds h = omega (arith, length-append (replicate (w - length ds) 48) ds, length-replicate {A = ℕ} (w - length ds) 48)
+pub length-with_zeros : (w : ℕ) (ds : List ℕ) → length ds ≤ w → length (with_leading_zeros w ds) ≡ w
+length-with_zeros w ds h = omega (arith, length-append (replicate (w - length ds) 48) ds, length-replicate {A = ℕ} (w - length ds) 48)

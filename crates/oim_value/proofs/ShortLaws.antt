@@ -11,10 +11,10 @@ use Rattle.std.specs.Fmt.{decimal}
 use Rattle.std.specs.Str.Parse.{digits_value_after}
 use Rattle.oim_value.specs.declared.limits.TheConstants.{MOST_DIGITS, UNIT_PLACES}
 use Rattle.oim_value.specs.Number.{without_leading, without_trailing, onto_digit, signed, is_negative, is_number, is_short, number_refusal, counted, integer_part, fraction_part, IsShort, DenotesOne, ShortIsKept}
-use Rattle.oim_value.specs.Plain.{padded, plain, integer_digits, fraction_digits, PlainReadsBack, PlainTellsApart}
+use Rattle.oim_value.specs.Plain.{with_leading_zeros, plain, integer_digits, fraction_digits, PlainReadsBack, PlainTellsApart}
 use Rattle.oim_value.proofs.Numerals.{parts_of_numeral, digits_without_leading, digits_without_trailing, few_digits}
 use Rattle.oim_value.proofs.Fractions.{same_fraction, ten_some, below_product}
-use Rattle.oim_value.proofs.PlainLemmas.{decimal_digits, decimal_value, zeros_digits, zeros_value, padded_length}
+use Rattle.oim_value.proofs.PlainLemmas.{decimal_digits, decimal_value, zeros_digits, zeros_value, length-with_zeros}
 use Rattle.oim_value.proofs.PlainLaws.{plain_is_plain, fraction_digits_are, fraction_length, fraction_value, no_pos, short_is_writable, parts_of_plain, without_trailing-without_trailing}
 use Rattle.oim_value.proofs.Units.{denotes_from, short_signed, ten_to}
 
@@ -82,25 +82,25 @@ counted_integer (suc k) (suc q) small within =
     omega (arith, length-without_leading (decimal (suc q)))
 
 -- p digits of v units of 10^-p
-padded_digits : (p v : ℕ) → v < 10 ^ suc p → suc p ≤ MOST_DIGITS → (list_all is_ascii_digit (padded (suc p) (decimal v)) ≡ true) × (length (padded (suc p) (decimal v)) ≡ suc p) × (digits_value_after 10 0 (padded (suc p) (decimal v)) ≡ v)
-padded_digits p v small within =
+zeros_before : (p v : ℕ) → v < 10 ^ suc p → suc p ≤ MOST_DIGITS → (list_all is_ascii_digit (with_leading_zeros (suc p) (decimal v)) ≡ true) × (length (with_leading_zeros (suc p) (decimal v)) ≡ suc p) × (digits_value_after 10 0 (with_leading_zeros (suc p) (decimal v)) ≡ v)
+zeros_before p v small within =
     let most : 10 ^ suc p ≤ 10 ^ MOST_DIGITS = ten_to (suc p) MOST_DIGITS within in
     let below : v < 10 ^ 64 = omega arith in (
       zeros_digits (suc p - length (decimal v)) (decimal v) (decimal_digits v below),
-      padded_length (suc p) (decimal v) (length-decimal-le_wide (suc p) v (omega arith) small below),
+      length-with_zeros (suc p) (decimal v) (length-decimal-le_wide (suc p) v (omega arith) small below),
       zeros_value (suc p - length (decimal v)) (decimal v) ∙ decimal_value v below,
     )
 
 -- a fraction of p digits counts p digits at most
-counted_fraction : (p v r : ℕ) → v < 10 ^ p → p ≤ MOST_DIGITS → r < 10 ^ UNIT_PLACES → r * 10 ^ p ≡ v * 10 ^ UNIT_PLACES → length (without_trailing (padded UNIT_PLACES (decimal r))) ≤ p
+counted_fraction : (p v r : ℕ) → v < 10 ^ p → p ≤ MOST_DIGITS → r < 10 ^ UNIT_PLACES → r * 10 ^ p ≡ v * 10 ^ UNIT_PLACES → length (without_trailing (with_leading_zeros UNIT_PLACES (decimal r))) ≤ p
 counted_fraction zero v r small within below e =
     let none : r ≡ 0 = omega (arith, e) in
-    let nothing : without_trailing (padded UNIT_PLACES (decimal r)) ≡ [] = same_fraction (padded UNIT_PLACES (decimal r)) [] (fraction_digits_are r below) refl (rw (fraction_value r below) (omega (arith, none))) in
+    let nothing : without_trailing (with_leading_zeros UNIT_PLACES (decimal r)) ≡ [] = same_fraction (with_leading_zeros UNIT_PLACES (decimal r)) [] (fraction_digits_are r below) refl (rw (fraction_value r below) (omega (arith, none))) in
     rw nothing (omega arith)
 counted_fraction (suc p) v r small within below e =
-    let d = padded_digits p v small within in
-    let same : without_trailing (padded UNIT_PLACES (decimal r)) ≡ without_trailing (padded (suc p) (decimal v)) = same_fraction (padded UNIT_PLACES (decimal r)) (padded (suc p) (decimal v)) (fraction_digits_are r below) d.0 (rw (fraction_value r below, d.1, d.2, fraction_length r below) e) in
-    rw same (omega (arith, length-without_trailing (padded (suc p) (decimal v)), d.1))
+    let d = zeros_before p v small within in
+    let same : without_trailing (with_leading_zeros UNIT_PLACES (decimal r)) ≡ without_trailing (with_leading_zeros (suc p) (decimal v)) = same_fraction (with_leading_zeros UNIT_PLACES (decimal r)) (with_leading_zeros (suc p) (decimal v)) (fraction_digits_are r below) d.0 (rw (fraction_value r below, d.1, d.2, fraction_length r below) e) in
+    rw same (omega (arith, length-without_trailing (with_leading_zeros (suc p) (decimal v)), d.1))
 
 scaled_parts : (s n q v p z d : ℕ) → s ≡ n * z → q * p + v ≡ n → d ≡ p * z → s ≡ q * d + v * z
 scaled_parts s n q v p z d e f g = rw (e, ← f, g) (omega arith)
@@ -131,7 +131,7 @@ plain_is_short m h =
     let fraction : length (fraction_digits s) ≤ p = counted_fraction p v (s % 10 ^ UNIT_PLACES) small_v h.within small_r (moved (s % 10 ^ UNIT_PLACES) v (10 ^ p) (10 ^ z) (10 ^ UNIT_PLACES) same.1 unit) in
     let parts = parts_of_plain m (short_is_writable m h) in
     short_from (plain m) (integer_digits s) (fraction_digits s) parts.integer parts.fraction
-    (rw (without_trailing-without_trailing (padded UNIT_PLACES (decimal (s % 10 ^ UNIT_PLACES)))) (omega (arith, h.within)))
+    (rw (without_trailing-without_trailing (with_leading_zeros UNIT_PLACES (decimal (s % 10 ^ UNIT_PLACES)))) (omega (arith, h.within)))
 
 -- ---- reading gives the number back
 

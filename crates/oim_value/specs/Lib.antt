@@ -1,8 +1,11 @@
 pub mod Decimals
+pub mod Ends
 pub mod Interval
+pub mod Level
 pub mod Meets
 pub mod Number
 pub mod Plain
+pub mod SeveralMeet
 pub mod Ties
 pub mod ValueOrder
 pub mod Units

@@ -8,8 +8,8 @@ use Rattle.oim_value.specs.declared.limits.TheConstants.{UNIT_PLACES}
 use Rattle.oim_value.specs.Number.{is_negative, is_point, integer_part, fraction_part, number_refusal, without_trailing, Denotes, IsShort}
 
 -- a numeral with zeros on the left, up to a width
-abbrev pub padded : ℕ → List ℕ → List ℕ
-padded width ds = replicate (width - length ds) 48 ++ ds
+abbrev pub with_leading_zeros : ℕ → List ℕ → List ℕ
+with_leading_zeros width ds = replicate (width - length ds) 48 ++ ds
 
 -- a point before fraction digits, where there are any
 abbrev pub with_point : List ℕ → List ℕ
@@ -21,7 +21,7 @@ abbrev pub integer_digits : ℕ → List ℕ
 integer_digits size = decimal (size / 10 ^ UNIT_PLACES)
 
 abbrev pub fraction_digits : ℕ → List ℕ
-fraction_digits size = without_trailing (padded UNIT_PLACES (decimal (size % 10 ^ UNIT_PLACES)))
+fraction_digits size = without_trailing (with_leading_zeros UNIT_PLACES (decimal (size % 10 ^ UNIT_PLACES)))
 
 abbrev pub sign_text : ℤ → List ℕ
 sign_text (pos n) = []

@@ -16,15 +16,15 @@ decimals_cmp None (Some e) = Greater
 decimals_cmp None None = Equal
 
 -- nil, numbers, texts, names
-abbrev pub kind_of : Value → ℕ
-kind_of Nil = 0
-kind_of (Number m d) = 1
-kind_of (AText t) = 2
-kind_of (AName n) = 3
+abbrev pub kind_order : Value → ℕ
+kind_order Nil = 0
+kind_order (Number m d) = 1
+kind_order (AText t) = 2
+kind_order (AName n) = 3
 
 -- by kind; then numbers by units and decimals, texts by bytes, names by their parts
 abbrev pub value_cmp : Value → Value → Ordering
 value_cmp (Number m d) (Number n e) = ordering_then (int_cmp m n) (decimals_cmp d e)
 value_cmp (AText s) (AText t) = slice_cmp nat_cmp s t
 value_cmp (AName m) (AName n) = name_cmp m n
-value_cmp x y = nat_cmp (kind_of x) (kind_of y)
+value_cmp x y = nat_cmp (kind_order x) (kind_order y)

@@ -1,17 +1,28 @@
 ghost use Rattle.std.specs.Prelude.{◌≡◌, None};
 ghost use Rattle.oim_value.specs.declared.value.Value.{Value as Seen};
+ghost use Rattle.oim_value.specs.Ends.{AllMeetIffEndsMeet, EndsAreCommonInterval, EndsAreOne, EndsExist, WithinEndsIsWithinEach};
 ghost use Rattle.oim_value.specs.Interval.{CommonIsAssociative, CommonIsBoth, CommonIsCommutative, CommonIsIdempotent, HalfAfterPoint, HalfBeforePoint, IntervalHasNumber, IntervalHasPoints, MeetsByCommonPart, MeetsByCommonPoint, WithinIsNear};
+ghost use Rattle.oim_value.specs.declared.level.Level.{Level as SeenLevel};
+ghost use Rattle.oim_value.specs.Level.{LevelsStandApart, level_cmp};
 ghost use Rattle.oim_value.specs.Meets.{MeetsIsReflexive, MeetsIsSymmetric};
 ghost use Rattle.oim_value.specs.Number.{DenotesOne, ShortIsKept};
 ghost use Rattle.oim_value.specs.Plain.{FittingIsWritable, PlainIsAscii, PlainIsOne, PlainIsPlain, PlainReadsBack, PlainTellsApart, ShortIsWritable};
+ghost use Rattle.oim_value.specs.SeveralMeet.{CrossedEndsAreApart, DifferentMeetAsNumbers, DifferentMeetBetweenEnds, EachTwoMeetByMembers};
+ghost use Rattle.oim_value.specs.Units.{ShortNumbersDenote};
 ghost use Rattle.oim_value.specs.ValueOrder.{value_cmp};
 
 use crate::decimals::Decimals;
+use crate::level::Level;
 use crate::value::Value;
 
 /// A text denotes one number at most.
 pub fn denotes_one()
     ensures { DenotesOne }
+{}
+
+/// A short number denotes `units_of` its text, and nothing else.
+pub fn short_numbers_denote()
+    ensures { ShortNumbersDenote }
 {}
 
 /// A short text denotes a number that is kept.
@@ -45,6 +56,12 @@ pub fn plain_tells_apart()
 /// Values are in the order of their kinds, and each kind in its own.
 pub fn values_are_ordered()
     ensures { (x y : Seen) → ⟦<Value as Ord>⟧.cmp x y ≡ value_cmp x y }
+{}
+
+/// Levels are in the order of their places, from the strictest on.
+pub fn levels_are_ordered()
+    ensures order { (x y : SeenLevel) → ⟦<Level as Ord>⟧.cmp x y ≡ level_cmp x y }
+    ensures places { LevelsStandApart }
 {}
 
 /// `INFINITE` is no finite number.
@@ -90,4 +107,34 @@ pub fn meets_by_common_point()
 pub fn values_meet_both_ways()
     ensures reflexive { MeetsIsReflexive }
     ensures symmetric { MeetsIsSymmetric }
+{}
+
+/// Each two of several values meet exactly where any two among them do.
+pub fn each_two_meet_by_members()
+    ensures { EachTwoMeetByMembers }
+{}
+
+/// Several intervals have one greatest low end and one least high end. What lies between these is
+/// what lies in each of the intervals.
+pub fn ends_are_common_interval()
+    ensures exist { EndsExist }
+    ensures one { EndsAreOne }
+    ensures within { WithinEndsIsWithinEach }
+    ensures common { EndsAreCommonInterval }
+{}
+
+/// Of intervals that are not empty, each two meet exactly if the greatest low end is at most the
+/// least high end.
+pub fn all_meet_iff_ends_meet()
+    ensures { AllMeetIffEndsMeet }
+{}
+
+/// Of several different values that are nil or of one kind, each two meet exactly if none is nil,
+/// there are numbers, and the greatest low end of their intervals is at most the least high end.
+/// Where it is above, the first number with this high end and the first with this low end do not
+/// meet.
+pub fn different_meet_between_ends()
+    ensures numbers { DifferentMeetAsNumbers }
+    ensures between { DifferentMeetBetweenEnds }
+    ensures apart { CrossedEndsAreApart }
 {}

@@ -6,17 +6,21 @@ mod digits;
 mod fixed;
 mod interval;
 pub mod laws;
+mod level;
 mod limits;
 mod plain;
 #[cfg(test)]
 mod tests;
 #[cfg(test)]
 mod tests_intervals;
+#[cfg(test)]
+mod tests_level;
 mod value;
 
 pub use decimals::Decimals;
 pub use fixed::{Fixed, read_fixed, write_fixed};
 pub use interval::{Interval, common, interval_of, meets};
+pub use level::Level;
 pub use limits::{MOST_DECIMALS, MOST_DIGITS, UNIT_PLACES};
 pub use plain::write_units;
 pub use value::{Value, value_meets};

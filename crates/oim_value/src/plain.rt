@@ -19,13 +19,15 @@ pub fn write_units(alloc: Global, units: i128) -> Result<Text, AllocError>
     let integer = size / 10u128.pow(UNIT_PLACES);
     let rest = size % 10u128.pow(UNIT_PLACES);
     if rest == 0 {
-        return Ok(Text::from_string(format!(in alloc; "{sign}{integer}")?));
+        let whole = Text::from_string(alloc, format!(in alloc; "{sign}{integer}")?)?;
+        return Ok(whole);
     }
     let width = UNIT_PLACES as usize;
     let mut text = format!(in alloc; "{sign}{integer}.{rest:0width$}")?;
     let kept = skip_trailing_zeros(text.as_bytes()).len();
     text.truncate(kept);
-    Ok(Text::from_string(text))
+    let cut = Text::from_string(alloc, text)?;
+    Ok(cut)
 }
 
 fn sign_of(units: i128) -> &'static str

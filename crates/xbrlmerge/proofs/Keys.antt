@@ -14,7 +14,7 @@ use Rattle.oim_value.specs.declared.value.Value.TheVariants.{Nil, Number, Text a
 use Rattle.xbrlmerge.specs.Body.{Body}
 use Rattle.xbrlmerge.specs.Fact.{fact_cmp}
 use Rattle.xbrlmerge.specs.Rank.{numbered, padded, rank, width}
-use Rattle.xbrlmerge.specs.Tree.{decimals_of, dimensions_tree, fact_tree, facts_tree, identifier, info_tree, keys, members_by, namespaces_tree, prefix, uris, uris_in, value_tree, with_decimals, KeysOfTreeRise, KeysRise, KeysRiseInMembers}
+use Rattle.xbrlmerge.specs.Tree.{value_decimals, dimensions_tree, fact_tree, facts_tree, identifier, info_tree, keys, members_by, namespaces_tree, prefix, uris, uris_in, value_tree, with_decimals, KeysOfTreeRise, KeysRise, KeysRiseInMembers}
 use Rattle.xbrlmerge.specs.declared.fact.Fact.{Fact}
 use Rattle.xbrlmerge.proofs.FactOrder.{fact_cmp_total}
 use Rattle.xbrlmerge.proofs.Members.{sorted-set_of}
@@ -61,7 +61,7 @@ unfolding IsStrictlySortedBy
 dimensions_rise us f = ((tt, tt), (tt, tt))
 
 fact_rises : (us : List (List ℕ)) (f : Fact) → KeysRise (fact_tree us f)
-fact_rises us f = with_decimals_rise (decimals_of f.value) (dimensions_tree us f) (value_tree us f.value) (dimensions_rise us f) (value_rises us f.value)
+fact_rises us f = with_decimals_rise (value_decimals f.value) (dimensions_tree us f) (value_tree us f.value) (dimensions_rise us f) (value_rises us f.value)
 
 namespaces_rise : (us : List (List ℕ)) → IsStrictlySortedBy (slice_cmp nat_cmp) us → KeysRise (namespaces_tree us)
 namespaces_rise us rises = (

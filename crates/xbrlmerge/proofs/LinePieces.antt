@@ -7,13 +7,13 @@ use Rattle.std.proofs.lemmas.List.{take_all, drop_all, append-nil}
 use Rattle.std.proofs.lemmas.List.Elements.{filter-append}
 use Rattle.std.proofs.lemmas.List.Sums.{fails_before_first}
 use Rattle.std.proofs.lemmas.List.Splits.{slice_split_first, slice_split_none}
-use Rattle.xbrlmerge.specs.Bundle.{is_line_end, is_filled, pieces, filled_pieces, report_pieces}
+use Rattle.xbrlmerge.specs.Bundle.{is_line_end, is_filled, line_pieces, filled_pieces, report_pieces}
 
 -- one of them, where it has a byte
 abbrev pub if_filled : List ℕ → List (List ℕ)
 if_filled piece = filter is_filled (piece ∷ [])
 
-no_line_end : (bytes : List ℕ) → length bytes ≤ position_or_len is_line_end bytes → pieces bytes ≡ bytes ∷ []
+no_line_end : (bytes : List ℕ) → length bytes ≤ position_or_len is_line_end bytes → line_pieces bytes ≡ bytes ∷ []
 no_line_end bytes h = slice_split_none is_line_end bytes (λ k d less. fails_before_first is_line_end bytes k d (omega arith))
 
 at_end : (bytes : List ℕ) → length bytes ≤ position_or_len is_line_end bytes → after_first is_line_end bytes ≡ []
@@ -35,7 +35,7 @@ pub filled_pieces-first : (bytes : List ℕ) → filled_pieces bytes ≡ if_fill
 filled_pieces-first bytes =
     elim (cases_lt (position_or_len is_line_end bytes) (length bytes)) [
       | inl less ↦ ap (filter is_filled) (slice_split_first is_line_end bytes 0 less)
-          ∙ filter-append is_filled (before_first is_line_end bytes ∷ []) (pieces (after_first is_line_end bytes))
+          ∙ filter-append is_filled (before_first is_line_end bytes ∷ []) (line_pieces (after_first is_line_end bytes))
       | inr more ↦ ap (filter is_filled) (no_line_end bytes more)
           ∙ sym (ap (λ ps. if_filled (before_first is_line_end bytes) ++ ps) (ap filled_pieces (at_end bytes more)) ∙ append-nil (if_filled (before_first is_line_end bytes)) ∙ ap if_filled (whole bytes more))
     ]

@@ -10,7 +10,7 @@ use Rattle.std.specs.declared.cmp.Ordering.TheVariants.{Less, Equal, Greater}
 use Rattle.std.specs.Ordering.{eq_by_cmp, is_eq, match_ordering, ordering_reverse}
 use Rattle.std.specs.Cmp.{IsTotalOrder, Equal-is, tied_itself, alike_right}
 use Rattle.std.proofs.lemmas.List.Folds.{list_any-append, Any-from_list_any, list_any-from_Any}
-use Rattle.xbrlmerge.specs.Sets.{with_member, set_of}
+use Rattle.xbrlmerge.specs.Sets.{set_with_member, set_of}
 
 or_once : (a b : Bool) → (a || b) ≡ (a || (a || b))
 or_once true b = refl
@@ -37,10 +37,10 @@ module _ {K : Type 0} {R : K → K → Ordering} (o : IsTotalOrder R) where
   abbrev has : K → List K → Bool
   has q = list_any (eq_by_cmp R q)
 
-  all_with : (P : K → Type 0) (x : K) (ys : List K) → P x → AllByRecursion P ys → AllByRecursion P (with_member R x ys)
-  unfolding with_member
+  all_with : (P : K → Type 0) (x : K) (ys : List K) → P x → AllByRecursion P ys → AllByRecursion P (set_with_member R x ys)
+  unfolding set_with_member
   all_with P x [] p h = (p, tt)
-  all_with P x (y ∷ ys) p h = elim (R x y) as (λ r. AllByRecursion P (match_ordering r (x ∷ y ∷ ys) (y ∷ ys) (y ∷ with_member R x ys))) [
+  all_with P x (y ∷ ys) p h = elim (R x y) as (λ r. AllByRecursion P (match_ordering r (x ∷ y ∷ ys) (y ∷ ys) (y ∷ set_with_member R x ys))) [
     | Less ↦ (p, h)
     | Equal ↦ h
     | Greater ↦ (h.0, all_with P x ys p h.1)
@@ -50,10 +50,10 @@ module _ {K : Type 0} {R : K → K → Ordering} (o : IsTotalOrder R) where
   all_above x y [] p h = tt
   all_above x y (z ∷ zs) p h = (o.trans x y z p h.0, all_above x y zs p h.1)
 
-  sorted_with : (x : K) (ys : List K) → IsStrictlySortedBy R ys → IsStrictlySortedBy R (with_member R x ys)
-  unfolding with_member IsStrictlySortedBy
+  sorted_with : (x : K) (ys : List K) → IsStrictlySortedBy R ys → IsStrictlySortedBy R (set_with_member R x ys)
+  unfolding set_with_member IsStrictlySortedBy
   sorted_with x [] h = (tt, tt)
-  sorted_with x (y ∷ ys) h = elim (R x y) as (λ r. R x y ≡ r → IsStrictlySortedBy R (match_ordering r (x ∷ y ∷ ys) (y ∷ ys) (y ∷ with_member R x ys))) [
+  sorted_with x (y ∷ ys) h = elim (R x y) as (λ r. R x y ≡ r → IsStrictlySortedBy R (match_ordering r (x ∷ y ∷ ys) (y ∷ ys) (y ∷ set_with_member R x ys))) [
     | Less ↦ λ p. ((p, all_above x y ys p h.0), h)
     | Equal ↦ λ p. h
     | Greater ↦ λ p. (all_with (λ z. R y z ≡ Less) x ys (o.antisymm y x ∙ ap ordering_reverse p) h.0, sorted_with x ys h.1)
@@ -64,10 +64,10 @@ module _ {K : Type 0} {R : K → K → Ordering} (o : IsTotalOrder R) where
   sorted-set_of [] = tt
   sorted-set_of (x ∷ xs) = sorted_with x (set_of R xs) (sorted-set_of xs)
 
-  has-with : (q x : K) (ys : List K) → has q (with_member R x ys) ≡ (eq_by_cmp R q x || has q ys)
-  unfolding with_member
+  has-with : (q x : K) (ys : List K) → has q (set_with_member R x ys) ≡ (eq_by_cmp R q x || has q ys)
+  unfolding set_with_member
   has-with q x [] = refl
-  has-with q x (y ∷ ys) = elim (R x y) as (λ r. R x y ≡ r → has q (match_ordering r (x ∷ y ∷ ys) (y ∷ ys) (y ∷ with_member R x ys)) ≡ (eq_by_cmp R q x || (eq_by_cmp R q y || has q ys))) [
+  has-with q x (y ∷ ys) = elim (R x y) as (λ r. R x y ≡ r → has q (match_ordering r (x ∷ y ∷ ys) (y ∷ ys) (y ∷ set_with_member R x ys)) ≡ (eq_by_cmp R q x || (eq_by_cmp R q y || has q ys))) [
     | Less ↦ λ p. refl
     | Equal ↦ λ p. or_once (eq_by_cmp R q y) (has q ys) ∙ ap (λ r. is_eq r || (eq_by_cmp R q y || has q ys)) (sym (alike_right o x y q p))
     | Greater ↦ λ p. ap (λ b. eq_by_cmp R q y || b) (has-with q x ys) ∙ or_swap (eq_by_cmp R q y) (eq_by_cmp R q x) (has q ys)

@@ -11,7 +11,7 @@ use Rattle.oim_names.specs.declared.reason.Reason.TheVariants.{OutOfMemory, Name
 use Rattle.serde_json.specs.View.{members_view}
 use Rattle.serde_json.proofs.Views.{Entry}
 use Rattle.xbrlmerge.specs.Json.{any_member}
-use Rattle.xbrlmerge.specs.Names.{named, of_key, is_refused}
+use Rattle.xbrlmerge.specs.Names.{named, of_key, names_nothing}
 
 pub on_ok : {T E : Type 0} (P : Type 0) (r : Result T E) → is_err r ≡ false → OnOk r P → P
 on_ok P (Ok x) e h = h
@@ -27,7 +27,7 @@ none_holds true false false h = refl
 none_holds false b c h = absurd (cc)
 
 -- a name that is not refused is not expanded for want of memory alone
-pub only_memory : (bs : List Binding) (t : List ℕ) (r : Reason) → is_refused bs t ≡ false → (r ≡ OutOfMemory) ⊎ (name_refusal bs t ≡ Some r) → r ≡ OutOfMemory
+pub only_memory : (bs : List Binding) (t : List ℕ) (r : Reason) → names_nothing bs t ≡ false → (r ≡ OutOfMemory) ⊎ (name_refusal bs t ≡ Some r) → r ≡ OutOfMemory
 only_memory bs t r kept (inl memory) = memory
 only_memory bs t r kept (inr refused) = let none : name_refusal bs t ≡ None = none_holds (is_name t) (is_unbound bs t) (is_reserved bs t) kept in absurd (cc)
 

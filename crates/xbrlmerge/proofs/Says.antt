@@ -6,7 +6,7 @@ use Rattle.std.specs.List.{AllZip}
 use Rattle.std.proofs.lemmas.Slice.Eq.{bytes_eq-Decides}
 use Rattle.oim_names.specs.QName.{is_name, prefix_part, local_part}
 use Rattle.oim_names.specs.Bindings.{Binding, uri_of}
-use Rattle.oim_names.specs.Expansion.{Expands, reserved_uri}
+use Rattle.oim_names.specs.Expansion.{Expands, reserved_uri, lacks_form, lacks_binding, lies_in_reserved}
 use Rattle.oim_names.specs.declared.reason.Reason.{Reason}
 use Rattle.oim_names.specs.declared.reason.Reason.TheVariants.{MissingConcept, UnknownConcept, UnknownDimension, ValueForm, NumberForm, NumberDigits, DecimalsForm, DecimalsRange}
 use Rattle.oim_value.specs.Decimals.{is_finite_decimals}
@@ -18,14 +18,14 @@ use Rattle.xbrlmerge.specs.declared.concept_kind.ConceptKind.{ConceptKind}
 use Rattle.xbrlmerge.specs.declared.concept_kind.ConceptKind.TheVariants.{Numeric, Text, Name}
 use Rattle.xbrlmerge.specs.declared.fact.Fact.{Fact}
 use Rattle.xbrlmerge.specs.declared.refusal.Refusal.{Refusal}
-use Rattle.xbrlmerge.specs.Conditions.{form_conditions, some_name, kind_of, is_numeric, is_other_dimension, dimension_conditions, number_conditions, is_whole, decimals_conditions, fact_conditions, document_conditions, of_defined}
+use Rattle.xbrlmerge.specs.Conditions.{fact_form_conditions, some_name, concept_kind, is_numeric, is_other_dimension, dimension_conditions, number_conditions, is_whole, decimals_conditions, fact_conditions, document_conditions, of_defined}
 use Rattle.xbrlmerge.specs.Document.{Document, SaysDocument}
 use Rattle.xbrlmerge.specs.Fact.{SaysDecimals, SaysNumber, SaysFact}
 use Rattle.xbrlmerge.specs.Json.{json, values, any_in}
-use Rattle.xbrlmerge.specs.Names.{named, lacks_form, lacks_binding, lies_in_reserved, name_conditions}
+use Rattle.xbrlmerge.specs.Names.{named, name_conditions}
 use Rattle.xbrlmerge.specs.Outcome.{said_fact, fact_outcome, all_or_first, facts_outcome, unless_refused, tree_outcome}
 use Rattle.xbrlmerge.specs.Refusal.{Condition, first_holding, unless, map_ok}
-use Rattle.xbrlmerge.specs.ReportParts.{concept_of, value_of, decimals_of, whole_number, dimensions_of, bindings_of, facts_of}
+use Rattle.xbrlmerge.specs.ReportParts.{concept_of, value_of, fact_decimals, whole_number, fact_dimensions, bindings_of, facts_of}
 use Rattle.xbrlmerge.specs.Sheet.{Sheet}
 use Rattle.xbrlmerge.proofs.FactRefused.{kind_at}
 use Rattle.xbrlmerge.proofs.Refused.{no_name_refused}
@@ -79,7 +79,7 @@ expands_at bs t (Some u) e form bound allowed = record {
   local_part = refl;
 }
 
-expands : (bs : List Binding) (t : List ℕ) → lacks_form t ≡ false → lacks_binding bs t ≡ false → lies_in_reserved bs t ≡ false → Expands bs t (named bs t)
+expands : (bs : List Binding) (t : List ℕ) → lacks_form is_name t ≡ false → lacks_binding is_name bs t ≡ false → lies_in_reserved is_name bs t ≡ false → Expands bs t (named bs t)
 expands bs t form bound allowed =
     let name = so (is_name t) form in
     expands_at bs t (uri_of bs (prefix_part t)) refl name (second_false (is_name t) _ name bound) (second_false (is_name t) _ name allowed)
@@ -105,7 +105,7 @@ says_decimals (Some d) none =
 abbrev no_number : (List ℕ → Bool) → Data → Bool
 no_number test fact = option_map_or (λ t. not (test t)) (value_of fact) false
 
-says_number : (fact : Data) → first_holding (number_conditions fact) ≡ None → first_holding (decimals_conditions (decimals_of fact)) ≡ None → SaysNumber fact (units_of (unwrap_or (value_of fact) [])) (option_and_then whole_number (decimals_of fact))
+says_number : (fact : Data) → first_holding (number_conditions fact) ≡ None → first_holding (decimals_conditions (fact_decimals fact)) ≡ None → SaysNumber fact (units_of (unwrap_or (value_of fact) [])) (option_and_then whole_number (fact_decimals fact))
 says_number fact number decimals =
     let three = none_of_three (is_none (value_of fact)) (no_number is_number fact) (no_number is_short fact) ValueForm NumberForm NumberDigits number in
     let text = there (value_of fact) three.0 in
@@ -115,28 +115,28 @@ says_number fact number decimals =
       written = text.1;
       denoted = subst (λ o. Denotes text.0 (units_of (unwrap_or o []))) (sym text.1) (short_denotes text.0 form few);
       short = few;
-      decimals = says_decimals (decimals_of fact) decimals;
+      decimals = says_decimals (fact_decimals fact) decimals;
     }
 
 -- ---- facts
 
 says_fact : (sheet : Sheet) (bs : List Binding) (fact : Data) → first_holding (fact_conditions sheet bs fact) ≡ None → SaysFact sheet bs fact (said_fact bs fact)
 says_fact sheet bs fact none =
-    let values = number_conditions fact ++ decimals_conditions (decimals_of fact) in
+    let values = number_conditions fact ++ decimals_conditions (fact_decimals fact) in
     let after_names = dimension_conditions sheet bs fact ++ values in
-    let form = none_of_both (form_conditions fact) (name_conditions (some_name fact) bs ++ after_names) none in
+    let form = none_of_both (fact_form_conditions fact) (name_conditions (some_name fact) bs ++ after_names) none in
     let names = none_of_both (name_conditions (some_name fact) bs) after_names form.1 in
     let dimensions = none_of_both (dimension_conditions sheet bs fact) values names.1 in
-    let value = none_of_both (number_conditions fact) (decimals_conditions (decimals_of fact)) dimensions.1 in
-    let three = none_of_three (is_none (concept_of fact)) (not (is_numeric (kind_of sheet bs fact))) (any_in is_other_dimension (dimensions_of fact)) MissingConcept UnknownConcept UnknownDimension dimensions.0 in
+    let value = none_of_both (number_conditions fact) (decimals_conditions (fact_decimals fact)) dimensions.1 in
+    let three = none_of_three (is_none (concept_of fact)) (not (is_numeric (concept_kind sheet bs fact))) (any_in is_other_dimension (fact_dimensions fact)) MissingConcept UnknownConcept UnknownDimension dimensions.0 in
     let text = there (concept_of fact) three.0 in
     let kept = no_name_refused (some_name fact) bs (sym names.0) in
-    let test = λ (p : List ℕ → Bool) (e : some_name fact p ≡ false). ap (λ o. option_map_or p o false) (sym text.1) ∙ (or_parts (option_map_or p (concept_of fact) false) (any_in (of_defined p) (dimensions_of fact)) e).0 in
+    let test = λ (p : List ℕ → Bool) (e : some_name fact p ≡ false). ap (λ o. option_map_or p o false) (sym text.1) ∙ (or_parts (option_map_or p (concept_of fact) false) (any_in (of_defined p) (fact_dimensions fact)) e).0 in
     let concept_is : unwrap_or (concept_of fact) [] ≡ text.0 = ap (λ o. unwrap_or o []) text.1 in record {
       text = text.0;
       written = text.1;
-      expanded = subst (λ t. Expands bs text.0 (named bs t)) (sym concept_is) (expands bs text.0 (test lacks_form kept.0) (test (lacks_binding bs) kept.1) (test (lies_in_reserved bs) kept.2));
-      listed = numeric _ (ap is_numeric (sym (kind_at sheet bs (concept_of fact) three.0)) ∙ so (is_numeric (kind_of sheet bs fact)) three.1);
+      expanded = subst (λ t. Expands bs text.0 (named bs t)) (sym concept_is) (expands bs text.0 (test (lacks_form is_name) kept.0) (test (lacks_binding is_name bs) kept.1) (test (lies_in_reserved is_name bs) kept.2));
+      listed = numeric _ (ap is_numeric (sym (kind_at sheet bs (concept_of fact) three.0)) ∙ so (is_numeric (concept_kind sheet bs fact)) three.1);
       value = says_number fact value.0 value.1;
     }
 

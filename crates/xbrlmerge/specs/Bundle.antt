@@ -9,8 +9,8 @@ abbrev pub is_filled : List ℕ → Bool
 is_filled piece = not (length piece == 0)
 
 -- the pieces between line ends
-abbrev pub pieces : List ℕ → List (List ℕ)
-pieces bytes = slice_split is_line_end bytes
+abbrev pub line_pieces : List ℕ → List (List ℕ)
+line_pieces bytes = slice_split is_line_end bytes
 
 -- the first piece
 abbrev pub sheet_piece : List ℕ → List ℕ
@@ -18,8 +18,8 @@ sheet_piece bytes = before_first is_line_end bytes
 
 -- the pieces that have a byte
 abbrev pub filled_pieces : List ℕ → List (List ℕ)
-filled_pieces bytes = filter is_filled (pieces bytes)
+filled_pieces bytes = filter is_filled (line_pieces bytes)
 
 -- each later piece that has a byte
 abbrev pub report_pieces : List ℕ → List (List ℕ)
-report_pieces bytes = filter is_filled (drop 1 (pieces bytes))
+report_pieces bytes = filter is_filled (drop 1 (line_pieces bytes))

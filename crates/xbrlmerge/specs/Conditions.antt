@@ -14,7 +14,7 @@ use Rattle.xbrlmerge.specs.declared.concept_kind.ConceptKind.{ConceptKind}
 use Rattle.xbrlmerge.specs.declared.concept_kind.ConceptKind.TheVariants.{Numeric, Text, Name}
 use Rattle.xbrlmerge.specs.Json.{object_at, any_in, has_member, has_item, has_colon, is_unknown, is_object, is_no_object, is_no_array, is_no_text, is_text}
 use Rattle.xbrlmerge.specs.Names.{binds_nothing, named, name_conditions}
-use Rattle.xbrlmerge.specs.ReportParts.{info, namespaces_of, taxonomy_of, dimensions_of, dimension, concept_of, value_of, decimals_of, whole_number}
+use Rattle.xbrlmerge.specs.ReportParts.{info, report_namespaces, taxonomy_of, fact_dimensions, dimension, concept_of, value_of, fact_decimals, whole_number}
 use Rattle.xbrlmerge.specs.Refusal.{Condition}
 use Rattle.xbrlmerge.specs.Sheet.{Sheet}
 
@@ -46,7 +46,7 @@ shape_conditions tree = (has_misshapen_part tree, MemberForm) ∷ (has_unknown_p
 
 -- the conditions of a document, in the order in which they are answered; for now no reference is known
 abbrev pub document_conditions : Data → List Condition
-document_conditions tree = shape_conditions tree ++ ((any_in binds_nothing (namespaces_of tree), Namespace) ∷ (has_item (taxonomy_of tree), TaxonomyUrl) ∷ [])
+document_conditions tree = shape_conditions tree ++ ((any_in binds_nothing (report_namespaces tree), Namespace) ∷ (has_item (taxonomy_of tree), TaxonomyUrl) ∷ [])
 
 -- ---- a fact
 
@@ -62,11 +62,11 @@ abbrev pub dimension_keys : List (List ℕ)
 dimension_keys = codes "concept" ∷ codes "entity" ∷ codes "period" ∷ codes "unit" ∷ codes "language" ∷ codes "noteId" ∷ []
 
 abbrev pub has_unknown_member : Data → Bool
-has_unknown_member fact = any_in (is_unknown fact_keys) (as_object fact) || any_in (is_unknown dimension_keys) (dimensions_of fact)
+has_unknown_member fact = any_in (is_unknown fact_keys) (as_object fact) || any_in (is_unknown dimension_keys) (fact_dimensions fact)
 
 -- links and notes are left out (own)
-abbrev pub form_conditions : Data → List Condition
-form_conditions fact =
+abbrev pub fact_form_conditions : Data → List Condition
+fact_form_conditions fact =
     (has_misshapen_member fact, MemberForm)
     ∷ (has_unknown_member fact, UnknownMember)
     ∷ (has_member (object_at (codes "links") fact), Links)
@@ -80,11 +80,11 @@ of_defined test key d = has_colon key && test key
 
 -- whether a name of the fact passes the test: the text of its concept, or the key of a taxonomy-defined dimension
 abbrev pub some_name : Data → (List ℕ → Bool) → Bool
-some_name fact test = option_map_or test (concept_of fact) false || any_in (of_defined test) (dimensions_of fact)
+some_name fact test = option_map_or test (concept_of fact) false || any_in (of_defined test) (fact_dimensions fact)
 
 -- the kind of the fact's concept, where the sheet lists it
-abbrev pub kind_of : Sheet → List Binding → Data → Option ConceptKind
-kind_of sheet bs fact = option_and_then (λ t. map.get sheet.concepts (named bs t)) (concept_of fact)
+abbrev pub concept_kind : Sheet → List Binding → Data → Option ConceptKind
+concept_kind sheet bs fact = option_and_then (λ t. map.get sheet.concepts (named bs t)) (concept_of fact)
 
 abbrev pub is_numeric : Option ConceptKind → Bool
 is_numeric (Some Numeric) = true
@@ -102,7 +102,7 @@ is_other_dimension key d = has_colon key || list_any (λ k. bytes_eq k key) othe
 -- for now a concept that isn't numeric is not known
 abbrev pub dimension_conditions : Sheet → List Binding → Data → List Condition
 dimension_conditions sheet bs fact =
-    (is_none (concept_of fact), MissingConcept) ∷ (not (is_numeric (kind_of sheet bs fact)), UnknownConcept) ∷ (any_in is_other_dimension (dimensions_of fact), UnknownDimension) ∷ []
+    (is_none (concept_of fact), MissingConcept) ∷ (not (is_numeric (concept_kind sheet bs fact)), UnknownConcept) ∷ (any_in is_other_dimension (fact_dimensions fact), UnknownDimension) ∷ []
 
 -- a number is a text (xBRL-JSON 1.0, section 3.1.1), for now any value is; at most so many digits count (own)
 abbrev pub number_conditions : Data → List Condition
@@ -126,4 +126,4 @@ decimals_conditions decimals =
 -- the conditions of a fact, in the order in which they are answered
 abbrev pub fact_conditions : Sheet → List Binding → Data → List Condition
 fact_conditions sheet bs fact =
-    form_conditions fact ++ (name_conditions (some_name fact) bs ++ (dimension_conditions sheet bs fact ++ (number_conditions fact ++ decimals_conditions (decimals_of fact))))
+    fact_form_conditions fact ++ (name_conditions (some_name fact) bs ++ (dimension_conditions sheet bs fact ++ (number_conditions fact ++ decimals_conditions (fact_decimals fact))))

@@ -11,7 +11,7 @@ use Rattle.oim_value.specs.ValueOrder.{name_cmp, value_cmp}
 use Rattle.oim_value.specs.declared.value.Value.{Value}
 use Rattle.oim_value.specs.declared.value.Value.TheVariants.{Nil, Number, Text as AText, Name as AName}
 use Rattle.serde_json.specs.Data.{Data}
-use Rattle.xbrlmerge.specs.ReportParts.{concept_of, value_of, decimals_of, whole_number}
+use Rattle.xbrlmerge.specs.ReportParts.{concept_of, value_of, fact_decimals, whole_number}
 use Rattle.xbrlmerge.specs.Sheet.{Sheet}
 use Rattle.xbrlmerge.specs.declared.concept_kind.ConceptKind.TheVariants.{Numeric}
 use Rattle.xbrlmerge.specs.declared.fact.Fact.{Fact}
@@ -33,7 +33,7 @@ pub record SaysNumber (fact : Data) (units : ℤ) (places : Option ℤ) : Type 0
   pub written : value_of fact ≡ Some text
   pub denoted : Denotes text units
   pub short : IsTrue (is_short text)
-  pub decimals : SaysDecimals (decimals_of fact) places
+  pub decimals : SaysDecimals (fact_decimals fact) places
 
 -- for now numbers alone are said
 abbrev pub SaysValue : Data → Value → Type 0

@@ -1,9 +1,9 @@
 -- Names in objects: the bindings that an object declares, and why a name is refused.
-use Rattle.std.specs.Prelude.{ℕ, List, [], ◌∷◌, Bool, true, not, ◌||◌, ◌&&◌, bytes_eq}
+use Rattle.std.specs.Prelude.{ℕ, List, [], ◌∷◌, Bool, true, not, ◌||◌, bytes_eq}
 use Rattle.std.specs.Option.{unwrap_or, option_map_or}
 use Rattle.oim_names.specs.QName.{QName, is_part, is_name, local_part, prefix_part}
 use Rattle.oim_names.specs.Bindings.{Binding, uri_of}
-use Rattle.oim_names.specs.Expansion.{is_unbound, is_reserved}
+use Rattle.oim_names.specs.Expansion.{lacks_form, lacks_binding, lies_in_reserved}
 use Rattle.oim_names.specs.declared.reason.Reason.TheVariants.{NameForm, UnboundPrefix, ReservedNamespace}
 use Rattle.serde_json.specs.Data.{Data, Members, no_members, member}
 use Rattle.serde_json.specs.Find.{as_str}
@@ -19,18 +19,9 @@ abbrev pub bindings_in : Members → List Binding
 bindings_in no_members = []
 bindings_in (member key d ms) = (record { prefix = key; uri = unwrap_or (as_str d) [] }) ∷ bindings_in ms
 
--- why a text is no name: its form, its prefix, its namespace (XML Namespaces 1.0, section 4; the reserved namespace is own)
-abbrev pub lacks_form : List ℕ → Bool
-lacks_form t = not (is_name t)
-
-abbrev pub lacks_binding : List Binding → List ℕ → Bool
-lacks_binding bs t = is_name t && is_unbound bs t
-
-abbrev pub lies_in_reserved : List Binding → List ℕ → Bool
-lies_in_reserved bs t = is_name t && is_reserved bs t
-
-abbrev pub is_refused : List Binding → List ℕ → Bool
-is_refused bs t = lacks_form t || (lacks_binding bs t || lies_in_reserved bs t)
+-- whether a text names nothing: by its form, its prefix or its namespace (XML Namespaces 1.0, section 4; the reserved namespace is own)
+abbrev pub names_nothing : List Binding → List ℕ → Bool
+names_nothing bs t = lacks_form is_name t || (lacks_binding is_name bs t || lies_in_reserved is_name bs t)
 
 -- the name that a text stands for, where it is a name
 abbrev pub named : List Binding → List ℕ → QName
@@ -42,4 +33,4 @@ of_key test key d = test key
 
 -- the conditions on names, where `some test` is whether some name passes the test
 abbrev pub name_conditions : ((List ℕ → Bool) → Bool) → List Binding → List Condition
-name_conditions some bs = (some lacks_form, NameForm) ∷ (some (lacks_binding bs), UnboundPrefix) ∷ (some (lies_in_reserved bs), ReservedNamespace) ∷ []
+name_conditions some bs = (some (lacks_form is_name), NameForm) ∷ (some (lacks_binding is_name bs), UnboundPrefix) ∷ (some (lies_in_reserved is_name bs), ReservedNamespace) ∷ []

@@ -9,11 +9,11 @@ use Rattle.xbrlmerge.specs.Names.{bindings_in}
 abbrev pub info : List ℕ → Data → Option Data
 info key tree = within (codes "documentInfo") key tree
 
-abbrev pub namespaces_of : Data → Option Members
-namespaces_of tree = option_and_then as_object (info (codes "namespaces") tree)
+abbrev pub report_namespaces : Data → Option Members
+report_namespaces tree = option_and_then as_object (info (codes "namespaces") tree)
 
 abbrev pub bindings_of : Data → List Binding
-bindings_of tree = bindings_in (members (namespaces_of tree))
+bindings_of tree = bindings_in (members (report_namespaces tree))
 
 abbrev pub taxonomy_of : Data → Option Items
 taxonomy_of tree = option_and_then as_array (info (codes "taxonomy") tree)
@@ -23,8 +23,8 @@ facts_of tree = members (object_at (codes "facts") tree)
 
 -- ---- a fact object
 
-abbrev pub dimensions_of : Data → Option Members
-dimensions_of fact = object_at (codes "dimensions") fact
+abbrev pub fact_dimensions : Data → Option Members
+fact_dimensions fact = object_at (codes "dimensions") fact
 
 abbrev pub dimension : List ℕ → Data → Option Data
 dimension key fact = within (codes "dimensions") key fact
@@ -35,8 +35,8 @@ concept_of fact = option_and_then as_str (dimension (codes "concept") fact)
 abbrev pub value_of : Data → Option (List ℕ)
 value_of fact = text_at (codes "value") fact
 
-abbrev pub decimals_of : Data → Option Data
-decimals_of fact = get (codes "decimals") fact
+abbrev pub fact_decimals : Data → Option Data
+fact_decimals fact = get (codes "decimals") fact
 
 -- the whole number of at most 64 bits that a value is
 abbrev pub whole_number : Data → Option ℤ

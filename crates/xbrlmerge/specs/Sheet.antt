@@ -22,14 +22,14 @@ pub record Sheet : Type 0 where
 
 -- ---- conditions
 
-abbrev pub namespaces_of : Data → Option Members
-namespaces_of tree = object_at (codes "namespaces") tree
+abbrev pub sheet_namespaces : Data → Option Members
+sheet_namespaces tree = object_at (codes "namespaces") tree
 
-abbrev pub concepts_of : Data → Option Members
-concepts_of tree = object_at (codes "concepts") tree
+abbrev pub sheet_concepts : Data → Option Members
+sheet_concepts tree = object_at (codes "concepts") tree
 
-abbrev pub dimensions_of : Data → Option Members
-dimensions_of tree = object_at (codes "dimensions") tree
+abbrev pub sheet_dimensions : Data → Option Members
+sheet_dimensions tree = object_at (codes "dimensions") tree
 
 -- whether it is no object, or a member of it is none
 abbrev pub is_misshapen : Data → Bool
@@ -40,22 +40,22 @@ known_keys = codes "namespaces" ∷ codes "concepts" ∷ codes "dimensions" ∷ 
 
 -- whether some key of the concepts or the dimensions passes the test
 abbrev pub some_key : Data → (List ℕ → Bool) → Bool
-some_key tree test = any_in (of_key test) (concepts_of tree) || any_in (of_key test) (dimensions_of tree)
+some_key tree test = any_in (of_key test) (sheet_concepts tree) || any_in (of_key test) (sheet_dimensions tree)
 
 -- whether a concept's kind is none that is known; for now `numeric` is
 abbrev pub is_no_kind : List ℕ → Data → Bool
 is_no_kind key d = not (is_text (codes "numeric") (as_str d))
 
-abbrev pub form_conditions : Data → List Condition
-form_conditions tree = (is_misshapen tree, MemberForm) ∷ (any_in (is_unknown known_keys) (as_object tree), UnknownMember) ∷ []
+abbrev pub sheet_form_conditions : Data → List Condition
+sheet_form_conditions tree = (is_misshapen tree, MemberForm) ∷ (any_in (is_unknown known_keys) (as_object tree), UnknownMember) ∷ []
 
 -- for now no dimension is known either
 abbrev pub kind_conditions : Data → List Condition
-kind_conditions tree = (any_in is_no_kind (concepts_of tree) || has_member (dimensions_of tree), SheetKind) ∷ []
+kind_conditions tree = (any_in is_no_kind (sheet_concepts tree) || has_member (sheet_dimensions tree), SheetKind) ∷ []
 
 -- the conditions of a sheet, in the order in which they are answered
 abbrev pub sheet_conditions : Data → List Condition
-sheet_conditions tree = form_conditions tree ++ ((any_in binds_nothing (namespaces_of tree), Namespace) ∷ (name_conditions (some_key tree) (bindings_in (members (namespaces_of tree))) ++ kind_conditions tree))
+sheet_conditions tree = sheet_form_conditions tree ++ ((any_in binds_nothing (sheet_namespaces tree), Namespace) ∷ (name_conditions (some_key tree) (bindings_in (members (sheet_namespaces tree))) ++ kind_conditions tree))
 
 -- ---- what a sheet says
 
@@ -65,7 +65,7 @@ listed bs no_members = []
 listed bs (member key d ms) = (named bs key, Numeric) ∷ listed bs ms
 
 abbrev pub said_sheet : Data → Sheet
-said_sheet tree = record { concepts = map.from_entries (listed (bindings_in (members (namespaces_of tree))) (members (concepts_of tree))) }
+said_sheet tree = record { concepts = map.from_entries (listed (bindings_in (members (sheet_namespaces tree))) (members (sheet_concepts tree))) }
 
 abbrev pub sheet_of : Option Data → Result Sheet Reason
 sheet_of None = Err NotJson

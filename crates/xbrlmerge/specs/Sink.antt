@@ -26,7 +26,7 @@ written_of (OutOfMemory n) = n
 written_of (Device n) = n
 
 -- the failures of a sink that had n of them, after a call with this answer: one more exactly where a device is at fault
-abbrev pub failures_after : {T : Type 0} → Result T WriteFault → ℕ → ℕ
-failures_after (Ok x) n = n
-failures_after (Err (OutOfMemory w)) n = n
-failures_after (Err (Device w)) n = n + 1
+abbrev pub failures_after_write : {T : Type 0} → Result T WriteFault → ℕ → ℕ
+failures_after_write (Ok x) n = n
+failures_after_write (Err (OutOfMemory w)) n = n
+failures_after_write (Err (Device w)) n = n + 1

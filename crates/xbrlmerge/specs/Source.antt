@@ -15,8 +15,8 @@ GivesBefore old new limit (Device n) = Gives old new (λ given. length given ≡
 GivesBefore old new limit TooLong = Gives old new (λ given. limit < length given)
 
 -- the failures of a source that had n of them, after a call with this answer: one more exactly where a device is at fault
-abbrev pub failures_after : {T : Type 0} → Result T ReadFault → ℕ → ℕ
-failures_after (Ok x) n = n
-failures_after (Err OutOfMemory) n = n
-failures_after (Err (Device w)) n = n + 1
-failures_after (Err TooLong) n = n
+abbrev pub failures_after_read : {T : Type 0} → Result T ReadFault → ℕ → ℕ
+failures_after_read (Ok x) n = n
+failures_after_read (Err OutOfMemory) n = n
+failures_after_read (Err (Device w)) n = n + 1
+failures_after_read (Err TooLong) n = n

@@ -49,9 +49,9 @@ value_tree us (AText t) = string t
 value_tree us (AName n) = string (name_text us n)
 
 -- finite decimals of a number
-abbrev pub decimals_of : Value → Option ℤ
-decimals_of (Number units d) = d
-decimals_of _ = None
+abbrev pub value_decimals : Value → Option ℤ
+value_decimals (Number units d) = d
+value_decimals _ = None
 
 abbrev pub with_decimals : Option ℤ → Members → Members
 with_decimals None ms = ms
@@ -62,7 +62,7 @@ dimensions_tree us f = object (member (codes "concept") (string (name_text us f.
 
 abbrev pub fact_tree : List (List ℕ) → Fact → Data
 fact_tree us f =
-    object (with_decimals (decimals_of f.value) (
+    object (with_decimals (value_decimals f.value) (
     member (codes "dimensions") (dimensions_tree us f) (
     member (codes "value") (value_tree us f.value) no_members)))
 

@@ -2,10 +2,10 @@ ghost use Rattle.std.specs.Prelude.{◌≡◌, ◌⊎◌, ◌||◌, [], IfOk, If
 ghost use Rattle.std.specs.Option.{unwrap_or, option_map_or};
 ghost use Rattle.std.specs.Result.{result_err};
 ghost use Rattle.serde_json.specs.View.{view, members_view};
-ghost use Rattle.xbrlmerge.specs.Conditions.{has_misshapen_member, has_unknown_member, form_conditions, some_name, is_other_dimension};
-ghost use Rattle.xbrlmerge.specs.ReportParts.{dimensions_of, concept_of};
+ghost use Rattle.xbrlmerge.specs.Conditions.{has_misshapen_member, has_unknown_member, fact_form_conditions, some_name, is_other_dimension};
+ghost use Rattle.xbrlmerge.specs.ReportParts.{fact_dimensions, concept_of};
 ghost use Rattle.xbrlmerge.specs.Json.{any_in, any_member};
-ghost use Rattle.xbrlmerge.specs.Names.{named, name_conditions, is_refused};
+ghost use Rattle.xbrlmerge.specs.Names.{named, name_conditions, names_nothing};
 ghost use Rattle.xbrlmerge.specs.Refusal.{first_holding};
 
 use crate::json_tree::{
@@ -17,7 +17,7 @@ use serde_json::{Map, Value};
 
 /// Whether a fact object has the form: its members, links and notes, and its dimensions.
 pub(crate) fn check_form(fact: &Value) -> Result<(), Reason>
-    ensures { result_err result ≡ first_holding (form_conditions (view fact.now)) }
+    ensures { result_err result ≡ first_holding (fact_form_conditions (view fact.now)) }
 {
     if has_misshapen_member(fact) {
         return Err(Reason::MemberForm);
@@ -85,7 +85,7 @@ pub(crate) fn concept_text(fact: &Value) -> Option<&str>
 ///
 /// Errors: `MissingConcept` where there is none; `OutOfMemory`.
 pub(crate) fn read_concept(aliases: &Aliases, fact: &Value) -> Result<Name, Reason>
-    requires { option_map_or (is_refused aliases.now) (concept_of (view fact.now)) false ≡ false }
+    requires { option_map_or (names_nothing aliases.now) (concept_of (view fact.now)) false ≡ false }
     ensures named { let text = concept_of (view fact.now) in
         IfOk result (λ n. (is_none text ≡ false) × (n ≡ named aliases.now (unwrap_or text []))) }
     ensures refused { let missing = is_none (concept_of (view fact.now)) in
@@ -100,7 +100,7 @@ pub(crate) fn read_concept(aliases: &Aliases, fact: &Value) -> Result<Name, Reas
 
 /// Whether a fact has a dimension beside its concept.
 pub(crate) fn has_other_dimension(fact: &Value) -> bool
-    ensures { result ≡ any_in is_other_dimension (dimensions_of (view fact.now)) }
+    ensures { result ≡ any_in is_other_dimension (fact_dimensions (view fact.now)) }
 {
     match object_at(fact, "dimensions") {
         Some(dimensions) => lists_other_dimension(dimensions),

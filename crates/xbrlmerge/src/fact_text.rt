@@ -1,7 +1,7 @@
 ghost use Rattle.std.specs.Prelude.{◌≡◌, ◌∷◌, ◌++◌, nat_lt, OnOk, IfOk, string_bytes};
 ghost use Rattle.xbrlmerge.specs.Parts.{Adds, AddsValue, decimals_tokens, part};
 ghost use Rattle.xbrlmerge.specs.Rank.{padded};
-ghost use Rattle.xbrlmerge.specs.Tree.{decimals_of, dimensions_tree, fact_tree, value_tree};
+ghost use Rattle.xbrlmerge.specs.Tree.{value_decimals, dimensions_tree, fact_tree, value_tree};
 
 use crate::fact::Fact;
 use crate::prefix_table::PrefixTable;
@@ -30,7 +30,7 @@ pub(crate) fn write_fact(
 
 // The decimals are a member where they are finite.
 fn write_decimals(json: &mut Writer, value: &Value) -> Result<(), AllocError>
-    ensures { OnOk result (Adds json.old json.new (decimals_tokens (decimals_of value.now))) }
+    ensures { OnOk result (Adds json.old json.new (decimals_tokens (value_decimals value.now))) }
 {
     let Value::Number(_, decimals) = value else {
         return Ok(());

@@ -1,10 +1,12 @@
 ghost use Rattle.std.specs.Prelude.{◌≡◌, ◌||◌, ◌∷◌, []};
 ghost use Rattle.std.specs.Result.{result_err};
+ghost use Rattle.oim_names.specs.Expansion.{lacks_form, lacks_binding, lies_in_reserved};
+ghost use Rattle.oim_names.specs.QName.{is_name};
 ghost use Rattle.serde_json.specs.View.{members_view};
 ghost use Rattle.xbrlmerge.specs.Conditions.{of_defined};
 ghost use Rattle.xbrlmerge.specs.Json.{any_member};
 ghost use Rattle.xbrlmerge.specs.Refusal.{first_holding};
-ghost use Rattle.xbrlmerge.specs.Names.{lacks_form, lacks_binding, lies_in_reserved, of_key};
+ghost use Rattle.xbrlmerge.specs.Names.{of_key};
 
 use crate::json_tree::has_colon;
 use oim_names::{Aliases, Reason};
@@ -31,10 +33,10 @@ impl NameFaults {
 
     /// These, and why this name is refused.
     pub(crate) fn and_of(self, aliases: &Aliases, name: &str) -> NameFaults
-        ensures form { result.form ≡ (self.form || lacks_form name.now) }
-        ensures prefix { result.prefix ≡ (self.prefix || lacks_binding aliases.now name.now) }
+        ensures form { result.form ≡ (self.form || lacks_form is_name name.now) }
+        ensures prefix { result.prefix ≡ (self.prefix || lacks_binding is_name aliases.now name.now) }
         ensures namespace { result.namespace
-            ≡ (self.namespace || lies_in_reserved aliases.now name.now) }
+            ≡ (self.namespace || lies_in_reserved is_name aliases.now name.now) }
     {
         let refusal = aliases.name_refusal(name);
         NameFaults {
@@ -47,11 +49,12 @@ impl NameFaults {
     /// These, and why the keys of this object are refused.
     pub(crate) fn and_of_keys(self, aliases: &Aliases, members: &Map<String, Value>) -> NameFaults
         ensures form { let ms = members_view members.now.entries in
-            result.form ≡ (self.form || any_member (of_key lacks_form) ms) }
+            result.form ≡ (self.form || any_member (of_key (lacks_form is_name)) ms) }
         ensures prefix { let ms = members_view members.now.entries in
-            result.prefix ≡ (self.prefix || any_member (of_key (lacks_binding aliases.now)) ms) }
+            result.prefix ≡ (self.prefix || any_member (of_key (lacks_binding is_name aliases.now)) ms) }
         ensures namespace { let ms = members_view members.now.entries in
-            result.namespace ≡ (self.namespace || any_member (of_key (lies_in_reserved aliases.now)) ms) }
+            result.namespace
+            ≡ (self.namespace || any_member (of_key (lies_in_reserved is_name aliases.now)) ms) }
     {
         let mut faults = self;
         for (key, _value) in members.iter() {
@@ -67,11 +70,13 @@ impl NameFaults {
         dimensions: &Map<String, Value>,
     ) -> NameFaults
         ensures form { let ms = members_view dimensions.now.entries in
-            result.form ≡ (self.form || any_member (of_defined lacks_form) ms) }
+            result.form ≡ (self.form || any_member (of_defined (lacks_form is_name)) ms) }
         ensures prefix { let ms = members_view dimensions.now.entries in
-            result.prefix ≡ (self.prefix || any_member (of_defined (lacks_binding aliases.now)) ms) }
+            result.prefix
+            ≡ (self.prefix || any_member (of_defined (lacks_binding is_name aliases.now)) ms) }
         ensures namespace { let ms = members_view dimensions.now.entries in
-            result.namespace ≡ (self.namespace || any_member (of_defined (lies_in_reserved aliases.now)) ms) }
+            result.namespace
+            ≡ (self.namespace || any_member (of_defined (lies_in_reserved is_name aliases.now)) ms) }
     {
         let mut faults = self;
         for (key, _value) in dimensions.iter() {

@@ -1,6 +1,6 @@
 ghost use Rattle.std.specs.Prelude.{◌≡◌, ◌+◌, ◌-◌, ◌^◌, ◌<◌, ◌≤◌, length, take, drop, vec_len, IfOk, IfErr, OnErr, OnOk, is_ok, if◌then◌else◌};
 ghost use Rattle.std.specs.Io.KnownBytes.{Consumes, IsAtEnd, Keeps};
-ghost use Rattle.xbrlmerge.specs.Source.{GivesBefore, failures_after};
+ghost use Rattle.xbrlmerge.specs.Source.{GivesBefore, failures_after_read};
 
 use crate::encoded::Encoded;
 use crate::read_fault::ReadFault;
@@ -18,7 +18,7 @@ pub fn read_all<S: Source>(alloc: Global, source: &mut S, limit: u32) -> Result<
         × IsAtEnd (S.told source.new)) }
     ensures limit { IfOk result (λ bytes. length bytes ≤ limit) }
     ensures err { IfErr result (GivesBefore (S.told source.old) (S.told source.new) limit) }
-    ensures failures { S.failures source.new ≡ failures_after result (S.failures source.old) }
+    ensures failures { S.failures source.new ≡ failures_after_read result (S.failures source.old) }
 {
     let too_many = limit as usize + 1;
     let mut bytes = Vec::new(alloc);

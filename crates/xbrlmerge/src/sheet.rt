@@ -3,9 +3,9 @@ ghost use Rattle.std.specs.Result.{result_err};
 ghost use Rattle.std.specs.FinMap as map;
 ghost use Rattle.serde_json.specs.View.{view, members_view};
 ghost use Rattle.xbrlmerge.specs.Json.{any_in, any_member, members};
-ghost use Rattle.xbrlmerge.specs.Names.{is_refused, of_key, name_conditions};
+ghost use Rattle.xbrlmerge.specs.Names.{names_nothing, of_key, name_conditions};
 ghost use Rattle.xbrlmerge.specs.Refusal.{first_holding};
-ghost use Rattle.xbrlmerge.specs.Sheet.{form_conditions, kind_conditions, is_no_kind, some_key, listed, sheet_of, sheet_outcome};
+ghost use Rattle.xbrlmerge.specs.Sheet.{sheet_form_conditions, kind_conditions, is_no_kind, some_key, listed, sheet_of, sheet_outcome};
 
 use crate::concept_kind::ConceptKind;
 use crate::json_tree::{has_member, has_unknown_in, is_no_object, object_at, read_json};
@@ -77,7 +77,7 @@ impl Sheet {
         concepts: Option<&Map<String, Value>>,
     ) -> Result<Sheet, Reason>
         requires { let ms = option_map (λ m. members_view m.now.entries) concepts in
-            any_in (of_key (is_refused aliases.now)) ms ≡ false }
+            any_in (of_key (names_nothing aliases.now)) ms ≡ false }
         ensures listed { let ms = option_map (λ m. members_view m.now.entries) concepts.entry in
             IfOk result (λ s. s.concepts ≡ map.from_entries (listed aliases.now (members ms))) }
         ensures errors { IfErr result (λ r. r ≡ Reason.OutOfMemory) }
@@ -96,7 +96,7 @@ impl Sheet {
         concepts: &Map<String, Value>,
     ) -> Result<Sheet, Reason>
         requires { let ms = members_view concepts.now.entries in
-            any_member (of_key (is_refused aliases.now)) ms ≡ false }
+            any_member (of_key (names_nothing aliases.now)) ms ≡ false }
         ensures listed { let ms = members_view concepts.now.entries in
             IfOk result (λ s. s.concepts ≡ map.from_entries (listed aliases.now ms)) }
         ensures errors { IfErr result (λ r. r ≡ Reason.OutOfMemory) }
@@ -157,7 +157,7 @@ fn lists_other_kind(concepts: &Map<String, Value>) -> bool
 }
 
 fn check_form(tree: &Value) -> Result<(), Reason>
-    ensures { result_err result ≡ first_holding (form_conditions (view tree.now)) }
+    ensures { result_err result ≡ first_holding (sheet_form_conditions (view tree.now)) }
 {
     if !tree.is_object()
         || is_no_object(tree.get("namespaces"))

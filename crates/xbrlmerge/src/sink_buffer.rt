@@ -1,6 +1,6 @@
 ghost use Rattle.std.specs.Prelude.{◌≡◌, ◌-◌, ◌^◌, ◌<◌, [], IfOk, IfErr, OnOk};
 ghost use Rattle.xbrlmerge.specs.SinkBuffer.{Breaks, Passes, nothing_yet};
-ghost use Rattle.xbrlmerge.specs.Sink.{failures_after, written_of};
+ghost use Rattle.xbrlmerge.specs.Sink.{failures_after_write, written_of};
 
 use crate::sink::{Sink, put_all};
 use crate::write_fault::WriteFault;
@@ -47,7 +47,7 @@ impl SinkBuffer {
             (Passes (S.told sink.old) (S.told sink.new) self.old self.new bytes.now) }
         ensures err { IfErr result (λ fault. Breaks (S.told sink.old) (S.told sink.new) self.old
             bytes.now (written_of fault)) }
-        ensures failures { S.failures sink.new ≡ failures_after result (S.failures sink.old) }
+        ensures failures { S.failures sink.new ≡ failures_after_write result (S.failures sink.old) }
     {
         if self.buffer.extend_from_slice(bytes).is_err() {
             return Err(WriteFault::OutOfMemory(self.written));
@@ -65,7 +65,7 @@ impl SinkBuffer {
         ensures empty { OnOk result (self.new.bytes ≡ []) }
         ensures err { IfErr result (λ fault. Breaks (S.told sink.old) (S.told sink.new) self.old
             [] (written_of fault)) }
-        ensures failures { S.failures sink.new ≡ failures_after result (S.failures sink.old) }
+        ensures failures { S.failures sink.new ≡ failures_after_write result (S.failures sink.old) }
     {
         match put_all(sink, &self.buffer) {
             Ok(()) => {

@@ -5,7 +5,7 @@ ghost use Rattle.xbrlmerge.specs.Bytes.{canonical};
 ghost use Rattle.xbrlmerge.specs.Fact.{fact_cmp};
 ghost use Rattle.xbrlmerge.specs.Parts.{facts_text};
 ghost use Rattle.xbrlmerge.specs.SinkBuffer.{Breaks, Passes};
-ghost use Rattle.xbrlmerge.specs.Sink.{AppendsFront, failures_after, written_of};
+ghost use Rattle.xbrlmerge.specs.Sink.{AppendsFront, failures_after_write, written_of};
 
 use crate::base::Base;
 use crate::fact::Fact;
@@ -51,7 +51,7 @@ pub fn write_to<S: Sink>(alloc: Global, base: &Base, out: &mut S) -> Result<(), 
     ensures ok { OnOk result (Appends (S.told out.old) (S.told out.new) (canonical base.now)) }
     ensures err { IfErr result (λ fault. AppendsFront (S.told out.old) (S.told out.new)
         (canonical base.now) (written_of fault)) }
-    ensures failures { S.failures out.new ≡ failures_after result (S.failures out.old) }
+    ensures failures { S.failures out.new ≡ failures_after_write result (S.failures out.old) }
 {
     let Ok(table) = PrefixTable::of(alloc, base.facts()) else {
         return Err(WriteFault::OutOfMemory(0));
@@ -80,7 +80,7 @@ fn write_parts<S: Sink>(
         (head.now ++ (facts_text table.now facts.now ++ codes "}}"))) }
     ensures err { IfErr result (λ fault. Breaks (S.told out.old) (S.told out.new) buffer.old
         (head.now ++ (facts_text table.now facts.now ++ codes "}}")) (written_of fault)) }
-    ensures failures { S.failures out.new ≡ failures_after result (S.failures out.old) }
+    ensures failures { S.failures out.new ≡ failures_after_write result (S.failures out.old) }
 {
     buffer.push(out, head)?;
     write_facts(alloc, buffer, out, table, facts)?;
@@ -100,7 +100,7 @@ fn write_facts<S: Sink>(
         (facts_text table.now facts.now)) }
     ensures err { IfErr result (λ fault. Breaks (S.told out.old) (S.told out.new) buffer.old
         (facts_text table.now facts.now) (written_of fault)) }
-    ensures failures { S.failures out.new ≡ failures_after result (S.failures out.old) }
+    ensures failures { S.failures out.new ≡ failures_after_write result (S.failures out.old) }
 {
     let digits = width_of(facts.len());
     let mut part = Vec::new(alloc);

@@ -54,6 +54,8 @@ fn with_members(rt: &HostRuntime, aliases: &Aliases, names: &[&str]) -> Result<D
 #[test]
 fn a_concept_alone_holds_forever(rt: HostRuntime) -> Result<(), Fail> {
     let set = dimensions(&rt, &example(&rt)?, "eg:A")?;
+    set.known();
+    set.period().known();
     assert_eq!(rt; set.concept().local(), "A");
     assert!(rt; set.entity().is_none());
     assert!(rt; set.period() == Period::Forever);

@@ -33,6 +33,7 @@ fn measures_come_in_any_order(rt: HostRuntime) -> Result<(), Fail> {
     let Some(unit) = plain else {
         panic!(rt; "the unit is kept");
     };
+    unit.known();
     assert_eq!(rt; unit.numerators().len(), 2);
     assert!(rt; unit.numerators()[0] == name(&rt, &aliases, "x:a")?);
     assert!(rt; unit.numerators()[1] == name(&rt, &aliases, "x:b")?);

@@ -15,14 +15,14 @@ loop-other-preserved g c =
           c.in_ok-from.ensures.values
           ∙ ap (λ cs. cs ++ new_value g.K.Ord.cmp g.V.Merge.merged es c.other-item.result) c.loop-other.invariant.values
           ∙ sym (flat_map_more (new_value g.K.Ord.cmp g.V.Merge.merged es) fs i c.other-item.result c.loop-other-test.true c.other-item.is);
-      news =
-          c.in_ok-from.ensures.news
-          ∙ ap (λ cs. cs ++ new_item g.K.Ord.cmp entry_key es c.other-item.result) c.loop-other.invariant.news
+      new_entries =
+          c.in_ok-from.ensures.new_entries
+          ∙ ap (λ cs. cs ++ new_item g.K.Ord.cmp entry_key es c.other-item.result) c.loop-other.invariant.new_entries
           ∙ sym (flat_map_more (new_item g.K.Ord.cmp entry_key es) fs i c.other-item.result c.loop-other-test.true c.other-item.is);
       within = subst (λ n. n ≤ length es) (sym c.in_ok-from.ensures.place) (place_bound entry_key g.met.K.Ord.total c.other-item.result.0 es);
       passed = λ d within j e _ lt.
           passed_next entry_key g.met.K.Ord.total es fs i c.other-item.result d c.requires.others within c.other-item.is j e (subst (λ n. j < n) c.in_ok-from.ensures.place lt);
     }
 
-pub returns-clause-news : goal.returns-clause-news
-returns-clause-news g c = c.loop-other.invariant.news ∙ ap (new_items g.K.Ord.cmp entry_key c.args.entries.now) (whole c.args.others.now c.loop-other.other-index c.loop-other-test.false)
+pub returns-clause-new_entries : goal.returns-clause-new_entries
+returns-clause-new_entries g c = c.loop-other.invariant.new_entries ∙ ap (new_items g.K.Ord.cmp entry_key c.args.entries.now) (whole c.args.others.now c.loop-other.other-index c.loop-other-test.false)

@@ -25,7 +25,7 @@ returns-then-rest-eq0 c =
     let units : to_z w128 (of_z w128 c.args.units) ≡ c.args.units = to_z-of_z w128 c.args.units c.ranges.units in
     let size : c.unsigned_abs-size.result ≡ unsigned_abs c.args.units = c.unsigned_abs-size.ensures.value ∙ ap unsigned_abs units in
     let sign : c.sign_of-sign.result.now ≡ sign_text c.args.units = c.sign_of-sign.ensures ∙ ap sign_text units in
-    c.from_string.ensures ∙ whole_text c.args.units _ _ _ size sign (rw c.pow-2.ensures at c.if-rest-eq0.true) (rw c.pow.ensures at c.in_ok-format.ensures.ok)
+    c.in_ok-whole.ensures ∙ whole_text c.args.units _ _ _ size sign (rw c.pow-2.ensures at c.if-rest-eq0.true) (rw c.pow.ensures at c.in_ok-format.ensures.ok)
 
 pub truncate-requires : goal.truncate-requires
 truncate-requires c =
@@ -45,4 +45,4 @@ returns c =
     let text : string_bytes c.in_ok-text.text ≡ all_places c.args.units = places_text c.args.units _ _ _ size sign (rw (c.laid_out.ensures, c.pow.ensures, c.pow-2.ensures) at c.in_ok-text.ensures.ok) in
     let some : 0 < unsigned_abs c.args.units % 10 ^ UNIT_PLACES = (let other = rw (c.pow-2.ensures, size) at c.if-rest-eq0.false in grind (arith, nat_tests)) in
     let kept : c.skip_trailing_zeros-kept.result.now ≡ without_trailing (string_bytes c.in_ok-text.text) = c.skip_trailing_zeros-kept.ensures ∙ ap without_trailing c.as_bytes.ensures.value in
-    c.from_string-2.ensures ∙ (c.truncate.ensures.bytes ∙ rw kept (take-without_trailing (string_bytes c.in_ok-text.text) ∙ ap without_trailing text) ∙ plain_cut c.args.units some)
+    c.in_ok-cut.ensures ∙ (c.truncate.ensures.bytes ∙ rw kept (take-without_trailing (string_bytes c.in_ok-text.text) ∙ ap without_trailing text) ∙ plain_cut c.args.units some)

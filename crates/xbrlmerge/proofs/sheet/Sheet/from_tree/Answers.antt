@@ -1,11 +1,13 @@
 use Rattle.std.proofs.Common.{inr, sym, ap, ◌∙◌}
 use Rattle.std.proofs.lemmas.Result.{err_from_is_err_and}
 use Rattle.std.proofs.lemmas.Bool.{or_parts}
+use Rattle.oim_names.specs.Expansion.{lacks_form, lacks_binding, lies_in_reserved}
+use Rattle.oim_names.specs.QName.{is_name}
 use Rattle.serde_json.specs.View.{view}
 use Rattle.xbrlmerge.specs.Json.{any_in, members}
-use Rattle.xbrlmerge.specs.Names.{is_refused, of_key, binds_nothing, bindings_in, name_conditions, lacks_form, lacks_binding, lies_in_reserved}
+use Rattle.xbrlmerge.specs.Names.{names_nothing, of_key, binds_nothing, bindings_in, name_conditions}
 use Rattle.xbrlmerge.specs.Refusal.{first_holding}
-use Rattle.xbrlmerge.specs.Sheet.{concepts_of, dimensions_of, some_key}
+use Rattle.xbrlmerge.specs.Sheet.{sheet_concepts, sheet_dimensions, some_key}
 use Rattle.xbrlmerge.proofs.Refused.{no_name_refused, no_key_refused_in}
 use Rattle.xbrlmerge.proofs.SheetRefused.{by_form, by_names, by_kinds}
 use Rattle.xbrlmerge.proofs.sheet.Sheet.from_tree.Goals as goal
@@ -39,7 +41,7 @@ listed-requires c =
     let tree = view c.args.tree.now in
     let bs = c.in_ok-aliases.aliases in
     let names = no_name_refused (some_key tree) bs c.in_ok-check_names.ensures in
-    let form = or_parts (any_in (of_key lacks_form) (concepts_of tree)) (any_in (of_key lacks_form) (dimensions_of tree)) names.0 in
-    let prefix = or_parts (any_in (of_key (lacks_binding bs)) (concepts_of tree)) (any_in (of_key (lacks_binding bs)) (dimensions_of tree)) names.1 in
-    let namespace = or_parts (any_in (of_key (lies_in_reserved bs)) (concepts_of tree)) (any_in (of_key (lies_in_reserved bs)) (dimensions_of tree)) names.2 in
-    ap (any_in (of_key (is_refused bs))) c.object_at-2.ensures ∙ no_key_refused_in bs (concepts_of tree) form.0 prefix.0 namespace.0
+    let form = or_parts (any_in (of_key (lacks_form is_name)) (sheet_concepts tree)) (any_in (of_key (lacks_form is_name)) (sheet_dimensions tree)) names.0 in
+    let prefix = or_parts (any_in (of_key (lacks_binding is_name bs)) (sheet_concepts tree)) (any_in (of_key (lacks_binding is_name bs)) (sheet_dimensions tree)) names.1 in
+    let namespace = or_parts (any_in (of_key (lies_in_reserved is_name bs)) (sheet_concepts tree)) (any_in (of_key (lies_in_reserved is_name bs)) (sheet_dimensions tree)) names.2 in
+    ap (any_in (of_key (names_nothing bs))) c.object_at-2.ensures ∙ no_key_refused_in bs (sheet_concepts tree) form.0 prefix.0 namespace.0

@@ -1,0 +1,23 @@
+-- Lists that rise, built from their start: what `of_rising` asks.
+use Rattle.std.proofs.Common.{◌≡◌, List, [], ◌∷◌, ◌++◌}
+use Rattle.std.specs.declared.cmp.Ordering.{Ordering}
+use Rattle.std.specs.declared.cmp.Ordering.TheVariants.{Less}
+use Rattle.std.specs.List.{AllByRecursion}
+use Rattle.std.specs.List.Sorted.{IsStrictlySortedBy}
+use Rattle.merge_laws.specs.Sorted.{IsRising}
+use Rattle.merge_laws.proofs.Lists.{all_both}
+
+module _ {K E : Type 0} (R : K → K → Ordering) (key : E → K) where
+  pub none_rise : IsRising R key []
+  unfolding IsStrictlySortedBy
+  none_rise = tt
+
+  pub one_rises : (x : E) → IsRising R key (x ∷ [])
+  unfolding IsStrictlySortedBy
+  one_rises x = (tt, tt)
+
+  -- an item above all goes behind them
+  pub rises_behind : (es : List E) (x : E) → IsRising R key es → AllByRecursion (λ e. R (key e) (key x) ≡ Less) es → IsRising R key (es ++ x ∷ [])
+  unfolding IsStrictlySortedBy
+  rises_behind [] x h below = (tt, tt)
+  rises_behind (e ∷ es) x h below = (all_both (λ f. R (key e) (key f) ≡ Less) es (x ∷ []) h.0 (below.0, tt), rises_behind es x h.1 below.1)

@@ -1,0 +1,6 @@
+use Rattle.std.proofs.Common.{take}
+use Rattle.std.specs.List.{AllByRecursion}
+use Rattle.merge_laws.proofs.sorted_map.know_values.Given as goal
+
+abbrev pub invariant-loop-entry : goal.invariant-loop-entry
+invariant-loop-entry g l = AllByRecursion (λ e. g.V.Merge.is_known e.1) (take l.entry-index l.entries)

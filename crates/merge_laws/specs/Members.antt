@@ -1,0 +1,50 @@
+-- What is so of sets, maps and summaries by their members alone (own).
+use Rattle.std.specs.Prelude.{◌≡◌, ◌↔◌, Bool, IsTrue, List, [], ◌∷◌, ◌++◌, Contains}
+use Rattle.std.specs.List.{AllPass}
+use Rattle.std.specs.declared.cmp.Ordering.{Ordering}
+use Rattle.std.specs.declared.cmp.Ordering.TheVariants.{Equal}
+use Rattle.oim_value.specs.declared.value.Value.{Value}
+use Rattle.merge_laws.specs.Ends.{summary_of, both_summaries, summary_of_all}
+use Rattle.merge_laws.specs.Sorted.{IsRising, IsSet, entry_key, value_at}
+use Rattle.merge_laws.specs.Union.{map_with, map_union, set_union}
+
+-- two lists have the same members
+abbrev pub SameMembers : {A : Type 0} → List A → List A → Type 0
+SameMembers {A} xs ys = (x : A) → Contains xs x ↔ Contains ys x
+
+-- sets with the same members are one set
+abbrev pub SetIsItsMembers : {K : Type 0} → (K → K → Ordering) → Type 0
+SetIsItsMembers {K} R = (xs ys : List K) → IsSet R xs → IsSet R ys → SameMembers xs ys → xs ≡ ys
+
+-- maps with the same value, or none, at each key are one map
+abbrev pub MapIsItsValues : {K : Type 0} → (K → K → Ordering) → Type 0 → Type 0
+MapIsItsValues {K} R V = (es fs : List (K × V)) → IsRising R entry_key es → IsRising R entry_key fs → ((k : K) → value_at R k es ≡ value_at R k fs) → es ≡ fs
+
+module _ {K V : Type 0} (R : K → K → Ordering) (merged : V → V → V) where
+  -- where two values at one key pass a test, what they make together passes it there
+  abbrev pub IsKept : (K × V → Bool) → Type 0
+  IsKept test = (k : K) (v w : V) → IsTrue (test (k, v)) → IsTrue (test (k, w)) → IsTrue (test (k, merged v w))
+
+  -- such a test is passed by all entries of a union where all entries of both pass it
+  abbrev pub MapUnionKeeps : Type 0
+  MapUnionKeeps = (test : K × V → Bool) → IsKept test → (es fs : List (K × V)) → AllPass test es → AllPass test fs → AllPass test (map_union R merged es fs)
+
+  -- and where a value is put
+  abbrev pub MapWithKeeps : Type 0
+  MapWithKeeps = (test : K × V → Bool) → IsKept test → (es : List (K × V)) (k : K) (v : V) → AllPass test es → IsTrue (test (k, v)) → AllPass test (map_with R merged k v es)
+
+-- the summary of one value
+abbrev pub SummaryOfOne : Type 0
+SummaryOfOne = (v : Value) → summary_of_all (v ∷ []) ≡ summary_of v
+
+-- of two lists, one after the other
+abbrev pub SummaryOfBoth : Type 0
+SummaryOfBoth = (vs ws : List Value) → summary_of_all (vs ++ ws) ≡ both_summaries (summary_of_all vs) (summary_of_all ws)
+
+-- of the union of two sets, in whatever order, where values that tie are one
+abbrev pub SummaryOfUnion : Type 0
+SummaryOfUnion = (R : Value → Value → Ordering) → ((v w : Value) → R v w ≡ Equal → v ≡ w) → (vs ws : List Value) → summary_of_all (set_union R vs ws) ≡ both_summaries (summary_of_all vs) (summary_of_all ws)
+
+-- neither order nor repetition tells
+abbrev pub SummaryOfMembers : Type 0
+SummaryOfMembers = (vs ws : List Value) → SameMembers vs ws → summary_of_all vs ≡ summary_of_all ws

@@ -1,0 +1,107 @@
+ghost use Rattle.std.specs.Prelude.{◌≡◌, [], MatchOption};
+ghost use Rattle.std.specs.List.{list_all, list_any, slice_split};
+ghost use Rattle.oim_dims.specs.Separators.{is_star};
+ghost use Rattle.oim_dims.specs.Unit.{inner, is_piece, is_mark, is_unit_text, refuses, some_piece, unit_refusal, numerator_pieces, denominator_pieces};
+
+use oim_names::{Aliases, Reason};
+
+/// Both sides of a unit's text, each without the parentheses round the whole of it. There is no
+/// second side where the text has no `/`.
+pub(crate) fn sides(text: &str) -> (&str, Option<&str>)
+    ensures numerators { slice_split is_star result.0.now ≡ numerator_pieces text.now }
+    ensures denominators { MatchOption result.1 (denominator_pieces text.now ≡ []) (λ side. slice_split is_star side.now ≡ denominator_pieces text.now) }
+{
+    match text.split_once('/') {
+        Some((numerator, denominator)) => (inner(numerator), Some(inner(denominator))),
+        None => (inner(text), None),
+    }
+}
+
+fn inner(side: &str) -> &str
+    ensures { result.now ≡ inner side.now }
+{
+    match side.strip_prefix('(') {
+        Some(rest) => match rest.strip_suffix(')') {
+            Some(body) => body,
+            None => side,
+        },
+        None => side,
+    }
+}
+
+/// Why a text is no unit under these aliases, the first that holds: `UnitForm`, and then of any
+/// piece `NameForm`, `UnboundPrefix`, `ReservedNamespace`. It takes no memory.
+pub fn unit_refusal(aliases: &Aliases, text: &str) -> Option<Reason>
+    ensures { result ≡ unit_refusal aliases.now text.now }
+{
+    if !is_unit_text(text) {
+        return Some(Reason::UnitForm);
+    }
+    if refuses_some(aliases, Reason::NameForm, text) {
+        return Some(Reason::NameForm);
+    }
+    if refuses_some(aliases, Reason::UnboundPrefix, text) {
+        return Some(Reason::UnboundPrefix);
+    }
+    if refuses_some(aliases, Reason::ReservedNamespace, text) {
+        return Some(Reason::ReservedNamespace);
+    }
+    None
+}
+
+/// Whether a text has the form of a unit.
+pub(crate) fn is_unit_text(text: &str) -> bool
+    ensures { result ≡ is_unit_text text.now }
+{
+    let (numerator, denominator) = sides(text);
+    match denominator {
+        Some(denominator) => are_pieces(numerator) && are_pieces(denominator),
+        None => are_pieces(numerator),
+    }
+}
+
+fn are_pieces(side: &str) -> bool
+    ensures { result ≡ list_all is_piece (slice_split is_star side.now) }
+{
+    side.split('*').all(|piece| is_piece(piece))
+}
+
+fn is_piece(piece: &str) -> bool
+    ensures { result ≡ is_piece piece.now }
+{
+    !piece.is_empty() && !has_mark(piece.as_bytes())
+}
+
+/// Whether a text has one of the characters that a unit is built with.
+pub(crate) fn has_mark(text: &[u8]) -> bool
+    ensures { result ≡ list_any is_mark text.now }
+{
+    text.iter()
+        .any(|c| *c == b'(' || *c == b')' || *c == b'*' || *c == b'/')
+}
+
+fn refuses_some(aliases: &Aliases, reason: Reason, text: &str) -> bool
+    ensures { result ≡ some_piece (refuses reason aliases.now) text.now }
+{
+    let (numerator, denominator) = sides(text);
+    if refuses_one_of(aliases, reason, numerator) {
+        return true;
+    }
+    match denominator {
+        Some(denominator) => refuses_one_of(aliases, reason, denominator),
+        None => false,
+    }
+}
+
+fn refuses_one_of(aliases: &Aliases, reason: Reason, side: &str) -> bool
+    ensures { result ≡ list_any (refuses reason aliases.now) (slice_split is_star side.now) }
+{
+    side.split('*').any(|piece| refuses(aliases, reason, piece))
+}
+
+// Whether this is why the piece is no name.
+fn refuses(aliases: &Aliases, reason: Reason, piece: &str) -> bool
+    ensures { result ≡ refuses reason aliases.now piece.now }
+{
+    aliases.name_refusal(piece) == Some(reason)
+}

@@ -1,0 +1,85 @@
+-- Nothing refuses a text exactly where it names something, and each refusal has its test.
+use Rattle.std.proofs.Common.{◌≡◌, ◌≢◌, ◌↔◌, ℕ, List, Bool, true, false, refl, sym, ◌∙◌, ap}
+use Rattle.std.specs.Prelude.{Option, Some, None, is_none, IsTrue, not, ◌&&◌, if◌then◌else◌}
+use Rattle.std.specs.Option.{option_map_or}
+use Rattle.std.specs.Str.{bytes_eq}
+use Rattle.oim_names.specs.QName.{QName, prefix_part, local_part}
+use Rattle.oim_names.specs.Bindings.{Binding, uri_of}
+use Rattle.oim_names.specs.Expansion.{ExpandsAs, reserved_uri, refusal_as, NamesUnlessRefused, NamesOne, FormIsTested, PrefixIsTested, NamespaceIsTested}
+use Rattle.oim_names.specs.declared.reason.Reason.{Reason}
+use Rattle.oim_names.specs.declared.reason.Reason.TheVariants.{NameForm, UnboundPrefix, ReservedNamespace}
+use Rattle.oim_names.proofs.Bytes.{other_bytes, bytes_not_eq}
+
+-- the refusal, by its three tests: the form, that the prefix is not bound, that its URI is the reserved one
+abbrev pub by_tests : Bool → Bool → Bool → Option Reason
+by_tests form unbound reserved =
+    if form then (if unbound then Some UnboundPrefix else (if reserved then Some ReservedNamespace else None)) else Some NameForm
+
+-- it is none where all three have passed
+pub passed : (a b c : Bool) → by_tests a b c ≡ None → (a ≡ true) × (b ≡ false) × (c ≡ false)
+passed false b c h = absurd (cc)
+passed true true c h = absurd (cc)
+passed true false true h = absurd (cc)
+passed true false false h = (refl, refl, refl)
+
+-- an option that is there, and whose value does not pass the test
+there : (u : Option (List ℕ)) → is_none u ≡ false → option_map_or (λ v. bytes_eq v reserved_uri) u false ≡ false → (v : List ℕ) × (u ≡ Some v) × (v ≢ reserved_uri)
+there None h k = absurd (cc)
+there (Some v) h k = (v, refl, other_bytes v reserved_uri k)
+
+-- nothing refuses a text that names something
+pub named_kept : (has_form : List ℕ → Bool) (bs : List Binding) (t : List ℕ) (n : QName) → ExpandsAs has_form bs t n → refusal_as has_form bs t ≡ None
+named_kept has_form bs t n e =
+    let differs : bytes_eq n.uri reserved_uri ≡ false = bytes_not_eq n.uri reserved_uri e.allowed in
+    rw (e.form, e.uri, differs) refl
+
+-- a text that nothing refuses names the URI of its prefix with its local part
+pub kept_named : (has_form : List ℕ → Bool) (bs : List Binding) (t : List ℕ) → refusal_as has_form bs t ≡ None → (n : QName) × ExpandsAs has_form bs t n
+kept_named has_form bs t none =
+    let tests = passed (has_form t) (is_none (uri_of bs (prefix_part t))) (option_map_or (λ v. bytes_eq v reserved_uri) (uri_of bs (prefix_part t)) false) none in
+    let bound = there (uri_of bs (prefix_part t)) tests.1 tests.2 in
+    (record { uri = bound.0; local_part = local_part t }, record { form = tests.0; uri = bound.1; allowed = bound.2; local_part = refl })
+
+pub names_unless_refused : (has_form : List ℕ → Bool) → NamesUnlessRefused has_form
+names_unless_refused has_form bs t = (kept_named has_form bs t, λ some. named_kept has_form bs t some.0 some.1)
+
+same_name : (m n : QName) → m.uri ≡ n.uri → m.local_part ≡ n.local_part → m ≡ n
+same_name m n uri part =
+    ap (λ u. record { uri = u; local_part = m.local_part }) uri ∙ ap (λ l. record { uri = n.uri; local_part = l }) part
+
+-- the URI is the one that is bound, and the local part what follows the colon
+pub names_one : (has_form : List ℕ → Bool) → NamesOne has_form
+names_one has_form bs t m n a b =
+    let uris : Some m.uri ≡ Some n.uri = sym a.uri ∙ b.uri in
+    same_name m n (cc) (a.local_part ∙ sym b.local_part)
+
+-- each refusal, by the tests
+form_first : (a b c : Bool) → (by_tests a b c ≡ Some NameForm) ↔ IsTrue (not a)
+form_first false b c = (λ h. refl, λ h. refl)
+form_first true true c = (λ h. absurd (cc), λ h. absurd (cc))
+form_first true false true = (λ h. absurd (cc), λ h. absurd (cc))
+form_first true false false = (λ h. absurd (cc), λ h. absurd (cc))
+
+unbound_second : (a b c : Bool) → (by_tests a b c ≡ Some UnboundPrefix) ↔ IsTrue (a && b)
+unbound_second false b c = (λ h. absurd (cc), λ h. absurd (cc))
+unbound_second true true c = (λ h. refl, λ h. refl)
+unbound_second true false true = (λ h. absurd (cc), λ h. absurd (cc))
+unbound_second true false false = (λ h. absurd (cc), λ h. absurd (cc))
+
+when_reserved : (b : Bool) → ((if b then Some ReservedNamespace else None) ≡ Some ReservedNamespace) ↔ IsTrue b
+when_reserved true = (λ h. refl, λ h. refl)
+when_reserved false = (λ h. absurd (cc), λ h. absurd (cc))
+
+reserved_third : (a : Bool) (u : Option (List ℕ)) → (by_tests a (is_none u) (option_map_or (λ v. bytes_eq v reserved_uri) u false) ≡ Some ReservedNamespace) ↔ IsTrue (a && option_map_or (λ v. bytes_eq v reserved_uri) u false)
+reserved_third false u = (λ h. absurd (cc), λ h. absurd (cc))
+reserved_third true None = (λ h. absurd (cc), λ h. absurd (cc))
+reserved_third true (Some v) = when_reserved (bytes_eq v reserved_uri)
+
+pub form_is_tested : (has_form : List ℕ → Bool) → FormIsTested has_form
+form_is_tested has_form bs t = form_first (has_form t) _ _
+
+pub prefix_is_tested : (has_form : List ℕ → Bool) → PrefixIsTested has_form
+prefix_is_tested has_form bs t = unbound_second (has_form t) (is_none (uri_of bs (prefix_part t))) _
+
+pub namespace_is_tested : (has_form : List ℕ → Bool) → NamespaceIsTested has_form
+namespace_is_tested has_form bs t = reserved_third (has_form t) (uri_of bs (prefix_part t))

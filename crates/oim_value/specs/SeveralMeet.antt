@@ -1,0 +1,69 @@
+-- Whether each two of several different values meet, told by the ends of their intervals (own).
+use Rattle.std.specs.Prelude.{◌≡◌, ◌≢◌, ◌↔◌, ◌⊎◌, ℕ, ◌≤◌, Bool, false, IsTrue, List, length, slice_get, Contains, Some, ℤ, ◌<ℤ◌}
+use Rattle.std.specs.List.{All, AllPairs, position_or_len}
+use Rattle.std.specs.Ordering.{int_eq}
+use Rattle.oim_value.specs.Ends.{AreEnds, intervals_of, has_interval}
+use Rattle.oim_value.specs.Interval.{HasPoints, interval}
+use Rattle.oim_value.specs.Meets.{Meets}
+use Rattle.oim_value.specs.ValueOrder.{kind_order}
+use Rattle.oim_value.specs.declared.interval.Interval.{Interval}
+use Rattle.oim_value.specs.declared.value.Value.{Value}
+use Rattle.oim_value.specs.declared.value.Value.TheVariants.{Nil, Number}
+
+-- each value is another than each later one
+abbrev pub AreDifferent : List Value → Type 0
+AreDifferent = AllPairs (λ x y. x ≢ y)
+
+-- each value meets each later one
+abbrev pub EachTwoValuesMeet : List Value → Type 0
+EachTwoValuesMeet = AllPairs Meets
+
+-- that is, any two among them meet, since each meets itself: repeats and order do not matter
+abbrev pub EachTwoMeetByMembers : Type 0
+EachTwoMeetByMembers = (vs : List Value) → EachTwoValuesMeet vs ↔ ((x y : Value) → Contains vs x → Contains vs y → Meets x y)
+
+-- each value is nil or of one kind: numbers, or texts, or names
+abbrev pub AreNilOrOfKind : ℕ → List Value → Type 0
+AreNilOrOfKind kind = All (λ v. (v ≡ Nil) ⊎ (kind_order v ≡ kind))
+
+-- none of the values is nil, some are numbers, and their intervals end at e, which is not empty
+pub record MeetBetween (vs : List Value) (e : Interval) : Type 0 where
+  pub no_nil : Contains vs Nil → ⊥
+  pub ends : AreEnds e (intervals_of vs)
+  pub points : HasPoints e
+
+-- different values meet as numbers alone,
+abbrev pub DifferentMeetAsNumbers : Type 0
+DifferentMeetAsNumbers = (x y : Value) → x ≢ y → Meets x y → IsTrue (has_interval x) × IsTrue (has_interval y)
+
+-- so of several that are nil or of one kind each two meet exactly if none is nil, there are ends, and low is at most high
+abbrev pub DifferentMeetBetweenEnds : Type 0
+DifferentMeetBetweenEnds = (kind : ℕ) (vs : List Value) → 2 ≤ length vs → AreDifferent vs → AreNilOrOfKind kind vs → EachTwoValuesMeet vs ↔ ((e : Interval) × MeetBetween vs e)
+
+-- whether a value is a number whose interval has this low end, or this high one
+abbrev pub has_low : ℤ → Value → Bool
+has_low z (Number units decimals) = int_eq (interval units decimals).low z
+has_low z other = false
+
+abbrev pub has_high : ℤ → Value → Bool
+has_high z (Number units decimals) = int_eq (interval units decimals).high z
+has_high z other = false
+
+-- the least place with the greatest low end, and with the least high end, of values whose intervals end at e
+abbrev pub place_of_greatest_low : Interval → List Value → ℕ
+place_of_greatest_low e = position_or_len (has_low e.low)
+
+abbrev pub place_of_least_high : Interval → List Value → ℕ
+place_of_least_high e = position_or_len (has_high e.high)
+
+-- values stand at both places, and do not meet
+pub record AreApart (vs : List Value) (i j : ℕ) : Type 0 where
+  pub first : Value
+  pub second : Value
+  pub first_there : slice_get vs i ≡ Some first
+  pub second_there : slice_get vs j ≡ Some second
+  pub apart : Meets first second → ⊥
+
+-- where low is above high, these two places show it
+abbrev pub CrossedEndsAreApart : Type 0
+CrossedEndsAreApart = (vs : List Value) (e : Interval) → AreEnds e (intervals_of vs) → e.high <ℤ e.low → AreApart vs (place_of_least_high e vs) (place_of_greatest_low e vs)
