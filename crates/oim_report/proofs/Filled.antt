@@ -1,0 +1,12 @@
+-- Whether an object and an array have anything in them.
+use Rattle.std.proofs.Common.{◌≡◌, not, Bool, true, false, List, [], ◌∷◌, length, Some, refl, rules, arith}
+use Rattle.std.specs.Prelude.{IsTrue}
+use Rattle.serde_json.specs.View.{members_view}
+use Rattle.serde_json.proofs.Views.{Entry}
+use Rattle.oim_report.specs.Json.{has_member}
+
+pub filled_members : (es : List Entry) (empty : Bool) → (IsTrue empty → length es ≡ 0) → (length es ≡ 0 → IsTrue empty) → not empty ≡ has_member (Some (members_view es))
+filled_members [] true p q = refl
+filled_members [] false p q = absurd (let t = q refl in search rules)
+filled_members (e ∷ es) true p q = absurd (let t : length (e ∷ es) ≡ 0 = p (search rules) in omega arith)
+filled_members (e ∷ es) false p q = refl

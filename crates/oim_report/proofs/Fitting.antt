@@ -1,0 +1,246 @@
+-- What a fact object says fits the sheet, part by part.
+use Rattle.std.proofs.Common.{◌≡◌, ◌≢◌, ℕ, List, [], ◌∷◌, Bool, true, false, not, ◌&&◌, cond, bytes_eq, Option, Some, None, refl, sym, ap, subst, length, ◌==◌, arith}
+use Rattle.std.specs.Prelude.{ℤ, All, IsTrue, option_and_then, codes}
+use Rattle.std.specs.Option.{option_map, option_map_or, unwrap_or}
+use Rattle.std.specs.List.{find}
+use Rattle.std.specs.Str.{IsUtf8, is_utf8, str_to_ascii_lowercase}
+use Rattle.std.proofs.lemmas.Bool.{and_parts, or_parts}
+use Rattle.std.proofs.lemmas.List.Elements.{All-cons, All-head, All-tail}
+use Rattle.std.proofs.lemmas.Str.{IsUtf8-from_is_utf8}
+use Rattle.oim_names.specs.QName.{QName, is_colon, is_entity, is_name, is_part, local_part, prefix_part}
+use Rattle.oim_names.specs.Bindings.{Binding, uri_of}
+use Rattle.oim_names.specs.Expansion.{ExpandsAs}
+use Rattle.oim_names.proofs.Bytes.{other_bytes}
+use Rattle.serde_json.specs.Data.{Data, Members, no_members, member}
+use Rattle.serde_json.specs.Find.{get_member}
+use Rattle.serde_json.specs.Find.{as_object}
+use Rattle.oim_names.specs.Expansion.{Expands}
+use Rattle.oim_names.specs.declared.reason.Reason.TheVariants.{LanguageForm, LanguageOnNumeric}
+use Rattle.oim_value.specs.Decimals.{AreDecimals}
+use Rattle.oim_value.specs.Number.{IsShort}
+use Rattle.oim_value.proofs.ShortLaws.{short_is_kept}
+use Rattle.oim_value.specs.declared.value.Value.{Value}
+use Rattle.oim_value.specs.declared.value.Value.TheVariants.{Nil, Number, Text as AText, Name as AName}
+use Rattle.oim_dims.specs.Language.{is_language}
+use Rattle.oim_dims.specs.Period.{EndsAfterStart, IsPeriod, period_of}
+use Rattle.oim_dims.proofs.Languages.{language_kept}
+use Rattle.oim_dims.proofs.ReadPeriods.{read_period_is}
+use Rattle.oim_dims.specs.declared.period.Period.{Period}
+use Rattle.oim_dims.specs.declared.period.Period.TheVariants.{Forever, Instant, Duration}
+use Rattle.oim_report.specs.declared.concept_kind.ConceptKind.{ConceptKind}
+use Rattle.oim_report.specs.declared.concept_kind.ConceptKind.TheVariants.{Numeric, Text, Name}
+use Rattle.oim_report.specs.Conditions.{language_refusal}
+use Rattle.oim_report.specs.Fact.{GivesText, SaysDecimals, SaysNumber, SaysValue}
+use Rattle.oim_report.specs.FactFits.{EntityFits, FitsEntity, FitsName, IsNamespace, LanguageFits, PeriodFits, ValueFits}
+use Rattle.oim_report.specs.Json.{Given, absent, nil, text, whole, other, any_member, given, given_at, given_of, has_colon, text_of}
+use Rattle.oim_report.specs.Names.{entity_named, named}
+use Rattle.oim_report.specs.Parts.{DimensionParts, FactParts, defined_in, dimension_parts, fact_parts, parts_of}
+use Rattle.oim_report.specs.Refusal.{first_holding}
+use Rattle.oim_report.specs.Said.{said_concept, said_entity, said_language, said_period}
+use Rattle.oim_report.proofs.Accepted.{and_then_some, map_some}
+use Rattle.oim_report.proofs.SaysParts.{language_says, named_expands, period_ok, text_is}
+use Rattle.oim_report.specs.Namespaces.{binds_nothing, bindings_in}
+use Rattle.oim_report.proofs.KeptReferences.{text_utf8}
+use Rattle.oim_report.proofs.Utf8Parts.{after_utf8, only_colon}
+
+-- ---- bindings whose URIs are namespaces
+
+abbrev pub AreNamespaces : List Binding → Type 0
+AreNamespaces bs = All (λ b. (b.uri ≢ []) × IsUtf8 b.uri) bs
+
+not_nil : (u : List ℕ) → bytes_eq u [] ≡ false → u ≢ []
+not_nil u e = other_bytes u [] e
+
+uri_in : (o : Option (List ℕ)) → ((t : List ℕ) → o ≡ Some t → IsUtf8 t) → option_map_or (λ u. bytes_eq u []) o true ≡ false → (unwrap_or o [] ≢ []) × IsUtf8 (unwrap_or o [])
+uri_in None utf8 e = absurd (cc)
+uri_in (Some u) utf8 e = (not_nil u e, utf8 u refl)
+
+pub bindings_are : (ms : Members) → any_member binds_nothing ms ≡ false → AreNamespaces (bindings_in ms)
+bindings_are no_members e = λ k d lt. absurd (omega (arith, lt))
+bindings_are (member key d ms) e =
+    let both = or_parts (binds_nothing key d) (any_member binds_nothing ms) e in
+    let here = or_parts (not (is_part key)) (option_map_or (λ u. bytes_eq u []) (text_of (given d)) true) both.0 in
+    All-cons (λ (b : Binding). (b.uri ≢ []) × IsUtf8 b.uri) _ (bindings_in ms) (uri_in (text_of (given d)) (λ t h. IsUtf8-from_is_utf8 t (text_utf8 d t h)) here.1) (bindings_are ms both.1)
+
+pub bound_uri : (bs : List Binding) (p u : List ℕ) → AreNamespaces bs → uri_of bs p ≡ Some u → (u ≢ []) × IsUtf8 u
+bound_uri [] p u are e = absurd (cc)
+bound_uri (b ∷ bs) p u are e =
+    elim (bytes_eq b.prefix p) as (λ t. option_map (λ (x : Binding). x.uri) (cond t (Some b) (find (λ x. bytes_eq x.prefix p) bs)) ≡ Some u → (u ≢ []) × IsUtf8 u) [
+      | true ↦ λ h. (let same : b.uri ≡ u = cc in subst (λ v. (v ≢ []) × IsUtf8 v) same (All-head (λ (x : Binding). (x.uri ≢ []) × IsUtf8 x.uri) b bs are))
+      | false ↦ λ h. bound_uri bs p u (All-tail (λ (x : Binding). (x.uri ≢ []) × IsUtf8 x.uri) b bs are) h
+    ] e
+
+-- ---- names
+
+namespace_of : (has_form : List ℕ → Bool) (bs : List Binding) (t : List ℕ) (n : QName) → AreNamespaces bs → ExpandsAs has_form bs t n → IsNamespace n.uri
+namespace_of has_form bs t n are e = let is = bound_uri bs (prefix_part t) n.uri are e.uri in record { filled = is.0; allowed = e.allowed; utf8 = is.1 }
+
+local_utf8 : (t : List ℕ) → IsUtf8 t → IsUtf8 (local_part t)
+local_utf8 t utf8 = after_utf8 is_colon only_colon t utf8
+
+pub name_fits : (bs : List Binding) (t : List ℕ) (n : QName) → AreNamespaces bs → IsUtf8 t → ExpandsAs is_name bs t n → FitsName n
+name_fits bs t n are utf8 e = record {
+  namespace = namespace_of is_name bs t n are e;
+  form = subst (λ l. IsTrue (is_part l)) (sym e.local_part) (and_parts (is_part (prefix_part t)) (is_part (local_part t)) e.form).1;
+  utf8 = subst IsUtf8 (sym e.local_part) (local_utf8 t utf8);
+}
+
+not_empty : (l : List ℕ) → not (length l == 0) ≡ true → l ≢ []
+not_empty [] e = λ same. absurd (cc)
+not_empty (c ∷ cs) e = λ same. absurd (cc)
+
+pub entity_fits : (bs : List Binding) (t : List ℕ) (n : QName) → AreNamespaces bs → IsUtf8 t → ExpandsAs is_entity bs t n → FitsEntity n
+entity_fits bs t n are utf8 e = record {
+  scheme = namespace_of is_entity bs t n are e;
+  some = subst (λ l. l ≢ []) (sym e.local_part) (not_empty (local_part t) (and_parts (is_part (prefix_part t)) (not (length (local_part t) == 0)) e.form).1);
+  utf8 = subst IsUtf8 (sym e.local_part) (local_utf8 t utf8);
+}
+
+-- ---- texts that are given are UTF-8
+
+abbrev pub IsClean : Given → Type 0
+IsClean g = (t : List ℕ) → g ≡ text t → IsUtf8 t
+
+pub given_clean : (d : Data) → IsClean (given d)
+given_clean d t e = IsUtf8-from_is_utf8 t (text_utf8 d t (ap text_of e))
+
+of_clean : (o : Option Data) → IsClean (given_of o)
+of_clean None t e = absurd (cc)
+of_clean (Some d) t e = given_clean d t e
+
+pub at_clean : (key : List ℕ) (ms : Members) → IsClean (given_at key ms)
+at_clean key ms = of_clean (get_member key ms)
+
+-- ---- the parts of a fact object
+
+pub record AreCleanDimensions (ds : DimensionParts) : Type 0 where
+  pub concept : IsClean ds.concept
+  pub entity : IsClean ds.entity
+  pub language : IsClean ds.language
+  pub unit : IsClean ds.unit
+  pub defined : All (λ d. IsUtf8 d.0 × IsClean d.1) ds.defined
+
+defined_clean : (ms : Members) → All (λ d. IsUtf8 d.0 × IsClean d.1) (defined_in ms)
+defined_clean no_members = λ k d lt. absurd (omega (arith, lt))
+defined_clean (member key d ms) =
+    let P : Bool → Type 0 = λ b. (has_colon key && is_utf8 key) ≡ b → All (λ (e : List ℕ × Given). IsUtf8 e.0 × IsClean e.1) (cond b ((key, given d) ∷ defined_in ms) (defined_in ms)) in
+    elim (has_colon key && is_utf8 key) as P [
+      | true ↦ λ e. All-cons (λ (f : List ℕ × Given). IsUtf8 f.0 × IsClean f.1) (key, given d) (defined_in ms) (IsUtf8-from_is_utf8 key (and_parts (has_colon key) (is_utf8 key) e).1, given_clean d) (defined_clean ms)
+      | false ↦ λ e. defined_clean ms
+    ] refl
+
+dimensions_clean : (ms : Members) → AreCleanDimensions (dimension_parts ms)
+dimensions_clean ms = record {
+  concept = at_clean (codes "concept") ms;
+  entity = at_clean (codes "entity") ms;
+  language = at_clean (codes "language") ms;
+  unit = at_clean (codes "unit") ms;
+  defined = defined_clean ms;
+}
+
+-- the value and the dimensions of a fact object
+pub record AreClean (p : FactParts) : Type 0 where
+  pub value : IsClean p.value
+  pub dimensions : (ds : DimensionParts) → p.dimensions ≡ Some ds → AreCleanDimensions ds
+
+inside_clean : (o : Option Members) (ds : DimensionParts) → option_map dimension_parts o ≡ Some ds → AreCleanDimensions ds
+inside_clean o ds e = let ms = map_some dimension_parts o ds e in subst AreCleanDimensions ms.2 (dimensions_clean ms.0)
+
+parts_clean : (ms : Members) → AreClean (parts_of ms)
+parts_clean ms = record {
+  value = at_clean (codes "value") ms;
+  dimensions = λ ds e. inside_clean (option_and_then as_object (get_member (codes "dimensions") ms)) ds e;
+}
+
+pub are_clean : (d : Data) (p : FactParts) → fact_parts d ≡ Some p → AreClean p
+are_clean d p e = let ms = map_some parts_of (as_object d) p e in subst AreClean ms.2 (parts_clean ms.0)
+
+-- ---- what each part says fits
+
+text_clean : (g : Given) (t : List ℕ) → IsClean g → text_of g ≡ Some t → IsUtf8 t
+text_clean g t clean e = clean t (text_is g t e)
+
+pub concept_fits : (bs : List Binding) (g : Given) (n : QName) → AreNamespaces bs → IsClean g → said_concept bs g ≡ Some n → FitsName n
+concept_fits bs g n are clean e =
+    let t = and_then_some (named bs) (text_of g) n e in
+    name_fits bs t.0 n are (text_clean g t.0 clean t.1) (named_expands is_name bs t.0 n t.2)
+
+pub said_entity_fits : (bs : List Binding) (g : Given) (said : Option QName) → AreNamespaces bs → IsClean g → said_entity bs g ≡ Some said → EntityFits said
+said_entity_fits bs absent said are clean e = let same : None ≡ said = cc in subst EntityFits same tt
+said_entity_fits bs nil said are clean e = absurd (cc)
+said_entity_fits bs (text t) said are clean e =
+    let n = map_some Some (entity_named bs t) said e in
+    subst EntityFits n.2 (entity_fits bs t n.0 are (clean t refl) (named_expands is_entity bs t n.0 n.1))
+said_entity_fits bs (whole n) said are clean e = absurd (cc)
+said_entity_fits bs other said are clean e = absurd (cc)
+
+-- moments of their years, and a duration that ends after its start
+pub said_period_is : (g : Given) (said : Period) → said_period g ≡ Some said → IsPeriod said
+said_period_is absent said e = let same : Forever ≡ said = cc in subst IsPeriod same (record { moments = tt; forward = tt })
+said_period_is nil said e = absurd (cc)
+said_period_is (text t) said e = read_period_is t said (period_ok (period_of t) said e)
+said_period_is (whole n) said e = absurd (cc)
+said_period_is other said e = absurd (cc)
+
+pub period_fits : (p : Period) → EndsAfterStart p → PeriodFits p
+period_fits Forever e = tt
+period_fits (Instant m) e = tt
+period_fits (Duration start end) e = e
+
+not_numeric : (kind : ConceptKind) (g : Given) (t : List ℕ) → g ≡ text t → language_refusal (Some kind) g ≡ None → kind ≢ Numeric
+not_numeric Numeric g t is e = let h : language_refusal (Some Numeric) (text t) ≡ None = subst (λ x. language_refusal (Some Numeric) x ≡ None) is e in absurd (never (is_language t) h)
+  where
+    never : (b : Bool) → first_holding ((not b, LanguageForm) ∷ (true, LanguageOnNumeric) ∷ []) ≡ None → ⊥
+    never true h = absurd (cc)
+    never false h = absurd (cc)
+not_numeric Text g t is e = λ same. absurd (cc)
+not_numeric Name g t is e = λ same. absurd (cc)
+
+lower_fits : (kind : ConceptKind) (t : List ℕ) (said : Option (List ℕ)) → kind ≢ Numeric → IsTrue (is_language t) × (said ≡ Some (str_to_ascii_lowercase t)) → LanguageFits kind said
+lower_fits kind t said apart both =
+    let kept = language_kept t both.0 in
+    subst (LanguageFits kind) (sym both.1) (record { form = kept.language; lower = kept.same; other = apart })
+
+pub said_language_fits : (kind : ConceptKind) (g : Given) (said : Option (List ℕ)) → language_refusal (Some kind) g ≡ None → said_language g ≡ Some said → LanguageFits kind said
+said_language_fits kind absent said none e = let same : None ≡ said = cc in subst (LanguageFits kind) same tt
+said_language_fits kind nil said none e = absurd (cc)
+said_language_fits kind (text t) said none e = lower_fits kind t said (not_numeric kind (text t) t refl none) (language_says (text t) said e)
+said_language_fits kind (whole n) said none e = absurd (cc)
+said_language_fits kind other said none e = absurd (cc)
+
+-- ---- values
+
+decimals_are : (g : Given) (places : Option ℤ) → SaysDecimals g places → AreDecimals places
+decimals_are absent places e = subst AreDecimals (sym e) tt
+decimals_are nil places e = absurd e
+decimals_are (text t) places e = absurd e
+decimals_are (whole n) places e = subst AreDecimals (sym e.1) e.0
+decimals_are other places e = absurd e
+
+number_is_short : (g : Given) (units : ℤ) → GivesText g (λ t. SaysNumber t units) → IsShort units
+number_is_short absent units e = absurd e
+number_is_short nil units e = absurd e
+number_is_short (text t) units e = short_is_kept t units e.denoted e.short
+number_is_short (whole n) units e = absurd e
+number_is_short other units e = absurd e
+
+gives_name : (bs : List Binding) (g : Given) (n : QName) → AreNamespaces bs → IsClean g → GivesText g (λ t. Expands bs t n) → FitsName n
+gives_name bs absent n are clean e = absurd e
+gives_name bs nil n are clean e = absurd e
+gives_name bs (text t) n are clean e = name_fits bs t n are (clean t refl) e
+gives_name bs (whole m) n are clean e = absurd e
+gives_name bs other n are clean e = absurd e
+
+pub value_fits : (bs : List Binding) (kind : ConceptKind) (g decimals : Given) (v : Value) → AreNamespaces bs → IsClean g → SaysValue bs kind g decimals v → ValueFits kind v
+value_fits bs Numeric g decimals Nil are clean e = tt
+value_fits bs Text g decimals Nil are clean e = tt
+value_fits bs Name g decimals Nil are clean e = tt
+value_fits bs Numeric g decimals (Number units places) are clean e = (number_is_short g units e.0, decimals_are decimals places e.1)
+value_fits bs Numeric g decimals (AText t) are clean e = absurd e
+value_fits bs Numeric g decimals (AName n) are clean e = absurd e
+value_fits bs Text g decimals (Number units places) are clean e = absurd e
+value_fits bs Text g decimals (AText t) are clean e = clean t e
+value_fits bs Text g decimals (AName n) are clean e = absurd e
+value_fits bs Name g decimals (Number units places) are clean e = absurd e
+value_fits bs Name g decimals (AText t) are clean e = absurd e
+value_fits bs Name g decimals (AName n) are clean e = gives_name bs g n are clean e

@@ -1,0 +1,104 @@
+-- Members that go in one after another, in any order, stand in the order of names.
+use Rattle.std.proofs.Common.{◌≡◌, ◌≢◌, ⊎_elim, true, false, cond, List, [], ◌∷◌, refl, sym, ap, ◌∙◌}
+use Rattle.std.specs.Prelude.{All}
+use Rattle.std.specs.Cmp.{tied_itself}
+use Rattle.std.proofs.lemmas.Bool.{and_parts, cases_Bool}
+use Rattle.std.proofs.lemmas.List.Elements.{All-nil, All-cons, All-head, All-tail}
+use Rattle.std.specs.Ordering.{is_lt, ordering_reverse}
+use Rattle.std.specs.declared.cmp.Ordering.{Ordering}
+use Rattle.std.specs.declared.cmp.Ordering.TheVariants.{Less, Equal, Greater}
+use Rattle.oim_names.specs.QName.{QName, exact_name}
+use Rattle.oim_names.specs.contracts.name.NameOrd.TheImpl.Laws.{total-law as name_total}
+use Rattle.oim_value.specs.ValueOrder.{name_cmp}
+use Rattle.oim_dims.specs.declared.member.Member.{Member}
+use Rattle.oim_dims.specs.DimensionSet.{is_below, rises, with_member}
+
+abbrev Entry : Type 0
+Entry = QName × Member
+
+pub less_is : (o : Ordering) → is_lt o ≡ true → o ≡ Less
+less_is Less h = refl
+less_is Equal h = cc
+less_is Greater h = cc
+
+-- of two names, one is below the other
+one_way : (a b : QName) → a ≢ b → is_lt (name_cmp a b) ≡ false → is_lt (name_cmp b a) ≡ true
+one_way a b other h =
+    elim (name_cmp a b) as (λ o. name_cmp a b ≡ o → is_lt o ≡ false → is_lt (name_cmp b a) ≡ true) [
+      | Less ↦ λ o l. absurd (cc)
+      | Equal ↦ λ o l. absurd (other (exact_name a b o))
+      | Greater ↦ λ o l. ap is_lt (name_total.antisymm b a ∙ ap ordering_reverse o)
+    ] refl h
+
+-- and not both ways
+pub other_way : (a b : QName) → is_lt (name_cmp a b) ≡ true → is_lt (name_cmp b a) ≡ false
+other_way a b h = ap is_lt (name_total.antisymm b a ∙ ap ordering_reverse (less_is _ h))
+
+-- one insertion, by its test
+goes_before : (n : QName) (m : Member) (e : Entry) (es : List Entry) → is_lt (name_cmp n e.0) ≡ true → with_member n m (e ∷ es) ≡ (n, m) ∷ e ∷ es
+goes_before n m e es h = ap (λ b. cond b ((n, m) ∷ e ∷ es) (e ∷ with_member n m es)) h
+
+goes_after : (n : QName) (m : Member) (e : Entry) (es : List Entry) → is_lt (name_cmp n e.0) ≡ false → with_member n m (e ∷ es) ≡ e ∷ with_member n m es
+goes_after n m e es h = ap (λ b. cond b ((n, m) ∷ e ∷ es) (e ∷ with_member n m es)) h
+
+-- two members of different names go in in either order
+in_order : (a b : Entry) (es : List Entry) → is_lt (name_cmp a.0 b.0) ≡ true → with_member a.0 a.1 (with_member b.0 b.1 es) ≡ with_member b.0 b.1 (with_member a.0 a.1 es)
+in_order a b [] below = goes_before a.0 a.1 b [] below ∙ sym (goes_after b.0 b.1 a [] (other_way a.0 b.0 below))
+in_order a b (e ∷ es) below =
+    let add_a : List Entry → List Entry = with_member a.0 a.1 in
+    let add_b : List Entry → List Entry = with_member b.0 b.1 in
+    let above = other_way a.0 b.0 below in
+    ⊎_elim
+    (λ b_first.
+    let a_first : is_lt (name_cmp a.0 e.0) ≡ true = ap is_lt (name_total.trans a.0 b.0 e.0 (less_is _ below) (less_is _ b_first)) in
+    ap add_a (goes_before b.0 b.1 e es b_first) ∙ goes_before a.0 a.1 b (e ∷ es) below
+    ∙ sym (ap add_b (goes_before a.0 a.1 e es a_first) ∙ goes_after b.0 b.1 a (e ∷ es) above ∙ ap (λ xs. a ∷ xs) (goes_before b.0 b.1 e es b_first)))
+    (λ b_later.
+    ⊎_elim
+    (λ a_first.
+    ap add_a (goes_after b.0 b.1 e es b_later) ∙ goes_before a.0 a.1 e (add_b es) a_first
+    ∙ sym (ap add_b (goes_before a.0 a.1 e es a_first) ∙ goes_after b.0 b.1 a (e ∷ es) above ∙ ap (λ xs. a ∷ xs) (goes_after b.0 b.1 e es b_later)))
+    (λ a_later.
+    ap add_a (goes_after b.0 b.1 e es b_later) ∙ goes_after a.0 a.1 e (add_b es) a_later ∙ ap (λ xs. e ∷ xs) (in_order a b es below)
+    ∙ sym (ap add_b (goes_after a.0 a.1 e es a_later) ∙ goes_after b.0 b.1 e (add_a es) b_later))
+    (cases_Bool (is_lt (name_cmp a.0 e.0))))
+    (cases_Bool (is_lt (name_cmp b.0 e.0)))
+
+pub either_first : (a b : Entry) (es : List Entry) → a.0 ≢ b.0 → with_member a.0 a.1 (with_member b.0 b.1 es) ≡ with_member b.0 b.1 (with_member a.0 a.1 es)
+either_first a b es other =
+    ⊎_elim
+    (λ below. in_order a b es below)
+    (λ above. sym (in_order b a es (one_way a.0 b.0 other above)))
+    (cases_Bool (is_lt (name_cmp a.0 b.0)))
+
+-- a member below all others goes before them
+pub goes_first : (e : Entry) (es : List Entry) → is_below e.0 es ≡ true → with_member e.0 e.1 es ≡ e ∷ es
+goes_first e [] h = refl
+goes_first e (f ∷ es) h = goes_before e.0 e.1 f es (and_parts (is_lt (name_cmp e.0 f.0)) (is_below e.0 es) h).0
+
+-- a name below all of a list is none of them
+pub below_apart : (n : QName) (es : List Entry) → is_below n es ≡ true → All (λ (e : Entry). e.0 ≢ n) es
+below_apart n [] h = All-nil (λ (e : Entry). e.0 ≢ n)
+below_apart n (e ∷ es) h =
+    let b = and_parts (is_lt (name_cmp n e.0)) (is_below n es) h in
+    All-cons (λ (f : Entry). f.0 ≢ n) e es
+    (λ same. let tie : name_cmp n e.0 ≡ Equal = ap (name_cmp n) same ∙ tied_itself name_total n in cc (sym (less_is _ b.0) ∙ tie))
+    (below_apart n es b.1)
+
+-- several, one after another
+abbrev pub each_added : List Entry → List Entry → List Entry
+each_added es [] = es
+each_added es (f ∷ fs) = each_added (with_member f.0 f.1 es) fs
+
+added_late : (e : Entry) (fs es : List Entry) → All (λ (f : Entry). f.0 ≢ e.0) fs → each_added (with_member e.0 e.1 es) fs ≡ with_member e.0 e.1 (each_added es fs)
+added_late e [] es h = refl
+added_late e (f ∷ fs) es h =
+    ap (λ xs. each_added xs fs) (either_first f e es (All-head (λ (g : Entry). g.0 ≢ e.0) f fs h))
+    ∙ added_late e fs (with_member f.0 f.1 es) (All-tail (λ (g : Entry). g.0 ≢ e.0) f fs h)
+
+-- members in the order of names are what they make
+pub all_added : (es : List Entry) → rises es ≡ true → each_added [] es ≡ es
+all_added [] h = refl
+all_added (e ∷ es) h =
+    let b = and_parts (is_below e.0 es) (rises es) h in
+    added_late e es [] (below_apart e.0 es b.0) ∙ ap (with_member e.0 e.1) (all_added es b.1) ∙ goes_first e es b.0

@@ -1,0 +1,138 @@
+-- Facts at the places of their order.
+use Rattle.std.proofs.Common.{◌≡◌, ℕ, suc, ◌<◌, ◌≤◌, ◌+◌, true, false, List, [], ◌∷◌, length, map, drop, drop-cons, get_or, refl, sym, ap, subst, ◌∙◌, arith, All, Option, Some, filter_map, slice_get, IsPermutation, IsSorted}
+use Rattle.std.specs.List.{cons_option, range_with_len}
+use Rattle.std.specs.Cmp.{IsStrictWeakOrder}
+use Rattle.std.specs.Cmp.Lexicographic.{options_total}
+use Rattle.std.specs.Option.{option_cmp}
+use Rattle.std.specs.Ordering.{is_gt, is_lt, ord_max, ordering_reverse}
+use Rattle.std.specs.declared.cmp.Ordering.{Ordering}
+use Rattle.std.specs.declared.cmp.Ordering.TheVariants.{Less, Equal, Greater}
+use Rattle.std.proofs.lemmas.List.{drop_all}
+use Rattle.std.proofs.lemmas.List.Elements.{All-head, All-tail, All-from_get_or}
+use Rattle.std.proofs.lemmas.List.FromFn.{fill_by_all, length-range_with_len, get_or-range_with_len}
+use Rattle.std.proofs.lemmas.List.Sorted.{All-permutation, IsPermutation-map, length_permutation, ranks_by}
+use Rattle.std.proofs.lemmas.Option.{slice_get-get_or}
+use Rattle.oim_value.specs.Level.{level_cmp}
+use Rattle.oim_value.specs.declared.interval.Interval.{Interval}
+use Rattle.oim_value.specs.declared.level.Level.{Level}
+use Rattle.oim_value.specs.declared.level.Level.TheVariants.{Unique}
+use Rattle.oim_dims.specs.FactOrder.{fact_cmp}
+use Rattle.oim_dims.specs.declared.fact.Fact.{Fact}
+use Rattle.oim_report.specs.Duplicates.{are_duplicates, level_of}
+use Rattle.oim_report.specs.Order.{IsOrderOf, place_cmp}
+use Rattle.oim_dims.proofs.Orders.{fact_cmp_total}
+use Rattle.oim_report.proofs.Pairs.{level_ignores_order}
+use Rattle.oim_report.specs.Beside.{both_common, interval_at, level_beside}
+use Rattle.oim_report.proofs.Runs.{RisesFrom, walk, walk-duplicate, walk-nil, walk-other, walk_from_first}
+
+-- the facts at some places
+abbrev pub facts_at : List Fact → List ℕ → List Fact
+facts_at facts places = filter_map (slice_get facts) places
+
+-- one place and more
+pub facts_at-cons : (facts : List Fact) (place : ℕ) (places : List ℕ) (d : Fact) → place < length facts → facts_at facts (place ∷ places) ≡ get_or facts place d ∷ facts_at facts places
+facts_at-cons facts place places d within = ap (λ (o : Option Fact). cons_option o (facts_at facts places)) (slice_get-get_or facts place d within)
+
+-- each place is within
+pub places_within : (facts : List Fact) (places : List ℕ) → IsOrderOf facts places → All (λ place. place < length facts) places
+places_within facts places order =
+    let n : ℕ = length facts in
+    All-permutation (λ place. place < n) (range_with_len 0 n) places order.each_once
+    (All-from_get_or (λ place. place < n) (range_with_len 0 n) 0 (λ i within. let long = length-range_with_len 0 n in let here : i < n = omega (arith, within, long) in let is = get_or-range_with_len 0 n i 0 here in omega (arith, here, is)))
+
+mapped : (facts : List Fact) (d : Fact) (places : List ℕ) → All (λ place. place < length facts) places → facts_at facts places ≡ map (λ place. get_or facts place d) places
+mapped facts d [] within = refl
+mapped facts d (place ∷ places) within =
+    facts_at-cons facts place places d (All-head (λ p. p < length facts) place places within)
+    ∙ ap (λ fs. get_or facts place d ∷ fs) (mapped facts d places (All-tail (λ p. p < length facts) place places within))
+
+-- at all places of an order stand all facts
+reordered : (facts : List Fact) (d : Fact) (places : List ℕ) → IsOrderOf facts places → IsPermutation facts (facts_at facts places)
+reordered facts d places order =
+    let n : ℕ = length facts in
+    let all : facts ≡ map (λ place. get_or facts place d) (range_with_len 0 n) = fill_by_all (λ place. get_or facts place d) facts n d refl (λ k within. refl) in
+    let moved : IsPermutation (map (λ place. get_or facts place d) (range_with_len 0 n)) (map (λ place. get_or facts place d) places) = IsPermutation-map (λ place. get_or facts place d) (range_with_len 0 n) places order.each_once in
+    subst (λ fs. IsPermutation facts fs) (sym (mapped facts d places (places_within facts places order)))
+    (subst (λ fs. IsPermutation fs (map (λ place. get_or facts place d) places)) (sym all) moved)
+
+pub level_at_order : (facts : List Fact) (d : Fact) (places : List ℕ) → IsOrderOf facts places → level_of facts ≡ level_of (facts_at facts places)
+level_at_order facts d places order = level_ignores_order facts (facts_at facts places) (reordered facts d places order)
+
+-- the facts at them do not fall
+turned : (r : Ordering) → is_lt r ≡ false → is_gt (ordering_reverse r) ≡ false
+turned Less h = h
+turned Equal h = refl
+turned Greater h = refl
+
+sorted_tail : (facts : List Fact) (place : ℕ) (places : List ℕ) → IsSorted (place_cmp facts) (place ∷ places) → IsSorted (place_cmp facts) places
+sorted_tail facts place places up k d low within =
+    let next : suc k + 1 ≡ suc (k + 1) = omega arith in
+    subst (λ n. is_lt (place_cmp facts (get_or (place ∷ places) n d) (get_or (place ∷ places) (suc k) d)) ≡ false) next (up (suc k) d (omega arith) (omega (arith, within)))
+
+pub rises_from_first : (facts : List Fact) (place : ℕ) (places : List ℕ) (d : Fact) → All (λ p. p < length facts) (place ∷ places) → IsSorted (place_cmp facts) (place ∷ places) → RisesFrom (get_or facts place d) (facts_at facts places)
+rises_from_first facts place [] d within up = tt
+rises_from_first facts place (next ∷ places) d within up =
+    let rest = All-tail (λ p. p < length facts) place (next ∷ places) within in
+    let lp : place < length facts = All-head (λ p. p < length facts) place (next ∷ places) within in
+    let ln : next < length facts = All-head (λ p. p < length facts) next places rest in
+    let falls : is_lt (place_cmp facts next place) ≡ false = up 0 0 (omega arith) (omega arith) in
+    let x : Fact = get_or facts place d in
+    let y : Fact = get_or facts next d in
+    let ordered : is_lt (fact_cmp y x) ≡ false = subst (λ (o : Option Fact). is_lt (option_cmp fact_cmp (Some y) o) ≡ false) (slice_get-get_or facts place d lp) (subst (λ (o : Option Fact). is_lt (option_cmp fact_cmp o (slice_get facts place)) ≡ false) (slice_get-get_or facts next d ln) falls) in
+    let first : is_gt (fact_cmp x y) ≡ false = ap is_gt (fact_cmp_total.antisymm x y) ∙ turned (fact_cmp y x) ordered in
+    let later : RisesFrom y (facts_at facts places) = rises_from_first facts next places d rest (sorted_tail facts place (next ∷ places) up) in
+    subst (RisesFrom x) (sym (facts_at-cons facts next places d ln)) (first, later)
+
+-- places are ranked by their facts
+pub place_cmp_ranks : (facts : List Fact) → IsStrictWeakOrder (λ i j. is_lt (place_cmp facts i j))
+place_cmp_ranks facts = ranks_by (options_total fact_cmp_total) (slice_get facts)
+
+-- no facts have no places but none
+pub level_of_none : (facts : List Fact) (places : List ℕ) → IsOrderOf facts places → length places ≡ 0 → Unique ≡ level_of facts
+unfolding level_of
+level_of_none [] places order none = refl
+level_of_none (f ∷ fs) places order none =
+    let long : length places ≡ length (range_with_len 0 (length (f ∷ fs))) = length_permutation (range_with_len 0 (length (f ∷ fs))) places order.each_once in
+    let count = length-range_with_len 0 (length (f ∷ fs)) in
+    absurd (omega (arith, long, count, none))
+
+-- the pass, from the first place on
+pub pass_starts : (facts : List Fact) (places rest : List ℕ) (first : ℕ) (last : Fact) → IsOrderOf facts places → places ≡ first ∷ rest → last ≡ get_or facts first last → walk last (interval_at last.value) Unique (facts_at facts rest) ≡ level_of facts
+pass_starts facts places rest first last order split is =
+    let within : All (λ p. p < length facts) (first ∷ rest) = subst (All (λ p. p < length facts)) split (places_within facts places order) in
+    let here : first < length facts = All-head (λ p. p < length facts) first rest within in
+    let up : IsSorted (place_cmp facts) (first ∷ rest) = subst (IsSorted (place_cmp facts)) split order.rising in
+    let rises : RisesFrom last (facts_at facts rest) = subst (λ f. RisesFrom f (facts_at facts rest)) (sym is) (rises_from_first facts first rest last within up) in
+    let all : facts_at facts (first ∷ rest) ≡ last ∷ facts_at facts rest = facts_at-cons facts first rest last here ∙ ap (λ f. f ∷ facts_at facts rest) (sym is) in
+    walk_from_first last (facts_at facts rest) rises ∙ ap level_of (sym all) ∙ ap (λ ps. level_of (facts_at facts ps)) (sym split) ∙ sym (level_at_order facts last places order)
+
+-- a place of the rest is within
+pub rest_within : (facts : List Fact) (places rest : List ℕ) (first i : ℕ) → IsOrderOf facts places → places ≡ first ∷ rest → i < length rest → get_or rest i 0 < length facts
+rest_within facts places rest first i order split here =
+    let within : All (λ p. p < length facts) (first ∷ rest) = subst (All (λ p. p < length facts)) split (places_within facts places order) in
+    All-tail (λ p. p < length facts) first rest within i 0 here
+
+pub first_within : (facts : List Fact) (places rest : List ℕ) (first : ℕ) → IsOrderOf facts places → places ≡ first ∷ rest → first < length facts
+first_within facts places rest first order split = All-head (λ p. p < length facts) first rest (subst (All (λ p. p < length facts)) split (places_within facts places order))
+
+-- the facts at the places from the one at i on
+pub facts_at-drop : (facts : List Fact) (rest : List ℕ) (i : ℕ) (f : Fact) → i < length rest → get_or rest i 0 < length facts → f ≡ get_or facts (get_or rest i 0) f → facts_at facts (drop i rest) ≡ f ∷ facts_at facts (drop (i + 1) rest)
+facts_at-drop facts rest i f here within is =
+    let next : i + 1 ≡ suc i = omega arith in
+    ap (facts_at facts) (drop-cons rest i 0 here)
+    ∙ facts_at-cons facts (get_or rest i 0) (drop (suc i) rest) f within
+    ∙ ap (λ x. x ∷ facts_at facts (drop (suc i) rest)) (sym is)
+    ∙ ap (λ k. f ∷ facts_at facts (drop k rest)) (sym next)
+
+-- the pass, one fact further
+pub pass_with_duplicate : (facts : List Fact) (rest : List ℕ) (i : ℕ) (last f : Fact) (shared : Option Interval) (level : Level) → i < length rest → get_or rest i 0 < length facts → f ≡ get_or facts (get_or rest i 0) f → are_duplicates last f ≡ true → walk last shared level (facts_at facts (drop i rest)) ≡ level_of facts → walk f (both_common shared (interval_at f.value)) (ord_max level_cmp level (level_beside last.value shared f.value)) (facts_at facts (drop (i + 1) rest)) ≡ level_of facts
+pass_with_duplicate facts rest i last f shared level here within is same known =
+    sym (walk-duplicate last f shared level (facts_at facts (drop (i + 1) rest)) same) ∙ ap (walk last shared level) (sym (facts_at-drop facts rest i f here within is)) ∙ known
+
+pub pass_with_other : (facts : List Fact) (rest : List ℕ) (i : ℕ) (last f : Fact) (shared : Option Interval) (level : Level) → i < length rest → get_or rest i 0 < length facts → f ≡ get_or facts (get_or rest i 0) f → are_duplicates last f ≡ false → walk last shared level (facts_at facts (drop i rest)) ≡ level_of facts → walk f (interval_at f.value) level (facts_at facts (drop (i + 1) rest)) ≡ level_of facts
+pass_with_other facts rest i last f shared level here within is other known =
+    sym (walk-other last f shared level (facts_at facts (drop (i + 1) rest)) other) ∙ ap (walk last shared level) (sym (facts_at-drop facts rest i f here within is)) ∙ known
+
+-- and its end
+pub pass_ends : (facts : List Fact) (rest : List ℕ) (i : ℕ) (last : Fact) (shared : Option Interval) (level : Level) → length rest ≤ i → walk last shared level (facts_at facts (drop i rest)) ≡ level_of facts → level ≡ level_of facts
+pass_ends facts rest i last shared level past known = sym (walk-nil last shared level) ∙ ap (λ ps. walk last shared level (facts_at facts ps)) (sym (drop_all i rest past)) ∙ known

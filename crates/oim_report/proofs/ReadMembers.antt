@@ -1,0 +1,293 @@
+-- The dimensions that a taxonomy defines, with their members, are read as themselves.
+use Rattle.std.proofs.Common.{◌≡◌, ◌≢◌, ℕ, suc, List, [], ◌∷◌, true, false, refl, sym, ap, ◌∙◌, arith}
+use Rattle.std.specs.Prelude.{All, Any, Contains, Option, Some, None, is_none, option_and_then, option_map, ⊤}
+use Rattle.std.specs.FinMap as map
+use Rattle.std.specs.List.{list_any, cons_option, flat_map}
+use Rattle.std.specs.Ordering.{nat_cmp, match_ordering, is_eq}
+use Rattle.std.specs.Cmp.Lexicographic.{slice_cmp}
+use Rattle.std.specs.declared.cmp.Ordering.TheVariants.{Less, Equal, Greater}
+use Rattle.std.proofs.lemmas.Bool.{and_parts, or_from}
+use Rattle.std.proofs.lemmas.List.Elements.{All-nil, All-cons, All-head, All-tail, All-weaker}
+use Rattle.std.proofs.lemmas.List.Folds.{list_any_none}
+use Rattle.std.proofs.lemmas.Map.Lookups.{exact_bytes}
+use Rattle.oim_names.specs.QName.{QName, is_name, exact_name}
+use Rattle.oim_names.specs.Bindings.{Binding}
+use Rattle.oim_value.specs.ValueOrder.{name_cmp}
+use Rattle.oim_dims.specs.declared.member.Member.{Member}
+use Rattle.oim_dims.specs.declared.member.Member.TheVariants.{Nil as NoMember, Text as MemberText, Name as MemberName}
+use Rattle.oim_dims.specs.DimensionSet.{is_below, rises, with_member}
+use Rattle.oim_report.specs.declared.dimension_kind.DimensionKind.{DimensionKind}
+use Rattle.oim_report.specs.declared.dimension_kind.DimensionKind.TheVariants.{Explicit, Typed}
+use Rattle.oim_report.specs.Json.{Given}
+use Rattle.oim_report.specs.Names.{named, a_name, names_refusal}
+use Rattle.oim_report.specs.Conditions.{dimension_kind, member_names, defined_names, is_misfit, dimension_names, comes_again, defined_refusal}
+use Rattle.oim_report.specs.Fact.{SaysMember, SaysDimension}
+use Rattle.oim_report.specs.FactFits.{MemberFits, DimensionFits}
+use Rattle.oim_report.specs.Said.{said_member, members_with}
+use Rattle.oim_report.specs.Sheet.{Sheet}
+use Rattle.oim_report.specs.ReadBack.{SpellsMember, SpellsDimension, with_given, member_given, defined_given, DimensionsReadBack}
+use Rattle.oim_report.proofs.Spelled.{expands, name_back, spelled_apart}
+use Rattle.oim_report.proofs.AcceptedNames.{one_name, names_append}
+use Rattle.oim_report.proofs.MemberOrder.{either_first, below_apart, each_added, all_added}
+use Rattle.oim_report.proofs.GivenKeys.{All-with_given, Any-with_given, Any-kept}
+
+abbrev Entry : Type 0
+Entry = QName × Member
+
+abbrev Keyed : Type 0
+Keyed = List ℕ × Given
+
+-- ---- one member
+
+member_said : (bs : List Binding) (spelled : QName → List ℕ) (kind : DimensionKind) (m : Member) → MemberFits kind m → SpellsMember bs spelled m → said_member bs (Some kind) (member_given spelled m) ≡ Some m
+member_said bs spelled Explicit (MemberName n) fits s = ap (option_map MemberName) (name_back bs spelled n fits s)
+member_said bs spelled Explicit (MemberText t) fits s = absurd fits
+member_said bs spelled Explicit NoMember fits s = absurd fits
+member_said bs spelled Typed (MemberName n) fits s = absurd fits
+member_said bs spelled Typed (MemberText t) fits s = refl
+member_said bs spelled Typed NoMember fits s = refl
+
+says_member : (bs : List Binding) (spelled : QName → List ℕ) (kind : DimensionKind) (m : Member) → MemberFits kind m → SpellsMember bs spelled m → SaysMember bs kind (member_given spelled m) m
+says_member bs spelled Explicit (MemberName n) fits s = expands bs spelled n s fits
+says_member bs spelled Explicit (MemberText t) fits s = absurd fits
+says_member bs spelled Explicit NoMember fits s = absurd fits
+says_member bs spelled Typed (MemberName n) fits s = absurd fits
+says_member bs spelled Typed (MemberText t) fits s = refl
+says_member bs spelled Typed NoMember fits s = refl
+
+no_misfit : (bs : List Binding) (spelled : QName → List ℕ) (kind : DimensionKind) (m : Member) → MemberFits kind m → is_misfit (Some kind) (member_given spelled m) ≡ false
+no_misfit bs spelled Explicit (MemberName n) fits = refl
+no_misfit bs spelled Explicit (MemberText t) fits = absurd fits
+no_misfit bs spelled Explicit NoMember fits = absurd fits
+no_misfit bs spelled Typed (MemberName n) fits = absurd fits
+no_misfit bs spelled Typed (MemberText t) fits = refl
+no_misfit bs spelled Typed NoMember fits = refl
+
+-- steps that agree wherever there is something
+same_steps : {A B C : Type 0} (a : Option A) (b : Option B) (f g : A → B → Option C) → ((x : A) → a ≡ Some x → (y : B) → f x y ≡ g x y) → option_and_then (λ x. option_and_then (f x) b) a ≡ option_and_then (λ x. option_and_then (g x) b) a
+same_steps None b f g h = refl
+same_steps (Some x) None f g h = refl
+same_steps (Some x) (Some y) f g h = h x refl y
+
+module _ (sheet : Sheet) (bs : List Binding) where
+  -- the key names no dimension of this name
+  abbrev NamesNo : QName → Keyed → Type 0
+  NamesNo n d = (o : QName) → named bs d.0 ≡ Some o → o ≢ n
+
+  -- ---- one key more says one member more
+
+  module _ (key : List ℕ) (g : Given) (n : QName) (m : Member) (is : named bs key ≡ Some n) (says : said_member bs (dimension_kind sheet bs key) g ≡ Some m) where
+    said_first : (es : List Entry) (ds : List Keyed) → members_with sheet bs es ((key, g) ∷ ds) ≡ members_with sheet bs (with_member n m es) ds
+    said_first es ds =
+        ap (option_and_then (λ o. option_and_then (λ x. members_with sheet bs (with_member o x es) ds) (said_member bs (dimension_kind sheet bs key) g))) is
+        ∙ ap (option_and_then (λ x. members_with sheet bs (with_member n x es) ds)) says
+
+    said_anywhere : (ds : List Keyed) (es : List Entry) → All (NamesNo n) ds → members_with sheet bs es (with_given key g ds) ≡ members_with sheet bs (with_member n m es) ds
+    said_anywhere [] es fresh = said_first es []
+    said_anywhere (d ∷ ds) es fresh =
+        elim (slice_cmp nat_cmp key d.0) as (λ o. slice_cmp nat_cmp key d.0 ≡ o → members_with sheet bs es (match_ordering o ((key, g) ∷ d ∷ ds) ((d.0, g) ∷ ds) (d ∷ with_given key g ds)) ≡ members_with sheet bs (with_member n m es) (d ∷ ds)) [
+          | Less ↦ λ o. said_first es (d ∷ ds)
+          | Equal ↦ λ o. absurd (All-head (NamesNo n) d ds fresh n (ap (named bs) (sym (exact_bytes key d.0 o)) ∙ is) refl)
+          | Greater ↦ λ o.
+              same_steps (named bs d.0) (said_member bs (dimension_kind sheet bs d.0) d.1)
+              (λ a x. members_with sheet bs (with_member a x es) (with_given key g ds))
+              (λ a x. members_with sheet bs (with_member a x (with_member n m es)) ds)
+              (λ a here x.
+              said_anywhere ds (with_member a x es) (All-tail (NamesNo n) d ds fresh)
+              ∙ ap (λ xs. members_with sheet bs xs ds) (either_first (n, m) (a, x) es (λ same. All-head (NamesNo n) d ds fresh a here (sym same))))
+        ] refl
+
+  -- ---- no name comes again
+
+  abbrev Distinct : List Keyed → Type 0
+  Distinct [] = ⊤
+  Distinct (d ∷ ds) = All (λ (c : Keyed). (x : QName) → named bs d.0 ≡ Some x → NamesNo x c) ds × Distinct ds
+
+  distinct_with : (key : List ℕ) (g : Given) (n : QName) → named bs key ≡ Some n → (ds : List Keyed) → All (NamesNo n) ds → Distinct ds → Distinct (with_given key g ds)
+  distinct_with key g n is [] fresh h = (All-nil (λ (c : Keyed). (x : QName) → named bs key ≡ Some x → NamesNo x c), tt)
+  distinct_with key g n is (d ∷ ds) fresh h =
+      elim (slice_cmp nat_cmp key d.0) as (λ o. slice_cmp nat_cmp key d.0 ≡ o → Distinct (match_ordering o ((key, g) ∷ d ∷ ds) ((d.0, g) ∷ ds) (d ∷ with_given key g ds))) [
+        | Less ↦ λ o. (
+          All-weaker (NamesNo n) (λ (c : Keyed). (x : QName) → named bs key ≡ Some x → NamesNo x c) (λ c other x found y yes same. let both : Some n ≡ Some x = sym is ∙ found in other y yes (same ∙ sym (let e : n ≡ x = cc in e))) (d ∷ ds) fresh,
+          h,
+        )
+        | Equal ↦ λ o. h
+        | Greater ↦ λ o. (
+          All-with_given (λ (c : Keyed). (x : QName) → named bs d.0 ≡ Some x → NamesNo x c) key g ds
+              (λ x found y yes same. let both : Some n ≡ Some y = sym is ∙ yes in All-head (NamesNo n) d ds fresh x found (sym same ∙ sym (let e : n ≡ y = cc in e)))
+              h.0,
+          distinct_with key g n is ds (All-tail (NamesNo n) d ds fresh) h.1,
+        )
+      ] refl
+
+  differ : (m n : QName) → n ≢ m → is_eq (name_cmp m n) ≡ false
+  differ m n other =
+      elim (name_cmp m n) as (λ o. name_cmp m n ≡ o → is_eq o ≡ false) [
+        | Less ↦ λ o. refl
+        | Equal ↦ λ o. absurd (other (sym (exact_name m n o)))
+        | Greater ↦ λ o. refl
+      ] refl
+
+  not_among : (n : QName) (ds : List Keyed) → All (NamesNo n) ds → list_any (λ m. is_eq (name_cmp n m)) (dimension_names bs ds) ≡ false
+  not_among n [] h = refl
+  not_among n (d ∷ ds) h =
+      elim (named bs d.0) as (λ o. named bs d.0 ≡ o → list_any (λ m. is_eq (name_cmp n m)) (cons_option o (dimension_names bs ds)) ≡ false) [
+        | None ↦ λ o. not_among n ds (All-tail (NamesNo n) d ds h)
+        | Some x ↦ λ o. or_from (is_eq (name_cmp n x)) (list_any (λ m. is_eq (name_cmp n m)) (dimension_names bs ds)) (differ n x (All-head (NamesNo n) d ds h x o)) (not_among n ds (All-tail (NamesNo n) d ds h))
+      ] refl
+
+  not_again : (ds : List Keyed) → Distinct ds → comes_again (dimension_names bs ds) ≡ false
+  not_again [] h = refl
+  not_again (d ∷ ds) h =
+      elim (named bs d.0) as (λ o. named bs d.0 ≡ o → comes_again (cons_option o (dimension_names bs ds)) ≡ false) [
+        | None ↦ λ o. not_again ds h.1
+        | Some x ↦ λ o. or_from (list_any (λ m. is_eq (name_cmp x m)) (dimension_names bs ds)) (comes_again (dimension_names bs ds)) (not_among x ds (All-weaker (λ (c : Keyed). (y : QName) → named bs d.0 ≡ Some y → NamesNo y c) (NamesNo x) (λ c other. other x o) ds h.0)) (not_again ds h.1)
+      ] refl
+
+  -- ---- the dimensions of a fact
+
+  module _ (spelled : QName → List ℕ) where
+    -- what is known of each
+    record IsWritten (e : Entry) : Type 0 where
+      fits : DimensionFits sheet e
+      spells : SpellsDimension bs spelled e
+
+    key_back : (e : Entry) → IsWritten e → named bs (spelled e.0) ≡ Some e.0
+    key_back e w = name_back bs spelled e.0 w.fits.name w.spells.name
+
+    kind_back : (e : Entry) (w : IsWritten e) → dimension_kind sheet bs (spelled e.0) ≡ Some w.fits.kind
+    kind_back e w = ap (option_and_then (map.get sheet.dimensions)) (key_back e w) ∙ w.fits.listed
+
+    member_back : (e : Entry) → IsWritten e → said_member bs (dimension_kind sheet bs (spelled e.0)) (member_given spelled e.1) ≡ Some e.1
+    member_back e w = ap (λ k. said_member bs k (member_given spelled e.1)) (kind_back e w) ∙ member_said bs spelled w.fits.kind e.1 w.fits.member w.spells.member
+
+    says_dimension : (e : Entry) → IsWritten e → SaysDimension sheet bs (spelled e.0, member_given spelled e.1) e
+    says_dimension e w = record {
+      name = expands bs spelled e.0 w.spells.name w.fits.name;
+      kind = w.fits.kind;
+      listed = w.fits.listed;
+      member = says_member bs spelled w.fits.kind e.1 w.fits.member w.spells.member;
+    }
+
+    -- other names, and other keys
+    other_names : (n : QName) (es : List Entry) → All IsWritten es → All (λ (e : Entry). e.0 ≢ n) es → All (NamesNo n) (defined_given spelled es)
+    other_names n [] w h = All-nil (NamesNo n)
+    other_names n (e ∷ es) w h =
+        All-with_given (NamesNo n) (spelled e.0) (member_given spelled e.1) (defined_given spelled es)
+        (λ o found same. let both : Some e.0 ≡ Some o = sym (key_back e (All-head IsWritten e es w)) ∙ found in All-head (λ (f : Entry). f.0 ≢ n) e es h ((let one : e.0 ≡ o = cc in one) ∙ same))
+        (other_names n es (All-tail IsWritten e es w) (All-tail (λ (f : Entry). f.0 ≢ n) e es h))
+
+    other_keys : (e : Entry) (es : List Entry) → IsWritten e → All IsWritten es → All (λ (f : Entry). f.0 ≢ e.0) es → All (λ (d : Keyed). d.0 ≢ spelled e.0) (defined_given spelled es)
+    other_keys e [] we w h = All-nil (λ (d : Keyed). d.0 ≢ spelled e.0)
+    other_keys e (f ∷ es) we w h =
+        let wf = All-head IsWritten f es w in
+        All-with_given (λ (d : Keyed). d.0 ≢ spelled e.0) (spelled f.0) (member_given spelled f.1) (defined_given spelled es)
+        (spelled_apart bs spelled f.0 e.0 wf.fits.name we.fits.name wf.spells.name we.spells.name (All-head (λ (g : Entry). g.0 ≢ e.0) f es h))
+        (other_keys e es we (All-tail IsWritten f es w) (All-tail (λ (g : Entry). g.0 ≢ e.0) f es h))
+
+    apart : (e : Entry) (es : List Entry) → rises (e ∷ es) ≡ true → All (λ (f : Entry). f.0 ≢ e.0) es
+    apart e es h = below_apart e.0 es (and_parts (is_below e.0 es) (rises es) h).0
+
+    rest : (e : Entry) (es : List Entry) → rises (e ∷ es) ≡ true → rises es ≡ true
+    rest e es h = (and_parts (is_below e.0 es) (rises es) h).1
+
+    -- they say the members, whatever the order of the keys
+    all_said : (es found : List Entry) → rises es ≡ true → All IsWritten es → members_with sheet bs found (defined_given spelled es) ≡ Some (each_added found es)
+    all_said [] found h w = refl
+    all_said (e ∷ es) found h w =
+        let we = All-head IsWritten e es w in
+        let ws = All-tail IsWritten e es w in
+        said_anywhere (spelled e.0) (member_given spelled e.1) e.0 e.1 (key_back e we) (member_back e we) (defined_given spelled es) found (other_names e.0 es ws (apart e es h))
+        ∙ all_said es (with_member e.0 e.1 found) (rest e es h) ws
+
+    abbrev Says : List Entry → Keyed → Type 0
+    Says es d = (e : Entry) × Contains es e × SaysDimension sheet bs d e
+
+    later : (e f : Entry) (es : List Entry) → Contains es f → Contains (e ∷ es) f
+    later e f es h = (suc h.0, omega (arith, h.1), h.2)
+
+    each_says : (es : List Entry) → All IsWritten es → All (Says es) (defined_given spelled es)
+    each_says [] w = All-nil (Says [])
+    each_says (e ∷ es) w =
+        All-with_given (Says (e ∷ es)) (spelled e.0) (member_given spelled e.1) (defined_given spelled es)
+        (e, (0, omega arith, refl), says_dimension e (All-head IsWritten e es w))
+        (All-weaker (Says es) (Says (e ∷ es)) (λ d s. (s.0, later e s.0 es s.1, s.2)) (defined_given spelled es) (each_says es (All-tail IsWritten e es w)))
+
+    abbrev IsSaid : List Keyed → Entry → Type 0
+    IsSaid ds e = Any (λ (d : Keyed). SaysDimension sheet bs d e) ds
+
+    each_said : (es : List Entry) → rises es ≡ true → All IsWritten es → All (IsSaid (defined_given spelled es)) es
+    each_said [] h w = All-nil (IsSaid [])
+    each_said (e ∷ es) h w =
+        let we = All-head IsWritten e es w in
+        let ws = All-tail IsWritten e es w in
+        let ds = defined_given spelled es in
+        All-cons (IsSaid (with_given (spelled e.0) (member_given spelled e.1) ds)) e es
+        (Any-with_given (λ (d : Keyed). SaysDimension sheet bs d e) (spelled e.0) (member_given spelled e.1) ds (says_dimension e we))
+        (All-weaker (IsSaid ds) (IsSaid (with_given (spelled e.0) (member_given spelled e.1) ds))
+        (λ f s. Any-kept (λ (d : Keyed). SaysDimension sheet bs d f) (spelled e.0) (member_given spelled e.1) ds (other_keys e es we ws (apart e es h)) s)
+        es (each_said es (rest e es h) ws))
+
+    -- and no condition refuses them
+    all_listed : (es : List Entry) → All IsWritten es → All (λ (d : Keyed). is_none (dimension_kind sheet bs d.0) ≡ false) (defined_given spelled es)
+    all_listed [] w = All-nil (λ (d : Keyed). is_none (dimension_kind sheet bs d.0) ≡ false)
+    all_listed (e ∷ es) w =
+        All-with_given (λ (d : Keyed). is_none (dimension_kind sheet bs d.0) ≡ false) (spelled e.0) (member_given spelled e.1) (defined_given spelled es)
+        (ap is_none (kind_back e (All-head IsWritten e es w)))
+        (all_listed es (All-tail IsWritten e es w))
+
+    none_misfits : (es : List Entry) → All IsWritten es → All (λ (d : Keyed). is_misfit (dimension_kind sheet bs d.0) d.1 ≡ false) (defined_given spelled es)
+    none_misfits [] w = All-nil (λ (d : Keyed). is_misfit (dimension_kind sheet bs d.0) d.1 ≡ false)
+    none_misfits (e ∷ es) w =
+        let we = All-head IsWritten e es w in
+        All-with_given (λ (d : Keyed). is_misfit (dimension_kind sheet bs d.0) d.1 ≡ false) (spelled e.0) (member_given spelled e.1) (defined_given spelled es)
+        (ap (λ k. is_misfit k (member_given spelled e.1)) (kind_back e we) ∙ no_misfit bs spelled we.fits.kind e.1 we.fits.member)
+        (none_misfits es (All-tail IsWritten e es w))
+
+    all_distinct : (es : List Entry) → rises es ≡ true → All IsWritten es → Distinct (defined_given spelled es)
+    all_distinct [] h w = tt
+    all_distinct (e ∷ es) h w =
+        let ws = All-tail IsWritten e es w in
+        distinct_with (spelled e.0) (member_given spelled e.1) e.0 (key_back e (All-head IsWritten e es w)) (defined_given spelled es) (other_names e.0 es ws (apart e es h)) (all_distinct es (rest e es h) ws)
+
+    -- and each of their names is accepted
+    member_names_none : (kind : DimensionKind) (m : Member) → MemberFits kind m → SpellsMember bs spelled m → names_refusal bs (member_names (Some kind) (member_given spelled m)) ≡ None
+    member_names_none Explicit (MemberName n) fits s = one_name is_name bs (spelled n) n (expands bs spelled n s fits)
+    member_names_none Explicit (MemberText t) fits s = absurd fits
+    member_names_none Explicit NoMember fits s = absurd fits
+    member_names_none Typed m fits s = refl
+
+    one_named : (e : Entry) → IsWritten e → names_refusal bs (defined_names sheet bs (spelled e.0, member_given spelled e.1)) ≡ None
+    one_named e w =
+        names_append bs (a_name (spelled e.0) ∷ []) (member_names (dimension_kind sheet bs (spelled e.0)) (member_given spelled e.1))
+        (one_name is_name bs (spelled e.0) e.0 (expands bs spelled e.0 w.spells.name w.fits.name))
+        (ap (λ k. names_refusal bs (member_names k (member_given spelled e.1))) (kind_back e w) ∙ member_names_none w.fits.kind e.1 w.fits.member w.spells.member)
+
+    abbrev HasNames : Keyed → Type 0
+    HasNames d = names_refusal bs (defined_names sheet bs d) ≡ None
+
+    each_named : (es : List Entry) → All IsWritten es → All HasNames (defined_given spelled es)
+    each_named [] w = All-nil HasNames
+    each_named (e ∷ es) w =
+        All-with_given HasNames (spelled e.0) (member_given spelled e.1) (defined_given spelled es)
+        (one_named e (All-head IsWritten e es w))
+        (each_named es (All-tail IsWritten e es w))
+
+    all_named : (ds : List Keyed) → All HasNames ds → names_refusal bs (flat_map (defined_names sheet bs) ds) ≡ None
+    all_named [] h = refl
+    all_named (d ∷ ds) h = names_append bs (defined_names sheet bs d) (flat_map (defined_names sheet bs) ds) (All-head HasNames d ds h) (all_named ds (All-tail HasNames d ds h))
+
+    all_accepted : (es : List Entry) → rises es ≡ true → All IsWritten es → defined_refusal sheet bs (defined_given spelled es) ≡ None
+    all_accepted es h w =
+        let ds = defined_given spelled es in
+        rw (list_any_none (λ (d : Keyed). is_none (dimension_kind sheet bs d.0)) ds (all_listed es w), list_any_none (λ (d : Keyed). is_misfit (dimension_kind sheet bs d.0) d.1) ds (none_misfits es w), not_again ds (all_distinct es h w)) refl
+
+pub dimensions_back : DimensionsReadBack
+dimensions_back sheet bs spelled es h fits spells =
+    let w : All (IsWritten sheet bs spelled) es = λ k d within. record { fits = fits k d within; spells = spells k d within } in
+    record {
+      says = record { each = each_says sheet bs spelled es w; others = each_said sheet bs spelled es h w };
+      said = all_said sheet bs spelled es [] h w ∙ ap Some (all_added es h);
+      accepted = all_accepted sheet bs spelled es h w;
+      names = all_named sheet bs spelled (defined_given spelled es) (each_named sheet bs spelled es w);
+    }

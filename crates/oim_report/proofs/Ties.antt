@@ -1,0 +1,35 @@
+-- What derived comparisons say.
+use Rattle.std.proofs.Common.{◌≡◌, cond, refl, ap, ◌∙◌}
+use Rattle.std.specs.Ordering.{is_eq, is_lt, ord_max}
+use Rattle.oim_value.specs.Level.{level_cmp}
+use Rattle.oim_value.specs.contracts.level.LevelOrd.TheImpl.{cmp-value as derived}
+use Rattle.oim_value.specs.declared.level.Level.{Level}
+use Rattle.oim_value.specs.declared.level.Level.TheVariants.{Unique, Complete, Consistent, All}
+use Rattle.oim_value.proofs.ValueOrders.{values_agree}
+use Rattle.oim_value.specs.contracts.value.ValueOrd.TheImpl.Laws.{matches_eq-law as values_match}
+use Rattle.oim_value.specs.contracts.value.ValuePartialEq.TheImpl.{eq-value as value_eq}
+use Rattle.oim_value.specs.declared.value.Value.{Value}
+use Rattle.oim_value.specs.ValueOrder.{value_cmp}
+use Rattle.oim_dims.proofs.Orders.{dimensions_agree}
+use Rattle.oim_dims.specs.contracts.dimensions.DimensionsOrd.TheImpl.Laws.{matches_eq-law as dimensions_match}
+use Rattle.oim_dims.specs.contracts.dimensions.DimensionsPartialEq.TheImpl.{eq-value as dimensions_eq}
+use Rattle.oim_dims.specs.DimensionSet.{DimensionSet}
+use Rattle.oim_dims.specs.FactOrder.{dimensions_cmp}
+
+pub equal_values_tie : (v w : Value) → value_eq.it v w ≡ is_eq (value_cmp v w)
+equal_values_tie v w = values_match v w ∙ ap is_eq (values_agree v w)
+
+pub equal_dimensions_tie : (x y : DimensionSet) → dimensions_eq.it x y ≡ is_eq (dimensions_cmp x y)
+equal_dimensions_tie x y = dimensions_match x y ∙ ap is_eq (dimensions_agree x y)
+
+-- the later of two levels
+pub level_max_is : (l m : Level) → ord_max derived.it l m ≡ ord_max level_cmp l m
+level_max_is l m = ap (λ o. cond (is_lt o) l m) (levels_agree m l)
+  where
+    levels_agree : (l m : Level) → derived.it l m ≡ level_cmp l m
+    levels_agree = elim [
+      | Unique ↦ elim [ Unique ↦ refl | Complete ↦ refl | Consistent ↦ refl | All ↦ refl ]
+      | Complete ↦ elim [ Unique ↦ refl | Complete ↦ refl | Consistent ↦ refl | All ↦ refl ]
+      | Consistent ↦ elim [ Unique ↦ refl | Complete ↦ refl | Consistent ↦ refl | All ↦ refl ]
+      | All ↦ elim [ Unique ↦ refl | Complete ↦ refl | Consistent ↦ refl | All ↦ refl ]
+    ]

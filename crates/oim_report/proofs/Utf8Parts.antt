@@ -1,0 +1,113 @@
+-- The parts of a text that is UTF-8, cut at ASCII characters, are UTF-8.
+use Rattle.std.proofs.Common.{◌≡◌, ℕ, suc, ◌+◌, ◌-◌, ◌<◌, ◌≤◌, List, [], ◌∷◌, ◌++◌, length, get_or, take, drop, Bool, true, false, ◌==◌, ◌&&◌, cond, refl, sym, ap, subst, arith, length-append}
+use Rattle.std.specs.Prelude.{All}
+use Rattle.std.specs.List.{after_first, before_first, join_with_byte, list_any, position_or_len}
+use Rattle.std.specs.Str.{IsUtf8}
+use Rattle.std.proofs.lemmas.Bool.{and_parts, cases_lt}
+use Rattle.std.proofs.lemmas.List.{drop_all, take_all}
+use Rattle.std.proofs.Common.{inl, inr}
+use Rattle.std.proofs.lemmas.Bool.Decides.{nat_tests}
+use Rattle.std.proofs.lemmas.List.Elements.{All-cons}
+use Rattle.std.proofs.lemmas.List.Splits.{join_with_byte-slice_split}
+use Rattle.std.proofs.lemmas.List.Sums.{passes_at_first}
+use Rattle.std.proofs.lemmas.Str.{IsUtf8-take, IsUtf8-drop, IsUtf8-between, IsUtf8-nil, IsCharBoundary-before_ascii, IsCharBoundary-after_ascii}
+use Rattle.oim_dims.specs.Separators.{is_slash}
+use Rattle.oim_dims.specs.Unit.{inner, side_pieces, numerator_pieces, denominator_pieces}
+use Rattle.oim_names.specs.QName.{is_colon}
+
+-- a test that only ASCII characters pass
+abbrev pub OnlyAscii : (ℕ → Bool) → Type 0
+OnlyAscii p = (c : ℕ) → p c ≡ true → c < 128
+
+module _ (p : ℕ → Bool) (ascii : OnlyAscii p) (t : List ℕ) (utf8 : IsUtf8 t) where
+  passed : position_or_len p t < length t → get_or t (position_or_len p t) 0 < 128
+  passed lt = ascii _ (passes_at_first p t 0 lt)
+
+  -- what stands after the first that passes, and before it
+  pub after_utf8 : IsUtf8 (after_first p t)
+  after_utf8 = elim (cases_lt (position_or_len p t) (length t)) [
+    | inl lt ↦ IsUtf8-drop t (position_or_len p t + 1) utf8 (IsCharBoundary-after_ascii t (position_or_len p t) utf8 lt (passed lt))
+    | inr ge ↦ subst IsUtf8 (sym (drop_all (position_or_len p t + 1) t (omega (arith, ge)))) IsUtf8-nil
+  ]
+
+  pub before_utf8 : IsUtf8 (before_first p t)
+  before_utf8 = elim (cases_lt (position_or_len p t) (length t)) [
+    | inl lt ↦ IsUtf8-take t (position_or_len p t) utf8 (IsCharBoundary-before_ascii t (position_or_len p t) lt (passed lt))
+    | inr ge ↦ subst IsUtf8 (sym (take_all (position_or_len p t) t (omega (arith, ge)))) utf8
+  ]
+
+-- the parts round an ASCII character
+at_seam : (xs ys : List ℕ) (c : ℕ) → get_or (xs ++ c ∷ ys) (length xs) 0 ≡ c
+at_seam [] ys c = refl
+at_seam (x ∷ xs) ys c = at_seam xs ys c
+
+front : (xs ys : List ℕ) → take (length xs) (xs ++ ys) ≡ xs
+front [] ys = refl
+front (x ∷ xs) ys = ap (λ zs. x ∷ zs) (front xs ys)
+
+back : (xs ys : List ℕ) (c : ℕ) → drop (length xs + 1) (xs ++ c ∷ ys) ≡ ys
+back [] ys c = refl
+back (x ∷ xs) ys c = let e : length (x ∷ xs) + 1 ≡ suc (length xs + 1) = omega arith in rw e (back xs ys c)
+
+seam_within : (xs ys : List ℕ) (c : ℕ) → length xs < length (xs ++ c ∷ ys)
+seam_within xs ys c = simp length-append (omega arith)
+
+both_utf8 : (xs ys : List ℕ) (c : ℕ) → c < 128 → IsUtf8 (xs ++ c ∷ ys) → IsUtf8 xs × IsUtf8 ys
+both_utf8 xs ys c ascii utf8 =
+    let low : get_or (xs ++ c ∷ ys) (length xs) 0 < 128 = rw (at_seam xs ys c) ascii in (
+      subst IsUtf8 (front xs (c ∷ ys)) (IsUtf8-take (xs ++ c ∷ ys) (length xs) utf8 (IsCharBoundary-before_ascii (xs ++ c ∷ ys) (length xs) (seam_within xs ys c) low)),
+      subst IsUtf8 (back xs ys c) (IsUtf8-drop (xs ++ c ∷ ys) (length xs + 1) utf8 (IsCharBoundary-after_ascii (xs ++ c ∷ ys) (length xs) utf8 (seam_within xs ys c) low)),
+    )
+
+joined_utf8 : (c : ℕ) → c < 128 → (ps : List (List ℕ)) → IsUtf8 (join_with_byte c ps) → All IsUtf8 ps
+joined_utf8 c ascii [] utf8 = λ k d lt. absurd (omega (arith, lt))
+joined_utf8 c ascii (p ∷ []) utf8 = All-cons IsUtf8 p [] utf8 (λ k d lt. absurd (omega (arith, lt)))
+joined_utf8 c ascii (p ∷ q ∷ ps) utf8 = let both = both_utf8 p (join_with_byte c (q ∷ ps)) c ascii utf8 in All-cons IsUtf8 p (q ∷ ps) both.0 (joined_utf8 c ascii (q ∷ ps) both.1)
+
+-- ---- the pieces of a unit
+
+same_number : (m n : ℕ) → (m == n) ≡ true → m ≡ n
+same_number m n h = grind (arith, nat_tests, h)
+
+only_slash : OnlyAscii is_slash
+only_slash c h = grind (arith, nat_tests, h)
+
+pub only_colon : OnlyAscii is_colon
+only_colon c h = grind (arith, nat_tests, h)
+
+filled : (s : List ℕ) → get_or s 0 0 ≡ 40 → 0 < length s
+filled [] e = absurd (omega (arith, e))
+filled (c ∷ cs) e = omega arith
+
+two : (s : List ℕ) → get_or s 0 0 ≡ 40 → get_or s (length s - 1) 0 ≡ 41 → 2 ≤ length s
+two [] a b = absurd (omega (arith, a))
+two (c ∷ []) a b = absurd (omega (arith, a, b))
+two (c ∷ d ∷ cs) a b = omega arith
+
+inside_utf8 : (s : List ℕ) → IsUtf8 s → get_or s 0 0 ≡ 40 → get_or s (length s - 1) 0 ≡ 41 → IsUtf8 (take (length s - 1 - 1) (drop 1 s))
+inside_utf8 s utf8 open' close =
+    let some = filled s open' in
+    let many = two s open' close in
+    IsUtf8-between s 1 (length s - 1) utf8 (omega (arith, many)) (IsCharBoundary-after_ascii s 0 utf8 some (omega (arith, open'))) (IsCharBoundary-before_ascii s (length s - 1) (omega (arith, many)) (omega (arith, close)))
+
+inner_utf8 : (s : List ℕ) → IsUtf8 s → IsUtf8 (inner s)
+inner_utf8 s utf8 =
+    let P : Bool → Type 0 = λ b. (get_or s 0 0 == 40 && get_or s (length s - 1) 0 == 41) ≡ b → IsUtf8 (cond b (take (length s - 1 - 1) (drop 1 s)) s) in
+    elim (get_or s 0 0 == 40 && get_or s (length s - 1) 0 == 41) as P [
+      | true ↦ λ e. (let both = and_parts (get_or s 0 0 == 40) (get_or s (length s - 1) 0 == 41) e in inside_utf8 s utf8 (same_number _ _ both.0) (same_number _ _ both.1))
+      | false ↦ λ e. utf8
+    ] refl
+
+pieces_utf8 : (s : List ℕ) → IsUtf8 s → All IsUtf8 (side_pieces s)
+pieces_utf8 s utf8 = joined_utf8 42 (omega arith) (side_pieces s) (subst IsUtf8 (sym (join_with_byte-slice_split 42 (inner s))) (inner_utf8 s utf8))
+
+pub numerators_utf8 : (t : List ℕ) → IsUtf8 t → All IsUtf8 (numerator_pieces t)
+unfolding numerator_pieces
+numerators_utf8 t utf8 = pieces_utf8 (before_first is_slash t) (before_utf8 is_slash only_slash t utf8)
+
+pub denominators_utf8 : (t : List ℕ) → IsUtf8 t → All IsUtf8 (denominator_pieces t)
+unfolding denominator_pieces
+denominators_utf8 t utf8 = elim (list_any is_slash t) as (λ b. All IsUtf8 (cond b (side_pieces (after_first is_slash t)) [])) [
+  | true ↦ pieces_utf8 (after_first is_slash t) (after_utf8 is_slash only_slash t utf8)
+  | false ↦ λ k d lt. absurd (omega (arith, lt))
+]

@@ -1,0 +1,33 @@
+-- What a report says (xBRL-JSON 1.0, sections 2 and 3; the order of facts is own).
+use Rattle.std.specs.Prelude.{◌≡◌, ℕ, List, Some}
+use Rattle.std.specs.List.{AllZip}
+use Rattle.oim_names.specs.Bindings.{Binding}
+use Rattle.oim_value.specs.declared.level.Level.{Level}
+use Rattle.oim_dims.specs.declared.fact.Fact.{Fact}
+use Rattle.serde_json.specs.Data.{Data}
+use Rattle.oim_report.specs.Fact.{SaysFact}
+use Rattle.oim_report.specs.Info.{bindings_of, facts_of, references_said, level_said}
+use Rattle.oim_report.specs.Json.{json, values}
+use Rattle.oim_report.specs.Parts.{FactParts, fact_parts}
+use Rattle.oim_report.specs.Sheet.{Sheet}
+
+-- its facts, in byte order of their identifiers, repeats kept; the references of `taxonomy` as they are kept, in their order; and
+-- the declared level of duplicates
+pub record Document : Type 0 where
+  pub facts : List Fact
+  pub references : List (List ℕ)
+  pub level : Level
+
+-- a fact object says a fact
+pub record ObjectSays (sheet : Sheet) (bs : List Binding) (object : Data) (said : Fact) : Type 0 where
+  pub parts : FactParts
+  pub are : fact_parts object ≡ Some parts
+  pub says : SaysFact sheet bs parts said
+
+-- the document that a report's bytes say under a sheet: each fact object says the fact at its place
+pub record SaysDocument (sheet : Sheet) (bytes : List ℕ) (document : Document) : Type 0 where
+  pub tree : Data
+  pub read : json bytes ≡ Some tree
+  pub facts : AllZip (ObjectSays sheet (bindings_of tree)) (values (facts_of tree)) document.facts
+  pub references : references_said tree ≡ Some document.references
+  pub level : level_said tree ≡ Some document.level

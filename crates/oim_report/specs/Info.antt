@@ -1,0 +1,125 @@
+-- The parts of a report outside its facts, and why they are refused (xBRL-JSON 1.0, section 2; own where it says so).
+use Rattle.std.specs.Prelude.{ℕ, List, [], ◌∷◌, Bool, false, not, ◌||◌, ◌&&◌, bytes_eq, codes, if◌then◌else◌, Option, Some, None, is_none, option_map, option_and_then}
+use Rattle.std.specs.Option.{option_map_or, unwrap_or}
+use Rattle.oim_names.specs.Bindings.{Binding, uri_of}
+use Rattle.oim_names.specs.Expansion.{reserved_uri}
+use Rattle.oim_names.specs.QName.{prefix_part, local_part}
+use Rattle.oim_names.specs.declared.reason.Reason.{Reason}
+use Rattle.oim_names.specs.declared.reason.Reason.TheVariants.{MemberForm, UnknownMember, DocumentType, Namespace, BaseUrl, TaxonomyUrl, Feature}
+use Rattle.oim_value.specs.Level.{level_with}
+use Rattle.oim_value.specs.declared.level.Level.{Level}
+use Rattle.oim_value.specs.declared.level.Level.TheVariants.{All}
+use Rattle.serde_json.specs.Data.{Data, Items, no_items, item, Members, no_members, member}
+use Rattle.serde_json.specs.Find.{get, as_array, as_object}
+use Rattle.oim_report.specs.Json.{Given, absent, nil, text, whole, other, given, given_of, text_of, is_text, object_at, within, members, any_in, is_unknown, is_object, is_no_object, is_no_array}
+use Rattle.url.specs.Parts.{Parts}
+use Rattle.oim_report.specs.Kept.{base_url, is_reference_refused, kept}
+use Rattle.oim_report.specs.Namespaces.{binds_nothing, bindings_in}
+use Rattle.oim_report.specs.Refusal.{first_holding, first_refusal}
+
+-- ---- the parts
+
+abbrev pub info : List ℕ → Data → Option Data
+info key tree = within (codes "documentInfo") key tree
+
+abbrev pub namespaces_of : Data → Option Members
+namespaces_of tree = option_and_then as_object (info (codes "namespaces") tree)
+
+abbrev pub bindings_of : Data → List Binding
+bindings_of tree = bindings_in (members (namespaces_of tree))
+
+abbrev pub taxonomy_of : Data → Items
+taxonomy_of tree = unwrap_or (option_and_then as_array (info (codes "taxonomy") tree)) no_items
+
+abbrev pub features_of : Data → Members
+features_of tree = members (option_and_then as_object (info (codes "features") tree))
+
+abbrev pub facts_of : Data → Members
+facts_of tree = members (object_at (codes "facts") tree)
+
+-- ---- what they say, each None where it is refused
+
+-- the base of relative references: a web address, or none
+abbrev pub said_base : Given → Option (Option Parts)
+said_base absent = Some None
+said_base (text t) = option_map Some (base_url t)
+said_base nil = None
+said_base (whole n) = None
+said_base other = None
+
+-- a reference, as it is kept
+abbrev pub accepted_reference : Option Parts → List ℕ → Option (List ℕ)
+accepted_reference base t = if is_reference_refused base t then None else kept base t
+
+abbrev pub said_reference : Option Parts → Data → Option (List ℕ)
+said_reference base d = option_and_then (accepted_reference base) (text_of (given d))
+
+abbrev pub said_references : Option Parts → Items → Option (List (List ℕ))
+said_references base no_items = Some []
+said_references base (item d ds) = option_and_then (λ t. option_map (λ ts. t ∷ ts) (said_references base ds)) (said_reference base d)
+
+-- whether a key of `features` is the feature `xbrl:allowedDuplicates`, by whatever prefix
+abbrev pub is_allowed_duplicates : List Binding → List ℕ → Bool
+is_allowed_duplicates bs key =
+    option_map_or (λ u. bytes_eq u reserved_uri) (uri_of bs (prefix_part key)) false && bytes_eq (local_part key) (codes "allowedDuplicates")
+
+-- the values at keys that are
+abbrev pub declarations : List Binding → Members → List Given
+declarations bs no_members = []
+declarations bs (member key d ms) = if is_allowed_duplicates bs key then given d ∷ declarations bs ms else declarations bs ms
+
+-- the declared level: that of the one declaration; without any, all is allowed (own)
+abbrev pub said_level : List Given → Option Level
+said_level [] = Some All
+said_level (g ∷ []) = option_and_then level_with (text_of g)
+said_level (g ∷ h ∷ gs) = None
+
+abbrev pub base_said : Data → Option (Option Parts)
+base_said tree = said_base (given_of (info (codes "baseURL") tree))
+
+abbrev pub references_said : Data → Option (List (List ℕ))
+references_said tree = option_and_then (λ base. said_references base (taxonomy_of tree)) (base_said tree)
+
+abbrev pub level_said : Data → Option Level
+level_said tree = said_level (declarations (bindings_of tree) (features_of tree))
+
+-- ---- conditions
+
+-- whether a part of it is missing, or of another kind of value
+abbrev pub has_misshapen_part : Data → Bool
+has_misshapen_part tree =
+    not (is_object tree) || is_none (object_at (codes "documentInfo") tree) || is_no_object (info (codes "namespaces") tree) || is_no_object (info (codes "features") tree) || is_no_object (get (codes "facts") tree) || is_no_array (info (codes "taxonomy") tree)
+
+abbrev pub root_keys : List (List ℕ)
+root_keys = codes "documentInfo" ∷ codes "facts" ∷ []
+
+abbrev pub info_keys : List (List ℕ)
+info_keys = codes "documentType" ∷ codes "namespaces" ∷ codes "taxonomy" ∷ codes "baseURL" ∷ codes "features" ∷ codes "linkTypes" ∷ codes "linkGroups" ∷ []
+
+abbrev pub document_type : List ℕ
+document_type = codes "https://xbrl.org/2021/xbrl-json"
+
+abbrev pub has_unknown_part : Data → Bool
+has_unknown_part tree = any_in (is_unknown root_keys) (as_object tree) || any_in (is_unknown info_keys) (object_at (codes "documentInfo") tree)
+
+abbrev pub has_other_type : Data → Bool
+has_other_type tree = not (is_text document_type (given_of (info (codes "documentType") tree)))
+
+abbrev pub shape_refusal : Data → Option Reason
+shape_refusal tree = first_holding (
+    (has_misshapen_part tree, MemberForm)
+    ∷ (has_unknown_part tree, UnknownMember)
+    ∷ (has_other_type tree, DocumentType)
+    ∷ [])
+
+abbrev pub info_refusal : Data → Option Reason
+info_refusal tree = first_holding (
+    (any_in binds_nothing (namespaces_of tree), Namespace)
+    ∷ (is_none (base_said tree), BaseUrl)
+    ∷ (is_none (references_said tree), TaxonomyUrl)
+    ∷ (is_none (level_said tree), Feature)
+    ∷ [])
+
+-- the conditions of a document, in the order in which they are answered
+abbrev pub document_refusal : Data → Option Reason
+document_refusal tree = first_refusal (shape_refusal tree ∷ info_refusal tree ∷ [])

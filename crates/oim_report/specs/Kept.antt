@@ -1,0 +1,78 @@
+-- The text under which a taxonomy reference is kept (xBRL-JSON 1.0, `taxonomy` and `baseURL` of a report; the form that is kept is own).
+use Rattle.std.specs.Prelude.{◌≡◌, ℕ, ◌&&◌, ◌||◌, Bool, true, false, not, nat_le, if◌then◌else◌, List, length, codes, bytes_eq, Option, Some, None, is_none, Ok, Err}
+use Rattle.std.specs.Option.{option_map_or}
+use Rattle.std.specs.Str.{is_utf8}
+use Rattle.url.specs.Parser.{Parsed, parse_url}
+use Rattle.url.specs.Parts.{Parts, serialize}
+use Rattle.oim_report.specs.declared.limits.TheConstants.{MOST_REFERENCE_BYTES}
+
+-- an http or https URL
+abbrev pub is_web : Parts → Bool
+is_web url = bytes_eq url.scheme (codes "http") || bytes_eq url.scheme (codes "https")
+
+-- what was parsed, where that is an http or https URL
+abbrev pub web_url : Parsed Parts → Option Parts
+web_url (Ok url) = if is_web url then Some url else None
+web_url (Err e) = None
+
+-- whether the text is UTF-8, and that of the http or https URL which it parses as (URL Standard, sections 4.4 and 4.5).
+-- Each such URL has a text of this kind, so no code tests it.
+abbrev pub is_web_text : List ℕ → Bool
+is_web_text text = is_utf8 text && option_map_or (λ url. bytes_eq (serialize url) text) (web_url (parse_url None text)) false
+
+-- the text of an http or https URL (URL Standard, section 4.5)
+abbrev pub web_text : Option Parts → Option (List ℕ)
+web_text None = None
+web_text (Some url) = if is_web_text (serialize url) then Some (serialize url) else None
+
+-- what a reference is kept as, by what it parses as by itself: an http or https URL as its text, another one as spelled.
+-- Where it is no URL: as spelled where there is no base, else as the http or https URL that it is against the base
+abbrev pub kept_by : Parsed Parts → Option Parts → List ℕ → Option (List ℕ)
+kept_by (Ok url) base reference = if is_web url then web_text (Some url) else Some reference
+kept_by (Err e) None reference = Some reference
+kept_by (Err e) (Some base) reference = web_text (web_url (parse_url (Some base) reference))
+
+-- the text under which a reference is kept; None where it does not resolve
+abbrev pub kept : Option Parts → List ℕ → Option (List ℕ)
+kept base reference = kept_by (parse_url None reference) base reference
+
+-- whether the text may be a base, a reference or a kept text by its length (own)
+abbrev pub is_within_limit : List ℕ → Bool
+is_within_limit text = nat_le (length text) MOST_REFERENCE_BYTES
+
+-- the URL against which references are resolved: a text within the limit that parses as an http or https URL (that no other is one is own)
+abbrev pub base_url : List ℕ → Option Parts
+base_url text = if is_within_limit text then web_url (parse_url None text) else None
+
+abbrev pub is_base_refused : List ℕ → Bool
+is_base_refused text = is_none (base_url text)
+
+-- whether there is a text, and it is within the limit
+abbrev pub is_text_within_limit : Option (List ℕ) → Bool
+is_text_within_limit text = option_map_or is_within_limit text false
+
+-- whether a reference is too long, does not resolve, or has a kept text that is too long (own)
+abbrev pub is_reference_refused : Option Parts → List ℕ → Bool
+is_reference_refused base reference = not (is_within_limit reference && is_text_within_limit (kept base reference))
+
+-- a kept text is kept as itself where there is no base
+abbrev pub KeptIsKept : Type 0
+KeptIsKept = (base : Option Parts) (reference text : List ℕ) → kept base reference ≡ Some text → kept None text ≡ Some text
+
+-- the kept text of a reference that is not refused is not refused where there is no base
+abbrev pub KeptIsAccepted : Type 0
+KeptIsAccepted =
+    (base : Option Parts) (reference text : List ℕ) → is_reference_refused base reference ≡ false → kept base reference ≡ Some text →
+    is_reference_refused None text ≡ false
+
+-- the kept text of a reference in UTF-8 is UTF-8
+abbrev pub KeptIsUtf8 : Type 0
+KeptIsUtf8 =
+    (base : Option Parts) (reference text : List ℕ) → is_utf8 reference ≡ true → kept base reference ≡ Some text →
+    is_utf8 text ≡ true
+
+-- a reference as it is kept: its own kept text where there is no base, of at most so many bytes, in UTF-8
+pub record IsKeptReference (text : List ℕ) : Type 0 where
+  pub kept : kept None text ≡ Some text
+  pub short : is_within_limit text ≡ true
+  pub utf8 : is_utf8 text ≡ true

@@ -1,0 +1,17 @@
+-- The order of a list of facts, told by their places (own).
+use Rattle.std.specs.Prelude.{ℕ, List, length, slice_get}
+use Rattle.std.specs.List.{range_with_len}
+use Rattle.std.specs.List.Sorted.{IsPermutation, IsSorted}
+use Rattle.std.specs.Option.{option_cmp}
+use Rattle.std.specs.declared.cmp.Ordering.{Ordering}
+use Rattle.oim_dims.specs.FactOrder.{fact_cmp}
+use Rattle.oim_dims.specs.declared.fact.Fact.{Fact}
+
+-- how the facts at two places compare
+abbrev pub place_cmp : List Fact → ℕ → ℕ → Ordering
+place_cmp facts i j = option_cmp fact_cmp (slice_get facts i) (slice_get facts j)
+
+-- each place of a list once, so that the facts at them do not fall
+pub record IsOrderOf (facts : List Fact) (places : List ℕ) : Type 0 where
+  pub each_once : IsPermutation (range_with_len 0 (length facts)) places
+  pub rising : IsSorted (place_cmp facts) places

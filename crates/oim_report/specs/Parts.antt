@@ -1,0 +1,65 @@
+-- The parts of a fact object (xBRL-JSON 1.0, section 3.1).
+use Rattle.std.specs.Prelude.{ℕ, List, [], ◌∷◌, Bool, ◌||◌, ◌&&◌, if◌then◌else◌, codes, Option, option_map, option_and_then}
+use Rattle.std.specs.Str.{is_utf8}
+use Rattle.serde_json.specs.Data.{Data, Members, no_members, member}
+use Rattle.serde_json.specs.Find.{get_member, as_object}
+use Rattle.oim_report.specs.Json.{Given, given, given_at, any_member, has_member, has_colon, is_unknown, is_no_object}
+
+-- what the members of `dimensions` are: the core dimensions, whether there is a member that is neither one of them
+-- nor has a colon in its key, and the dimensions that a taxonomy defines, in byte order of their keys
+pub record DimensionParts : Type 0 where
+  pub concept : Given
+  pub entity : Given
+  pub period : Given
+  pub unit : Given
+  pub language : Given
+  pub note : Given
+  pub defined : List (List ℕ × Given)
+  pub unknown : Bool
+
+abbrev pub core_keys : List (List ℕ)
+core_keys = codes "concept" ∷ codes "entity" ∷ codes "period" ∷ codes "unit" ∷ codes "language" ∷ codes "noteId" ∷ []
+
+-- the members whose keys have a colon
+abbrev pub defined_in : Members → List (List ℕ × Given)
+defined_in no_members = []
+defined_in (member key d ms) = if has_colon key && is_utf8 key then (key, given d) ∷ defined_in ms else defined_in ms
+
+abbrev pub dimension_parts : Members → DimensionParts
+dimension_parts ms = record {
+  concept = given_at (codes "concept") ms;
+  entity = given_at (codes "entity") ms;
+  period = given_at (codes "period") ms;
+  unit = given_at (codes "unit") ms;
+  language = given_at (codes "language") ms;
+  note = given_at (codes "noteId") ms;
+  defined = defined_in ms;
+  unknown = any_member (is_unknown core_keys) ms;
+}
+
+-- what the members of a fact object are: its value, its decimals, its dimensions where they are an object; whether `links` has a
+-- member, whether `dimensions` or `links` is there and no object, and whether there is another member without a colon in its key
+pub record FactParts : Type 0 where
+  pub value : Given
+  pub decimals : Given
+  pub dimensions : Option DimensionParts
+  pub linked : Bool
+  pub misshapen : Bool
+  pub unknown : Bool
+
+abbrev pub fact_keys : List (List ℕ)
+fact_keys = codes "value" ∷ codes "decimals" ∷ codes "dimensions" ∷ codes "links" ∷ []
+
+abbrev pub parts_of : Members → FactParts
+parts_of ms = record {
+  value = given_at (codes "value") ms;
+  decimals = given_at (codes "decimals") ms;
+  dimensions = option_map dimension_parts (option_and_then as_object (get_member (codes "dimensions") ms));
+  linked = has_member (option_and_then as_object (get_member (codes "links") ms));
+  misshapen = is_no_object (get_member (codes "dimensions") ms) || is_no_object (get_member (codes "links") ms);
+  unknown = any_member (is_unknown fact_keys) ms;
+}
+
+-- of a value that is an object
+abbrev pub fact_parts : Data → Option FactParts
+fact_parts d = option_map parts_of (as_object d)

@@ -1,0 +1,41 @@
+-- Conditions of refusals, and which is answered (own).
+use Rattle.std.specs.Prelude.{Bool, nat_le, List, [], ◌∷◌, if◌then◌else◌, Option, Some, None, Result, Ok, Err}
+use Rattle.oim_names.specs.Reasons.{entry_of}
+use Rattle.oim_names.specs.declared.reason.Reason.{Reason}
+
+-- whether it holds, and the refusal that it is answered with
+abbrev pub Condition : Type 0
+Condition = Bool × Reason
+
+-- the refusal of the first condition that holds
+abbrev pub first_holding : List Condition → Option Reason
+first_holding [] = None
+first_holding (c ∷ cs) = if c.0 then Some c.1 else first_holding cs
+
+-- the first refusal of several parts, in their order
+abbrev pub or_refusal : Option Reason → Option Reason → Option Reason
+or_refusal None later = later
+or_refusal (Some reason) later = Some reason
+
+abbrev pub first_refusal : List (Option Reason) → Option Reason
+first_refusal [] = None
+first_refusal (r ∷ rs) = or_refusal r (first_refusal rs)
+
+-- the refusal of the least number
+abbrev pub lesser : Option Reason → Option Reason → Option Reason
+lesser None s = s
+lesser (Some r) None = Some r
+lesser (Some r) (Some s) = if nat_le (entry_of r).number (entry_of s).number then Some r else Some s
+
+abbrev pub least_refusal : List (Option Reason) → Option Reason
+least_refusal [] = None
+least_refusal (r ∷ rs) = lesser r (least_refusal rs)
+
+-- a value, but where it is refused
+abbrev pub unless : {A : Type 0} → Option Reason → A → Result A Reason
+unless None a = Ok a
+unless (Some reason) a = Err reason
+
+abbrev pub map_ok : {A B E : Type 0} → (A → B) → Result A E → Result B E
+map_ok f (Ok a) = Ok (f a)
+map_ok f (Err e) = Err e

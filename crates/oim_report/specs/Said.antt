@@ -1,0 +1,148 @@
+-- The fact that a fact object says, as a function: part by part, each None where the object does not say it.
+use Rattle.std.specs.Prelude.{ℕ, ℤ, List, [], ◌∷◌, if◌then◌else◌, Option, Some, None, option_map, option_and_then}
+use Rattle.std.specs.Result.{result_ok}
+use Rattle.std.specs.Ordering.{is_lt, is_eq}
+use Rattle.std.specs.Str.{str_to_ascii_lowercase}
+use Rattle.oim_names.specs.QName.{QName}
+use Rattle.oim_names.specs.Bindings.{Binding}
+use Rattle.oim_value.specs.Units.{units_of}
+use Rattle.oim_value.specs.ValueOrder.{name_cmp}
+use Rattle.oim_value.specs.declared.value.Value.{Value}
+use Rattle.oim_value.specs.declared.value.Value.TheVariants.{Nil, Number, Text as AText, Name as AName}
+use Rattle.oim_dims.specs.DimensionSet.{DimensionSet, with_member}
+use Rattle.oim_dims.specs.Language.{is_language}
+use Rattle.oim_dims.specs.Period.{period_of}
+use Rattle.oim_dims.specs.Unit.{Measures, is_unit_text, numerator_pieces, denominator_pieces, pure_name}
+use Rattle.oim_dims.specs.declared.fact.Fact.{Fact}
+use Rattle.oim_dims.specs.declared.member.Member.{Member}
+use Rattle.oim_dims.specs.declared.member.Member.TheVariants.{Nil as NoMember, Text as MemberText, Name as MemberName}
+use Rattle.oim_dims.specs.declared.period.Period.{Period}
+use Rattle.oim_dims.specs.declared.period.Period.TheVariants.{Forever}
+use Rattle.oim_report.specs.declared.concept_kind.ConceptKind.{ConceptKind}
+use Rattle.oim_report.specs.declared.concept_kind.ConceptKind.TheVariants.{Numeric, Text, Name}
+use Rattle.oim_report.specs.declared.dimension_kind.DimensionKind.{DimensionKind}
+use Rattle.oim_report.specs.declared.dimension_kind.DimensionKind.TheVariants.{Explicit, Typed}
+use Rattle.oim_report.specs.Json.{Given, absent, nil, text, whole, other, text_of}
+use Rattle.oim_report.specs.Names.{named, entity_named}
+use Rattle.oim_report.specs.Parts.{DimensionParts, FactParts}
+use Rattle.oim_report.specs.Conditions.{concept_kind, dimension_kind}
+use Rattle.oim_report.specs.Sheet.{Sheet}
+
+-- a part that may be absent: then it has this value
+abbrev pub said_text : {A : Type 0} → A → (List ℕ → Option A) → Given → Option A
+said_text none says absent = Some none
+said_text none says (text t) = says t
+said_text none says nil = None
+said_text none says (whole n) = None
+said_text none says other = None
+
+abbrev pub said_concept : List Binding → Given → Option QName
+said_concept bs concept = option_and_then (named bs) (text_of concept)
+
+abbrev pub said_entity : List Binding → Given → Option (Option QName)
+said_entity bs = said_text None (λ t. option_map Some (entity_named bs t))
+
+abbrev pub said_period : Given → Option Period
+said_period = said_text Forever (λ t. result_ok (period_of t))
+
+abbrev pub said_language : Given → Option (Option (List ℕ))
+said_language = said_text None (λ t. if is_language t then Some (Some (str_to_ascii_lowercase t)) else None)
+
+-- ---- units
+
+-- the names of several texts
+abbrev pub all_named : List Binding → List (List ℕ) → Option (List QName)
+all_named bs [] = Some []
+all_named bs (t ∷ ts) = option_and_then (λ n. option_map (λ ns. n ∷ ns) (all_named bs ts)) (named bs t)
+
+-- names in their order, repeats kept
+abbrev pub with_name : QName → List QName → List QName
+with_name n [] = n ∷ []
+with_name n (m ∷ ms) = if is_lt (name_cmp m n) then m ∷ with_name n ms else n ∷ m ∷ ms
+
+abbrev pub in_order : List QName → List QName
+in_order [] = []
+in_order (n ∷ ns) = with_name n (in_order ns)
+
+abbrev pub side_of : List Binding → List (List ℕ) → Option (List QName)
+side_of bs ps = option_map in_order (all_named bs ps)
+
+-- both sides as a unit; `pure` alone is none (own)
+abbrev pub unit_with : List QName → List QName → Option Measures
+unit_with (n ∷ []) [] = if is_eq (name_cmp n pure_name) then None else Some (record { numerators = n ∷ []; denominators = [] })
+unit_with ns ds = Some (record { numerators = ns; denominators = ds })
+
+abbrev pub unit_of : List Binding → List ℕ → Option (Option Measures)
+unit_of bs t =
+    if is_unit_text t then option_and_then (λ ns. option_map (unit_with ns) (side_of bs (denominator_pieces t))) (side_of bs (numerator_pieces t)) else None
+
+abbrev pub said_unit : List Binding → Given → Option (Option Measures)
+said_unit bs = said_text None (unit_of bs)
+
+-- ---- the dimensions that a taxonomy defines
+
+abbrev pub said_member : List Binding → Option DimensionKind → Given → Option Member
+said_member bs (Some Explicit) (text t) = option_map MemberName (named bs t)
+said_member bs (Some Typed) (text t) = Some (MemberText t)
+said_member bs (Some Typed) nil = Some NoMember
+said_member bs kind g = None
+
+-- the members with those of several keys, one after another
+abbrev pub members_with : Sheet → List Binding → List (QName × Member) → List (List ℕ × Given) → Option (List (QName × Member))
+members_with sheet bs es [] = Some es
+members_with sheet bs es (d ∷ ds) =
+    option_and_then (λ n. option_and_then (λ m. members_with sheet bs (with_member n m es) ds) (said_member bs (dimension_kind sheet bs d.0) d.1)) (named bs d.0)
+
+abbrev pub said_members : Sheet → List Binding → List (List ℕ × Given) → Option (List (QName × Member))
+said_members sheet bs = members_with sheet bs []
+
+-- the dimensions of a concept with these members, and nothing else
+abbrev pub concept_with : QName → List (QName × Member) → DimensionSet
+concept_with concept members = record { concept = concept; entity = None; period = Forever; unit = None; language = None; members = members }
+
+-- ---- the value
+
+-- without decimals a number is exact
+abbrev pub said_decimals : Given → Option ℤ
+said_decimals (whole n) = Some n
+said_decimals absent = None
+said_decimals nil = None
+said_decimals (text t) = None
+said_decimals other = None
+
+abbrev pub text_said : List Binding → Option ConceptKind → Given → List ℕ → Option Value
+text_said bs (Some Numeric) decimals t = Some (Number (units_of t) (said_decimals decimals))
+text_said bs (Some Text) decimals t = Some (AText t)
+text_said bs (Some Name) decimals t = option_map AName (named bs t)
+text_said bs None decimals t = None
+
+abbrev pub said_value : List Binding → Option ConceptKind → Given → Given → Option Value
+said_value bs kind (text t) decimals = text_said bs kind decimals t
+said_value bs kind nil decimals = Some Nil
+said_value bs kind absent decimals = None
+said_value bs kind (whole n) decimals = None
+said_value bs kind other decimals = None
+
+-- ---- the fact
+
+abbrev pub said_dimensions : Sheet → List Binding → DimensionParts → Option DimensionSet
+said_dimensions sheet bs ds =
+    option_and_then (λ concept.
+    option_and_then (λ entity.
+    option_and_then (λ period.
+    option_and_then (λ unit.
+    option_and_then (λ language.
+    option_map (λ members. record { concept = concept; entity = entity; period = period; unit = unit; language = language; members = members })
+    (said_members sheet bs ds.defined))
+    (said_language ds.language))
+    (said_unit bs ds.unit))
+    (said_period ds.period))
+    (said_entity bs ds.entity))
+    (said_concept bs ds.concept)
+
+abbrev pub fact_of : Sheet → List Binding → FactParts → DimensionParts → Option Fact
+fact_of sheet bs p ds =
+    option_and_then (λ dimensions. option_map (λ value. record { dimensions = dimensions; value = value }) (said_value bs (concept_kind sheet bs ds.concept) p.value p.decimals)) (said_dimensions sheet bs ds)
+
+abbrev pub said_fact : Sheet → List Binding → FactParts → Option Fact
+said_fact sheet bs p = option_and_then (fact_of sheet bs p) p.dimensions

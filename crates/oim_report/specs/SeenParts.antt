@@ -1,0 +1,34 @@
+-- What the borrowed parts of the code stand for.
+use Rattle.std.specs.Prelude.{List, ℕ, map, option_map}
+use Rattle.std.specs.Borrow.{Bor}
+use Rattle.oim_report.specs.declared.given.Given.{Given as Lent}
+use Rattle.oim_report.specs.declared.parts.DimensionParts.{DimensionParts as LentDimensions}
+use Rattle.oim_report.specs.declared.parts.FactParts.{FactParts as LentFact}
+use Rattle.oim_report.specs.Given.{seen}
+use Rattle.oim_report.specs.Json.{Given}
+use Rattle.oim_report.specs.Parts.{DimensionParts, FactParts}
+
+abbrev pub seen_defined : List (Bor (List ℕ) × Lent) → List (List ℕ × Given)
+seen_defined = map (λ m. (m.0.now, seen m.1))
+
+abbrev pub seen_dimensions : LentDimensions → DimensionParts
+seen_dimensions d = record {
+  concept = seen d.concept;
+  entity = seen d.entity;
+  period = seen d.period;
+  unit = seen d.unit;
+  language = seen d.language;
+  note = seen d.note;
+  defined = seen_defined d.defined.items;
+  unknown = d.unknown;
+}
+
+abbrev pub seen_parts : LentFact → FactParts
+seen_parts p = record {
+  value = seen p.value;
+  decimals = seen p.decimals;
+  dimensions = option_map seen_dimensions p.dimensions;
+  linked = p.linked;
+  misshapen = p.misshapen;
+  unknown = p.unknown;
+}

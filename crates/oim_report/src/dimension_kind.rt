@@ -1,0 +1,8 @@
+/// What the members of a taxonomy-defined dimension are.
+#[derive(Clone, Copy, Debug, PartialEq, Eq)]
+pub enum DimensionKind {
+    /// Names.
+    Explicit,
+    /// Texts, or nil.
+    Typed,
+}

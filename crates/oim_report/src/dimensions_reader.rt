@@ -1,0 +1,71 @@
+ghost use Rattle.std.specs.Prelude.{◌≡◌, ◌⊎◌, Some, None, false, IfOk, IfErr};
+ghost use Rattle.std.specs.List.{flat_map};
+ghost use Rattle.oim_report.specs.Conditions.{defined_names, dimension_refusals, has_misshapen_core, spelled_in, unit_names};
+ghost use Rattle.oim_report.specs.Given.{seen};
+ghost use Rattle.oim_report.specs.Names.{an_entity, names_refusal};
+ghost use Rattle.oim_report.specs.Refusal.{first_refusal};
+ghost use Rattle.oim_report.specs.Said.{said_concept, said_dimensions};
+ghost use Rattle.oim_report.specs.SeenParts.{seen_defined, seen_dimensions};
+
+use crate::concept_kind::ConceptKind;
+use crate::core_dimensions::{read_entity, read_language, read_period, read_unit};
+use crate::members_reader::read_members;
+use crate::parts::DimensionParts;
+use crate::sheet::Sheet;
+use oim_dims::Dimensions;
+use oim_names::{Aliases, Name, Reason, Text};
+use std::alloc::Global;
+
+/// The dimensions of a fact with this concept, of this kind, whose form is not refused.
+///
+/// Errors, where none of their names is refused: the first refusal of the taxonomy-defined
+/// dimensions, the period, the unit and the language; `OutOfMemory`.
+pub(crate) fn read_dimensions(
+    alloc: Global,
+    sheet: &Sheet,
+    aliases: &Aliases,
+    concept: Name,
+    kind: ConceptKind,
+    parts: &DimensionParts<'_>,
+) -> Result<Dimensions, Reason>
+    requires form { has_misshapen_core (seen_dimensions parts.now) ≡ false }
+    requires concept { said_concept aliases.now (seen parts.now.concept) ≡ Some concept }
+    ensures said { IfOk result
+        (λ d. said_dimensions sheet.now aliases.now (seen_dimensions parts.now) ≡ Some d) }
+    ensures accepted { let ds = seen_dimensions parts.now in
+        let refusals = dimension_refusals sheet.now aliases.now (Some kind) ds in
+        IfOk result (λ _. first_refusal refusals ≡ None) }
+    ensures refused { let ds = seen_dimensions parts.now in
+        let refusals = dimension_refusals sheet.now aliases.now (Some kind) ds in
+        let defined = flat_map (defined_names sheet.now aliases.now) ds.defined in
+        names_refusal aliases.now (spelled_in an_entity (seen parts.now.entity)) ≡ None →
+        names_refusal aliases.now defined ≡ None →
+        names_refusal aliases.now (unit_names (seen parts.now.unit)) ≡ None →
+        IfErr result (λ r. (r ≡ Reason.OutOfMemory) ⊎ (first_refusal refusals ≡ Some r)) }
+{
+    let defined = parts.defined.as_slice();
+    let mut read = read_members(alloc, sheet, aliases, concept, defined)?;
+    read.set_period(read_period(alloc, parts.period)?);
+    read.set_unit(read_unit(alloc, aliases, kind, parts.unit)?);
+    set_language(&mut read, read_language(alloc, kind, parts.language)?);
+    set_entity(&mut read, read_entity(aliases, parts.entity)?);
+    Ok(read)
+}
+
+fn set_language(dimensions: &mut Dimensions, language: Option<Text>)
+    requires { dimensions.old.language ≡ None }
+    ensures { dimensions.new ≡ record dimensions.old { language = language } }
+{
+    if let Some(language) = language {
+        dimensions.set_language(language);
+    }
+}
+
+fn set_entity(dimensions: &mut Dimensions, entity: Option<Name>)
+    requires { dimensions.old.entity ≡ None }
+    ensures { dimensions.new ≡ record dimensions.old { entity = entity } }
+{
+    if let Some(entity) = entity {
+        dimensions.set_entity(entity);
+    }
+}

@@ -1,0 +1,67 @@
+ghost use Rattle.std.specs.Prelude.{◌≡◌, Some, IfOk, not};
+ghost use Rattle.std.specs.Result.{result_err};
+ghost use Rattle.oim_report.specs.Conditions.{form_refusal, has_misshapen_core, in_dimensions};
+ghost use Rattle.oim_report.specs.Json.{is_absent};
+ghost use Rattle.oim_report.specs.SeenParts.{seen_parts};
+
+use crate::parts::{DimensionParts, FactParts};
+use oim_names::Reason;
+
+/// The parts of a fact's dimensions, where the fact has the form: its members, links and notes.
+///
+/// Errors, the first that holds: `MemberForm`, `UnknownMember`, `Links`, `Notes`,
+/// `DimensionsMissing`.
+pub(crate) fn check_form<'p, 'a>(parts: &'p FactParts<'a>) -> Result<&'p DimensionParts<'a>, Reason>
+    ensures there { IfOk result (λ found. parts.now.dimensions ≡ Some found.now) }
+    ensures refused { result_err result ≡ form_refusal (seen_parts parts.now) }
+{
+    if parts.misshapen || parts.value.is_absent() || has_misshapen_core(parts) {
+        return Err(Reason::MemberForm);
+    }
+    if parts.unknown || has_unknown_dimension(parts) {
+        return Err(Reason::UnknownMember);
+    }
+    if parts.linked {
+        return Err(Reason::Links);
+    }
+    if has_note(parts) {
+        return Err(Reason::Notes);
+    }
+    match &parts.dimensions {
+        Some(dimensions) => Ok(dimensions),
+        None => Err(Reason::DimensionsMissing),
+    }
+}
+
+fn has_misshapen_core(parts: &FactParts<'_>) -> bool
+    ensures { result ≡ in_dimensions has_misshapen_core (seen_parts parts.now) }
+{
+    match &parts.dimensions {
+        Some(dimensions) => {
+            dimensions.concept.is_no_text()
+                || dimensions.entity.is_no_text()
+                || dimensions.period.is_no_text()
+                || dimensions.unit.is_no_text()
+                || dimensions.language.is_no_text()
+        }
+        None => false,
+    }
+}
+
+fn has_unknown_dimension(parts: &FactParts<'_>) -> bool
+    ensures { result ≡ in_dimensions (λ ds. ds.unknown) (seen_parts parts.now) }
+{
+    match &parts.dimensions {
+        Some(dimensions) => dimensions.unknown,
+        None => false,
+    }
+}
+
+fn has_note(parts: &FactParts<'_>) -> bool
+    ensures { result ≡ in_dimensions (λ ds. not (is_absent ds.note)) (seen_parts parts.now) }
+{
+    match &parts.dimensions {
+        Some(dimensions) => !dimensions.note.is_absent(),
+        None => false,
+    }
+}

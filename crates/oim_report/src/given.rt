@@ -1,0 +1,72 @@
+ghost use Rattle.std.specs.Prelude.{◌≡◌, option_map};
+ghost use Rattle.serde_json.specs.View.{view};
+ghost use Rattle.oim_report.specs.Given.{seen};
+ghost use Rattle.oim_report.specs.Json.{given, given_of, is_absent, is_no_text, text_of};
+
+use serde_json::Value;
+
+/// What stands at a key of an object, as far as sheets and reports tell values apart.
+#[derive(Clone, Copy, Debug)]
+pub(crate) enum Given<'a> {
+    /// Nothing.
+    Absent,
+    /// `null`.
+    Nil,
+    /// A text.
+    Text(&'a str),
+    /// A whole number of at most 64 bits, signed or not.
+    Whole(i128),
+    /// Anything else.
+    Other,
+}
+
+impl<'a> Given<'a> {
+    /// What a member is, where there is one.
+    pub(crate) fn of(member: Option<&'a Value>) -> Given<'a>
+        ensures { seen result ≡ given_of (option_map (λ v. view v.now) member.entry) }
+    {
+        match member {
+            Some(value) => Given::of_value(value),
+            None => Given::Absent,
+        }
+    }
+
+    /// What a value is.
+    pub(crate) fn of_value(value: &'a Value) -> Given<'a>
+        ensures { seen result ≡ given (view value.now) }
+    {
+        match value {
+            Value::Null => Given::Nil,
+            Value::String(text) => Given::Text(text.as_str()),
+            Value::Number(number) => match number.as_i128() {
+                Some(whole) => Given::Whole(whole),
+                None => Given::Other,
+            },
+            _ => Given::Other,
+        }
+    }
+
+    /// The text, where that is what it is.
+    pub(crate) fn text(self) -> Option<&'a str>
+        ensures { option_map (λ t. t.now) result ≡ text_of (seen self.entry) }
+    {
+        match self {
+            Given::Text(text) => Some(text),
+            _ => None,
+        }
+    }
+
+    /// Whether nothing stands there.
+    pub(crate) fn is_absent(self) -> bool
+        ensures { result ≡ is_absent (seen self.entry) }
+    {
+        matches!(self, Given::Absent)
+    }
+
+    /// Whether something stands there that is no text.
+    pub(crate) fn is_no_text(self) -> bool
+        ensures { result ≡ is_no_text (seen self.entry) }
+    {
+        !matches!(self, Given::Absent | Given::Text(_))
+    }
+}

@@ -1,0 +1,126 @@
+ghost use Rattle.oim_report.specs.Duplicates.{LevelIgnoresOrder, LevelIsStrictest, ValuesMeetIsMeets};
+ghost use Rattle.oim_report.specs.Kept.{KeptIsAccepted, KeptIsKept, KeptIsUtf8};
+ghost use Rattle.oim_report.specs.Outcome.{OutcomesWantNoMemory};
+ghost use Rattle.oim_report.specs.Report.{AcceptedFactsFit, AcceptedReferencesAreKept, OutcomesAreSaid};
+ghost use Rattle.oim_report.specs.Sheet.{SheetOutcomesWantNoMemory};
+ghost use Rattle.oim_report.specs.OneDocument.{SaysOneDocument};
+ghost use Rattle.oim_report.specs.SaidUnlessRefused.{FactsAreSaid};
+ghost use Rattle.oim_report.specs.PlainJson.{PlainHasNoFloat, PlainTextReadsBack};
+ghost use Rattle.oim_report.specs.ReadBack.{ConceptsReadBack, DimensionsReadBack, EntitiesReadBack, FactObjectHasParts, FactObjectIsPlain, FactObjectReadsBack, FormsAreAccepted, LanguagesReadBack, NamesAreAccepted, PeriodsReadBack, UnitsReadBack, ValuesReadBack};
+
+/// A kept text of a reference is kept as itself where there is no base, is UTF-8 where the
+/// reference is, and passes the limit where it passed.
+pub fn kept_is_kept()
+    ensures kept { KeptIsKept }
+    ensures accepted { KeptIsAccepted }
+    ensures utf8 { KeptIsUtf8 }
+{}
+
+/// Values are allowed as consistent duplicates exactly where they meet.
+pub fn values_meet_is_meets()
+    ensures { ValuesMeetIsMeets }
+{}
+
+/// Each two facts of a list are allowed at its level and at each later one, and at no stricter one.
+pub fn level_is_strictest()
+    ensures { LevelIsStrictest }
+{}
+
+/// The level of facts is one whatever their order.
+pub fn level_ignores_order()
+    ensures { LevelIgnoresOrder }
+{}
+
+/// No sheet is refused for want of memory: that is no refusal of its own.
+pub fn sheet_outcomes_want_no_memory()
+    ensures { SheetOutcomesWantNoMemory }
+{}
+
+/// A report's bytes say at most one document under a sheet.
+pub fn says_one_document()
+    ensures { SaysOneDocument }
+{}
+
+/// An accepted report says its document, member by member, each fact of it fits the sheet, and each
+/// reference is its own kept text.
+pub fn outcomes_are_said()
+    ensures said { OutcomesAreSaid }
+    ensures facts { AcceptedFactsFit }
+    ensures references { AcceptedReferencesAreKept }
+{}
+
+/// Parts of a fact object that no condition refuses say a fact.
+pub fn facts_are_said_unless_refused()
+    ensures { FactsAreSaid }
+{}
+
+/// No report is refused for want of memory: that is no refusal of its own.
+pub fn outcomes_want_no_memory()
+    ensures { OutcomesWantNoMemory }
+{}
+
+/// The object by which a fact is written has the parts that were written, whatever order its
+/// spelled keys stand in.
+pub fn fact_object_has_parts()
+    ensures { FactObjectHasParts }
+{}
+
+/// A written concept is read as itself.
+pub fn concepts_read_back()
+    ensures { ConceptsReadBack }
+{}
+
+/// A written entity, or none, is read as itself.
+pub fn entities_read_back()
+    ensures { EntitiesReadBack }
+{}
+
+/// A written period is read as itself, and forever is written as none.
+pub fn periods_read_back()
+    ensures { PeriodsReadBack }
+{}
+
+/// A written unit, or none, is read as itself.
+pub fn units_read_back()
+    ensures { UnitsReadBack }
+{}
+
+/// A written language, or none, is read as itself.
+pub fn languages_read_back()
+    ensures { LanguagesReadBack }
+{}
+
+/// The written members of taxonomy-defined dimensions, several at once and of both kinds, are read
+/// as themselves.
+pub fn dimensions_read_back()
+    ensures { DimensionsReadBack }
+{}
+
+/// A written value is read as itself: nil, a number with its decimals, a text, a name.
+pub fn values_read_back()
+    ensures { ValuesReadBack }
+{}
+
+/// No condition refuses what is written for its form or for its names.
+pub fn written_facts_are_accepted()
+    ensures form { FormsAreAccepted }
+    ensures names { NamesAreAccepted }
+{}
+
+/// A fact that fits a sheet is said by its object, of which no condition holds, where each of its
+/// names is spelled by a prefix of ASCII letters and digits that is bound to its URI.
+pub fn fact_object_reads_back()
+    ensures { FactObjectReadsBack }
+{}
+
+/// A plain object is read from its compact text. It has no float, so that this is what `serde_json`
+/// writes.
+pub fn plain_text_reads_back()
+    ensures back { PlainTextReadsBack }
+    ensures whole { PlainHasNoFloat }
+{}
+
+/// The object of a fact is plain and nests two deep, so that its text is read as the object.
+pub fn fact_object_is_plain()
+    ensures { FactObjectIsPlain }
+{}

@@ -1,0 +1,66 @@
+ghost use Rattle.std.specs.Prelude.{◌≡◌, Some, IfOk, IfSome, option_map};
+ghost use Rattle.std.specs.Result.{result_ok, result_err};
+ghost use Rattle.oim_report.specs.Conditions.{concept_kind, concept_refusal, dimension_kind};
+ghost use Rattle.oim_report.specs.Given.{seen};
+ghost use Rattle.oim_report.specs.Json.{text as a_text};
+ghost use Rattle.oim_report.specs.Names.{named};
+ghost use Rattle.oim_report.specs.Said.{said_concept};
+
+use crate::concept_kind::ConceptKind;
+use crate::dimension_kind::DimensionKind;
+use crate::given::Given;
+use crate::sheet::Sheet;
+use oim_names::{Aliases, Name, Reason};
+
+/// The concept that a text names, as the sheet has it, and what its values are.
+///
+/// Errors: `MissingConcept` where there is no text; `UnknownConcept` where it names no concept of the
+/// sheet, or nothing.
+pub(crate) fn find_concept<'s>(
+    sheet: &'s Sheet,
+    aliases: &Aliases,
+    concept: Given<'_>,
+) -> Result<(&'s Name, ConceptKind), Reason>
+    ensures kind { option_map (λ c. c.1) (result_ok result)
+        ≡ concept_kind sheet.now aliases.now (seen concept.entry) }
+    ensures name { IfOk result (λ c. said_concept aliases.now (seen concept.entry) ≡ Some c.0.now) }
+    ensures refused { result_err result ≡ concept_refusal sheet.now aliases.now (seen concept.entry) }
+{
+    let Some(text) = concept.text() else {
+        return Err(Reason::MissingConcept);
+    };
+    match find_named_concept(sheet, aliases, text) {
+        Some(found) => Ok(found),
+        None => Err(Reason::UnknownConcept),
+    }
+}
+
+fn find_named_concept<'s>(
+    sheet: &'s Sheet,
+    aliases: &Aliases,
+    text: &str,
+) -> Option<(&'s Name, ConceptKind)>
+    ensures kind { option_map (λ c. c.1) result
+        ≡ concept_kind sheet.now aliases.now (a_text text.now) }
+    ensures name { IfSome result (λ c. named aliases.now text.now ≡ Some c.0.now) }
+{
+    match aliases.resolve(text) {
+        Ok((uri, local)) => sheet.concept_of(uri, local),
+        Err(_) => None,
+    }
+}
+
+/// The dimension that a text names, as the sheet has it, and what its members are.
+pub(crate) fn find_dimension<'s>(
+    sheet: &'s Sheet,
+    aliases: &Aliases,
+    text: &str,
+) -> Option<(&'s Name, DimensionKind)>
+    ensures kind { option_map (λ d. d.1) result ≡ dimension_kind sheet.now aliases.now text.now }
+    ensures name { IfSome result (λ d. named aliases.now text.now ≡ Some d.0.now) }
+{
+    match aliases.resolve(text) {
+        Ok((uri, local)) => sheet.dimension_of(uri, local),
+        Err(_) => None,
+    }
+}

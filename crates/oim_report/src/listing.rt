@@ -1,0 +1,157 @@
+ghost use Rattle.std.specs.Prelude.{◌≡◌, ◌<◌, ◌≤◌, ◌↔◌, true, length, if◌then◌else◌, Some, IsTrue, IfOk, IfErr, IfSome, OnOk, OnErr, option_map, slice_get};
+ghost use Rattle.std.specs.FinMap as map;
+ghost use Rattle.std.specs.FinMap.{is_sorted};
+ghost use Rattle.std.specs.List.Sorted.{IsPartitionPoint};
+ghost use Rattle.std.specs.declared.cmp.Ordering.TheVariants.{Less as Below, Greater as Above};
+ghost use Rattle.oim_value.specs.ValueOrder.{name_cmp};
+
+use crate::kind::Kind;
+use oim_names::Name;
+use std::alloc::{AllocError, Global};
+use std::cmp::Ordering;
+use std::marker::Model;
+
+/// Names, each with what a sheet says of it. They stand in their order, so that one is found by
+/// halving.
+#[derive(Debug, Drop)]
+pub(crate) struct Listing<K: Kind> {
+    entries: Vec<(Name, K)>,
+}
+
+impl<K: Kind> Model for Listing<K> {
+    ghost use Rattle.std.specs.Prelude.{◌≡◌, true};
+    ghost use Rattle.std.specs.FinMap as map;
+    ghost use Rattle.std.specs.FinMap.{FinMap, is_sorted};
+    ghost use Rattle.oim_value.specs.ValueOrder.{name_cmp};
+    ghost use Rattle.oim_report.specs.SheetCode.{listing_code};
+
+    ghost Value = { FinMap name_cmp K };
+
+    ghost coded = { listing_code K.code };
+
+    ghost view = { λ a. map.from_sorted a.entries.items };
+
+    ghost invariant = { λ a. is_sorted name_cmp a.entries.items ≡ true };
+}
+
+impl<K: Kind> Listing<K> {
+    /// No names. Later calls take their memory from `alloc`.
+    pub(crate) fn new(alloc: Global) -> Self
+        ensures { result ≡ map.empty }
+    {
+        Listing {
+            entries: Vec::new(alloc),
+        }
+    }
+
+    /// The name of this URI and local part, and what is said of it. It takes no memory.
+    pub(crate) fn find(&self, uri: &str, local: &str) -> Option<(&Name, K)>
+        ensures kind { option_map (λ e. e.1) result
+            ≡ map.get self.now (record { uri = uri.now; local_part = local.now }) }
+        ensures name { IfSome result
+            (λ e. e.0.now ≡ record { uri = uri.now; local_part = local.now }) }
+    {
+        match halve(self.entries.as_slice(), uri, local) {
+            Ok(place) => {
+                let (name, kind) = &self.entries[place];
+                Some((name, *kind))
+            }
+            Err(_) => None,
+        }
+    }
+
+    /// Lists the name with the kind, unless it is listed; and what is then said of it.
+    ///
+    /// Errors: want of memory; all is then as before.
+    pub(crate) fn put(&mut self, name: Name, kind: K) -> Result<K, AllocError>
+        ensures ok { OnOk result (self.new
+            ≡ (if map.contains_key self.old name then self.old else map.insert self.old name kind)) }
+        ensures kind { IfOk result (λ k. map.get self.new name ≡ Some k) }
+        ensures err { OnErr result (self.new ≡ self.old) }
+    {
+        match place_of(self.entries.as_slice(), name.uri(), name.local()) {
+            Ok(place) => Ok(self.entries[place].1),
+            Err(place) => {
+                self.entries.insert(place, (name, kind))?;
+                Ok(kind)
+            }
+        }
+    }
+
+    /// Whether both have the same names and say the same of each.
+    pub(crate) fn same_as(&self, other: &Self) -> bool
+        ensures { IsTrue result ↔ (self.now ≡ other.now) }
+    {
+        are_same(self.entries.as_slice(), other.entries.as_slice())
+    }
+}
+
+fn are_same<K: Kind>(one: &[(Name, K)], other: &[(Name, K)]) -> bool
+    ensures { IsTrue result ↔ (one.now ≡ other.now) }
+{
+    if one.len() != other.len() {
+        return false;
+    }
+    for (place, entry) in one.iter().enumerate() {
+        if !is_same_entry(entry, &other[place]) {
+            return false;
+        }
+    }
+    true
+}
+
+fn is_same_entry<K: Kind>(one: &(Name, K), other: &(Name, K)) -> bool
+    ensures { IsTrue result ↔ (one.now ≡ other.now) }
+{
+    one.0 == other.0 && one.1.is(other.1)
+}
+
+/// Where a name is, or where it would go. What goes behind the last costs one comparison, so that
+/// names that come in order cost no search.
+fn place_of<K: Kind>(entries: &[(Name, K)], uri: &str, local: &str) -> Result<usize, usize>
+    requires { is_sorted name_cmp entries.now ≡ true }
+    ensures found { IfOk result (λ i. i < length entries.now) }
+    ensures here { IfOk result (λ i. option_map (λ e. e.0) (slice_get entries.now i)
+        ≡ Some (record { uri = uri.now; local_part = local.now })) }
+    ensures within { IfErr result (λ i. i ≤ length entries.now) }
+    ensures gap { IfErr result (IsPartitionPoint
+        (λ e. name_cmp e.0 (record { uri = uri.now; local_part = local.now }) ≡ Below)
+        (λ e. name_cmp e.0 (record { uri = uri.now; local_part = local.now }) ≡ Above)
+        entries.now) }
+{
+    match entries.last() {
+        Some(last) if compare(&last.0, uri, local).is_lt() => Err(entries.len()),
+        _ => halve(entries, uri, local),
+    }
+}
+
+fn halve<K: Kind>(entries: &[(Name, K)], uri: &str, local: &str) -> Result<usize, usize>
+    requires { is_sorted name_cmp entries.now ≡ true }
+    ensures found { IfOk result (λ i. i < length entries.now) }
+    ensures here { IfOk result (λ i. option_map (λ e. e.0) (slice_get entries.now i)
+        ≡ Some (record { uri = uri.now; local_part = local.now })) }
+    ensures within { IfErr result (λ i. i ≤ length entries.now) }
+    ensures gap { IfErr result (IsPartitionPoint
+        (λ e. name_cmp e.0 (record { uri = uri.now; local_part = local.now }) ≡ Below)
+        (λ e. name_cmp e.0 (record { uri = uri.now; local_part = local.now }) ≡ Above)
+        entries.now) }
+{
+    let mut low = 0;
+    let mut high = entries.len();
+    while low < high {
+        let middle = low + (high - low) / 2;
+        match compare(&entries[middle].0, uri, local) {
+            Ordering::Less => low = middle + 1,
+            Ordering::Equal => return Ok(middle),
+            Ordering::Greater => high = middle,
+        }
+    }
+    Err(low)
+}
+
+/// How a name compares with that of this URI and local part.
+fn compare(name: &Name, uri: &str, local: &str) -> Ordering
+    ensures { result ≡ name_cmp name.now (record { uri = uri.now; local_part = local.now }) }
+{
+    name.uri().cmp(uri).then(name.local().cmp(local))
+}

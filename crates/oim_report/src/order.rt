@@ -1,0 +1,22 @@
+ghost use Rattle.std.specs.Prelude.{◌≡◌, IfOk};
+ghost use Rattle.oim_report.specs.Order.{IsOrderOf, place_cmp};
+
+use oim_dims::Fact;
+use std::alloc::{AllocError, Global};
+use std::cmp::Ordering;
+
+/// The places of the facts, counted from 0, each once, so that the facts at them do not fall.
+pub(crate) fn order_of(alloc: Global, facts: &[Fact]) -> Result<Vec<usize>, AllocError>
+    ensures { IfOk result (λ places. IsOrderOf facts.now places.items) }
+{
+    let mut places: Vec<usize> = (0..facts.len()).collect(alloc)?;
+    places.sort_unstable_by(|i, j| compared(facts, *i, *j));
+    Ok(places)
+}
+
+// How the facts at two places compare.
+fn compared(facts: &[Fact], i: usize, j: usize) -> Ordering
+    ensures { result ≡ place_cmp facts.now i j }
+{
+    facts.get(i).cmp(&facts.get(j))
+}

@@ -1,0 +1,50 @@
+ghost use Rattle.std.specs.Prelude.{◌≡◌, ◌⊎◌, Some, Ok, Err, IfOk, IfErr};
+ghost use Rattle.serde_json.specs.View.{view};
+ghost use Rattle.oim_report.specs.Document.{SaysDocument};
+ghost use Rattle.oim_report.specs.Outcome.{at, outcome, tree_outcome};
+
+use crate::duplicates::level_of;
+use crate::facts_reader::read_facts;
+use crate::info::read_info;
+use crate::json_tree::read_json;
+use crate::order::order_of;
+use crate::place::Place;
+use crate::refusal::Refusal;
+use crate::report::Report;
+use crate::sheet::Sheet;
+use oim_names::Reason;
+use serde_json::Value;
+use std::alloc::Global;
+
+/// What a report's bytes say under a sheet (xBRL-JSON 1.0; the profile is own).
+///
+/// Errors, the first that holds: a refusal of the document, by the order of the refusals; then that
+/// of the first fact with one, in byte order of the identifiers; then `DisallowedDuplicates`, at the
+/// document; `OutOfMemory`, at the document.
+#[tactic(auto, unfolding(crate::specs::Outcome::outcome))]
+pub fn read_report<'s>(alloc: Global, sheet: &'s Sheet, bytes: &[u8]) -> Result<Report<'s>, Refusal>
+    ensures ok { IfOk result (λ r. outcome sheet.now bytes.now ≡ Ok r.document) }
+    ensures sheet { IfOk result (λ r. r.sheet ≡ sheet.now) }
+    ensures said { IfOk result (λ r. SaysDocument sheet.now bytes.now r.document) }
+    ensures errors { IfErr result
+        (λ r. (r ≡ at Place.Document Reason.OutOfMemory) ⊎ (outcome sheet.now bytes.now ≡ Err r)) }
+{
+    let tree = read_json(alloc, bytes)?;
+    read_document(alloc, sheet, &tree)
+}
+
+fn read_document<'s>(alloc: Global, sheet: &'s Sheet, tree: &Value) -> Result<Report<'s>, Refusal>
+    ensures ok { IfOk result (λ r. tree_outcome sheet.now (Some (view tree.now)) ≡ Ok r.document) }
+    ensures sheet { IfOk result (λ r. r.sheet ≡ sheet.now) }
+    ensures errors { let said = tree_outcome sheet.now (Some (view tree.now)) in
+        IfErr result (λ r. (r ≡ at Place.Document Reason.OutOfMemory) ⊎ (said ≡ Err r)) }
+{
+    let info = read_info(alloc, tree)?;
+    let facts = read_facts(alloc, sheet, &info.aliases, tree)?;
+    let order = order_of(alloc, facts.as_slice())?;
+    let level = level_of(facts.as_slice(), order.as_slice());
+    if info.level < level {
+        return Err(Refusal::from(Reason::DisallowedDuplicates));
+    }
+    Ok(Report::new(sheet, facts, info.references, info.level, level, order))
+}

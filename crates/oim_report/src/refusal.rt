@@ -1,0 +1,61 @@
+ghost use Rattle.std.specs.Prelude.{◌≡◌, ◌≢◌};
+ghost use Rattle.oim_report.specs.Outcome.{at};
+ghost use Rattle.oim_report.specs.declared.place.Place.TheVariants.{Document, Fact};
+ghost use Rattle.oim_names.specs.declared.reason.Reason.TheVariants.{OutOfMemory};
+
+use crate::place::Place;
+use oim_names::Reason;
+use std::alloc::{AllocError, AllocFailed};
+
+/// Why a report is refused, and where.
+#[derive(Clone, Copy, Debug, PartialEq, Eq)]
+pub struct Refusal {
+    /// Why.
+    pub reason: Reason,
+    /// Where.
+    pub place: Place,
+}
+
+impl Refusal {
+    /// The refusal of the fact at `place`; but want of memory lies nowhere in the report.
+    pub(crate) fn of_fact(reason: Reason, place: u64) -> Refusal
+        ensures fact { reason ≢ OutOfMemory → result ≡ at (Fact place) reason }
+        ensures memory { reason ≡ OutOfMemory → result ≡ at Document OutOfMemory }
+    {
+        match reason {
+            Reason::OutOfMemory => Refusal::from(reason),
+            _ => Refusal {
+                reason,
+                place: Place::Fact(place),
+            },
+        }
+    }
+}
+
+/// A refusal of the document.
+impl From<Reason> for Refusal {
+    ghost from_gives = { λ reason refusal. refusal ≡ at Document reason };
+
+    fn from(reason: Reason) -> Refusal {
+        Refusal {
+            reason,
+            place: Place::Document,
+        }
+    }
+}
+
+impl From<AllocError> for Refusal {
+    ghost from_gives = { λ _ refusal. refusal ≡ at Document OutOfMemory };
+
+    fn from(_: AllocError) -> Refusal {
+        Refusal::from(Reason::OutOfMemory)
+    }
+}
+
+impl<T: Drop> From<AllocFailed<T>> for Refusal {
+    ghost from_gives = { λ _ refusal. refusal ≡ at Document OutOfMemory };
+
+    fn from(_: AllocFailed<T>) -> Refusal {
+        Refusal::from(Reason::OutOfMemory)
+    }
+}

@@ -1,0 +1,119 @@
+ghost use Rattle.std.specs.Prelude.{◌≡◌, All};
+ghost use Rattle.oim_report.specs.Duplicates.{level_of};
+ghost use Rattle.oim_report.specs.FactFits.{FactFits};
+ghost use Rattle.oim_report.specs.Kept.{IsKeptReference};
+ghost use Rattle.oim_report.specs.Order.{IsOrderOf};
+ghost use Rattle.oim_report.specs.Report.{IsReading};
+
+use crate::sheet::Sheet;
+use oim_dims::Fact;
+use oim_names::Text;
+use oim_value::Level;
+use std::marker::Model;
+
+/// What a report says, read under a sheet that it borrows (xBRL-JSON 1.0): its facts, its taxonomy
+/// references, and the level of duplicates that it declares.
+#[derive(Drop)]
+pub struct Report<'s> {
+    sheet: &'s Sheet,
+    facts: Vec<Fact>,
+    references: Vec<Text>,
+    declared: Level,
+    level: Level,
+    order: Vec<usize>,
+}
+
+impl<'s> Model for Report<'s> {
+    ghost use Rattle.std.specs.Prelude.{◌≡◌};
+    ghost use Rattle.oim_report.specs.Duplicates.{level_of};
+    ghost use Rattle.oim_report.specs.Report.{IsReading, Reading};
+    ghost use Rattle.std.specs.Coded.{codes};
+    ghost use Rattle.oim_report.specs.SheetCode.{sheet_code};
+
+    ghost Value = { Reading };
+
+    ghost coded = { Prim.hlevel (codes, sheet_code) };
+
+    ghost view = { λ a. record { sheet = a.sheet.now; document = record { facts = a.facts.items; references = a.references.items; level = a.declared }; order = a.order.items } };
+
+    ghost invariant = { λ a. IsReading (record { sheet = a.sheet.now; document = record { facts = a.facts.items; references = a.references.items; level = a.declared }; order = a.order.items }) × (a.level ≡ level_of a.facts.items) };
+}
+
+impl<'s> Report<'s> {
+    pub(crate) fn new(
+        sheet: &'s Sheet,
+        facts: Vec<Fact>,
+        references: Vec<Text>,
+        declared: Level,
+        level: Level,
+        order: Vec<usize>,
+    ) -> Report<'s>
+        requires facts { All (FactFits sheet.now) facts.items }
+        requires references { All IsKeptReference references.items }
+        requires order { IsOrderOf facts.items order.items }
+        requires level { level ≡ level_of facts.items }
+        ensures sheet { result.sheet ≡ sheet.now }
+        ensures document { result.document ≡ record { facts = facts.items; references = references.items; level = declared } }
+        ensures order { result.order ≡ order.items }
+    {
+        Report {
+            sheet,
+            facts,
+            references,
+            declared,
+            level,
+            order,
+        }
+    }
+
+    /// The facts, in byte order of their identifiers, repeats kept.
+    pub fn facts(&self) -> &[Fact]
+        ensures { result.now ≡ self.now.document.facts }
+    {
+        self.facts.as_slice()
+    }
+
+    /// The references of its taxonomy, as they are kept, in their order, repeats kept.
+    pub fn taxonomy(&self) -> &[Text]
+        ensures { result.now ≡ self.now.document.references }
+    {
+        self.references.as_slice()
+    }
+
+    /// The duplicates that it declares to have at most (`xbrl:allowedDuplicates`).
+    pub fn declared(&self) -> Level
+        ensures { result ≡ self.now.document.level }
+    {
+        self.declared
+    }
+
+    /// The duplicates that it has: the strictest level that allows its facts, repeats kept.
+    pub fn level(&self) -> Level
+        ensures { result ≡ level_of self.now.document.facts }
+    {
+        self.level
+    }
+
+    /// The sheet that it was read under.
+    pub fn sheet(&self) -> &'s Sheet
+        ensures { result.now ≡ self.now.sheet }
+    {
+        self.sheet
+    }
+
+    /// The places of the facts, from 0, in the order of facts: each once, so that the facts at them
+    /// do not fall.
+    pub fn order(&self) -> &[usize]
+        ensures { result.now ≡ self.now.order }
+    {
+        self.order.as_slice()
+    }
+
+    /// Does nothing, and tells that each fact fits the sheet, each reference is its own kept text,
+    /// and the order is one of the facts.
+    pub fn known(&self)
+        ensures { IsReading self.now }
+    {
+        let _facts = &self.facts;
+    }
+}

@@ -1,0 +1,114 @@
+ghost use Rattle.std.specs.Prelude.{◌≡◌, ◌⊎◌, ◌↔◌, Some, Ok, Err, IsTrue, IfOk, IfErr, IfSome, option_map};
+ghost use Rattle.std.specs.FinMap as map;
+ghost use Rattle.serde_json.specs.View.{view};
+ghost use Rattle.oim_report.specs.Sheet.{sheet_of, sheet_outcome};
+
+use crate::concept_kind::ConceptKind;
+use crate::dimension_kind::DimensionKind;
+use crate::json_tree::{object_at, read_json};
+use crate::listing::Listing;
+use crate::namespaces::read_namespaces;
+use crate::sheet_form::{check_form, check_names};
+use crate::sheet_kinds::read_listing;
+use oim_names::{Name, Reason};
+use serde_json::Value;
+use std::alloc::Global;
+use std::marker::Model;
+
+/// The concepts and taxonomy-defined dimensions that reports may use, each with its kind.
+#[derive(Debug, Drop)]
+pub struct Sheet {
+    concepts: Listing<ConceptKind>,
+    dimensions: Listing<DimensionKind>,
+}
+
+impl Model for Sheet {
+    ghost use Rattle.oim_report.specs.Sheet.{Sheet as Listed};
+    ghost use Rattle.oim_report.specs.SheetCode.{sheet_code};
+
+    ghost Value = { Listed };
+
+    ghost coded = { sheet_code };
+
+    ghost view = { λ s. record { concepts = s.concepts; dimensions = s.dimensions } };
+}
+
+impl Sheet {
+    /// The sheet that these bytes say: a JSON object of the members `namespaces`, `concepts` and
+    /// `dimensions`, each an object or absent (own).
+    ///
+    /// Errors, the first that holds: `NotJson`; `MemberForm` where the root or a member is no object;
+    /// `UnknownMember` for another key without a colon; `Namespace`; the least of `NameForm`,
+    /// `UnboundPrefix` and `ReservedNamespace` of all keys of `concepts` and `dimensions`; `SheetKind`
+    /// where a kind is none, or a name has two; `OutOfMemory`.
+    #[tactic(auto, unfolding(crate::specs::Sheet::sheet_outcome))]
+    pub fn read(alloc: Global, bytes: &[u8]) -> Result<Sheet, Reason>
+        ensures ok { IfOk result (λ s. sheet_outcome bytes.now ≡ Ok s) }
+        ensures errors { IfErr result
+            (λ r. (r ≡ Reason.OutOfMemory) ⊎ (sheet_outcome bytes.now ≡ Err r)) }
+    {
+        let tree = read_json(alloc, bytes)?;
+        Sheet::from_tree(alloc, &tree)
+    }
+
+    fn from_tree(alloc: Global, tree: &Value) -> Result<Sheet, Reason>
+        ensures ok { IfOk result (λ s. sheet_of (Some (view tree.now)) ≡ Ok s) }
+        ensures errors { IfErr result
+            (λ r. (r ≡ Reason.OutOfMemory) ⊎ (sheet_of (Some (view tree.now)) ≡ Err r)) }
+    {
+        check_form(tree)?;
+        let aliases = read_namespaces(alloc, object_at(tree, "namespaces"))?;
+        let listed = object_at(tree, "concepts");
+        let defined = object_at(tree, "dimensions");
+        check_names(&aliases, listed, defined)?;
+        let concepts = read_listing(alloc, &aliases, listed)?;
+        let dimensions = read_listing(alloc, &aliases, defined)?;
+        Ok(Sheet {
+            concepts,
+            dimensions,
+        })
+    }
+
+    /// What a concept's values are; None where the sheet does not list it.
+    pub fn concept(&self, name: &Name) -> Option<ConceptKind>
+        ensures { result ≡ map.get self.now.concepts name.now }
+    {
+        let (_, kind) = self.concepts.find(name.uri(), name.local())?;
+        Some(kind)
+    }
+
+    /// What the members of a dimension are; None where the sheet does not list it.
+    pub fn dimension(&self, name: &Name) -> Option<DimensionKind>
+        ensures { result ≡ map.get self.now.dimensions name.now }
+    {
+        let (_, kind) = self.dimensions.find(name.uri(), name.local())?;
+        Some(kind)
+    }
+
+    /// The concept of this URI and local part, and what its values are.
+    pub(crate) fn concept_of(&self, uri: &str, local: &str) -> Option<(&Name, ConceptKind)>
+        ensures kind { option_map (λ c. c.1) result
+            ≡ map.get self.now.concepts (record { uri = uri.now; local_part = local.now }) }
+        ensures name { IfSome result
+            (λ c. c.0.now ≡ record { uri = uri.now; local_part = local.now }) }
+    {
+        self.concepts.find(uri, local)
+    }
+
+    /// The dimension of this URI and local part, and what its members are.
+    pub(crate) fn dimension_of(&self, uri: &str, local: &str) -> Option<(&Name, DimensionKind)>
+        ensures kind { option_map (λ d. d.1) result
+            ≡ map.get self.now.dimensions (record { uri = uri.now; local_part = local.now }) }
+        ensures name { IfSome result
+            (λ d. d.0.now ≡ record { uri = uri.now; local_part = local.now }) }
+    {
+        self.dimensions.find(uri, local)
+    }
+
+    /// Whether both list the same names with the same kinds.
+    pub fn same_as(&self, other: &Sheet) -> bool
+        ensures { IsTrue result ↔ (self.now ≡ other.now) }
+    {
+        self.concepts.same_as(&other.concepts) && self.dimensions.same_as(&other.dimensions)
+    }
+}
