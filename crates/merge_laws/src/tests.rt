@@ -3,8 +3,8 @@ mod again;
 
 use crate::{Merge, SortedMap, SortedSet, Summary, laws};
 use again::{
-    Items, ItemsAt, copied, has_at, has_just, insert, merge, merge_maps, merge_pairs, merge_sets,
-    put, put_item, set, text,
+    Items, ItemsAt, Pair, copied, has_at, has_just, has_just_at, insert, items_at, merge,
+    merge_maps, merge_pairs, merge_sets, pair, put, set, text,
 };
 use oim_names::Text;
 use oim_value::{Decimals, Interval, Value, read_fixed};
@@ -13,28 +13,59 @@ use std::test::Fail;
 
 const UNIT: i128 = 1_000_000_000_000_000_000;
 
+// Takes in the set of some items; answers whether there are then just these.
+fn merges_to(
+    rt: &HostRuntime,
+    first: &mut Items,
+    items: &[&str],
+    all: &[&str],
+) -> Result<bool, AllocError> {
+    let second = set(rt, items)?;
+    merge_sets(rt, first, &second)?;
+    Ok(has_just(first, all))
+}
+
 #[test]
 fn a_union_has_the_items_of_both(rt: HostRuntime) -> Result<(), Fail> {
+    let all = ["a", "b", "c"];
     let mut first = set(&rt, &["c", "a"])?;
-    let mut second = set(&rt, &["b", "c"])?;
-    let copy = copied(&rt, &first)?;
-    merge_sets(&rt, &mut first, &second)?;
-    assert!(rt; has_just(&first, &["a", "b", "c"]));
-    merge_sets(&rt, &mut second, &copy)?;
-    assert!(rt; has_just(&second, &["a", "b", "c"]));
-    merge_sets(&rt, &mut first, &second)?;
-    assert!(rt; has_just(&first, &["a", "b", "c"]));
-    assert!(rt; has_just(&copy, &["a", "c"]));
+    assert!(rt; merges_to(&rt, &mut first, &["b", "c"], &all)?);
+    assert!(rt; merges_to(&rt, &mut first, &all, &all)?);
     Ok(())
+}
+
+#[test]
+fn a_union_has_the_items_in_either_order(rt: HostRuntime) -> Result<(), Fail> {
+    let all = ["a", "b", "c"];
+    let mut second = set(&rt, &["b", "c"])?;
+    assert!(rt; merges_to(&rt, &mut second, &["c", "a"], &all)?);
+    Ok(())
+}
+
+// Whether a copy has just some items still where its original has taken in others.
+fn copy_stays(rt: &HostRuntime, original: &mut Items, items: &[&str]) -> Result<bool, AllocError> {
+    let copy = copied(rt, original)?;
+    let grown = merges_to(rt, original, &["b", "c"], &["a", "b", "c"])?;
+    Ok(grown && has_just(&copy, items))
+}
+
+#[test]
+fn a_copy_stays_as_it_is(rt: HostRuntime) -> Result<(), Fail> {
+    let mut original = set(&rt, &["c", "a"])?;
+    assert!(rt; copy_stays(&rt, &mut original, &["a", "c"])?);
+    Ok(())
+}
+
+fn are_new_once(rt: &HostRuntime, set: &mut Items) -> Result<bool, AllocError> {
+    let are_new = insert(rt, set, "b")? && insert(rt, set, "a")?;
+    Ok(are_new && !insert(rt, set, "b")?)
 }
 
 #[test]
 fn an_item_is_new_once(rt: HostRuntime) -> Result<(), Fail> {
     let mut set = SortedSet::new(rt.alloc());
     assert!(rt; has_just(&set, &[]));
-    assert!(rt; insert(&rt, &mut set, "b")?);
-    assert!(rt; insert(&rt, &mut set, "a")?);
-    assert!(rt; !insert(&rt, &mut set, "b")?);
+    assert!(rt; are_new_once(&rt, &mut set)?);
     assert!(rt; has_just(&set, &["a", "b"]));
     Ok(())
 }
@@ -86,11 +117,16 @@ fn ends_are_of_different_numbers(rt: HostRuntime) -> Result<(), Fail> {
     Ok(())
 }
 
+fn of_text(rt: &HostRuntime, spelled: &str) -> Result<Summary, AllocError> {
+    let value = Value::Text(text(rt, spelled)?);
+    Ok(Summary::of(&value))
+}
+
 #[test]
 fn a_summary_tells_nil_and_number(rt: HostRuntime) -> Result<(), Fail> {
     let mut nil = Summary::of(&Value::Nil);
     assert!(rt; nil.nil() && nil.ends() == None);
-    let mut other = Summary::of(&Value::Text(text(&rt, "100")?));
+    let mut other = of_text(&rt, "100")?;
     assert!(rt; !other.nil() && other.ends() == None);
     merge(&rt, &mut other, &rounded("7"))?;
     assert!(rt; other == rounded("7") && !other.nil());
@@ -99,48 +135,106 @@ fn a_summary_tells_nil_and_number(rt: HostRuntime) -> Result<(), Fail> {
     Ok(())
 }
 
+type SummaryAt = SortedMap<Text, Summary>;
+
+fn put_at(
+    rt: &HostRuntime,
+    map: &mut SummaryAt,
+    key: &str,
+    value: &Summary,
+) -> Result<(), AllocError> {
+    let key = text(rt, key)?;
+    put(rt, map, &key, value)
+}
+
+// Whether a map has a value at a key, or where none is wanted, no value.
+fn has_value(
+    rt: &HostRuntime,
+    map: &SummaryAt,
+    key: &str,
+    value: Option<&Summary>,
+) -> Result<bool, AllocError> {
+    let key = text(rt, key)?;
+    Ok(map.get(&key) == value)
+}
+
+fn copy_has_value(
+    rt: &HostRuntime,
+    map: &SummaryAt,
+    key: &str,
+    value: &Summary,
+) -> Result<bool, AllocError> {
+    let copy = copied(rt, map)?;
+    has_value(rt, &copy, key, Some(value))
+}
+
+fn both_rounded(rt: &HostRuntime) -> Result<Summary, AllocError> {
+    let mut both = rounded("100");
+    merge(rt, &mut both, &rounded("102"))?;
+    Ok(both)
+}
+
+fn put_both(rt: &HostRuntime, map: &mut SummaryAt) -> Result<(), AllocError> {
+    put_at(rt, map, "k", &rounded("100"))?;
+    put_at(rt, map, "k", &rounded("102"))
+}
+
+// Whether there is a value at the key `k`, and none before and after it.
+fn has_value_alone(rt: &HostRuntime, map: &SummaryAt, value: &Summary) -> Result<bool, AllocError> {
+    let there = has_value(rt, map, "k", Some(value))?;
+    Ok(there && has_value(rt, map, "j", None)? && has_value(rt, map, "l", None)?)
+}
+
 #[test]
 fn a_map_merges_what_is_put_at_a_key(rt: HostRuntime) -> Result<(), Fail> {
-    let mut both = rounded("100");
-    merge(&rt, &mut both, &rounded("102"))?;
+    let both = both_rounded(&rt)?;
     let mut map = SortedMap::new(rt.alloc());
-    let key = text(&rt, "k")?;
-    put(&rt, &mut map, &key, &rounded("100"))?;
-    put(&rt, &mut map, &key, &rounded("102"))?;
+    put_both(&rt, &mut map)?;
     assert!(rt; map.len() == 1);
-    assert!(rt; map.get(&key) == Some(&both));
-    assert!(rt; map.get(&text(&rt, "j")?) == None);
-    assert!(rt; map.get(&text(&rt, "l")?) == None);
-    let copy = copied(&rt, &map)?;
-    assert!(rt; copy.get(&key) == Some(&both));
+    assert!(rt; has_value_alone(&rt, &map, &both)?);
+    assert!(rt; copy_has_value(&rt, &map, "k", &both)?);
     Ok(())
+}
+
+fn are_united(rt: &HostRuntime, map: &ItemsAt) -> Result<bool, AllocError> {
+    Ok(has_just_at(rt, map, "j", &["c"])? && has_just_at(rt, map, "k", &["a", "b"])?)
 }
 
 #[test]
 fn sets_put_at_a_key_are_united(rt: HostRuntime) -> Result<(), Fail> {
-    let mut map = SortedMap::new(rt.alloc());
-    put_item(&rt, &mut map, "k", "b")?;
-    put_item(&rt, &mut map, "j", "c")?;
-    put_item(&rt, &mut map, "k", "a")?;
+    let map = items_at(&rt, &[("k", "b"), ("j", "c"), ("k", "a")])?;
     assert!(rt; map.len() == 2);
-    assert!(rt; has_at(&map, &text(&rt, "j")?, &["c"]));
-    assert!(rt; has_at(&map, &text(&rt, "k")?, &["a", "b"]));
+    assert!(rt; are_united(&rt, &map)?);
     Ok(())
+}
+
+fn copy_is_merged(rt: &HostRuntime, map: &ItemsAt) -> Result<bool, AllocError> {
+    let copy = copied(rt, map)?;
+    Ok(is_merged(map) && is_merged(&copy))
+}
+
+// Whether a map is merged where it has taken in that of some rows.
+fn merges_rows(
+    rt: &HostRuntime,
+    map: &mut ItemsAt,
+    rows: &[(&str, &str)],
+) -> Result<bool, AllocError> {
+    let other = items_at(rt, rows)?;
+    merge_maps(rt, map, &other)?;
+    copy_is_merged(rt, map)
 }
 
 #[test]
 fn maps_merge_key_by_key(rt: HostRuntime) -> Result<(), Fail> {
-    let mut first = SortedMap::new(rt.alloc());
-    put_item(&rt, &mut first, "k", "a")?;
-    let mut second = SortedMap::new(rt.alloc());
-    put_item(&rt, &mut second, "m", "c")?;
-    put_item(&rt, &mut second, "k", "b")?;
-    let copy = copied(&rt, &first)?;
-    merge_maps(&rt, &mut first, &second)?;
-    assert!(rt; is_merged(&first));
-    merge_maps(&rt, &mut second, &copy)?;
-    assert!(rt; is_merged(&second));
-    assert!(rt; is_merged(&copied(&rt, &first)?));
+    let mut first = items_at(&rt, &[("k", "a")])?;
+    assert!(rt; merges_rows(&rt, &mut first, &[("m", "c"), ("k", "b")])?);
+    Ok(())
+}
+
+#[test]
+fn maps_merge_in_either_order(rt: HostRuntime) -> Result<(), Fail> {
+    let mut second = items_at(&rt, &[("m", "c"), ("k", "b")])?;
+    assert!(rt; merges_rows(&rt, &mut second, &[("k", "a")])?);
     Ok(())
 }
 
@@ -160,15 +254,33 @@ fn is_entry(map: &ItemsAt, place: usize, key: &str, items: &[&str]) -> bool {
     }
 }
 
+fn merge_pair(
+    rt: &HostRuntime,
+    first: &mut Pair,
+    left: &str,
+    right: &str,
+) -> Result<(), AllocError> {
+    let second = pair(rt, left, right)?;
+    merge_pairs(rt, first, &second)
+}
+
+// Whether the copy of a pair has just these items.
+fn copy_has_parts(
+    rt: &HostRuntime,
+    pair: &Pair,
+    left: &[&str],
+    right: &[&str],
+) -> Result<bool, AllocError> {
+    let copy = copied(rt, pair)?;
+    Ok(has_just(&copy.0, left) && has_just(&copy.1, right))
+}
+
 #[test]
 fn pairs_merge_part_by_part(rt: HostRuntime) -> Result<(), Fail> {
-    let mut first = (set(&rt, &["a"])?, set(&rt, &["x"])?);
-    let second = (set(&rt, &["b"])?, set(&rt, &["w"])?);
-    merge_pairs(&rt, &mut first, &second)?;
+    let mut first = pair(&rt, "a", "x")?;
+    merge_pair(&rt, &mut first, "b", "w")?;
     first.known();
-    let copy = copied(&rt, &first)?;
-    assert!(rt; has_just(&copy.0, &["a", "b"]));
-    assert!(rt; has_just(&copy.1, &["w", "x"]));
+    assert!(rt; copy_has_parts(&rt, &first, &["a", "b"], &["w", "x"])?);
     Ok(())
 }
 
@@ -180,20 +292,42 @@ fn doubled<M: Merge>(rt: &HostRuntime, value: &M) -> Result<M, AllocError> {
     Ok(copy)
 }
 
+fn doubled_has_just(rt: &HostRuntime, set: &Items, items: &[&str]) -> Result<bool, AllocError> {
+    let twice = doubled(rt, set)?;
+    Ok(has_just(&twice, items))
+}
+
+fn doubled_has_just_at(
+    rt: &HostRuntime,
+    map: &ItemsAt,
+    key: &str,
+    items: &[&str],
+) -> Result<bool, AllocError> {
+    let twice = doubled(rt, map)?;
+    if twice.len() != map.len() {
+        return Ok(false);
+    }
+    has_just_at(rt, &twice, key, items)
+}
+
 #[test]
 fn what_is_there_already_changes_nothing(rt: HostRuntime) -> Result<(), Fail> {
     let number = rounded("100");
     assert!(rt; doubled(&rt, &number)? == number);
     let items = set(&rt, &["a", "b"])?;
-    assert!(rt; has_just(&doubled(&rt, &items)?, &["a", "b"]));
-    let mut map = SortedMap::new(rt.alloc());
-    put_item(&rt, &mut map, "k", "a")?;
-    put_item(&rt, &mut map, "k", "b")?;
-    let map = doubled(&rt, &map)?;
-    assert!(rt; map.len() == 1);
-    assert!(rt; has_at(&map, &text(&rt, "k")?, &["a", "b"]));
+    assert!(rt; doubled_has_just(&rt, &items, &["a", "b"])?);
     Ok(())
 }
+
+#[test]
+fn entries_that_are_there_already_change_nothing(rt: HostRuntime) -> Result<(), Fail> {
+    let map = items_at(&rt, &[("k", "a"), ("k", "b")])?;
+    assert!(rt; map.len() == 1);
+    assert!(rt; doubled_has_just_at(&rt, &map, "k", &["a", "b"])?);
+    Ok(())
+}
+
+type Many = SortedMap<Place, Summary>;
 
 type Place = ((Decimals, Decimals), (Decimals, Decimals));
 
@@ -206,7 +340,7 @@ fn digits(number: i64) -> (Decimals, Decimals) {
     (finite(number / 25 % 25 - 12), finite(number % 25 - 12))
 }
 
-fn put_all(rt: &HostRuntime, step: i64) -> Result<SortedMap<Place, Summary>, AllocError> {
+fn put_all(rt: &HostRuntime, step: i64) -> Result<Many, AllocError> {
     let mut map = SortedMap::new(rt.alloc());
     let value = rounded("1");
     for number in 0..200_000i64 {
@@ -217,21 +351,36 @@ fn put_all(rt: &HostRuntime, step: i64) -> Result<SortedMap<Place, Summary>, All
     Ok(map)
 }
 
-#[test]
-fn many_keys_are_kept_in_order(rt: HostRuntime) -> Result<(), Fail> {
-    let mut thirds = put_all(&rt, 3)?;
-    assert!(rt; thirds.len() == 66_667);
-    let halves = put_all(&rt, 2)?;
-    assert!(rt; halves.len() == 100_000);
-    merge(&rt, &mut thirds, &halves)?;
-    assert!(rt; thirds.len() == 133_333);
+fn is_key_right(map: &Many, number: i64) -> bool {
+    let there = number % 3 == 0 || number % 2 == 0;
+    map.get(&place(number)).is_some() == there
+}
+
+// Whether the keys are those of each third and each second number, as far as some numbers tell.
+fn are_keys_right(map: &Many) -> bool {
     for number in 0..200_000i64 {
-        if number % 997 == 0 {
-            let there = number % 3 == 0 || number % 2 == 0;
-            assert!(rt; thirds.get(&place(number)).is_some() == there, "{number}");
+        if number % 997 == 0 && !is_key_right(map, number) {
+            return false;
         }
     }
-    let last = thirds.at(133_332);
+    true
+}
+
+// Takes in the keys of each second number; answers whether they were all there.
+fn merge_halves(rt: &HostRuntime, map: &mut Many) -> Result<bool, AllocError> {
+    let halves = put_all(rt, 2)?;
+    merge(rt, map, &halves)?;
+    Ok(halves.len() == 100_000)
+}
+
+#[test]
+fn many_keys_are_kept_in_order(rt: HostRuntime) -> Result<(), Fail> {
+    let mut map = put_all(&rt, 3)?;
+    assert!(rt; map.len() == 66_667);
+    assert!(rt; merge_halves(&rt, &mut map)?);
+    assert!(rt; map.len() == 133_333);
+    assert!(rt; are_keys_right(&map));
+    let last = map.at(133_332);
     assert!(rt; last.is_some_and(|entry| *entry.0 == place(199_998)));
     Ok(())
 }

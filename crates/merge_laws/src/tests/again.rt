@@ -149,15 +149,40 @@ pub(super) fn put_item(
     key: &str,
     item: &str,
 ) -> Result<(), AllocError> {
-    let (key, items) = (text(rt, key)?, set(rt, &[item])?);
+    let items = set(rt, &[item])?;
+    put_items(rt, map, key, &items)
+}
+
+fn put_items(
+    rt: &HostRuntime,
+    map: &mut ItemsAt,
+    key: &str,
+    items: &Items,
+) -> Result<(), AllocError> {
+    let key = text(rt, key)?;
     let before = copied(rt, map)?;
-    match map.put(&key, &items) {
+    match map.put(&key, items) {
         Err(_) if same_entries(map, &before) => {
             tell_refused(rt);
-            map.put(&key, &items)
+            map.put(&key, items)
         }
         done => done,
     }
+}
+
+// The map with an item put at a key, row by row.
+pub(super) fn items_at(rt: &HostRuntime, rows: &[(&str, &str)]) -> Result<ItemsAt, AllocError> {
+    let mut map = SortedMap::new(rt.alloc());
+    for (key, item) in rows {
+        put_item(rt, &mut map, key, item)?;
+    }
+    Ok(map)
+}
+
+// Two sets of one item each.
+pub(super) fn pair(rt: &HostRuntime, left: &str, right: &str) -> Result<Pair, AllocError> {
+    let first = set(rt, &[left])?;
+    Ok((first, set(rt, &[right])?))
 }
 
 pub(super) fn set(rt: &HostRuntime, items: &[&str]) -> Result<Items, AllocError> {
@@ -189,15 +214,34 @@ pub(super) fn has_at(map: &ItemsAt, key: &Text, items: &[&str]) -> bool {
     }
 }
 
+pub(super) fn has_just_at(
+    rt: &HostRuntime,
+    map: &ItemsAt,
+    key: &str,
+    items: &[&str],
+) -> Result<bool, AllocError> {
+    let key = text(rt, key)?;
+    Ok(has_at(map, &key, items))
+}
+
 pub(super) fn absorb_set(
     rt: &HostRuntime,
     set: &mut Items,
     other: Items,
 ) -> Result<(), AllocError> {
     let before = copied(rt, set)?;
+    absorb_set_from(rt, set, other, &before)
+}
+
+fn absorb_set_from(
+    rt: &HostRuntime,
+    set: &mut Items,
+    other: Items,
+    before: &Items,
+) -> Result<(), AllocError> {
     let same = copied(rt, &other)?;
     match set.absorb(other) {
-        Err(_) if same_items(set, &before) => {
+        Err(_) if same_items(set, before) => {
             tell_refused(rt);
             set.absorb(same)
         }
@@ -211,9 +255,18 @@ pub(super) fn absorb_map(
     other: ItemsAt,
 ) -> Result<(), AllocError> {
     let before = copied(rt, map)?;
+    absorb_map_from(rt, map, other, &before)
+}
+
+fn absorb_map_from(
+    rt: &HostRuntime,
+    map: &mut ItemsAt,
+    other: ItemsAt,
+    before: &ItemsAt,
+) -> Result<(), AllocError> {
     let same = copied(rt, &other)?;
     match map.absorb(other) {
-        Err(_) if same_entries(map, &before) => {
+        Err(_) if same_entries(map, before) => {
             tell_refused(rt);
             map.absorb(same)
         }

@@ -43,70 +43,136 @@ fn add(rt: &HostRuntime, set: &mut Dimensions, name: &Name) -> Result<(), Reason
     }
 }
 
+fn add_named(
+    rt: &HostRuntime,
+    set: &mut Dimensions,
+    aliases: &Aliases,
+    spelled: &str,
+) -> Result<(), Reason> {
+    add(rt, set, &name(rt, aliases, spelled)?)
+}
+
+fn add_all(
+    rt: &HostRuntime,
+    set: &mut Dimensions,
+    aliases: &Aliases,
+    names: &[&str],
+) -> Result<(), Reason> {
+    for spelled in names {
+        add_named(rt, set, aliases, spelled)?;
+    }
+    Ok(())
+}
+
 fn with_members(rt: &HostRuntime, aliases: &Aliases, names: &[&str]) -> Result<Dimensions, Reason> {
     let mut set = dimensions(rt, aliases, "eg:A")?;
-    for spelled in names {
-        add(rt, &mut set, &name(rt, aliases, spelled)?)?;
-    }
+    add_all(rt, &mut set, aliases, names)?;
     Ok(set)
+}
+
+fn names_its_concept_alone(set: &Dimensions) -> bool {
+    set.known();
+    set.period().known();
+    set.concept().local() == "A"
+        && set.entity().is_none()
+        && set.period() == Period::Forever
+        && set.unit().is_none()
+        && set.language().is_none()
+        && set.members().is_empty()
+}
+
+fn is_alone(rt: &HostRuntime, aliases: &Aliases) -> Result<bool, Reason> {
+    let set = dimensions(rt, aliases, "eg:A")?;
+    Ok(names_its_concept_alone(&set))
 }
 
 #[test]
 fn a_concept_alone_holds_forever(rt: HostRuntime) -> Result<(), Fail> {
-    let set = dimensions(&rt, &example(&rt)?, "eg:A")?;
-    set.known();
-    set.period().known();
-    assert_eq!(rt; set.concept().local(), "A");
-    assert!(rt; set.entity().is_none());
-    assert!(rt; set.period() == Period::Forever);
-    assert!(rt; set.unit().is_none());
-    assert!(rt; set.language().is_none());
-    assert!(rt; set.members().is_empty());
+    let aliases = example(&rt)?;
+    assert!(rt; is_alone(&rt, &aliases)?);
     Ok(())
+}
+
+fn has_entity(rt: &HostRuntime, aliases: &Aliases) -> Result<bool, Reason> {
+    Ok(with_entity(rt, aliases)?.entity().is_some())
+}
+
+fn has_language(rt: &HostRuntime, aliases: &Aliases) -> Result<bool, Reason> {
+    Ok(with_language(rt, aliases)?.language().is_some())
 }
 
 #[test]
 fn parts_are_set(rt: HostRuntime) -> Result<(), Fail> {
     let aliases = example(&rt)?;
-    assert!(rt; with_entity(&rt, &aliases)?.entity().is_some());
-    assert!(rt; with_language(&rt, &aliases)?.language().is_some());
+    assert!(rt; has_entity(&rt, &aliases)?);
+    assert!(rt; has_language(&rt, &aliases)?);
     Ok(())
+}
+
+fn has_unit(rt: &HostRuntime, aliases: &Aliases, spelled: &str) -> Result<bool, Reason> {
+    Ok(with_unit(rt, aliases, spelled)?.unit().is_some())
 }
 
 #[test]
 fn a_unit_may_be_none(rt: HostRuntime) -> Result<(), Fail> {
     let aliases = example(&rt)?;
-    assert!(rt; with_unit(&rt, &aliases, "x:a")?.unit().is_some());
-    assert!(rt; with_unit(&rt, &aliases, "xbrli:pure")?.unit().is_none());
+    assert!(rt; has_unit(&rt, &aliases, "x:a")?);
+    assert!(rt; !has_unit(&rt, &aliases, "xbrli:pure")?);
     Ok(())
+}
+
+// Whether the members have just these names, whose URI rises after the first two.
+fn are_named(members: &[(Name, Member)], locals: &[&str; 4]) -> bool {
+    if members.len() != locals.len() {
+        return false;
+    }
+    for (member, local) in members.iter().zip(locals) {
+        if member.0.local() != *local {
+            return false;
+        }
+    }
+    members[1].0.uri() < members[2].0.uri()
+}
+
+fn are_sorted(rt: &HostRuntime, aliases: &Aliases) -> Result<bool, Reason> {
+    let set = with_members(rt, aliases, &["x:a", "eg:b", "x:b", "eg:a"])?;
+    Ok(are_named(set.members(), &["a", "b", "a", "b"]))
 }
 
 #[test]
 fn members_stay_in_the_order_of_names(rt: HostRuntime) -> Result<(), Fail> {
-    let set = with_members(&rt, &example(&rt)?, &["x:a", "eg:b", "x:b", "eg:a"])?;
-    let sorted = ["a", "b", "a", "b"];
-    assert_eq!(rt; set.members().len(), sorted.len());
-    for (item, local) in set.members().iter().zip(&sorted) {
-        assert_eq!(rt; item.0.local(), *local);
-    }
-    assert!(rt; set.members()[1].0.uri() < set.members()[2].0.uri());
+    let aliases = example(&rt)?;
+    assert!(rt; are_sorted(&rt, &aliases)?);
     Ok(())
+}
+
+// Whether a dimension that is there is refused, and the members stay as they were.
+fn is_kept_once(rt: &HostRuntime, aliases: &Aliases) -> Result<bool, Reason> {
+    let mut set = with_members(rt, aliases, &["eg:b", "eg:a"])?;
+    let again = add_named(rt, &mut set, aliases, "eg:b");
+    Ok(again == Err(Reason::DimensionValue) && set.members().len() == 2)
 }
 
 #[test]
 fn a_dimension_stands_once(rt: HostRuntime) -> Result<(), Fail> {
     let aliases = example(&rt)?;
-    let mut set = with_members(&rt, &aliases, &["eg:b", "eg:a"])?;
-    let again = name(&rt, &aliases, "eg:b")?;
-    assert!(rt; add(&rt, &mut set, &again) == Err(Reason::DimensionValue));
-    assert_eq!(rt; set.members().len(), 2);
+    assert!(rt; is_kept_once(&rt, &aliases)?);
     Ok(())
+}
+
+fn equals_its_copy(rt: &HostRuntime, set: &Dimensions) -> Result<bool, Reason> {
+    Ok(copied(rt, set)? == *set)
+}
+
+fn set_equals_its_copy(rt: &HostRuntime, aliases: &Aliases) -> Result<bool, Reason> {
+    let set = with_members(rt, aliases, &["eg:b"])?;
+    equals_its_copy(rt, &set)
 }
 
 #[test]
 fn a_copy_equals_its_original(rt: HostRuntime) -> Result<(), Fail> {
-    let set = with_members(&rt, &example(&rt)?, &["eg:b"])?;
-    assert!(rt; copied(&rt, &set)? == set);
+    let aliases = example(&rt)?;
+    assert!(rt; set_equals_its_copy(&rt, &aliases)?);
     Ok(())
 }
 
@@ -115,11 +181,16 @@ fn kinds(rt: &HostRuntime, name: Name) -> Result<[Member; 3], AllocError> {
     Ok([Member::Nil, Member::Text(typed), Member::Name(name)])
 }
 
+fn member_equals_its_copy(rt: &HostRuntime, member: &Member) -> Result<bool, AllocError> {
+    Ok(copied(rt, member)? == *member)
+}
+
 #[test]
 fn kinds_of_members_are_ordered(rt: HostRuntime) -> Result<(), Fail> {
-    let rising = kinds(&rt, name(&rt, &example(&rt)?, "eg:a")?)?;
+    let aliases = example(&rt)?;
+    let rising = kinds(&rt, name(&rt, &aliases, "eg:a")?)?;
     assert!(rt; rising[0] < rising[1] && rising[1] < rising[2]);
-    assert!(rt; copied(&rt, &rising[1])? == rising[1]);
+    assert!(rt; member_equals_its_copy(&rt, &rising[1])?);
     Ok(())
 }
 
@@ -144,33 +215,68 @@ fn set_at(rt: &HostRuntime, aliases: &Aliases, place: u8) -> Result<Dimensions, 
     }
 }
 
+fn rises_to(
+    rt: &HostRuntime,
+    aliases: &Aliases,
+    low: &Dimensions,
+    place: u8,
+) -> Result<bool, Reason> {
+    let high = set_at(rt, aliases, place)?;
+    Ok(rises(low, &high))
+}
+
+fn rise_at(rt: &HostRuntime, aliases: &Aliases, low: u8, high: u8) -> Result<bool, Reason> {
+    let set = set_at(rt, aliases, low)?;
+    rises_to(rt, aliases, &set, high)
+}
+
 #[test]
 fn sets_are_ordered_part_by_part(rt: HostRuntime) -> Result<(), Fail> {
     let aliases = example(&rt)?;
     for place in 0..9u8 {
-        let low = set_at(&rt, &aliases, place)?;
-        let high = set_at(&rt, &aliases, place + 1)?;
-        assert!(rt; rises(&low, &high), "{place}");
+        assert!(rt; rise_at(&rt, &aliases, place, place + 1)?, "{place}");
     }
     Ok(())
 }
 
-fn fact(set: Dimensions, value: Value) -> Fact {
-    Fact {
-        dimensions: set,
+fn text_fact(rt: &HostRuntime, aliases: &Aliases) -> Result<Fact, Reason> {
+    let value = Value::Text(text(rt, "z")?);
+    Ok(Fact {
+        dimensions: dimensions(rt, aliases, "eg:A")?,
         value,
-    }
+    })
+}
+
+fn nil_fact(rt: &HostRuntime, aliases: &Aliases) -> Result<Fact, Reason> {
+    Ok(Fact {
+        dimensions: dimensions(rt, aliases, "eg:B")?,
+        value: Value::Nil,
+    })
+}
+
+fn fact_equals_its_copy(rt: &HostRuntime, fact: &Fact) -> Result<bool, Reason> {
+    Ok(copied(rt, fact)? == *fact)
+}
+
+fn is_below_nil(rt: &HostRuntime, aliases: &Aliases, low: &Fact) -> Result<bool, Reason> {
+    let high = nil_fact(rt, aliases)?;
+    Ok(*low < high)
+}
+
+fn facts_rise(rt: &HostRuntime, aliases: &Aliases) -> Result<bool, Reason> {
+    let low = text_fact(rt, aliases)?;
+    is_below_nil(rt, aliases, &low)
+}
+
+fn copied_fact_is_equal(rt: &HostRuntime, aliases: &Aliases) -> Result<bool, Reason> {
+    let fact = text_fact(rt, aliases)?;
+    fact_equals_its_copy(rt, &fact)
 }
 
 #[test]
 fn facts_are_ordered_by_dimensions_first(rt: HostRuntime) -> Result<(), Fail> {
     let aliases = example(&rt)?;
-    let low = fact(
-        dimensions(&rt, &aliases, "eg:A")?,
-        Value::Text(text(&rt, "z")?),
-    );
-    let high = fact(dimensions(&rt, &aliases, "eg:B")?, Value::Nil);
-    assert!(rt; low < high);
-    assert!(rt; copied(&rt, &low)? == low);
+    assert!(rt; facts_rise(&rt, &aliases)?);
+    assert!(rt; copied_fact_is_equal(&rt, &aliases)?);
     Ok(())
 }
