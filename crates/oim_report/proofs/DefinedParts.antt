@@ -15,10 +15,9 @@ use Rattle.oim_report.specs.Parts.{defined_in}
 pub defined_here : (key : List ℕ) (d : Data) (ms : Members) → has_colon key ≡ true → IsUtf8 key → defined_in (member key d ms) ≡ (key, given d) ∷ defined_in ms
 defined_here key d ms colon utf8 = cond-true _ _ _ (and_from _ _ colon (is_utf8-from_IsUtf8 key utf8))
 
-pub push_defined : (done : List (Bor (List ℕ) × Lent)) (x : Bor (List ℕ) × Lent) (key : List ℕ) (d : Data) (ms : Members) (all : List (List ℕ × Given)) → x.0.now ≡ key → seen x.1 ≡ given d → has_colon key ≡ true → IsUtf8 key → seen_defined done ++ defined_in (member key d ms) ≡ all → seen_defined (done ++ x ∷ []) ++ defined_in ms ≡ all
-push_defined done x key d ms all name given colon utf8 so_far =
+pub push_defined : (done : List (Bor (List ℕ) × Lent)) (x : Bor (List ℕ) × Lent) (key : List ℕ) (d : Data) (ms : Members) → x.0.now ≡ key → seen x.1 ≡ given d → has_colon key ≡ true → IsUtf8 key → seen_defined (done ++ x ∷ []) ++ defined_in ms ≡ seen_defined done ++ defined_in (member key d ms)
+push_defined done x key d ms name given colon utf8 =
     ap (λ ds. ds ++ defined_in ms) (map-append (λ (m : Bor (List ℕ) × Lent). let seen_one : List ℕ × Given = (m.0.now, seen m.1) in seen_one) done (x ∷ []))
     ∙ append_assoc (seen_defined done) (seen_defined (x ∷ [])) (defined_in ms)
     ∙ (λ i. seen_defined done ++ (name i, given i) ∷ defined_in ms)
     ∙ ap (λ ds. seen_defined done ++ ds) (sym (defined_here key d ms colon utf8))
-    ∙ so_far

@@ -8,6 +8,7 @@ pub mod Least
 pub mod UnitNames
 pub mod UnitSaid
 pub mod PartsOf
+pub mod LastAt
 pub mod Readings
 pub mod MemberLists
 pub mod FactRefused
@@ -53,3 +54,4 @@ pub mod ReadFact
 pub mod ReadText
 pub mod TextUtf8
 pub mod PlainFact
+pub mod GlossaryAdds

@@ -84,6 +84,16 @@ number_fact = fact (record {
   members = [];
 }) (Number (negsuc 1499999999999999999) (Some (pos 1)))
 
+-- numbers of a concept alone and a unit
+abbrev pub measured : List QName → List QName → Value → Fact
+measured numerators denominators = fact (record (alone (in_first (codes "A"))) { unit = Some (record { numerators = numerators; denominators = denominators }) })
+
+abbrev pub product_fact : Fact
+product_fact = measured (in_second (codes "a") ∷ in_second (codes "b") ∷ []) [] (Number (pos 0) None)
+
+abbrev pub ratio_fact : Fact
+ratio_fact = measured (in_second (codes "a") ∷ in_second (codes "b") ∷ []) (in_second (codes "c") ∷ []) (Number (pos 100000000000000000000) (Some (pos 0)))
+
 abbrev pub nil_fact : Fact
 nil_fact = fact (alone (in_first (codes "A"))) Nil
 

@@ -10,6 +10,8 @@ pub mod SheetCode
 pub mod KindLaws
 pub mod Conditions
 pub mod Said
+pub mod Glossary
+pub mod Glossaries
 pub mod Fact
 pub mod Kept
 pub mod Duplicates

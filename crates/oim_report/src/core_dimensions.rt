@@ -1,13 +1,18 @@
-ghost use Rattle.std.specs.Prelude.{◌≡◌, ◌⊎◌, Some, None, false, IfOk, IfErr};
+ghost use Rattle.std.specs.Prelude.{◌≡◌, ◌⊎◌, Some, None, false, IfOk, IfErr, OnOk};
 ghost use Rattle.std.specs.Result.{result_err};
+ghost use Rattle.oim_names.specs.Expansion.{ExpandsEntity};
 ghost use Rattle.oim_report.specs.Conditions.{language_refusal, period_refusal, spelled_in, unit_names, unit_refusal};
 ghost use Rattle.oim_report.specs.Given.{seen};
+ghost use Rattle.oim_report.specs.Glossary.{IsGlossary};
+ghost use Rattle.oim_report.specs.Glossaries.{SaysLanguage, SaysPeriod, SaysUnit};
 ghost use Rattle.oim_report.specs.Json.{is_no_text};
 ghost use Rattle.oim_report.specs.Names.{an_entity, names_refusal};
 ghost use Rattle.oim_report.specs.Said.{said_entity, said_language, said_period, said_unit};
 
 use crate::concept_kind::ConceptKind;
 use crate::given::Given;
+use crate::glossary::Glossary;
+use crate::recall::{recall_entity, recall_language, recall_period, recall_unit};
 use oim_dims::{Period, Unit};
 use oim_names::{Aliases, Name, Reason, Text};
 use std::alloc::Global;
@@ -15,14 +20,21 @@ use std::alloc::Global;
 /// The entity, where there is one.
 ///
 /// Errors: where its name is not refused, `OutOfMemory` alone.
-pub(crate) fn read_entity(aliases: &Aliases, entity: Given<'_>) -> Result<Option<Name>, Reason>
+pub(crate) fn read_entity<'a>(
+    alloc: Global,
+    aliases: &Aliases,
+    entities: &mut Glossary<'a, Name>,
+    entity: Given<'a>,
+) -> Result<Option<Name>, Reason>
     requires form { is_no_text (seen entity) ≡ false }
+    requires known { IsGlossary (ExpandsEntity aliases.now) entities.old }
     ensures said { IfOk result (λ read. said_entity aliases.now (seen entity.entry) ≡ Some read) }
     ensures errors { names_refusal aliases.now (spelled_in an_entity (seen entity.entry)) ≡ None →
         IfErr result (λ r. r ≡ Reason.OutOfMemory) }
+    ensures known { OnOk result (IsGlossary (ExpandsEntity aliases.now) entities.new) }
 {
     match entity.text() {
-        Some(text) => Ok(Some(aliases.expand_entity(text)?)),
+        Some(text) => Ok(Some(recall_entity(alloc, aliases, entities, text)?)),
         None => Ok(None),
     }
 }
@@ -30,13 +42,19 @@ pub(crate) fn read_entity(aliases: &Aliases, entity: Given<'_>) -> Result<Option
 /// The period; without one a fact holds forever.
 ///
 /// Errors: `PeriodForm`, `PeriodOrder`.
-pub(crate) fn read_period(alloc: Global, period: Given<'_>) -> Result<Period, Reason>
-    requires { is_no_text (seen period) ≡ false }
+pub(crate) fn read_period<'a>(
+    alloc: Global,
+    periods: &mut Glossary<'a, Period>,
+    period: Given<'a>,
+) -> Result<Period, Reason>
+    requires form { is_no_text (seen period) ≡ false }
+    requires known { IsGlossary SaysPeriod periods.old }
     ensures said { IfOk result (λ read. said_period (seen period.entry) ≡ Some read) }
     ensures refused { result_err result ≡ period_refusal (seen period.entry) }
+    ensures known { OnOk result (IsGlossary SaysPeriod periods.new) }
 {
     match period.text() {
-        Some(text) => oim_dims::read_period(alloc, text),
+        Some(text) => recall_period(alloc, periods, text),
         None => Ok(Period::Forever),
     }
 }
@@ -45,23 +63,26 @@ pub(crate) fn read_period(alloc: Global, period: Given<'_>) -> Result<Period, Re
 ///
 /// Errors, where none of its names is refused: `UnitForm`; `UnitOnOther` where the concept is not
 /// numeric; `OutOfMemory`.
-pub(crate) fn read_unit(
+pub(crate) fn read_unit<'a>(
     alloc: Global,
     aliases: &Aliases,
+    units: &mut Glossary<'a, Option<Unit>>,
     kind: ConceptKind,
-    unit: Given<'_>,
+    unit: Given<'a>,
 ) -> Result<Option<Unit>, Reason>
     requires form { is_no_text (seen unit) ≡ false }
+    requires known { IsGlossary (SaysUnit aliases.now) units.old }
     ensures said { IfOk result (λ read. said_unit aliases.now (seen unit.entry) ≡ Some read) }
     ensures accepted { IfOk result (λ _. unit_refusal (Some kind) (seen unit.entry) ≡ None) }
     ensures refused { let refusal = unit_refusal (Some kind) (seen unit.entry) in
         names_refusal aliases.now (unit_names (seen unit.entry)) ≡ None →
         IfErr result (λ r. (r ≡ Reason.OutOfMemory) ⊎ (refusal ≡ Some r)) }
+    ensures known { OnOk result (IsGlossary (SaysUnit aliases.now) units.new) }
 {
     let Some(text) = unit.text() else {
         return Ok(None);
     };
-    let read = oim_dims::read_unit(alloc, aliases, text)?;
+    let read = recall_unit(alloc, aliases, units, text)?;
     if kind != ConceptKind::Numeric {
         return Err(Reason::UnitOnOther);
     }
@@ -71,21 +92,24 @@ pub(crate) fn read_unit(
 /// The language, where there is one, in lower case, of a fact whose concept has this kind.
 ///
 /// Errors: `LanguageForm`; `LanguageOnNumeric` where the concept is numeric; `OutOfMemory`.
-pub(crate) fn read_language(
+pub(crate) fn read_language<'a>(
     alloc: Global,
+    languages: &mut Glossary<'a, Text>,
     kind: ConceptKind,
-    language: Given<'_>,
+    language: Given<'a>,
 ) -> Result<Option<Text>, Reason>
-    requires { is_no_text (seen language) ≡ false }
+    requires form { is_no_text (seen language) ≡ false }
+    requires known { IsGlossary SaysLanguage languages.old }
     ensures said { IfOk result (λ read. said_language (seen language.entry) ≡ Some read) }
     ensures accepted { IfOk result (λ _. language_refusal (Some kind) (seen language.entry) ≡ None) }
     ensures refused { let refusal = language_refusal (Some kind) (seen language.entry) in
         IfErr result (λ r. (r ≡ Reason.OutOfMemory) ⊎ (refusal ≡ Some r)) }
+    ensures known { OnOk result (IsGlossary SaysLanguage languages.new) }
 {
     let Some(text) = language.text() else {
         return Ok(None);
     };
-    let read = oim_dims::read_language(alloc, text)?;
+    let read = recall_language(alloc, languages, text)?;
     if kind == ConceptKind::Numeric {
         return Err(Reason::LanguageOnNumeric);
     }

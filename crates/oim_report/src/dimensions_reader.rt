@@ -1,7 +1,8 @@
-ghost use Rattle.std.specs.Prelude.{◌≡◌, ◌⊎◌, Some, None, false, IfOk, IfErr};
+ghost use Rattle.std.specs.Prelude.{◌≡◌, ◌⊎◌, Some, None, false, IfOk, IfErr, OnOk};
 ghost use Rattle.std.specs.List.{flat_map};
 ghost use Rattle.oim_report.specs.Conditions.{defined_names, dimension_refusals, has_misshapen_core, spelled_in, unit_names};
 ghost use Rattle.oim_report.specs.Given.{seen};
+ghost use Rattle.oim_report.specs.Glossaries.{AreGlossaries};
 ghost use Rattle.oim_report.specs.Names.{an_entity, names_refusal};
 ghost use Rattle.oim_report.specs.Refusal.{first_refusal};
 ghost use Rattle.oim_report.specs.Said.{said_concept, said_dimensions};
@@ -9,6 +10,7 @@ ghost use Rattle.oim_report.specs.SeenParts.{seen_defined, seen_dimensions};
 
 use crate::concept_kind::ConceptKind;
 use crate::core_dimensions::{read_entity, read_language, read_period, read_unit};
+use crate::glossaries::Glossaries;
 use crate::members_reader::read_members;
 use crate::parts::DimensionParts;
 use crate::sheet::Sheet;
@@ -20,14 +22,16 @@ use std::alloc::Global;
 ///
 /// Errors, where none of their names is refused: the first refusal of the taxonomy-defined
 /// dimensions, the period, the unit and the language; `OutOfMemory`.
-pub(crate) fn read_dimensions(
+pub(crate) fn read_dimensions<'s, 'a>(
     alloc: Global,
-    sheet: &Sheet,
+    sheet: &'s Sheet,
     aliases: &Aliases,
+    glossaries: &mut Glossaries<'s, 'a>,
     concept: Name,
     kind: ConceptKind,
-    parts: &DimensionParts<'_>,
+    parts: &DimensionParts<'a>,
 ) -> Result<Dimensions, Reason>
+    requires known { AreGlossaries sheet.now aliases.now glossaries.old }
     requires form { has_misshapen_core (seen_dimensions parts.now) ≡ false }
     requires concept { said_concept aliases.now (seen parts.now.concept) ≡ Some concept }
     ensures said { IfOk result
@@ -42,13 +46,17 @@ pub(crate) fn read_dimensions(
         names_refusal aliases.now defined ≡ None →
         names_refusal aliases.now (unit_names (seen parts.now.unit)) ≡ None →
         IfErr result (λ r. (r ≡ Reason.OutOfMemory) ⊎ (first_refusal refusals ≡ Some r)) }
+    ensures known { OnOk result (AreGlossaries sheet.now aliases.now glossaries.new) }
 {
     let defined = parts.defined.as_slice();
-    let mut read = read_members(alloc, sheet, aliases, concept, defined)?;
-    read.set_period(read_period(alloc, parts.period)?);
-    read.set_unit(read_unit(alloc, aliases, kind, parts.unit)?);
-    set_language(&mut read, read_language(alloc, kind, parts.language)?);
-    set_entity(&mut read, read_entity(aliases, parts.entity)?);
+    let mut read = read_members(alloc, sheet, aliases, glossaries, concept, defined)?;
+    read.set_period(read_period(alloc, &mut glossaries.periods, parts.period)?);
+    let unit = read_unit(alloc, aliases, &mut glossaries.units, kind, parts.unit)?;
+    read.set_unit(unit);
+    let language = read_language(alloc, &mut glossaries.languages, kind, parts.language)?;
+    set_language(&mut read, language);
+    let entity = read_entity(alloc, aliases, &mut glossaries.entities, parts.entity)?;
+    set_entity(&mut read, entity);
     Ok(read)
 }
 

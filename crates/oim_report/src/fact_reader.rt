@@ -1,8 +1,9 @@
-ghost use Rattle.std.specs.Prelude.{◌≡◌, ◌⊎◌, Ok, Err, Some, None, IfOk, IfErr, option_map};
+ghost use Rattle.std.specs.Prelude.{◌≡◌, ◌⊎◌, Ok, Err, Some, None, IfOk, IfErr, OnOk, option_map};
 ghost use Rattle.std.specs.Result.{result_err, result_ok};
 ghost use Rattle.serde_json.specs.View.{view};
 ghost use Rattle.oim_report.specs.Conditions.{concept_kind, concept_refusal, content_refusal, form_refusal, names_of};
 ghost use Rattle.oim_report.specs.Given.{seen};
+ghost use Rattle.oim_report.specs.Glossaries.{AreGlossaries};
 ghost use Rattle.oim_report.specs.Names.{names_refusal};
 ghost use Rattle.oim_report.specs.Outcome.{fact_outcome};
 ghost use Rattle.oim_report.specs.Said.{fact_of, said_concept};
@@ -14,6 +15,7 @@ use crate::fact_form::check_form;
 use crate::fact_names::names_refusal;
 use crate::fact_value::read_value;
 use crate::given::Given;
+use crate::glossaries::Glossaries;
 use crate::listed::find_concept;
 use crate::parts::{DimensionParts, FactParts};
 use crate::sheet::Sheet;
@@ -25,33 +27,38 @@ use std::alloc::Global;
 /// The fact that a fact object says under a sheet and these prefixes.
 ///
 /// Errors: the refusal of the first condition that holds; `OutOfMemory`.
-pub(crate) fn read_fact(
+pub(crate) fn read_fact<'s, 'a>(
     alloc: Global,
-    sheet: &Sheet,
+    sheet: &'s Sheet,
     aliases: &Aliases,
-    object: &Value,
+    glossaries: &mut Glossaries<'s, 'a>,
+    object: &'a Value,
 ) -> Result<Fact, Reason>
+    requires known { AreGlossaries sheet.now aliases.now glossaries.old }
     ensures ok { IfOk result (λ f. fact_outcome sheet.now aliases.now (view object.now) ≡ Ok f) }
     ensures errors { IfErr result
         (λ r. (r ≡ Reason.OutOfMemory)
         ⊎ (fact_outcome sheet.now aliases.now (view object.now) ≡ Err r)) }
+    ensures known { OnOk result (AreGlossaries sheet.now aliases.now glossaries.new) }
 {
     let Some(parts) = FactParts::of(alloc, object)? else {
         return Err(Reason::MemberForm);
     };
     let dimensions = check_form(&parts)?;
-    read_content(alloc, sheet, aliases, &parts, dimensions)
+    read_content(alloc, sheet, aliases, glossaries, &parts, dimensions)
 }
 
 // The fact of these parts, whose form is not refused. Most facts are not refused, so they are read
 // first, and what refuses one of their names is looked for where that fails.
-fn read_content(
+fn read_content<'s, 'a>(
     alloc: Global,
-    sheet: &Sheet,
+    sheet: &'s Sheet,
     aliases: &Aliases,
-    parts: &FactParts<'_>,
-    dimensions: &DimensionParts<'_>,
+    glossaries: &mut Glossaries<'s, 'a>,
+    parts: &FactParts<'a>,
+    dimensions: &DimensionParts<'a>,
 ) -> Result<Fact, Reason>
+    requires known { AreGlossaries sheet.now aliases.now glossaries.old }
     requires there { parts.now.dimensions ≡ Some dimensions.now }
     requires form { form_refusal (seen_parts parts.now) ≡ None }
     ensures said { let p = seen_parts parts.now in
@@ -64,10 +71,13 @@ fn read_content(
         let ds = seen_dimensions dimensions.now in
         IfErr result
         (λ r. (r ≡ Reason.OutOfMemory) ⊎ (content_refusal sheet.now aliases.now p ds ≡ Some r)) }
+    ensures known { OnOk result (AreGlossaries sheet.now aliases.now glossaries.new) }
 {
-    let concept = find_concept(sheet, aliases, dimensions.concept);
+    let concept = find_concept(sheet, aliases, &mut glossaries.concepts, dimensions.concept);
     let kind = kind_of(&concept);
-    match read_parts(alloc, sheet, aliases, concept, parts, dimensions) {
+    match read_parts(
+        alloc, sheet, aliases, glossaries, concept, parts, dimensions,
+    ) {
         Ok(fact) => Ok(fact),
         Err(reason) => match names_refusal(sheet, aliases, dimensions, kind, parts.value) {
             Some(refusal) => Err(refusal),
@@ -77,14 +87,16 @@ fn read_content(
 }
 
 // The same with the concept that is found. An error is the first refusal where no name is refused.
-fn read_parts(
+fn read_parts<'s, 'a>(
     alloc: Global,
-    sheet: &Sheet,
+    sheet: &'s Sheet,
     aliases: &Aliases,
+    glossaries: &mut Glossaries<'s, 'a>,
     concept: Result<(&Name, ConceptKind), Reason>,
-    parts: &FactParts<'_>,
-    dimensions: &DimensionParts<'_>,
+    parts: &FactParts<'a>,
+    dimensions: &DimensionParts<'a>,
 ) -> Result<Fact, Reason>
+    requires known { AreGlossaries sheet.now aliases.now glossaries.old }
     requires there { parts.now.dimensions ≡ Some dimensions.now }
     requires form { form_refusal (seen_parts parts.now) ≡ None }
     requires kind { option_map (λ c. c.1) (result_ok concept)
@@ -99,10 +111,11 @@ fn read_parts(
         names_refusal aliases.now (names_of sheet.now aliases.now all (seen parts.now.value)) ≡ None →
         IfErr result (λ r. (r ≡ Reason.OutOfMemory)
         ⊎ (content_refusal sheet.now aliases.now (seen_parts parts.now) all ≡ Some r)) }
+    ensures known { OnOk result (AreGlossaries sheet.now aliases.now glossaries.new) }
 {
     let (name, kind) = concept?;
     let concept = name.copied(alloc)?;
-    let read = read_dimensions(alloc, sheet, aliases, concept, kind, dimensions)?;
+    let read = read_dimensions(alloc, sheet, aliases, glossaries, concept, kind, dimensions)?;
     let value = read_value(alloc, aliases, kind, parts.value, parts.decimals)?;
     Ok(Fact {
         dimensions: read,

@@ -4,6 +4,7 @@ ghost use Rattle.oim_report.specs.Info.{facts_of};
 ghost use Rattle.oim_report.specs.Outcome.{at, facts_said};
 
 use crate::fact_reader::read_fact;
+use crate::glossaries::Glossaries;
 use crate::json_tree::object_at;
 use crate::place::Place;
 use crate::refusal::Refusal;
@@ -44,10 +45,11 @@ fn read_all(
     ensures errors { let said = facts_said sheet.now aliases.now (members_view objects.now.entries) in
         IfErr result (λ r. (r ≡ at Place.Document Reason.OutOfMemory) ⊎ (said ≡ Err r)) }
 {
-    let mut facts = Vec::new(alloc);
+    let mut facts = Vec::with_capacity(alloc, objects.len())?;
+    let mut glossaries = Glossaries::new(alloc);
     let mut place: u64 = 1;
     for (_identifier, object) in objects.iter() {
-        match read_fact(alloc, sheet, aliases, object) {
+        match read_fact(alloc, sheet, aliases, &mut glossaries, object) {
             Ok(fact) => facts.push(fact)?,
             Err(reason) => return Err(Refusal::of_fact(reason, place)),
         }

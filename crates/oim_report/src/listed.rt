@@ -2,6 +2,8 @@ ghost use Rattle.std.specs.Prelude.{◌≡◌, Some, IfOk, IfSome, option_map};
 ghost use Rattle.std.specs.Result.{result_ok, result_err};
 ghost use Rattle.oim_report.specs.Conditions.{concept_kind, concept_refusal, dimension_kind};
 ghost use Rattle.oim_report.specs.Given.{seen};
+ghost use Rattle.oim_report.specs.Glossary.{IsGlossary};
+ghost use Rattle.oim_report.specs.Glossaries.{NamesConcept};
 ghost use Rattle.oim_report.specs.Json.{text as a_text};
 ghost use Rattle.oim_report.specs.Names.{named};
 ghost use Rattle.oim_report.specs.Said.{said_concept};
@@ -9,6 +11,8 @@ ghost use Rattle.oim_report.specs.Said.{said_concept};
 use crate::concept_kind::ConceptKind;
 use crate::dimension_kind::DimensionKind;
 use crate::given::Given;
+use crate::glossary::Glossary;
+use crate::recall::recall_concept;
 use crate::sheet::Sheet;
 use oim_names::{Aliases, Name, Reason};
 
@@ -16,26 +20,30 @@ use oim_names::{Aliases, Name, Reason};
 ///
 /// Errors: `MissingConcept` where there is no text; `UnknownConcept` where it names no concept of the
 /// sheet, or nothing.
-pub(crate) fn find_concept<'s>(
+pub(crate) fn find_concept<'s, 'a>(
     sheet: &'s Sheet,
     aliases: &Aliases,
-    concept: Given<'_>,
+    concepts: &mut Glossary<'a, (&'s Name, ConceptKind)>,
+    concept: Given<'a>,
 ) -> Result<(&'s Name, ConceptKind), Reason>
+    requires known { IsGlossary (NamesConcept sheet.now aliases.now) concepts.old }
     ensures kind { option_map (λ c. c.1) (result_ok result)
         ≡ concept_kind sheet.now aliases.now (seen concept.entry) }
     ensures name { IfOk result (λ c. said_concept aliases.now (seen concept.entry) ≡ Some c.0.now) }
     ensures refused { result_err result ≡ concept_refusal sheet.now aliases.now (seen concept.entry) }
+    ensures known { IsGlossary (NamesConcept sheet.now aliases.now) concepts.new }
 {
     let Some(text) = concept.text() else {
         return Err(Reason::MissingConcept);
     };
-    match find_named_concept(sheet, aliases, text) {
+    match recall_concept(sheet, aliases, concepts, text) {
         Some(found) => Ok(found),
         None => Err(Reason::UnknownConcept),
     }
 }
 
-fn find_named_concept<'s>(
+/// The concept that a text names, as the sheet has it, and what its values are.
+pub(crate) fn find_named_concept<'s>(
     sheet: &'s Sheet,
     aliases: &Aliases,
     text: &str,

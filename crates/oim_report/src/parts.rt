@@ -2,19 +2,13 @@ ghost use Rattle.std.specs.Prelude.{◌≡◌, ◌||◌, IfOk, option_map, optio
 ghost use Rattle.serde_json.specs.Find.{as_object};
 ghost use Rattle.serde_json.specs.View.{view, members_view};
 ghost use Rattle.oim_report.specs.Json.{has_member, is_no_object};
-ghost use Rattle.oim_report.specs.Parts.{defined_in, dimension_parts, fact_parts};
-ghost use Rattle.oim_report.specs.SeenParts.{seen_defined, seen_dimensions, seen_parts};
+ghost use Rattle.oim_report.specs.Parts.{dimension_parts, fact_parts, parts_of};
+ghost use Rattle.oim_report.specs.SeenParts.{seen_dimensions, seen_parts};
 
 use crate::given::Given;
-use crate::json_tree::{has_colon, has_member, has_unknown_in, is_no_object};
+use crate::json_tree::{has_colon, has_member, is_no_object};
 use serde_json::{Map, Value};
 use std::alloc::{AllocError, Global};
-
-/// The keys of a fact object that are no extension's (xBRL-JSON 1.0, section 3.1).
-const FACT_KEYS: [&str; 4] = ["value", "decimals", "dimensions", "links"];
-
-/// The keys of the core dimensions (OIM Common 1.0).
-const CORE_KEYS: [&str; 6] = ["concept", "entity", "period", "unit", "language", "noteId"];
 
 /// What the members of a fact's `dimensions` are.
 #[derive(Debug, Drop)]
@@ -37,37 +31,51 @@ impl<'a> DimensionParts<'a> {
         ensures { IfOk result (λ parts. option_map seen_dimensions parts
             ≡ option_map dimension_parts (as_object (view value.now))) }
     {
-        let Some(members) = value.as_object() else {
-            return Ok(None);
-        };
-        Ok(Some(DimensionParts {
-            concept: Given::of(value.get("concept")),
-            entity: Given::of(value.get("entity")),
-            period: Given::of(value.get("period")),
-            unit: Given::of(value.get("unit")),
-            language: Given::of(value.get("language")),
-            note: Given::of(value.get("noteId")),
-            defined: defined_in(alloc, members)?,
-            unknown: has_unknown_in(Some(members), &CORE_KEYS),
-        }))
-    }
-}
-
-fn defined_in<'a>(
-    alloc: Global,
-    members: &'a Map<String, Value>,
-) -> Result<Vec<(&'a str, Given<'a>)>, AllocError>
-    ensures { IfOk result (λ ds. seen_defined ds.items
-        ≡ defined_in (members_view members.now.entries)) }
-{
-    let mut defined = Vec::new(alloc);
-    for (key, value) in members.iter() {
-        let key = key.as_str();
-        if has_colon(key) {
-            defined.push((key, Given::of_value(value)))?;
+        match value.as_object() {
+            Some(members) => Ok(Some(DimensionParts::of_members(alloc, members)?)),
+            None => Ok(None),
         }
     }
-    Ok(defined)
+
+    // The core dimensions (OIM Common 1.0), and the others. No key comes twice.
+    fn of_members(
+        alloc: Global,
+        members: &'a Map<String, Value>,
+    ) -> Result<DimensionParts<'a>, AllocError>
+        ensures { IfOk result (λ parts. seen_dimensions parts
+            ≡ dimension_parts (members_view members.now.entries)) }
+    {
+        let mut concept = None;
+        let mut entity = None;
+        let mut period = None;
+        let mut unit = None;
+        let mut language = None;
+        let mut note = None;
+        let mut defined = Vec::new(alloc);
+        let mut unknown = false;
+        for (key, value) in members.iter() {
+            match key.as_str() {
+                "concept" => concept = Some(value),
+                "entity" => entity = Some(value),
+                "period" => period = Some(value),
+                "unit" => unit = Some(value),
+                "language" => language = Some(value),
+                "noteId" => note = Some(value),
+                key if has_colon(key) => defined.push((key, Given::of_value(value)))?,
+                _ => unknown = true,
+            }
+        }
+        Ok(DimensionParts {
+            concept: Given::of(concept),
+            entity: Given::of(entity),
+            period: Given::of(period),
+            unit: Given::of(unit),
+            language: Given::of(language),
+            note: Given::of(note),
+            defined,
+            unknown,
+        })
+    }
 }
 
 /// What the members of a fact object are.
@@ -90,19 +98,42 @@ impl<'a> FactParts<'a> {
     pub(crate) fn of(alloc: Global, object: &'a Value) -> Result<Option<FactParts<'a>>, AllocError>
         ensures { IfOk result (λ parts. option_map seen_parts parts ≡ fact_parts (view object.now)) }
     {
-        let Some(members) = object.as_object() else {
-            return Ok(None);
-        };
-        let dimensions = object.get("dimensions");
-        let links = object.get("links");
-        Ok(Some(FactParts {
-            value: Given::of(object.get("value")),
-            decimals: Given::of(object.get("decimals")),
+        match object.as_object() {
+            Some(members) => Ok(Some(FactParts::of_members(alloc, members)?)),
+            None => Ok(None),
+        }
+    }
+
+    // The members that are no extension's (xBRL-JSON 1.0, section 3.1). No key comes twice.
+    fn of_members(
+        alloc: Global,
+        members: &'a Map<String, Value>,
+    ) -> Result<FactParts<'a>, AllocError>
+        ensures { IfOk result (λ parts. seen_parts parts ≡ parts_of (members_view members.now.entries)) }
+    {
+        let mut value = None;
+        let mut decimals = None;
+        let mut dimensions = None;
+        let mut links = None;
+        let mut unknown = false;
+        for (key, member) in members.iter() {
+            match key.as_str() {
+                "value" => value = Some(member),
+                "decimals" => decimals = Some(member),
+                "dimensions" => dimensions = Some(member),
+                "links" => links = Some(member),
+                key if has_colon(key) => {}
+                _ => unknown = true,
+            }
+        }
+        Ok(FactParts {
+            value: Given::of(value),
+            decimals: Given::of(decimals),
             dimensions: dimensions_of(alloc, dimensions)?,
             linked: is_linked(links),
             misshapen: is_misshapen(dimensions, links),
-            unknown: has_unknown_in(Some(members), &FACT_KEYS),
-        }))
+            unknown,
+        })
     }
 }
 

@@ -3,6 +3,7 @@ mod said;
 
 use crate::Sheet;
 use crate::fact_reader::read_fact;
+use crate::glossaries::Glossaries;
 use crate::json_tree::read_json;
 use oim_dims::Fact;
 use oim_names::{Aliases, Reason};
@@ -63,13 +64,23 @@ fn parsed(rt: &HostRuntime, text: &str) -> Result<Value, Reason> {
     }
 }
 
+fn read_alone(
+    rt: &HostRuntime,
+    sheet: &Sheet,
+    aliases: &Aliases,
+    object: &Value,
+) -> Result<Fact, Reason> {
+    let mut glossaries = Glossaries::new(rt.alloc());
+    read_fact(rt.alloc(), sheet, aliases, &mut glossaries, object)
+}
+
 /// The fact of a fact object's text.
 fn fact(rt: &HostRuntime, sheet: &Sheet, aliases: &Aliases, text: &str) -> Result<Fact, Reason> {
     let object = parsed(rt, text)?;
-    match read_fact(rt.alloc(), sheet, aliases, &object) {
+    match read_alone(rt, sheet, aliases, &object) {
         Err(Reason::OutOfMemory) => {
             tell_refused(rt);
-            read_fact(rt.alloc(), sheet, aliases, &object)
+            read_alone(rt, sheet, aliases, &object)
         }
         answer => answer,
     }

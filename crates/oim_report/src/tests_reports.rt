@@ -1,4 +1,5 @@
 mod accepted;
+mod again;
 mod documents;
 mod duplicates;
 mod facts;

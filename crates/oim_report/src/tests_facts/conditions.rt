@@ -329,6 +329,10 @@ fn the_least_of_several_faults_is_answered(rt: HostRuntime) -> Result<(), Fail> 
             Reason::PeriodForm,
         ),
         (
+            r#"{"value":"1","dimensions":{"concept":"eg:A","period":"2021-01-01T00:00:00/2020-01-01T00:00:00","unit":"x:a/"}}"#,
+            Reason::PeriodOrder,
+        ),
+        (
             r#"{"value":"1","dimensions":{"concept":"eg:T","unit":"x:a/"}}"#,
             Reason::UnitForm,
         ),

@@ -129,11 +129,32 @@ fn prefixes_carry_no_meaning(rt: HostRuntime) -> Result<(), Fail> {
 }
 
 #[test]
+fn the_end_of_a_day_is_the_start_of_the_next(rt: HostRuntime) -> Result<(), Fail> {
+    let blue = example(&rt, BLUE)?;
+    let other = example(
+        &rt,
+        r#"{"dimensions":{"concept":"zz:T","entity":"x:529900:A1","language":"en-gb","period":"2020-01-01T00:00:00/2021-01-01T00:00:00","zz:Reg":"zz:North","zz:Sku":"a b"},"value":"Blue"}"#,
+    )?;
+    assert!(rt; blue == other);
+    Ok(())
+}
+
+#[test]
 fn pure_is_no_unit(rt: HostRuntime) -> Result<(), Fail> {
     let pure = example(
         &rt,
         r#"{"value":"1","dimensions":{"concept":"eg:A","unit":"(xbrli:pure)"}}"#,
     )?;
     assert!(rt; pure.dimensions.unit().is_none());
+    Ok(())
+}
+
+#[test]
+fn pure_over_another_measure_is_a_unit(rt: HostRuntime) -> Result<(), Fail> {
+    let ratio = example(
+        &rt,
+        r#"{"value":"1","dimensions":{"concept":"eg:A","unit":"xbrli:pure/x:c"}}"#,
+    )?;
+    assert!(rt; ratio.dimensions.unit().is_some());
     Ok(())
 }

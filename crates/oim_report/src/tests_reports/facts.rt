@@ -117,6 +117,46 @@ fn decimals_are_whole_numbers_in_a_range(rt: HostRuntime) -> Result<(), Fail> {
 }
 
 #[test]
+fn periods_are_real_date_times_in_order(rt: HostRuntime) -> Result<(), Fail> {
+    let rows = [
+        ("0001-01-01T00:00:00", READ),
+        ("0000-01-01T00:00:00", in_fact(19, 1)),
+        ("9999-12-30T24:00:00", READ),
+        ("9999-12-31T24:00:00", in_fact(19, 1)),
+        ("2020-02-29T00:00:00", READ),
+        ("2021-02-29T00:00:00", in_fact(19, 1)),
+        ("2021-01-01T24:00:00", READ),
+        ("2021-01-01T24:00:01", in_fact(19, 1)),
+        ("2021-01-01T00:00:00/2020-12-31T24:00:00", READ),
+        ("2021-01-01T00:00:00/2020-12-31T23:59:59", in_fact(20, 1)),
+        ("", in_fact(19, 1)),
+    ];
+    let start =
+        r#"{"documentInfo":{"documentType":"https://xbrl.org/2021/xbrl-json","namespaces":{"eg":"http://example.org/t"}},"facts":{"a":{"value":"1","dimensions":{"concept":"eg:A","period":""#;
+    assert_eq!(rt; first_other(&rt, start, &rows, r#""}}}}"#)?, None);
+    Ok(())
+}
+
+#[test]
+fn units_are_sides_of_names(rt: HostRuntime) -> Result<(), Fail> {
+    let rows = [
+        ("x:a*x:b/x:c", READ),
+        ("(x:b*x:a)/(x:c)", READ),
+        ("xbrli:pure/x:c", READ),
+        ("x:a/", in_fact(21, 1)),
+        ("x:a/x:b/x:c", in_fact(21, 1)),
+        ("(x:a", in_fact(21, 1)),
+        ("", in_fact(21, 1)),
+        ("a/x:b", in_fact(12, 1)),
+        ("q:a", in_fact(13, 1)),
+    ];
+    let start =
+        r#"{"documentInfo":{"documentType":"https://xbrl.org/2021/xbrl-json","namespaces":{"eg":"http://example.org/t","x":"http://example.org/u","xbrli":"http://www.xbrl.org/2003/instance"}},"facts":{"a":{"value":"1","dimensions":{"concept":"eg:A","unit":""#;
+    assert_eq!(rt; first_other(&rt, start, &rows, r#""}}}}"#)?, None);
+    Ok(())
+}
+
+#[test]
 fn names_are_split_at_their_first_colon(rt: HostRuntime) -> Result<(), Fail> {
     let rows = [
         ("eg:A", READ),

@@ -1,4 +1,4 @@
-use Rattle.std.proofs.Common.{Err, inl, inr, ⊎_elim, sym, ap, ◌∙◌}
+use Rattle.std.proofs.Common.{rules, Err, inl, inr, ⊎_elim, sym, ap, ◌∙◌}
 use Rattle.serde_json.specs.View.{view, members_view}
 use Rattle.oim_report.specs.Json.{values}
 use Rattle.oim_report.specs.Outcome.{fact_outcome}
@@ -27,3 +27,6 @@ returns-clause-ok c =
     sym (all_facts read (values (members_view c.args.objects.now.entries)))
     ∙ sym l.invariant.0
     ∙ ap (λ es. facts_after read l.place l.facts.items (values (members_view es))) c.in-None.ensures.steps.0
+
+pub loop-identifier-init : goal.loop-identifier-init
+loop-identifier-init c = (search rules, search rules, c.new-glossaries.ensures c.args.sheet.now c.args.aliases.now)

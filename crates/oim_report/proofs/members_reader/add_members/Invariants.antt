@@ -2,6 +2,7 @@ use Rattle.std.proofs.Common.{◌≡◌, drop, [], None}
 use Rattle.std.specs.List.{flat_map}
 use Rattle.oim_dims.specs.declared.period.Period.TheVariants.{Forever}
 use Rattle.oim_report.specs.Conditions.{defined_names, lists_unknown}
+use Rattle.oim_report.specs.Glossaries.{AreGlossaries}
 use Rattle.oim_report.specs.Names.{names_refusal}
 use Rattle.oim_report.specs.Said.{members_with}
 use Rattle.oim_report.specs.SeenParts.{seen_defined}
@@ -12,6 +13,7 @@ abbrev pub invariant-loop-key : goal.invariant-loop-key
 invariant-loop-key l =
     let rest = seen_defined (drop l.key-index l.defined) in
     let all = seen_defined l.defined in record {
+      known : AreGlossaries l.sheet l.aliases l.glossaries;
       names : names_refusal l.aliases (flat_map (defined_names l.sheet l.aliases) all) ≡ None → names_refusal l.aliases (flat_map (defined_names l.sheet l.aliases) rest) ≡ None;
       unknown : lists_unknown l.sheet l.aliases rest ≡ lists_unknown l.sheet l.aliases all;
       faulty : faulty_after l.sheet l.aliases l.dimensions.members rest ≡ faulty_after l.sheet l.aliases [] all;

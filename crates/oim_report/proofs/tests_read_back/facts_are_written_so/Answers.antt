@@ -24,6 +24,14 @@ pub returns-clause-number : goal.returns-clause-number
 unfolding serde_json_on_literals unit_text digits
 returns-clause-number c = refl
 
+pub returns-clause-product : goal.returns-clause-product
+unfolding serde_json_on_literals unit_text digits
+returns-clause-product c = refl
+
+pub returns-clause-ratio : goal.returns-clause-ratio
+unfolding serde_json_on_literals unit_text digits
+returns-clause-ratio c = refl
+
 pub returns-clause-odd : goal.returns-clause-odd
 unfolding serde_json_on_literals
 returns-clause-odd c = refl

@@ -18,3 +18,15 @@ returns-clause-name c = λ sheet concept. rw concept refl
 pub returns-clause-number : goal.returns-clause-number
 unfolding digits unit_text numerator_pieces denominator_pieces
 returns-clause-number c = λ sheet concept. rw concept refl
+
+pub returns-clause-zero : goal.returns-clause-zero
+unfolding digits
+returns-clause-zero c = λ sheet concept. rw concept refl
+
+pub returns-clause-product : goal.returns-clause-product
+unfolding digits unit_text numerator_pieces denominator_pieces
+returns-clause-product c = λ sheet concept. rw concept refl
+
+pub returns-clause-ratio : goal.returns-clause-ratio
+unfolding digits unit_text numerator_pieces denominator_pieces
+returns-clause-ratio c = λ sheet concept. rw concept refl

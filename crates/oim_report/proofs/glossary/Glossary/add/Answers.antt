@@ -1,0 +1,6 @@
+use Rattle.oim_report.proofs.GlossaryAdds.{after_insert}
+use Rattle.oim_report.proofs.glossary.Glossary.add.Goals as goal
+
+pub returns : goal.returns
+returns g c =
+    after_insert c.args.self.now.meanings c.insert.new.self c.args.text c.args.value c.insert.result c.insert.ensures.updates c.insert.ensures.err
