@@ -1,6 +1,6 @@
-mod Both
+pub mod Both
 mod Edits
-mod Ends
+pub mod Ends
 mod Lists
 pub mod Members
 mod Places

@@ -1,0 +1,206 @@
+-- The level of facts that stand by dimension sets, each once.
+use Rattle.std.proofs.Common.{◌≡◌, Bool, true, false, cond, not, ◌&&◌, ◌||◌, List, [], ◌∷◌, ◌++◌, Some, refl, sym, ap, ◌∙◌}
+use mathlib.Core.Bool.{true≢false}
+use Rattle.std.specs.Prelude.{is_some}
+use Rattle.std.specs.Option.{unwrap_or}
+use Rattle.std.specs.List.{AllByRecursion, list_all}
+use Rattle.std.specs.List.Sorted.{IsStrictlySortedBy}
+use Rattle.std.specs.Cmp.{tied_itself}
+use Rattle.std.specs.Ordering.{is_eq, ord_max}
+use Rattle.std.specs.declared.cmp.Ordering.{Ordering}
+use Rattle.std.specs.declared.cmp.Ordering.TheVariants.{Less}
+use Rattle.std.proofs.lemmas.Bool.{false≢true}
+use Rattle.std.proofs.lemmas.List.Folds.{list_all-append}
+use Rattle.merge_laws.specs.Sorted.{IsRising, IsSet, entry_key}
+use Rattle.oim_value.specs.Level.{level_cmp}
+use Rattle.oim_value.specs.ValueOrder.{value_cmp}
+use Rattle.oim_value.specs.declared.level.Level.{Level}
+use Rattle.oim_value.specs.declared.level.Level.TheVariants.{Unique, Complete, Consistent, All as AllLevel}
+use Rattle.oim_value.specs.declared.value.Value.{Value}
+use Rattle.oim_dims.specs.DimensionSet.{DimensionSet}
+use Rattle.oim_dims.specs.FactOrder.{dimensions_cmp}
+use Rattle.oim_dims.specs.declared.fact.Fact.{Fact}
+use Rattle.oim_dims.proofs.Orders.{dimensions_cmp_total}
+use Rattle.oim_report.specs.Duplicates.{allows, allows_each, allows_values, level_of}
+use Rattle.oim_report.proofs.Pairs.{complete_are_consistent, level_of_is, strictest, unique_are_complete}
+use Rattle.fact_base.specs.Entries.{Entry, facts_with, facts_of_entries, facts_of_entry}
+use Rattle.fact_base.specs.Judged.{level_at}
+use Rattle.fact_base.specs.Verdict.{each_meet, verdict_of}
+use Rattle.fact_base.specs.declared.verdict.Verdict.{Verdict}
+use Rattle.fact_base.specs.declared.verdict.Verdict.TheVariants.{Complete as IsComplete, Consistent as IsConsistent, Inconsistent as IsInconsistent}
+use Rattle.fact_base.proofs.EntryFacts.{from_facts_with}
+use Rattle.fact_base.proofs.Members.{each_in_turn, in_flat_map, turn_there}
+
+-- ---- one dimension set
+
+abbrev pub level_of_values : List Value → Level
+level_of_values [] = Unique
+level_of_values (v ∷ []) = Unique
+level_of_values (v ∷ w ∷ vs) = cond (each_meet (v ∷ w ∷ vs)) Consistent AllLevel
+
+pub level_is : (vs : List Value) (verdict : Verdict) → verdict_of vs ≡ Some verdict → level_at verdict ≡ level_of_values vs
+level_is [] verdict h = absurd (true≢false (sym (ap is_some h)))
+level_is (v ∷ []) verdict h = ap level_at (sym (given h))
+  where
+    given : Some IsComplete ≡ Some verdict → IsComplete ≡ verdict
+    given e = ap (λ o. unwrap_or o verdict) e
+level_is (v ∷ w ∷ vs) verdict h = ap level_at (sym (given h)) ∙ by_test (each_meet (v ∷ w ∷ vs))
+  where
+    given : Some (cond (each_meet (v ∷ w ∷ vs)) IsConsistent IsInconsistent) ≡ Some verdict → cond (each_meet (v ∷ w ∷ vs)) IsConsistent IsInconsistent ≡ verdict
+    given e = ap (λ o. unwrap_or o verdict) e
+
+    by_test : (b : Bool) → level_at (cond b IsConsistent IsInconsistent) ≡ cond b Consistent AllLevel
+    by_test true = refl
+    by_test false = refl
+
+abbrev each_value : Level → List Value → Bool
+each_value l [] = true
+each_value l (v ∷ vs) = list_all (allows_values l v) vs && each_value l vs
+
+same_allowed : (l : Level) (s : DimensionSet) (v w : Value) → allows l (record { dimensions = s; value = v }) (record { dimensions = s; value = w }) ≡ allows_values l v w
+same_allowed l s v w = ap (λ (o : Ordering). not (is_eq o) || allows_values l v w) (tied_itself dimensions_cmp_total s)
+
+beside_values : (l : Level) (s : DimensionSet) (v : Value) (ws : List Value) → list_all (allows l (record { dimensions = s; value = v })) (facts_with s ws) ≡ list_all (allows_values l v) ws
+beside_values l s v [] = refl
+beside_values l s v (w ∷ ws) = λ i. same_allowed l s v w i && beside_values l s v ws i
+
+values_decide : (l : Level) (s : DimensionSet) (vs : List Value) → allows_each l (facts_with s vs) ≡ each_value l vs
+values_decide l s [] = refl
+values_decide l s (v ∷ vs) = λ i. beside_values l s v vs i && values_decide l s vs i
+
+meet_is : (vs : List Value) → each_value Consistent vs ≡ each_meet vs
+meet_is [] = refl
+meet_is (v ∷ vs) = ap (λ b. list_all (allows_values Consistent v) vs && b) (meet_is vs)
+
+level_at_set : (s : DimensionSet) (vs : List Value) → IsSet value_cmp vs → level_of (facts_with s vs) ≡ level_of_values vs
+unfolding IsStrictlySortedBy
+level_at_set s [] rises = level_of_is []
+level_at_set s (v ∷ []) rises = level_of_is (facts_with s (v ∷ []))
+level_at_set s (v ∷ w ∷ vs) rises =
+    level_of_is (facts_with s (v ∷ w ∷ vs))
+    ∙ (λ i. strictest (values_decide Unique s (v ∷ w ∷ vs) i) (values_decide Complete s (v ∷ w ∷ vs) i) (values_decide Consistent s (v ∷ w ∷ vs) i))
+    ∙ (λ i. strictest false (other i) (meet_is (v ∷ w ∷ vs) i))
+  where
+    other : each_value Complete (v ∷ w ∷ vs) ≡ false
+    other = ap (λ (o : Ordering). (is_eq o && list_all (allows_values Complete v) vs) && each_value Complete (w ∷ vs)) rises.0.0
+
+-- ---- several
+
+four : (P : Bool → Bool → Bool → Type 0) → P true true true → P false true true → P false false true → P false false false → (u c s : Bool) → (u ≡ true → c ≡ true) → (c ≡ true → s ≡ true) → P u c s
+four P a b c d true true true p q = a
+four P a b c d false true true p q = b
+four P a b c d false false true p q = c
+four P a b c d false false false p q = d
+four P a b c d true true false p q = absurd (false≢true (q refl))
+four P a b c d false true false p q = absurd (false≢true (q refl))
+four P a b c d true false s p q = absurd (false≢true (p refl))
+
+abbrev Together : Bool → Bool → Bool → Bool → Bool → Bool → Type 0
+Together u c s v d t = strictest (u && v) (c && d) (s && t) ≡ ord_max level_cmp (strictest u c s) (strictest v d t)
+
+together : (u c s v d t : Bool) → (u ≡ true → c ≡ true) → (c ≡ true → s ≡ true) → (v ≡ true → d ≡ true) → (d ≡ true → t ≡ true) → Together u c s v d t
+together u c s v d t p q r o =
+    four (λ u c s. Together u c s v d t)
+    (four (Together true true true) refl refl refl refl v d t r o)
+    (four (Together false true true) refl refl refl refl v d t r o)
+    (four (Together false false true) refl refl refl refl v d t r o)
+    (four (Together false false false) refl refl refl refl v d t r o)
+    u c s p q
+
+regrouped : (a b c d : Bool) → b ≡ true → ((a && b) && (c && d)) ≡ ((a && c) && d)
+regrouped true true true d h = refl
+regrouped true true false d h = refl
+regrouped false true c d h = refl
+regrouped a false c d h = absurd (false≢true h)
+
+append_allowed : (l : Level) (fs gs : List Fact) → AllByRecursion (λ f. list_all (allows l f) gs ≡ true) fs → allows_each l (fs ++ gs) ≡ (allows_each l fs && allows_each l gs)
+append_allowed l [] gs apart = refl
+append_allowed l (f ∷ fs) gs apart =
+    (λ i. list_all-append (allows l f) fs gs i && append_allowed l fs gs apart.1 i)
+    ∙ regrouped (list_all (allows l f) fs) (list_all (allows l f) gs) (allows_each l fs) (allows_each l gs) apart.0
+
+apart_allowed : (l : Level) (f g : Fact) → dimensions_cmp f.dimensions g.dimensions ≡ Less → allows l f g ≡ true
+apart_allowed l f g h = ap (λ (o : Ordering). not (is_eq o) || allows_values l f.value g.value) h
+
+each_true : {A : Type 0} (p : A → Bool) (xs : List A) → AllByRecursion (λ x. p x ≡ true) xs → list_all p xs ≡ true
+each_true p [] h = refl
+each_true p (x ∷ xs) h = λ i. h.0 i && each_true p xs h.1 i
+
+apart_from_later : (l : Level) (e : Entry) (es : List Entry) → AllByRecursion (λ d. dimensions_cmp e.0 d.0 ≡ Less) es → AllByRecursion (λ f. list_all (allows l f) (facts_of_entries es) ≡ true) (facts_of_entry e)
+apart_from_later l e es below =
+    each_in_turn (λ f. list_all (allows l f) (facts_of_entries es) ≡ true) (facts_of_entry e) (λ f at.
+    each_true (allows l f) (facts_of_entries es) (each_in_turn (λ g. allows l f g ≡ true) (facts_of_entries es) (λ g later.
+    let some = (in_flat_map facts_of_entry es g).0 later in
+    let here = from_facts_with e.0 e.1.0 f at in
+    let there = from_facts_with some.1.0 some.1.1.0 g some.4 in
+    apart_allowed l f g ((λ i. dimensions_cmp (sym here.0 i) (sym there.0 i)) ∙ turn_there (λ d. dimensions_cmp e.0 d.0 ≡ Less) es some.1 below (some.0, some.2, some.3)))))
+
+level_of_more : (e : Entry) (es : List Entry) → IsSet value_cmp e.1.0 → AllByRecursion (λ d. dimensions_cmp e.0 d.0 ≡ Less) es → level_of (facts_of_entries (e ∷ es)) ≡ ord_max level_cmp (level_of_values e.1.0) (level_of (facts_of_entries es))
+level_of_more e es rises below =
+    let fs : List Fact = facts_of_entry e in
+    let gs : List Fact = facts_of_entries es in
+    level_of_is (fs ++ gs)
+    ∙ (λ i. strictest (append_allowed Unique fs gs (apart_from_later Unique e es below) i) (append_allowed Complete fs gs (apart_from_later Complete e es below) i) (append_allowed Consistent fs gs (apart_from_later Consistent e es below) i))
+    ∙ together (allows_each Unique fs) (allows_each Complete fs) (allows_each Consistent fs) (allows_each Unique gs) (allows_each Complete gs) (allows_each Consistent gs) (unique_are_complete fs) (complete_are_consistent fs) (unique_are_complete gs) (complete_are_consistent gs)
+    ∙ (λ i. ord_max level_cmp ((sym (level_of_is fs) ∙ level_at_set e.0 e.1.0 rises) i) (sym (level_of_is gs) i))
+
+-- ---- the walk
+
+-- the highest of a level and those of entries
+abbrev pub highest : Level → List Entry → Level
+highest level [] = level
+highest level (e ∷ es) = highest (ord_max level_cmp level (level_of_values e.1.0)) es
+
+unique_is_least : (l : Level) → ord_max level_cmp l Unique ≡ l
+unique_is_least Unique = refl
+unique_is_least Complete = refl
+unique_is_least Consistent = refl
+unique_is_least AllLevel = refl
+
+each : (P : Level → Type 0) → P Unique → P Complete → P Consistent → P AllLevel → (l : Level) → P l
+each P a b c d Unique = a
+each P a b c d Complete = b
+each P a b c d Consistent = c
+each P a b c d AllLevel = d
+
+abbrev Regroups : Level → Level → Level → Type 0
+Regroups a b c = ord_max level_cmp (ord_max level_cmp a b) c ≡ ord_max level_cmp a (ord_max level_cmp b c)
+
+max_regroups : (a b c : Level) → Regroups a b c
+max_regroups = each (λ a. (b c : Level) → Regroups a b c) at_unique at_complete at_consistent at_all
+  where
+    at_unique : (b c : Level) → Regroups Unique b c
+    at_unique = each (λ b. (c : Level) → Regroups Unique b c)
+        (each (Regroups Unique Unique) refl refl refl refl)
+        (each (Regroups Unique Complete) refl refl refl refl)
+        (each (Regroups Unique Consistent) refl refl refl refl)
+        (each (Regroups Unique AllLevel) refl refl refl refl)
+
+    at_complete : (b c : Level) → Regroups Complete b c
+    at_complete = each (λ b. (c : Level) → Regroups Complete b c)
+        (each (Regroups Complete Unique) refl refl refl refl)
+        (each (Regroups Complete Complete) refl refl refl refl)
+        (each (Regroups Complete Consistent) refl refl refl refl)
+        (each (Regroups Complete AllLevel) refl refl refl refl)
+
+    at_consistent : (b c : Level) → Regroups Consistent b c
+    at_consistent = each (λ b. (c : Level) → Regroups Consistent b c)
+        (each (Regroups Consistent Unique) refl refl refl refl)
+        (each (Regroups Consistent Complete) refl refl refl refl)
+        (each (Regroups Consistent Consistent) refl refl refl refl)
+        (each (Regroups Consistent AllLevel) refl refl refl refl)
+
+    at_all : (b c : Level) → Regroups AllLevel b c
+    at_all = each (λ b. (c : Level) → Regroups AllLevel b c)
+        (each (Regroups AllLevel Unique) refl refl refl refl)
+        (each (Regroups AllLevel Complete) refl refl refl refl)
+        (each (Regroups AllLevel Consistent) refl refl refl refl)
+        (each (Regroups AllLevel AllLevel) refl refl refl refl)
+
+pub highest_is : (level : Level) (es : List Entry) → IsRising dimensions_cmp entry_key es → AllByRecursion (λ e. IsSet value_cmp e.1.0) es → highest level es ≡ ord_max level_cmp level (level_of (facts_of_entries es))
+unfolding IsStrictlySortedBy
+highest_is level [] rise sets = sym (unique_is_least level) ∙ ap (ord_max level_cmp level) (sym (level_of_is []))
+highest_is level (e ∷ es) rise sets =
+    highest_is (ord_max level_cmp level (level_of_values e.1.0)) es rise.1 sets.1
+    ∙ max_regroups level (level_of_values e.1.0) (level_of (facts_of_entries es))
+    ∙ ap (ord_max level_cmp level) (sym (level_of_more e es sets.0 rise.0))

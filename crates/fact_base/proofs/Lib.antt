@@ -1,0 +1,16 @@
+pub mod Members
+pub mod Sets
+pub mod TextOrder
+pub mod Bodies
+pub mod EntryFacts
+pub mod Unions
+pub mod RowLists
+pub mod Summaries
+pub mod Levels
+pub mod Verdicts
+pub mod RowsOf
+pub mod Fitting
+pub mod Puts
+pub mod Stored
+pub mod Derived
+pub mod Walks

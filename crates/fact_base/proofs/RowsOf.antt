@@ -1,0 +1,173 @@
+-- Rows tell of the facts that they are of.
+use Rattle.std.proofs.Common.{◌≡◌, ◌≢◌, true, false, cond, List, [], ◌∷◌, map, length, Some, refl, sym, ap, subst, ◌∙◌, arith}
+use mathlib.Core.Bool.{true≢false}
+use Rattle.std.specs.Prelude.{Contains}
+use Rattle.std.specs.List.{AllByRecursion}
+use Rattle.std.specs.List.Sorted.{IsStrictlySortedBy}
+use Rattle.std.specs.Cmp.{Equal-is}
+use Rattle.std.proofs.lemmas.List.Elements.{Contains-append_right}
+use Rattle.std.specs.Ordering.{is_eq, ordering_then}
+use Rattle.std.specs.declared.cmp.Ordering.{Ordering}
+use Rattle.std.specs.declared.cmp.Ordering.TheVariants.{Less, Equal, Greater}
+use Rattle.merge_laws.specs.Ends.{summary_of_all}
+use Rattle.merge_laws.specs.Sorted.{IsRising, IsSet, entry_key, value_at}
+use Rattle.merge_laws.proofs.Both.{map_tells_entry}
+use Rattle.oim_value.specs.ValueOrder.{value_cmp}
+use Rattle.oim_value.specs.declared.value.Value.{Value}
+use Rattle.oim_dims.specs.DimensionSet.{DimensionSet}
+use Rattle.oim_dims.specs.FactOrder.{dimensions_cmp, fact_cmp}
+use Rattle.oim_dims.specs.declared.fact.Fact.{Fact}
+use Rattle.oim_dims.proofs.Orders.{dimensions_cmp_exact, dimensions_cmp_total}
+use Rattle.fact_base.specs.Entries.{Entry, facts_of_entries, facts_of_entry, facts_with}
+use Rattle.fact_base.specs.Rows.{Row, RowsTellFacts, before_rows, rows_of, values_at}
+use Rattle.fact_base.proofs.EntryFacts.{from_facts_with, in_facts_with}
+use Rattle.fact_base.proofs.Members.{each_by_there, each_in_turn, first_there, from_map, in_flat_map, in_map, some_there, turn_there}
+use Rattle.fact_base.proofs.RowLists.{values_at_entries, values_in}
+
+-- rows are entries whose summaries are those of their values
+abbrev entry_of : Row → Entry
+entry_of r = (r.0, (r.1, summary_of_all r.1))
+
+abbrev entries_of : List Row → List Entry
+entries_of rs = map entry_of rs
+
+abbrev facts_of_rows : List Row → List Fact
+facts_of_rows rs = facts_of_entries (entries_of rs)
+
+-- what rows that begin with a fact have is that fact and theirs
+facts_before : (f : Fact) (rs : List Row) → facts_of_rows (before_rows f rs) ≡ f ∷ facts_of_rows rs
+facts_before f [] = refl
+facts_before f (r ∷ rs) = elim (is_eq (dimensions_cmp f.dimensions r.0)) as (λ b. is_eq (dimensions_cmp f.dimensions r.0) ≡ b → facts_of_rows (cond b ((r.0, f.value ∷ r.1) ∷ rs) ((f.dimensions, f.value ∷ []) ∷ r ∷ rs)) ≡ f ∷ facts_of_rows (r ∷ rs)) [
+  | true ↦ λ t. ap (λ (s : DimensionSet). let first : Fact = record { dimensions = s; value = f.value } in first ∷ facts_of_rows (r ∷ rs)) (sym (dimensions_cmp_exact f.dimensions r.0 ((Equal-is (dimensions_cmp f.dimensions r.0)).0 t)))
+  | false ↦ λ t. refl
+] refl
+
+pub facts_are : (fs : List Fact) → facts_of_rows (rows_of fs) ≡ fs
+unfolding rows_of
+facts_are [] = refl
+facts_are (f ∷ fs) = facts_before f (rows_of fs) ∙ ap (λ gs. f ∷ gs) (facts_are fs)
+
+-- ---- order
+
+-- what a row holds of the facts
+record IsRow (r : Row) : Type 0 where
+  some : r.1 ≢ []
+  in_order : IsSet value_cmp r.1
+
+-- facts above one have no lesser dimensions, and of the same dimensions greater values
+lesser_dimensions : (f g : Fact) → fact_cmp f g ≡ Less → is_eq (dimensions_cmp f.dimensions g.dimensions) ≡ false → dimensions_cmp f.dimensions g.dimensions ≡ Less
+lesser_dimensions f g less other = by_order (dimensions_cmp f.dimensions g.dimensions) refl
+  where
+    greater_is_other : Greater ≢ Less
+    greater_is_other is = cc
+
+    by_order : (o : Ordering) → dimensions_cmp f.dimensions g.dimensions ≡ o → dimensions_cmp f.dimensions g.dimensions ≡ Less
+    by_order Less is = is
+    by_order Equal is = absurd (true≢false (sym (ap is_eq is) ∙ other))
+    by_order Greater is = absurd (greater_is_other (sym (ap (λ o. ordering_then o (value_cmp f.value g.value)) is) ∙ less))
+
+lesser_values : (f g : Fact) → fact_cmp f g ≡ Less → dimensions_cmp f.dimensions g.dimensions ≡ Equal → value_cmp f.value g.value ≡ Less
+lesser_values f g less same = sym (ap (λ o. ordering_then o (value_cmp f.value g.value)) same) ∙ less
+
+-- a fact of a row is one of all
+in_row : (rs : List Row) (r : Row) (v : Value) → Contains rs r → Contains r.1 v → Contains (facts_of_rows rs) (record { dimensions = r.0; value = v })
+in_row rs r v at held =
+    (in_flat_map facts_of_entry (entries_of rs) (record { dimensions = r.0; value = v })).1
+    (some_there (λ e. Contains (facts_of_entry e) (record { dimensions = r.0; value = v })) (entries_of rs) (entry_of r) (in_map entry_of rs r at) (in_facts_with r.0 r.1 v held))
+
+some_of : (vs : List Value) → vs ≢ [] → (v : Value) × Contains vs v
+some_of [] h = absurd (h refl)
+some_of (v ∷ vs) h = (v, first_there v vs)
+
+abbrev Rising : List Row → Type 0
+Rising rs = IsRising dimensions_cmp entry_key rs
+
+-- with a fact below all facts of the rows
+module _ (f : Fact) where
+  abbrev IsBelow : List Row → Type 0
+  IsBelow rs = (g : Fact) → Contains (facts_of_rows rs) g → fact_cmp f g ≡ Less
+
+  later_below : (r : Row) (rs : List Row) → IsBelow (r ∷ rs) → IsBelow rs
+  later_below r rs below g at = below g (Contains-append_right (facts_with r.0 r.1) (facts_of_rows rs) g at)
+
+  -- dimensions of rows that rise, from a row of other dimensions on
+  below_rows : (r : Row) (rs : List Row) → dimensions_cmp f.dimensions r.0 ≡ Less → AllByRecursion (λ q. dimensions_cmp r.0 q.0 ≡ Less) rs → AllByRecursion (λ q. dimensions_cmp f.dimensions q.0 ≡ Less) (r ∷ rs)
+  below_rows r rs less rest = (less, chained rs rest)
+    where
+      chained : (qs : List Row) → AllByRecursion (λ q. dimensions_cmp r.0 q.0 ≡ Less) qs → AllByRecursion (λ q. dimensions_cmp f.dimensions q.0 ≡ Less) qs
+      chained [] h = tt
+      chained (q ∷ qs) h = (dimensions_cmp_total.trans f.dimensions r.0 q.0 less h.0, chained qs h.1)
+
+  rise_before : (rs : List Row) → Rising rs → AllByRecursion IsRow rs → IsBelow rs → Rising (before_rows f rs)
+  unfolding IsStrictlySortedBy
+  rise_before [] rise rows below = (tt, tt)
+  rise_before (r ∷ rs) rise rows below = elim (is_eq (dimensions_cmp f.dimensions r.0)) as (λ b. is_eq (dimensions_cmp f.dimensions r.0) ≡ b → Rising (cond b ((r.0, f.value ∷ r.1) ∷ rs) ((f.dimensions, f.value ∷ []) ∷ r ∷ rs))) [
+    | true ↦ λ t. rise
+    | false ↦ λ t.
+        let one = some_of r.1 rows.0.some in
+        let less : dimensions_cmp f.dimensions r.0 ≡ Less = lesser_dimensions f (record { dimensions = r.0; value = one.0 }) (below (record { dimensions = r.0; value = one.0 }) (in_row (r ∷ rs) r one.0 (first_there r rs) one.1)) t in
+        (below_rows r rs less rise.0, rise)
+  ] refl
+
+  rows_before : (rs : List Row) → AllByRecursion IsRow rs → IsBelow rs → AllByRecursion IsRow (before_rows f rs)
+  unfolding IsStrictlySortedBy
+  rows_before [] rows below = (record { some = λ nothing. not_empty f.value [] nothing; in_order = (tt, tt) }, tt)
+    where
+      not_empty : (v : Value) (vs : List Value) → v ∷ vs ≢ []
+      not_empty v vs nothing = absurd (omega (arith, ap length nothing))
+  rows_before (r ∷ rs) rows below = elim (is_eq (dimensions_cmp f.dimensions r.0)) as (λ b. is_eq (dimensions_cmp f.dimensions r.0) ≡ b → AllByRecursion IsRow (cond b ((r.0, f.value ∷ r.1) ∷ rs) ((f.dimensions, f.value ∷ []) ∷ r ∷ rs))) [
+    | true ↦ λ t.
+        let same = (Equal-is (dimensions_cmp f.dimensions r.0)).0 t in (
+          record {
+            some = λ nothing. not_empty f.value r.1 nothing;
+            in_order = (each_in_turn (λ w. value_cmp f.value w ≡ Less) r.1 (λ w at. lesser_values f (record { dimensions = r.0; value = w }) (below (record { dimensions = r.0; value = w }) (in_row (r ∷ rs) r w (first_there r rs) at)) same), rows.0.in_order);
+          },
+          rows.1,
+        )
+    | false ↦ λ t. (record { some = λ nothing. not_empty f.value [] nothing; in_order = (tt, tt) }, rows)
+  ] refl
+    where
+      not_empty : (v : Value) (vs : List Value) → v ∷ vs ≢ []
+      not_empty v vs nothing = absurd (omega (arith, ap length nothing))
+
+record AreRising (fs : List Fact) : Type 0 where
+  rise : Rising (rows_of fs)
+  rows : AllByRecursion IsRow (rows_of fs)
+
+are_rising : (fs : List Fact) → IsSet fact_cmp fs → AreRising fs
+unfolding IsStrictlySortedBy rows_of
+are_rising [] h = record { rise = tt; rows = tt }
+are_rising (f ∷ fs) h =
+    let rest = are_rising fs h.1 in
+    let below : (g : Fact) → Contains (facts_of_rows (rows_of fs)) g → fact_cmp f g ≡ Less = λ g at. turn_there (λ x. fact_cmp f x ≡ Less) fs g h.0 (subst (λ gs. Contains gs g) (facts_are fs) at) in
+    record { rise = rise_before f (rows_of fs) rest.rise rest.rows below; rows = rows_before f (rows_of fs) rest.rows below }
+
+entries_rise : (rs : List Row) → Rising rs → IsRising dimensions_cmp entry_key (entries_of rs)
+unfolding IsStrictlySortedBy
+entries_rise [] h = tt
+entries_rise (r ∷ rs) h = (keys rs h.0, entries_rise rs h.1)
+  where
+    keys : (qs : List Row) → AllByRecursion (λ q. dimensions_cmp r.0 q.0 ≡ Less) qs → AllByRecursion (λ e. dimensions_cmp r.0 e.0 ≡ Less) (entries_of qs)
+    keys [] g = tt
+    keys (q ∷ qs) g = (g.0, keys qs g.1)
+
+values_are : (fs : List Fact) (rise : Rising (rows_of fs)) (r : Row) → Contains (rows_of fs) r → r.1 ≡ values_at r.0 fs
+values_are fs rise r at =
+    let entries = entries_rise (rows_of fs) rise in
+    let told : value_at dimensions_cmp r.0 (entries_of (rows_of fs)) ≡ Some (r.1, summary_of_all r.1) = (map_tells_entry dimensions_cmp_total dimensions_cmp_exact (λ p q. p) (entries_of (rows_of fs)) r.0 (r.1, summary_of_all r.1) entries).1 (in_map entry_of (rows_of fs) r at) in
+    sym (ap (values_at r.0) (sym (facts_are fs)) ∙ values_at_entries r.0 (entries_of (rows_of fs)) entries ∙ ap values_in told)
+
+pub rows_tell_facts : RowsTellFacts
+rows_tell_facts fs h =
+    let are = are_rising fs h in
+    record {
+      rise = are.rise;
+      values = each_by_there (λ r. r.1 ≡ values_at r.0 fs) (rows_of fs) (values_are fs are.rise);
+      some = each_by_there (λ r. r.1 ≢ []) (rows_of fs) (λ r at. (turn_there IsRow (rows_of fs) r are.rows at).some);
+      in_order = each_by_there (λ r. IsSet value_cmp r.1) (rows_of fs) (λ r at. (turn_there IsRow (rows_of fs) r are.rows at).in_order);
+      each = each_by_there (λ f. Contains (map entry_key (rows_of fs)) f.dimensions) fs (λ f at.
+          let some = (in_flat_map facts_of_entry (entries_of (rows_of fs)) f).0 (subst (λ gs. Contains gs f) (sym (facts_are fs)) at) in
+          let found = from_facts_with some.1.0 some.1.1.0 f some.4 in
+          let row = from_map entry_of (rows_of fs) some.1 (some.0, some.2, some.3) in
+          subst (Contains (map entry_key (rows_of fs))) (ap (λ (e : Entry). e.0) row.1.1 ∙ found.0) (in_map entry_key (rows_of fs) row.0 row.1.0));
+    }

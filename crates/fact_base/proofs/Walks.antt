@@ -1,0 +1,225 @@
+-- Walks over entries.
+use Rattle.std.proofs.Common.{◌≡◌, ◌≢◌, ℕ, zero, suc, ◌<◌, ◌≤◌, ◌+◌, length, get_or, Bool, true, false, List, [], ◌∷◌, ◌++◌, map, take, drop, Option, Some, None, refl, sym, ap, subst, ◌∙◌, arith}
+use mathlib.Core.Bool.{true≢false}
+use Rattle.std.specs.Prelude.{slice_get, is_some, IsTrue, ◌↔◌}
+use Rattle.std.specs.List.{All, flat_map}
+use Rattle.std.specs.Str.{bytes_eq}
+use Rattle.std.specs.Cmp.Lexicographic.{bytes_decides}
+use Rattle.std.specs.Option.{option_map, unwrap_or}
+use Rattle.std.specs.Cmp.{Equal-is, tied_itself}
+use Rattle.std.specs.Ordering.{is_eq, ord_max}
+use Rattle.std.proofs.lemmas.Bool.{and_parts, and_from}
+use Rattle.std.proofs.lemmas.List.{length-append, length-map}
+use Rattle.std.proofs.lemmas.Option.{slice_get-map}
+use lib.Pointwise.{pointwise}
+use Rattle.merge_laws.specs.Sorted.{IsRising, IsSet, entry_key, value_at}
+use Rattle.merge_laws.proofs.Both.{map_tells_entry}
+use Rattle.merge_laws.proofs.Members.{all_in_turn}
+use Rattle.oim_value.specs.Level.{level_cmp}
+use Rattle.oim_value.specs.ValueOrder.{value_cmp}
+use Rattle.oim_value.specs.contracts.value.ValuePartialEq.TheImpl.{eq-value as value_eq}
+use Rattle.oim_dims.specs.contracts.dimensions.DimensionsPartialEq.TheImpl.{eq-value as dimensions_eq}
+use Rattle.oim_value.specs.declared.level.Level.{Level}
+use Rattle.oim_value.specs.declared.level.Level.TheVariants.{Unique, Complete, Consistent, All as AllLevel}
+use Rattle.oim_value.specs.declared.value.Value.{Value}
+use Rattle.oim_value.proofs.ValueOrders.{value_cmp_exact, value_cmp_self}
+use Rattle.oim_dims.specs.DimensionSet.{DimensionSet}
+use Rattle.oim_dims.specs.FactOrder.{dimensions_cmp}
+use Rattle.oim_dims.specs.declared.fact.Fact.{Fact}
+use Rattle.oim_dims.proofs.Orders.{dimensions_cmp_exact, dimensions_cmp_total}
+use Rattle.oim_report.specs.Duplicates.{level_of}
+use Rattle.oim_report.specs.Sheet.{Sheet}
+use Rattle.oim_report.proofs.Ties.{equal_dimensions_tie, equal_values_tie}
+use Rattle.fact_base.specs.Entries.{AreStored, Entry, EntryFits, Summed, facts_of_entries, facts_of_entry, facts_with}
+use Rattle.fact_base.specs.Judged.{AreSummarised}
+use Rattle.fact_base.specs.Rows.{Row, rows_of, values_at}
+use Rattle.fact_base.specs.Shown.{row_of}
+use Rattle.fact_base.proofs.Fitting.{entry_summarised}
+use Rattle.fact_base.proofs.Levels.{highest, highest_is, level_of_values}
+use Rattle.fact_base.proofs.Members.{each_there, to_the_end}
+use Rattle.fact_base.proofs.RowLists.{rows_of_entries, values_at_entries, values_in}
+
+-- ---- one further
+
+drop_from : {A : Type 0} (xs : List A) (i : ℕ) (x : A) → slice_get xs i ≡ Some x → drop i xs ≡ x ∷ drop (suc i) xs
+drop_from [] i x is = absurd (true≢false (sym (ap is_some is)))
+drop_from (y ∷ ys) zero x is = ap (λ o. unwrap_or o y ∷ ys) is
+drop_from (y ∷ ys) (suc i) x is = drop_from ys i x is
+
+one_more : (i : ℕ) → suc i ≡ i + 1
+one_more i = omega arith
+
+pub next_drop : {A : Type 0} (xs : List A) (i : ℕ) (x : A) → slice_get xs i ≡ Some x → drop i xs ≡ x ∷ drop (i + 1) xs
+next_drop xs i x is = drop_from xs i x is ∙ ap (λ k. x ∷ drop k xs) (one_more i)
+
+pub none_left : {A : Type 0} (xs : List A) (i : ℕ) → length xs ≤ i → drop i xs ≡ []
+none_left [] zero past = refl
+none_left [] (suc i) past = refl
+none_left (x ∷ xs) zero past = absurd (omega (arith, past))
+none_left (x ∷ xs) (suc i) past = none_left xs i (omega (arith, past))
+
+-- ---- levels
+
+pub starts : (es : List Entry) → IsRising dimensions_cmp entry_key es → All (λ e. AreSummarised e.1.0 e.1.1) es → highest Unique es ≡ level_of (facts_of_entries es)
+starts es rise summed = highest_is Unique es rise (all_in_turn (λ e. IsSet value_cmp e.1.0) es (λ k d within. (summed k d within).in_order)) ∙ unique_first (level_of (facts_of_entries es))
+  where
+    unique_first : (l : Level) → ord_max level_cmp Unique l ≡ l
+    unique_first Unique = refl
+    unique_first Complete = refl
+    unique_first Consistent = refl
+    unique_first AllLevel = refl
+
+pub level_further : (es : List Entry) (i : ℕ) (e : Entry) (level more : Level) (n : Level) → slice_get es i ≡ Some e → more ≡ ord_max level_cmp level (level_of_values e.1.0) → highest level (drop i es) ≡ n → highest more (drop (i + 1) es) ≡ n
+level_further es i e level more n at put known = ap (λ l. highest l (drop (i + 1) es)) put ∙ sym (ap (highest level) (next_drop es i e at)) ∙ known
+
+pub level_ends : (es : List Entry) (i : ℕ) (level n : Level) → length es ≤ i → highest level (drop i es) ≡ n → level ≡ n
+level_ends es i level n past known = sym (ap (highest level) (none_left es i past)) ∙ known
+
+-- ---- counts
+
+count_with : (s : DimensionSet) (vs : List Value) → length (facts_with s vs) ≡ length vs
+count_with s [] = refl
+count_with s (v ∷ vs) = ap suc (count_with s vs)
+
+pub count_further : (es : List Entry) (i : ℕ) (e : Entry) (count more n : ℕ) → slice_get es i ≡ Some e → more ≡ count + length e.1.0 → count + length (facts_of_entries (drop i es)) ≡ n → more + length (facts_of_entries (drop (i + 1) es)) ≡ n
+count_further es i e count more n at put known =
+    let rest : List Fact = facts_of_entries (drop (i + 1) es) in
+    let long : length (facts_of_entry e ++ rest) ≡ length (facts_of_entry e) + length rest = length-append (facts_of_entry e) rest in
+    let here = count_with e.0 e.1.0 in
+    let before : count + length (facts_of_entry e ++ rest) ≡ n = sym (ap (λ ds. count + length (facts_of_entries ds)) (next_drop es i e at)) ∙ known in
+    omega (arith, long, here, before, put)
+
+pub count_ends : (es : List Entry) (i count n : ℕ) → length es ≤ i → count + length (facts_of_entries (drop i es)) ≡ n → count ≡ n
+count_ends es i count n past known = omega (arith, sym (ap (λ ds. count + length (facts_of_entries ds)) (none_left es i past)) ∙ known)
+
+-- ---- what stands at a dimension set
+
+pub found_entry : (sheet : Sheet) (es : List Entry) (texts : List (List ℕ)) (s : DimensionSet) (kept : Summed) → AreStored sheet es texts → value_at dimensions_cmp s es ≡ Some kept → AreSummarised kept.0 kept.1
+found_entry sheet es texts s kept stored is =
+    entry_summarised sheet s kept
+    (each_there (λ e. EntryFits sheet e.0 e.1) es (s, kept) stored.entries ((map_tells_entry dimensions_cmp_total dimensions_cmp_exact (λ p q. p) es s kept stored.rise).0 is))
+
+pub values_found : (sheet : Sheet) (es : List Entry) (texts : List (List ℕ)) (s : DimensionSet) (a : Option Summed) → AreStored sheet es texts → value_at dimensions_cmp s es ≡ a → values_at s (facts_of_entries es) ≡ values_in a
+values_found sheet es texts s a stored is = values_at_entries s es stored.rise ∙ ap values_in is
+
+pub all_summarised : (sheet : Sheet) (es : List Entry) (texts : List (List ℕ)) → AreStored sheet es texts → All (λ e. AreSummarised e.1.0 e.1.1) es
+all_summarised sheet es texts stored k d within = let fits = stored.entries k d within in entry_summarised sheet (get_or es k d).0 (get_or es k d).1 fits
+
+pub rows_stored : (sheet : Sheet) (es : List Entry) (texts : List (List ℕ)) → AreStored sheet es texts → rows_of (facts_of_entries es) ≡ map row_of es
+rows_stored sheet es texts stored = rows_of_entries es stored.rise (all_in_turn (λ e. e.1.0 ≢ []) es (λ k d within. (stored.entries k d within).some))
+
+-- ---- the same rows
+
+take_to : {A : Type 0} (xs ys : List A) (i : ℕ) → length xs ≡ length ys → i < length xs → slice_get xs i ≡ slice_get ys i → take i xs ≡ take i ys → take (suc i) xs ≡ take (suc i) ys
+take_to [] ys i same within is known = absurd (omega (arith, within))
+take_to (x ∷ xs) [] i same within is known = absurd (omega (arith, same))
+take_to (x ∷ xs) (y ∷ ys) zero same within is known = ap (λ o. unwrap_or o x ∷ []) is
+take_to (x ∷ xs) (y ∷ ys) (suc i) same within is known =
+    let first : x ≡ y = ap (λ zs. unwrap_or (slice_get zs 0) x) known in
+    let rest : take (suc i) xs ≡ take (suc i) ys = take_to xs ys i (omega (arith, same)) (omega (arith, within)) is (ap (drop 1) known) in
+    λ k. first k ∷ rest k
+
+taken_further : {A : Type 0} (xs ys : List A) (i : ℕ) → length xs ≡ length ys → i < length xs → slice_get xs i ≡ slice_get ys i → take i xs ≡ take i ys → take (i + 1) xs ≡ take (i + 1) ys
+taken_further xs ys i same within is known = subst (λ k. take k xs ≡ take k ys) (one_more i) (take_to xs ys i same within is known)
+
+abbrev derived_equal : List Value → List Value → Bool
+derived_equal = pointwise value_eq.it
+
+pub equal_values : (vs ws : List Value) → derived_equal vs ws ≡ true → vs ≡ ws
+equal_values [] [] h = refl
+equal_values [] (w ∷ ws) h = absurd (true≢false (sym h))
+equal_values (v ∷ vs) [] h = absurd (true≢false (sym h))
+equal_values (v ∷ vs) (w ∷ ws) h =
+    let both = and_parts _ (derived_equal vs ws) h in
+    let first : v ≡ w = value_cmp_exact v w ((Equal-is (value_cmp v w)).0 (sym (equal_values_tie v w) ∙ both.0)) in
+    let rest : vs ≡ ws = equal_values vs ws both.1 in
+    λ i. first i ∷ rest i
+
+pub values_equal : (vs : List Value) → derived_equal vs vs ≡ true
+values_equal [] = refl
+values_equal (v ∷ vs) = and_from _ (derived_equal vs vs) (equal_values_tie v v ∙ ap is_eq (value_cmp_self v)) (values_equal vs)
+
+pub equal_dimensions : (s t : DimensionSet) → dimensions_eq.it s t ≡ true → s ≡ t
+equal_dimensions s t h = dimensions_cmp_exact s t ((Equal-is (dimensions_cmp s t)).0 (sym (equal_dimensions_tie s t) ∙ h))
+
+pub dimensions_equal : (s : DimensionSet) → dimensions_eq.it s s ≡ true
+dimensions_equal s = equal_dimensions_tie s s ∙ ap is_eq (tied_itself dimensions_cmp_total s)
+
+-- ---- rows at a place
+
+pub no_entry : {A P : Type 0} (xs : List A) (i : ℕ) → i < length xs → slice_get xs i ≡ None → P
+no_entry [] i within is = absurd (omega (arith, within))
+no_entry (x ∷ xs) zero within is = absurd (true≢false (ap is_some is))
+no_entry (x ∷ xs) (suc i) within is = no_entry xs i (omega (arith, within)) is
+
+abbrev at_place : List Entry → ℕ → Option Row
+at_place es i = option_map row_of (slice_get es i)
+
+pub rows_alike : (es ds : List Entry) (i : ℕ) (e d : Entry) (vs ws : List Value) (b : Bool) → slice_get es i ≡ Some e → slice_get ds i ≡ Some d → vs ≡ e.1.0 → ws ≡ d.1.0 → b ≡ derived_equal vs ws → e.0 ≡ d.0 → IsTrue b ↔ (at_place es i ≡ at_place ds i)
+rows_alike es ds i e d vs ws b first second values others told same = (
+  λ h.
+      let alike : e.1.0 ≡ d.1.0 = sym values ∙ equal_values vs ws (sym told ∙ h) ∙ others in
+      ap (option_map row_of) first ∙ (λ k. Some (same k, alike k)) ∙ ap (option_map row_of) (sym second),
+  λ h.
+      let rows : row_of e ≡ row_of d = ap (λ o. unwrap_or o (row_of e)) (sym (ap (option_map row_of) first) ∙ h ∙ ap (option_map row_of) second) in
+      let alike : vs ≡ ws = values ∙ ap (λ (r : Row). r.1) rows ∙ sym others in
+      told ∙ ap (λ xs. derived_equal xs ws) alike ∙ values_equal ws,
+)
+
+pub rows_unlike : (es ds : List Entry) (i : ℕ) (e d : Entry) (b : Bool) → slice_get es i ≡ Some e → slice_get ds i ≡ Some d → b ≡ dimensions_eq.it e.0 d.0 → b ≡ false → IsTrue b ↔ (at_place es i ≡ at_place ds i)
+rows_unlike es ds i e d b first second told other = (
+  λ h. absurd (true≢false (sym h ∙ other)),
+  λ h.
+      let rows : row_of e ≡ row_of d = ap (λ o. unwrap_or o (row_of e)) (sym (ap (option_map row_of) first) ∙ h ∙ ap (option_map row_of) second) in
+      told ∙ ap (λ s. dimensions_eq.it s d.0) (ap (λ (r : Row). r.0) rows) ∙ dimensions_equal d.0,
+)
+
+pub rows_further : (es ds : List Entry) (i : ℕ) → length es ≡ length ds → i < length es → at_place es i ≡ at_place ds i → take i (map row_of es) ≡ take i (map row_of ds) → take (i + 1) (map row_of es) ≡ take (i + 1) (map row_of ds)
+rows_further es ds i same within here known =
+    let long = length-map es row_of in
+    let more = length-map ds row_of in
+    taken_further (map row_of es) (map row_of ds) i (omega (arith, long, more, same)) (omega (arith, long, within))
+    (slice_get-map row_of es i ∙ here ∙ sym (slice_get-map row_of ds i)) known
+
+pub rows_all : (es ds : List Entry) (i : ℕ) → length es ≡ length ds → length es ≤ i → take i (map row_of es) ≡ take i (map row_of ds) → map row_of es ≡ map row_of ds
+rows_all es ds i same past known =
+    let long = length-map es row_of in
+    let more = length-map ds row_of in
+    sym (to_the_end (map row_of es) i (omega (arith, long, past))) ∙ known ∙ to_the_end (map row_of ds) i (omega (arith, more, same, past))
+
+pub row_differs : (es ds : List Entry) (i : ℕ) → ¬ (at_place es i ≡ at_place ds i) → ¬ (map row_of es ≡ map row_of ds)
+row_differs es ds i other same = other (sym (slice_get-map row_of es i) ∙ ap (λ rs. slice_get rs i) same ∙ slice_get-map row_of ds i)
+
+pub counts_differ : (es ds : List Entry) → (length es ≡ length ds → ⊥) → ¬ (map row_of es ≡ map row_of ds)
+counts_differ es ds other same =
+    let long = length-map es row_of in
+    let more = length-map ds row_of in
+    let alike = ap length same in
+    other (omega (arith, long, more, alike))
+
+-- ---- the same facts
+
+facts_of_rows : List Row → List Fact
+facts_of_rows rs = flat_map (λ r. facts_with r.0 r.1) rs
+
+facts_by_rows : (es : List Entry) → facts_of_entries es ≡ facts_of_rows (map row_of es)
+unfolding facts_of_rows
+facts_by_rows [] = refl
+facts_by_rows (e ∷ es) = ap (λ fs. facts_of_entry e ++ fs) (facts_by_rows es)
+
+pub same_facts : (es ds : List Entry) → map row_of es ≡ map row_of ds → facts_of_entries es ≡ facts_of_entries ds
+same_facts es ds same = facts_by_rows es ∙ ap facts_of_rows same ∙ sym (facts_by_rows ds)
+
+pub texts_equal : (xs ys : List (List ℕ)) → pointwise bytes_eq xs ys ≡ true → xs ≡ ys
+texts_equal [] [] h = refl
+texts_equal [] (y ∷ ys) h = absurd (true≢false (sym h))
+texts_equal (x ∷ xs) [] h = absurd (true≢false (sym h))
+texts_equal (x ∷ xs) (y ∷ ys) h =
+    let both = and_parts (bytes_eq x y) (pointwise bytes_eq xs ys) h in
+    let first : x ≡ y = (bytes_decides x y).0 both.0 in
+    let rest : xs ≡ ys = texts_equal xs ys both.1 in
+    λ i. first i ∷ rest i
+
+pub equal_texts : (xs : List (List ℕ)) → pointwise bytes_eq xs xs ≡ true
+equal_texts [] = refl
+equal_texts (x ∷ xs) = and_from (bytes_eq x x) (pointwise bytes_eq xs xs) ((bytes_decides x x).1 refl) (equal_texts xs)

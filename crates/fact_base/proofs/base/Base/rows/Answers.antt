@@ -1,0 +1,8 @@
+use Rattle.fact_base.specs.Rows.{rows_of}
+use Rattle.fact_base.proofs.base.Base.rows.Goals as goal
+use Rattle.std.proofs.Common.{sym, ap, ◌∙◌}
+use Rattle.fact_base.specs.Contents.{Contents}
+use Rattle.fact_base.proofs.Walks.{rows_stored}
+
+pub returns : goal.returns
+returns c = sym (rows_stored c.self.inside.sheet.now c.self.inside.entries c.self.inside.references c.self.invariant) ∙ ap (λ (b : Contents). rows_of b.body.facts) c.self.view_is

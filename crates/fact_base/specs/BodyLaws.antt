@@ -1,0 +1,40 @@
+-- What bodies have, by membership, and that neither order nor repetition matters (own).
+use Rattle.std.specs.Prelude.{◌≡◌, ◌↔◌, ◌⊎◌, ℕ, List, ◌++◌, Contains}
+use Rattle.std.specs.List.{Any}
+use Rattle.merge_laws.specs.Members.{SameMembers}
+use Rattle.merge_laws.specs.Sorted.{IsSet}
+use Rattle.oim_dims.specs.FactOrder.{fact_cmp}
+use Rattle.oim_dims.specs.declared.fact.Fact.{Fact}
+use Rattle.oim_report.specs.Document.{Document}
+use Rattle.fact_base.specs.Body.{Body, body, text_cmp, union}
+
+-- facts and references rise, so that each stands there once
+pub record IsBody (b : Body) : Type 0 where
+  pub facts : IsSet fact_cmp b.facts
+  pub references : IsSet text_cmp b.references
+
+-- a body has just what some document of a list has
+pub record HasWhatDocumentsHave (docs : List Document) (b : Body) : Type 0 where
+  pub rises : IsBody b
+  pub facts : (f : Fact) → Contains b.facts f ↔ Any (λ d. Contains d.facts f) docs
+  pub references : (r : List ℕ) → Contains b.references r ↔ Any (λ d. Contains d.references r) docs
+
+abbrev pub BodyHasWhatDocumentsHave : Type 0
+BodyHasWhatDocumentsHave = (docs : List Document) → HasWhatDocumentsHave docs (body docs)
+
+-- just what the one body or the other has
+pub record HasBoth (a b both : Body) : Type 0 where
+  pub rises : IsBody both
+  pub facts : (f : Fact) → Contains both.facts f ↔ (Contains a.facts f ⊎ Contains b.facts f)
+  pub references : (r : List ℕ) → Contains both.references r ↔ (Contains a.references r ⊎ Contains b.references r)
+
+abbrev pub UnionHasBoth : Type 0
+UnionHasBoth = (a b : Body) → HasBoth a b (union a b)
+
+-- neither the order of documents nor how often each comes matters
+abbrev pub BodyIgnoresOrder : Type 0
+BodyIgnoresOrder = (ds es : List Document) → SameMembers ds es → body ds ≡ body es
+
+-- documents after documents add their body
+abbrev pub BodyOfBoth : Type 0
+BodyOfBoth = (ds es : List Document) → body (ds ++ es) ≡ union (body ds) (body es)

@@ -1,0 +1,8 @@
+-- What contracts see of a base (own).
+use Rattle.oim_report.specs.Sheet.{Sheet}
+use Rattle.fact_base.specs.Body.{Body}
+
+-- the sheet that it borrows, and its body
+pub record Contents : Type 0 where
+  pub sheet : Sheet
+  pub body : Body

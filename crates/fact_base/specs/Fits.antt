@@ -1,0 +1,28 @@
+-- What holds of each body of facts that are read under a sheet (own).
+use Rattle.std.specs.Prelude.{◌≡◌, ℕ, List, Ok}
+use Rattle.std.specs.List.{All}
+use Rattle.oim_report.specs.Document.{Document}
+use Rattle.oim_report.specs.FactFits.{FactFits}
+use Rattle.oim_report.specs.Kept.{IsKeptReference}
+use Rattle.oim_report.specs.Outcome.{outcome}
+use Rattle.oim_report.specs.Sheet.{Sheet}
+use Rattle.fact_base.specs.Body.{Body, body, union}
+use Rattle.fact_base.specs.BodyLaws.{IsBody}
+
+-- each fact fits the sheet, each reference is its own kept text of at most 65,536 bytes, and both rise
+pub record Fits (sheet : Sheet) (b : Body) : Type 0 where
+  pub rises : IsBody b
+  pub facts : All (FactFits sheet) b.facts
+  pub references : All IsKeptReference b.references
+
+-- a document that some bytes say under a sheet
+abbrev pub IsAccepted : Sheet → Document → Type 0
+IsAccepted sheet d = (bytes : List ℕ) × (outcome sheet bytes ≡ Ok d)
+
+-- the body of accepted documents fits their sheet,
+abbrev pub AcceptedFits : Type 0
+AcceptedFits = (sheet : Sheet) (docs : List Document) → All (IsAccepted sheet) docs → Fits sheet (body docs)
+
+-- and what two bodies that fit have together does
+abbrev pub UnionFits : Type 0
+UnionFits = (sheet : Sheet) (a b : Body) → Fits sheet a → Fits sheet b → Fits sheet (union a b)

@@ -1,0 +1,32 @@
+-- Values of one dimension set with their summary, as a base keeps them (own).
+use Rattle.std.specs.Prelude.{◌≡◌, ◌≢◌, ℕ, ◌||◌, List, [], Option, Some, None, if◌then◌else◌, int_lt}
+use Rattle.std.specs.Option.{option_and_then}
+use Rattle.merge_laws.specs.Ends.{Summarised, summary_of_all}
+use Rattle.merge_laws.specs.Sorted.{IsSet}
+use Rattle.oim_value.specs.SeveralMeet.{AreDifferent, AreNilOrOfKind}
+use Rattle.oim_value.specs.ValueOrder.{value_cmp}
+use Rattle.oim_value.specs.declared.interval.Interval.{Interval}
+use Rattle.oim_value.specs.declared.level.Level.{Level}
+use Rattle.oim_value.specs.declared.level.Level.TheVariants.{Unique, Consistent as ConsistentLevel, All as AllLevel}
+use Rattle.oim_value.specs.declared.value.Value.{Value}
+use Rattle.fact_base.specs.declared.verdict.Verdict.{Verdict}
+use Rattle.fact_base.specs.declared.verdict.Verdict.TheVariants.{Complete, Consistent, Inconsistent}
+
+-- different values in order that are nil or of one kind, with the summary of them all
+pub record AreSummarised (vs : List Value) (told : Summarised) : Type 0 where
+  pub some : vs ≢ []
+  pub in_order : IsSet value_cmp vs
+  pub different : AreDifferent vs
+  pub kind : ℕ
+  pub alike : AreNilOrOfKind kind vs
+  pub summary : told ≡ summary_of_all vs
+
+-- what the intervals of several values have in common where each two meet: their ends, where there is no nil and low is at most high
+abbrev pub shared_by : Summarised → Option Interval
+shared_by s = option_and_then (λ ends. if s.nil || int_lt ends.high ends.low then None else Some ends) s.ends
+
+-- the strictest level that allows facts of which each stands once, by their verdict
+abbrev pub level_at : Verdict → Level
+level_at Complete = Unique
+level_at Consistent = ConsistentLevel
+level_at Inconsistent = AllLevel

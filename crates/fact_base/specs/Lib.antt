@@ -1,0 +1,10 @@
+pub mod Body
+pub mod BodyLaws
+pub mod Contents
+pub mod Entries
+pub mod Fits
+pub mod Judged
+pub mod Rows
+pub mod Sets
+pub mod Shown
+pub mod Verdict

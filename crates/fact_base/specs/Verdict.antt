@@ -1,0 +1,74 @@
+-- Whether the facts of a dimension set contradict one another (XBRL working group note on duplicate facts; the evidence is own).
+use Rattle.std.specs.Prelude.{◌≡◌, ◌↔◌, ℕ, ◌≤◌, Bool, true, false, ◌&&◌, List, [], ◌∷◌, length, Option, Some, None, if◌then◌else◌, Contains, ℤ}
+use Rattle.std.specs.List.{All, list_all}
+use Rattle.oim_value.specs.Ends.{AreEnds, has_interval, intervals_of}
+use Rattle.oim_value.specs.Interval.{HasPoints, IsWithin}
+use Rattle.oim_value.specs.Meets.{Meets}
+use Rattle.oim_value.specs.SeveralMeet.{AreApart, EachTwoValuesMeet, place_of_greatest_low, place_of_least_high}
+use Rattle.oim_value.specs.declared.interval.Interval.{Interval}
+use Rattle.oim_value.specs.declared.value.Value.{Value}
+use Rattle.oim_dims.specs.DimensionSet.{DimensionSet}
+use Rattle.oim_dims.specs.declared.fact.Fact.{Fact}
+use Rattle.oim_report.specs.Duplicates.{values_meet}
+use Rattle.fact_base.specs.Rows.{values_at}
+use Rattle.fact_base.specs.declared.evidence.Evidence.{Evidence}
+use Rattle.fact_base.specs.declared.evidence.Evidence.TheVariants.{Alike, Common, Apart}
+use Rattle.fact_base.specs.declared.verdict.Verdict.{Verdict}
+use Rattle.fact_base.specs.declared.verdict.Verdict.TheVariants.{Complete, Consistent, Inconsistent}
+
+-- ---- verdicts
+
+-- whether each value meets each later one
+abbrev pub each_meet : List Value → Bool
+each_meet [] = true
+each_meet (v ∷ vs) = list_all (values_meet v) vs && each_meet vs
+
+-- of one value, complete; of several, consistent where each two meet
+abbrev pub verdict_of : List Value → Option Verdict
+verdict_of [] = None
+verdict_of (v ∷ []) = Some Complete
+verdict_of (v ∷ w ∷ vs) = Some (if each_meet (v ∷ w ∷ vs) then Consistent else Inconsistent)
+
+-- the verdict on the facts of a set that have these dimensions; none where there are none
+abbrev pub verdict : List Fact → DimensionSet → Option Verdict
+verdict facts s = verdict_of (values_at s facts)
+
+-- a dimension set is called inconsistent exactly where two of its facts do not meet
+abbrev pub InconsistentIsApart : Type 0
+InconsistentIsApart =
+    (facts : List Fact) (s : DimensionSet) →
+    (verdict facts s ≡ Some Inconsistent) ↔ ((v w : Value) × (Contains (values_at s facts) v × (Contains (values_at s facts) w × ¬ (Meets v w))))
+
+-- ---- evidence
+
+-- several values of which each two meet, and the interval of just those numbers that lie in the interval of each
+pub record IsCommonOf (vs : List Value) (common : Interval) : Type 0 where
+  pub several : 2 ≤ length vs
+  pub each : EachTwoValuesMeet vs
+  pub points : HasPoints common
+  pub within : (units : ℤ) → IsWithin units common ↔ All (IsWithin units) (intervals_of vs)
+
+-- whether the first two values are numbers
+abbrev pub begin_with_numbers : List Value → Bool
+begin_with_numbers (v ∷ w ∷ vs) = has_interval v && has_interval w
+begin_with_numbers other = false
+
+-- the pair that is shown of several values: the first two, unless both are numbers; else the least place with the least high end and
+-- the least place with the greatest low end
+abbrev pub IsPairOf : Bool → List Value → ℕ → ℕ → Type 0
+IsPairOf true vs i j = (ends : Interval) → AreEnds ends (intervals_of vs) → (i ≡ place_of_least_high ends vs) × (j ≡ place_of_greatest_low ends vs)
+IsPairOf false vs i j = (i ≡ 0) × (j ≡ 1)
+
+abbrev pub IsShownPair : List Value → ℕ → ℕ → Type 0
+IsShownPair vs = IsPairOf (begin_with_numbers vs) vs
+
+-- this pair, of which the two values do not meet
+pub record IsApartPair (vs : List Value) (i j : ℕ) : Type 0 where
+  pub shown : IsShownPair vs i j
+  pub apart : AreApart vs i j
+
+-- what a reader can check by hand
+abbrev pub IsEvidence : List Value → Evidence → Type 0
+IsEvidence vs Alike = length vs ≡ 1
+IsEvidence vs (Common common) = IsCommonOf vs common
+IsEvidence vs (Apart i j) = IsApartPair vs i j

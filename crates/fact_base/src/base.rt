@@ -1,0 +1,190 @@
+ghost use Rattle.std.specs.Prelude.{◌≡◌, ◌↔◌, [], ◌∷◌, length, is_some, IsTrue, IfSome, OnOk, OnErr};
+ghost use Rattle.fact_base.specs.Body.{body, union};
+ghost use Rattle.fact_base.specs.Fits.{Fits};
+ghost use Rattle.fact_base.specs.Rows.{rows_of, values_at};
+ghost use Rattle.fact_base.specs.Shown.{rows_left};
+ghost use Rattle.fact_base.specs.Verdict.{IsEvidence, verdict};
+ghost use Rattle.oim_report.specs.Duplicates.{level_of};
+
+use crate::entries::{count_of, entries_of, level_of, same_rows};
+use crate::evidence::Evidence;
+use crate::judging::{evidence_of, verdict_of};
+use crate::references::{replace, with_all};
+use crate::rows::Rows;
+use crate::verdict::Verdict;
+use merge_laws::{Merge, SortedMap, SortedSet, Summary};
+use oim_dims::Dimensions;
+use oim_names::Text;
+use oim_report::{Report, Sheet};
+use oim_value::{Level, Value};
+use std::alloc::{AllocError, Global};
+use std::marker::Model;
+
+/// What the reports that were taken say in all: their facts, each once, and the references of their
+/// taxonomies, each once. It borrows the sheet under which they are read.
+#[derive(Drop)]
+pub struct Base<'s> {
+    alloc: Global,
+    sheet: &'s Sheet,
+    entries: SortedMap<Dimensions, (SortedSet<Value>, Summary)>,
+    references: SortedSet<Text>,
+}
+
+impl<'s> Model for Base<'s> {
+    ghost use Rattle.std.specs.Prelude.{◌≡◌};
+    ghost use Rattle.std.specs.Coded.{codes};
+    ghost use Rattle.oim_report.specs.SheetCode.{sheet_code};
+    ghost use Rattle.fact_base.specs.Contents.{Contents};
+    ghost use Rattle.fact_base.specs.Entries.{AreStored, facts_of_entries};
+
+    ghost Value = { Contents };
+
+    ghost coded = { Prim.hlevel (codes, sheet_code) };
+
+    ghost view = { λ b. record { sheet = b.sheet.now; body = record { facts = facts_of_entries b.entries; references = b.references } } };
+
+    ghost invariant = { λ b. AreStored b.sheet.now b.entries b.references };
+}
+
+impl<'s> Base<'s> {
+    /// No facts and no references. Later calls take their memory from `alloc`.
+    pub fn new(alloc: Global, sheet: &'s Sheet) -> Base<'s>
+        ensures { result ≡ record { sheet = sheet.now; body = body [] } }
+    {
+        Base {
+            alloc,
+            sheet,
+            entries: SortedMap::new(alloc),
+            references: SortedSet::new(alloc),
+        }
+    }
+
+    /// The sheet under which the reports are read.
+    pub fn sheet(&self) -> &'s Sheet
+        ensures { result.now ≡ self.now.sheet }
+    {
+        self.sheet
+    }
+
+    /// Whether the sheet lists what the base's lists, so that reports read under it can be taken.
+    pub fn same_sheet(&self, sheet: &Sheet) -> bool
+        ensures { IsTrue result ↔ (self.now.sheet ≡ sheet.now) }
+    {
+        self.sheet.same_as(sheet)
+    }
+
+    /// Adds the facts and references of a report that was read under an equal sheet.
+    ///
+    /// Errors: want of memory; the base is then as before.
+    pub fn take(&mut self, report: &Report<'_>) -> Result<(), AllocError>
+        requires { report.now.sheet ≡ self.old.sheet }
+        ensures ok { OnOk result (self.new ≡ record self.old { body = union self.old.body (body (report.now.document ∷ [])) }) }
+        ensures err { OnErr result (self.new ≡ self.old) }
+    {
+        report.known();
+        let references = with_all(self.alloc, &self.references, report.taxonomy())?;
+        let entries = entries_of(self.alloc, report.facts(), report.order())?;
+        self.entries.absorb(entries)?;
+        replace(&mut self.references, references);
+        Ok(())
+    }
+
+    /// Adds the facts and references of another base with an equal sheet.
+    ///
+    /// Errors: want of memory; the base is then as before.
+    pub fn join(&mut self, other: &Base<'_>) -> Result<(), AllocError>
+        requires { other.now.sheet ≡ self.old.sheet }
+        ensures ok { OnOk result (self.new ≡ record self.old { body = union self.old.body other.now.body }) }
+        ensures err { OnErr result (self.new ≡ self.old) }
+    {
+        let references = with_all(self.alloc, &self.references, other.taxonomy())?;
+        self.entries.merge(self.alloc, &other.entries)?;
+        replace(&mut self.references, references);
+        Ok(())
+    }
+
+    /// The same where the other base is given up: what is new is moved.
+    ///
+    /// Errors: want of memory; the base is then as before, and the other is lost.
+    pub fn absorb(&mut self, other: Base<'_>) -> Result<(), AllocError>
+        requires { other.sheet ≡ self.old.sheet }
+        ensures ok { OnOk result (self.new ≡ record self.old { body = union self.old.body other.entry.body }) }
+        ensures err { OnErr result (self.new ≡ self.old) }
+    {
+        let references = with_all(self.alloc, &self.references, other.taxonomy())?;
+        self.entries.absorb(other.entries)?;
+        replace(&mut self.references, references);
+        Ok(())
+    }
+
+    /// The dimension sets in order, each once, with their values.
+    pub fn rows(&self) -> Rows<'_>
+        ensures { rows_left result ≡ rows_of self.now.body.facts }
+    {
+        Rows {
+            entries: &self.entries,
+            next: 0,
+        }
+    }
+
+    /// How many dimension sets there are.
+    pub fn row_count(&self) -> u64
+        ensures { result ≡ length (rows_of self.now.body.facts) }
+    {
+        self.entries.len() as u64
+    }
+
+    /// How many facts there are.
+    pub fn fact_count(&self) -> u128
+        ensures { result ≡ length self.now.body.facts }
+    {
+        count_of(&self.entries)
+    }
+
+    /// The references of all taxonomies in byte order, each once.
+    pub fn taxonomy(&self) -> &[Text]
+        ensures { result.now ≡ self.now.body.references }
+    {
+        self.references.as_slice()
+    }
+
+    /// Whether both have the same facts and the same references.
+    pub fn same_as(&self, other: &Base<'_>) -> bool
+        ensures { IsTrue result ↔ (self.now.body ≡ other.now.body) }
+    {
+        same_rows(&self.entries, &other.entries) && self.taxonomy() == other.taxonomy()
+    }
+
+    /// Whether the facts with these dimensions contradict one another; None where there is none.
+    pub fn verdict(&self, dimensions: &Dimensions) -> Option<Verdict>
+        ensures { result ≡ verdict self.now.body.facts dimensions.now }
+    {
+        let (values, summary) = self.entries.get(dimensions)?;
+        Some(verdict_of(values.as_slice(), summary))
+    }
+
+    /// What shows the verdict on the facts with these dimensions; None where there is none.
+    pub fn evidence(&self, dimensions: &Dimensions) -> Option<Evidence>
+        ensures there { is_some result ≡ is_some (verdict self.now.body.facts dimensions.now) }
+        ensures evidence { IfSome result (IsEvidence (values_at dimensions.now self.now.body.facts)) }
+    {
+        let (values, summary) = self.entries.get(dimensions)?;
+        Some(evidence_of(values.as_slice(), summary))
+    }
+
+    /// The strictest level of duplicates that allows the facts. It is never `Complete`, since each
+    /// fact stands there once.
+    pub fn level(&self) -> Level
+        ensures { result ≡ level_of self.now.body.facts }
+    {
+        level_of(&self.entries)
+    }
+
+    /// Does nothing, and tells that each fact fits the sheet, each reference is its own kept text,
+    /// and both rise.
+    pub fn known(&self)
+        ensures { Fits self.now.sheet self.now.body }
+    {
+        let _entries = &self.entries;
+    }
+}

@@ -1,0 +1,113 @@
+ghost use Rattle.std.specs.Prelude.{map, ◌≡◌, ◌↔◌, length, IsTrue, IfOk, OnOk, slice_get};
+ghost use Rattle.std.specs.List.{All};
+ghost use Rattle.std.specs.Option.{option_map};
+ghost use Rattle.fact_base.specs.Entries.{AreEntriesOf, facts_of_entries, with_fact};
+ghost use Rattle.fact_base.specs.Judged.{AreSummarised, level_at};
+ghost use Rattle.fact_base.specs.Shown.{row_of};
+ghost use Rattle.merge_laws.specs.Sorted.{IsRising, entry_key};
+ghost use Rattle.oim_dims.specs.FactOrder.{dimensions_cmp};
+ghost use Rattle.oim_report.specs.Duplicates.{level_of};
+ghost use Rattle.oim_report.specs.Order.{IsOrderOf};
+
+use crate::judging::verdict_of;
+use crate::verdict::Verdict;
+use merge_laws::{SortedMap, SortedSet, Summary};
+use oim_dims::{Dimensions, Fact};
+use oim_names::Copied;
+use oim_value::{Level, Value};
+use std::alloc::{AllocError, Global};
+
+/// What a base stores: its dimension sets in order, each with its values and their summary.
+pub(crate) type Entries = SortedMap<Dimensions, (SortedSet<Value>, Summary)>;
+
+/// The entries of facts, of which each stands at one place of `order`. Facts that come in order are
+/// put behind those before them.
+pub(crate) fn entries_of(
+    alloc: Global,
+    facts: &[Fact],
+    order: &[usize],
+) -> Result<Entries, AllocError>
+    requires { IsOrderOf facts.now order.now }
+    ensures { IfOk result (AreEntriesOf facts.now) }
+{
+    let mut entries = SortedMap::new(alloc);
+    for place in order {
+        put(alloc, &mut entries, &facts[*place])?;
+    }
+    Ok(entries)
+}
+
+fn put(alloc: Global, entries: &mut Entries, fact: &Fact) -> Result<(), AllocError>
+    ensures { OnOk result (entries.new ≡ with_fact fact.now entries.old) }
+{
+    let mut values = Vec::new(alloc);
+    values.push(fact.value.copied(alloc)?)?;
+    let one = (SortedSet::of_rising(values), Summary::of(&fact.value));
+    entries.put(&fact.dimensions, &one)
+}
+
+/// How many facts the entries have.
+pub(crate) fn count_of(entries: &Entries) -> u128
+    ensures { result ≡ length (facts_of_entries entries.now) }
+{
+    let mut count: u128 = 0;
+    for place in 0..entries.len() {
+        if let Some((_dimensions, (values, _summary))) = entries.at(place) {
+            count += values.as_slice().len() as u128;
+        }
+    }
+    count
+}
+
+/// Whether both have the same dimension sets, each with the same values.
+pub(crate) fn same_rows(one: &Entries, other: &Entries) -> bool
+    ensures { IsTrue result ↔ (map row_of one.now ≡ map row_of other.now) }
+{
+    if one.len() != other.len() {
+        return false;
+    }
+    for place in 0..one.len() {
+        if !same_at(one, other, place) {
+            return false;
+        }
+    }
+    true
+}
+
+fn same_at(one: &Entries, other: &Entries, place: usize) -> bool
+    ensures { IsTrue result ↔ (option_map row_of (slice_get one.now place) ≡ option_map row_of (slice_get other.now place)) }
+{
+    match (one.at(place), other.at(place)) {
+        (Some((dimensions, (values, _))), Some((others, (more, _)))) => {
+            dimensions == others && values.as_slice() == more.as_slice()
+        }
+        (None, None) => true,
+        _ => false,
+    }
+}
+
+/// The strictest level of duplicates that allows the facts. It looks at the number of values of each
+/// dimension set and at their summary.
+pub(crate) fn level_of(entries: &Entries) -> Level
+    requires rise { IsRising dimensions_cmp entry_key entries.now }
+    requires summed { All (λ e. AreSummarised e.1.0 e.1.1) entries.now }
+    ensures { result ≡ level_of (facts_of_entries entries.now) }
+{
+    let mut level = Level::Unique;
+    for place in 0..entries.len() {
+        if let Some((_dimensions, (values, summary))) = entries.at(place) {
+            level = level.max(level_at(verdict_of(values.as_slice(), summary)));
+        }
+    }
+    level
+}
+
+fn level_at(verdict: Verdict) -> Level
+    ensures { result ≡ level_at verdict }
+{
+    match verdict {
+        Verdict::Complete => Level::Unique,
+        Verdict::Consistent => Level::Consistent,
+        Verdict::Inconsistent => Level::All,
+    }
+}

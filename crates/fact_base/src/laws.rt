@@ -1,0 +1,43 @@
+//! Laws of the definitions, each the contract of a function that does nothing.
+ghost use Rattle.fact_base.specs.BodyLaws.{BodyHasWhatDocumentsHave, BodyIgnoresOrder, BodyOfBoth, UnionHasBoth};
+ghost use Rattle.fact_base.specs.Fits.{AcceptedFits, UnionFits};
+ghost use Rattle.fact_base.specs.Rows.{RowsTellFacts};
+ghost use Rattle.fact_base.specs.Verdict.{InconsistentIsApart};
+
+/// A body has just the facts and the references of its documents, each once and in order.
+pub fn body_has_what_documents_have()
+    ensures { BodyHasWhatDocumentsHave }
+{}
+
+/// A union has just the facts and the references of both bodies, each once and in order.
+pub fn union_has_both()
+    ensures { UnionHasBoth }
+{}
+
+/// Documents in any order, each as often as one likes, have one body.
+pub fn body_ignores_order()
+    ensures { BodyIgnoresOrder }
+{}
+
+/// The body of one list of documents after another is the union of their bodies.
+pub fn body_of_both()
+    ensures { BodyOfBoth }
+{}
+
+/// The body of documents that are accepted under a sheet fits it, and so does what two bodies that
+/// fit have together.
+pub fn accepted_fits()
+    ensures accepted { AcceptedFits }
+    ensures union { UnionFits }
+{}
+
+/// The rows of facts have each dimension set once, in order, with just its values, each once and in
+/// order.
+pub fn rows_tell_facts()
+    ensures { RowsTellFacts }
+{}
+
+/// A dimension set is called inconsistent exactly where two of its facts do not meet.
+pub fn inconsistent_is_apart()
+    ensures { InconsistentIsApart }
+{}

@@ -1,0 +1,20 @@
+//! The facts of several reports as one body, and what contradicts what.
+#![tactic(auto)]
+
+mod base;
+mod entries;
+mod evidence;
+mod judging;
+pub mod laws;
+mod references;
+mod row;
+mod rows;
+#[cfg(test)]
+mod tests;
+mod verdict;
+
+pub use base::Base;
+pub use evidence::Evidence;
+pub use row::Row;
+pub use rows::Rows;
+pub use verdict::Verdict;

@@ -1,0 +1,49 @@
+ghost use Rattle.std.specs.Prelude.{◌≡◌, ◌++◌, IfOk, All, IsTrue, Contains};
+ghost use Rattle.std.specs.Option.{unwrap_or};
+ghost use Rattle.fact_base.specs.Body.{text_cmp};
+ghost use Rattle.fact_base.specs.Sets.{set_of};
+
+use merge_laws::{Merge, SortedSet};
+use oim_names::{Copied, Text};
+use std::alloc::{AllocError, Global};
+
+/// The references with others among them; None where none of these is new. The references are
+/// copied only where one is.
+pub(crate) fn with_all(
+    alloc: Global,
+    references: &SortedSet<Text>,
+    others: &[Text],
+) -> Result<Option<SortedSet<Text>>, AllocError>
+    ensures { IfOk result (λ wider. unwrap_or wider references.now ≡ set_of text_cmp (references.now ++ others.now)) }
+{
+    references.known();
+    if has_all(references.as_slice(), others) {
+        return Ok(None);
+    }
+    let mut wider = references.copied(alloc)?;
+    for other in others {
+        wider.insert(other)?;
+    }
+    Ok(Some(wider))
+}
+
+// Whether none of the others is new to references in order.
+fn has_all(references: &[Text], others: &[Text]) -> bool
+    ensures { IsTrue result → All (Contains references.now) others.now }
+{
+    for other in others {
+        if references.binary_search(other).is_err() {
+            return false;
+        }
+    }
+    true
+}
+
+/// Puts other references in the place of these, where there are others.
+pub(crate) fn replace(references: &mut SortedSet<Text>, wider: Option<SortedSet<Text>>)
+    ensures { references.new ≡ unwrap_or wider references.old }
+{
+    if let Some(wider) = wider {
+        *references = wider;
+    }
+}

@@ -1,0 +1,95 @@
+mod bases;
+mod verdicts;
+
+use crate::{Base, Evidence, Verdict};
+use oim_names::Reason;
+use oim_report::{Report, Sheet, read_report};
+use std::alloc::AllocError;
+
+// Where a request for memory is refused, the next one is not: the callee is asked again. The line on
+// standard error tells `tests/refused_memory` of it.
+
+const SHEET: &str =
+    r#"{"namespaces":{"eg":"http://example.org/t"},"concepts":{"eg:A":"numeric","eg:B":"numeric","eg:T":"text","eg:Q":"name"}}"#;
+
+// A report of one fact of `eg:A`, up to its value, and what follows.
+const FACT: &str =
+    r#"{"documentInfo":{"documentType":"https://xbrl.org/2021/xbrl-json","namespaces":{"eg":"http://example.org/t"}},"facts":{"a":{"#;
+
+const OF_A: &str = r#","dimensions":{"concept":"eg:A"}}}}"#;
+
+fn tell_refused(rt: &HostRuntime) {
+    let _ = eprintln!(rt; "refused");
+}
+
+fn read_sheet(rt: &HostRuntime) -> Result<Sheet, Reason> {
+    match Sheet::read(rt.alloc(), SHEET.as_bytes()) {
+        Err(Reason::OutOfMemory) => {
+            tell_refused(rt);
+            Sheet::read(rt.alloc(), SHEET.as_bytes())
+        }
+        answer => answer,
+    }
+}
+
+fn joined(rt: &HostRuntime, start: &str, text: &str, end: &str) -> Result<String, AllocError> {
+    match format!(in rt.alloc(); "{start}{text}{end}") {
+        Err(_) => {
+            tell_refused(rt);
+            format!(in rt.alloc(); "{start}{text}{end}")
+        }
+        made => made,
+    }
+}
+
+fn read<'s>(rt: &HostRuntime, sheet: &'s Sheet, text: &str) -> Option<Report<'s>> {
+    match read_report(rt.alloc(), sheet, text.as_bytes()) {
+        Ok(report) => Some(report),
+        Err(_) => {
+            tell_refused(rt);
+            read_report(rt.alloc(), sheet, text.as_bytes()).ok()
+        }
+    }
+}
+
+fn take(rt: &HostRuntime, base: &mut Base<'_>, report: &Report<'_>) -> bool {
+    if !base.same_sheet(report.sheet()) {
+        return false;
+    }
+    if base.take(report).is_ok() {
+        return true;
+    }
+    tell_refused(rt);
+    base.take(report).is_ok()
+}
+
+// Adds a report of one fact with this value and decimals; false where it is not read.
+fn add(rt: &HostRuntime, base: &mut Base<'_>, value: &str) -> bool {
+    let Ok(text) = joined(rt, FACT, value, OF_A) else {
+        return false;
+    };
+    match read(rt, base.sheet(), text.as_str()) {
+        Some(report) => take(rt, base, &report),
+        None => false,
+    }
+}
+
+// A base of one report for each value.
+fn base_of<'s>(rt: &HostRuntime, sheet: &'s Sheet, values: &[&str]) -> Option<Base<'s>> {
+    let mut base = Base::new(rt.alloc(), sheet);
+    for value in values {
+        if !add(rt, &mut base, value) {
+            return None;
+        }
+    }
+    Some(base)
+}
+
+// What is said of the first dimension set of a base.
+fn judged(base: &Base<'_>) -> Option<(Verdict, Evidence)> {
+    let row = base.rows().next()?;
+    Some((
+        base.verdict(row.dimensions)?,
+        base.evidence(row.dimensions)?,
+    ))
+}
