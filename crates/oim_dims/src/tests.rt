@@ -43,18 +43,33 @@ fn bind(rt: &HostRuntime, aliases: &mut Aliases, prefix: &str, uri: &str) -> Res
     }
 }
 
-fn example(rt: &HostRuntime) -> Result<Aliases, Reason> {
+fn bind_all(
+    rt: &HostRuntime,
+    aliases: &mut Aliases,
+    bindings: &[(&str, &str)],
+) -> Result<(), Reason> {
+    for (prefix, uri) in bindings {
+        bind(rt, aliases, prefix, uri)?;
+    }
+    Ok(())
+}
+
+// Aliases of these prefixes and URIs.
+fn aliases_of(rt: &HostRuntime, bindings: &[(&str, &str)]) -> Result<Aliases, Reason> {
     let mut aliases = Aliases::new(rt.alloc());
-    bind(rt, &mut aliases, "eg", "http://example.org/t")?;
-    bind(rt, &mut aliases, "x", "http://example.org/u")?;
-    bind(
-        rt,
-        &mut aliases,
-        "xbrli",
-        "http://www.xbrl.org/2003/instance",
-    )?;
-    bind(rt, &mut aliases, "xbrl", "https://xbrl.org/2021")?;
+    bind_all(rt, &mut aliases, bindings)?;
     Ok(aliases)
+}
+
+const EXAMPLE: [(&str, &str); 4] = [
+    ("eg", "http://example.org/t"),
+    ("x", "http://example.org/u"),
+    ("xbrli", "http://www.xbrl.org/2003/instance"),
+    ("xbrl", "https://xbrl.org/2021"),
+];
+
+fn example(rt: &HostRuntime) -> Result<Aliases, Reason> {
+    aliases_of(rt, &EXAMPLE)
 }
 
 fn name(rt: &HostRuntime, aliases: &Aliases, spelled: &str) -> Result<Name, Reason> {

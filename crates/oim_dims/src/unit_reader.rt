@@ -25,6 +25,7 @@ pub fn read_unit(alloc: Global, aliases: &Aliases, text: &str) -> Result<Option<
 {
     match read_sides(alloc, aliases, text) {
         Ok(unit) => Ok(unit),
+        Err(Reason::OutOfMemory) => Err(Reason::OutOfMemory),
         Err(reason) => match unit_refusal(aliases, text) {
             Some(refusal) => Err(refusal),
             None => Err(reason),

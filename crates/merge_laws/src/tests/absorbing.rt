@@ -1,9 +1,10 @@
 use super::again::{
-    Items, ItemsAt, Pair, absorb, absorb_map, absorb_set, copied, has_just, has_just_at, insert,
-    items_at, pair, room, set, text,
+    Items, ItemsAt, Pair, absorb, absorb_map, absorb_set, copied, has_just, has_just_at, items_at,
+    pair, room, set, text,
 };
 use super::{
-    Many, SummaryAt, are_keys_right, both_rounded, has_value, is_merged, put_all, put_at, rounded,
+    ALL, SummaryAt, both_rounded, has_both_parts, has_value, is_merged, is_new, is_there, put_at,
+    rounded,
 };
 use crate::{SortedMap, SortedSet, Summary};
 use oim_names::Text;
@@ -12,59 +13,52 @@ use std::test::Fail;
 
 type PairsAt = SortedMap<Text, Pair>;
 
-// Absorbs a set; answers whether there are then just these items.
-fn absorbs_to(
-    rt: &HostRuntime,
-    first: &mut Items,
-    second: Items,
-    all: &[&str],
-) -> Result<bool, AllocError> {
-    absorb_set(rt, first, second)?;
-    Ok(has_just(first, all))
+// Absorbs the set of some items; answers whether there are then just these.
+fn absorbs_to(rt: &HostRuntime, first: &mut Items, items: &[&str], all: &[&str]) -> bool {
+    match set(rt, items) {
+        Ok(second) => absorb_set(rt, first, second).is_ok() && has_just(first, all),
+        Err(_) => false,
+    }
 }
-
-fn absorbs_copy_to(
-    rt: &HostRuntime,
-    first: &mut Items,
-    second: &Items,
-    all: &[&str],
-) -> Result<bool, AllocError> {
-    let copy = copied(rt, second)?;
-    absorbs_to(rt, first, copy, all)
-}
-
-const ALL: [&str; 3] = ["a", "b", "c"];
 
 #[test]
 fn a_set_absorbs_the_items_of_another(rt: HostRuntime) -> Result<(), Fail> {
     let mut first = set(&rt, &["c", "a"])?;
-    assert!(rt; absorbs_to(&rt, &mut first, set(&rt, &["b", "c"])?, &ALL)?);
-    assert!(rt; absorbs_to(&rt, &mut first, set(&rt, &ALL)?, &ALL)?);
-    assert!(rt; !insert(&rt, &mut first, "a")?);
+    assert!(rt; absorbs_to(&rt, &mut first, &["b", "c"], &ALL));
+    assert!(rt; absorbs_to(&rt, &mut first, &ALL, &ALL));
+    assert!(rt; is_there(&rt, &mut first, "a"));
     Ok(())
 }
 
+fn absorbs_copy_to(rt: &HostRuntime, second: &mut Items, first: &Items, all: &[&str]) -> bool {
+    match copied(rt, first) {
+        Ok(copy) => absorb_set(rt, second, copy).is_ok() && has_just(second, all),
+        Err(_) => false,
+    }
+}
+
 // Whether a set stays as it is where its copy is absorbed.
-fn copy_is_absorbed(rt: &HostRuntime, first: &Items) -> Result<bool, AllocError> {
-    let mut second = set(rt, &["b", "c"])?;
-    absorbs_copy_to(rt, &mut second, first, &ALL)
+fn copy_is_absorbed(rt: &HostRuntime, first: &Items) -> bool {
+    match set(rt, &["b", "c"]) {
+        Ok(mut second) => {
+            absorbs_copy_to(rt, &mut second, first, &ALL) && has_just(first, &["a", "c"])
+        }
+        Err(_) => false,
+    }
 }
 
 #[test]
 fn a_set_absorbs_the_copy_of_another(rt: HostRuntime) -> Result<(), Fail> {
     let first = set(&rt, &["c", "a"])?;
-    assert!(rt; copy_is_absorbed(&rt, &first)?);
-    assert!(rt; has_just(&first, &["a", "c"]));
+    assert!(rt; copy_is_absorbed(&rt, &first));
     Ok(())
 }
 
 #[test]
-fn an_empty_set_absorbs_all(rt: HostRuntime) -> Result<(), Fail> {
+fn an_empty_set_absorbs_all(rt: HostRuntime) {
     let mut items = SortedSet::new(rt.alloc());
-    absorb_set(&rt, &mut items, set(&rt, &["a", "c"])?)?;
-    absorb_set(&rt, &mut items, SortedSet::new(rt.alloc()))?;
-    assert!(rt; has_just(&items, &["a", "c"]));
-    Ok(())
+    assert!(rt; absorbs_to(&rt, &mut items, &["a", "c"], &["a", "c"]));
+    assert!(rt; absorbs_to(&rt, &mut items, &[], &["a", "c"]));
 }
 
 fn absorb_rows(
@@ -76,14 +70,18 @@ fn absorb_rows(
     absorb_map(rt, map, other)
 }
 
+// Whether an empty map has one row where it has absorbed it and an empty map.
+fn absorbs_row(rt: &HostRuntime, map: &mut ItemsAt) -> bool {
+    absorb_rows(rt, map, &[("k", "a")]).is_ok()
+        && absorb_rows(rt, map, &[]).is_ok()
+        && map.len() == 1
+        && has_just_at(rt, map, "k", &["a"])
+}
+
 #[test]
-fn an_empty_map_absorbs_all(rt: HostRuntime) -> Result<(), Fail> {
+fn an_empty_map_absorbs_all(rt: HostRuntime) {
     let mut map = SortedMap::new(rt.alloc());
-    absorb_rows(&rt, &mut map, &[("k", "a")])?;
-    absorb_rows(&rt, &mut map, &[])?;
-    assert!(rt; map.len() == 1);
-    assert!(rt; has_just_at(&rt, &map, "k", &["a"])?);
-    Ok(())
+    assert!(rt; absorbs_row(&rt, &mut map));
 }
 
 fn absorb_copy(rt: &HostRuntime, map: &mut ItemsAt, other: &ItemsAt) -> Result<(), AllocError> {
@@ -92,52 +90,65 @@ fn absorb_copy(rt: &HostRuntime, map: &mut ItemsAt, other: &ItemsAt) -> Result<(
 }
 
 // Whether a map is merged where it has absorbed a copy of that of some rows.
-fn absorbs_copy(
-    rt: &HostRuntime,
-    map: &mut ItemsAt,
-    rows: &[(&str, &str)],
-) -> Result<bool, AllocError> {
-    let other = items_at(rt, rows)?;
-    absorb_copy(rt, map, &other)?;
-    Ok(is_merged(map))
+fn absorbs_copy(rt: &HostRuntime, map: &mut ItemsAt, rows: &[(&str, &str)]) -> bool {
+    match items_at(rt, rows) {
+        Ok(other) => absorb_copy(rt, map, &other).is_ok() && is_merged(map),
+        Err(_) => false,
+    }
+}
+
+fn absorbs_both(rt: &HostRuntime, rows: &[(&str, &str)], others: &[(&str, &str)]) -> bool {
+    match items_at(rt, rows) {
+        Ok(mut map) => absorbs_copy(rt, &mut map, others),
+        Err(_) => false,
+    }
 }
 
 #[test]
-fn maps_absorb_key_by_key(rt: HostRuntime) -> Result<(), Fail> {
-    let mut first = items_at(&rt, &[("k", "a")])?;
-    assert!(rt; absorbs_copy(&rt, &mut first, &[("m", "c"), ("k", "b")])?);
-    Ok(())
+fn maps_absorb_key_by_key(rt: HostRuntime) {
+    assert!(rt; absorbs_both(&rt, &[("k", "a")], &[("m", "c"), ("k", "b")]));
 }
 
 #[test]
-fn maps_absorb_in_either_order(rt: HostRuntime) -> Result<(), Fail> {
-    let mut second = items_at(&rt, &[("m", "c"), ("k", "b")])?;
-    assert!(rt; absorbs_copy(&rt, &mut second, &[("k", "a")])?);
-    Ok(())
+fn maps_absorb_in_either_order(rt: HostRuntime) {
+    assert!(rt; absorbs_both(&rt, &[("m", "c"), ("k", "b")], &[("k", "a")]));
+}
+
+fn put_two(rt: &HostRuntime, map: &mut SummaryAt) -> Result<(), AllocError> {
+    put_at(rt, map, "k", &rounded("102"))?;
+    put_at(rt, map, "j", &rounded("7"))
 }
 
 // Absorbs a map of two keys.
 fn absorb_two(rt: &HostRuntime, map: &mut SummaryAt) -> Result<(), AllocError> {
     let mut other = SortedMap::new(rt.alloc());
-    put_at(rt, &mut other, "k", &rounded("102"))?;
-    put_at(rt, &mut other, "j", &rounded("7"))?;
+    put_two(rt, &mut other)?;
     absorb(rt, map, other)
 }
 
-fn has_values(rt: &HostRuntime, map: &SummaryAt, both: &Summary) -> Result<bool, AllocError> {
-    let there = has_value(rt, map, "k", Some(both))?;
-    Ok(there && has_value(rt, map, "j", Some(&rounded("7")))?)
+fn absorb_keys(rt: &HostRuntime, map: &mut SummaryAt) -> Result<Summary, AllocError> {
+    put_at(rt, map, "k", &rounded("100"))?;
+    absorb_two(rt, map)?;
+    both_rounded(rt)
+}
+
+// Whether there are two keys, the value of both numbers at the one and the new number at the other.
+fn absorbs_keys(rt: &HostRuntime, map: &mut SummaryAt) -> bool {
+    match absorb_keys(rt, map) {
+        Ok(both) => {
+            map.len() == 2
+                && map.at(2).is_none()
+                && has_value(rt, map, "k", Some(&both))
+                && has_value(rt, map, "j", Some(&rounded("7")))
+        }
+        Err(_) => false,
+    }
 }
 
 #[test]
-fn values_at_a_key_of_both_are_merged(rt: HostRuntime) -> Result<(), Fail> {
-    let both = both_rounded(&rt)?;
+fn values_at_a_key_of_both_are_merged(rt: HostRuntime) {
     let mut map = SortedMap::new(rt.alloc());
-    put_at(&rt, &mut map, "k", &rounded("100"))?;
-    absorb_two(&rt, &mut map)?;
-    assert!(rt; map.len() == 2 && map.at(2).is_none());
-    assert!(rt; has_values(&rt, &map, &both)?);
-    Ok(())
+    assert!(rt; absorbs_keys(&rt, &mut map));
 }
 
 fn keyed_pair(
@@ -163,7 +174,7 @@ fn absorb_pair(rt: &HostRuntime, map: &mut PairsAt) -> Result<(), AllocError> {
 
 fn has_both_pairs(map: &PairsAt) -> bool {
     match map.at(0) {
-        Some((_, pair)) => has_just(&pair.0, &["a", "b"]) && has_just(&pair.1, &["w", "x"]),
+        Some((_, pair)) => map.len() == 1 && has_both_parts(pair),
         None => false,
     }
 }
@@ -171,9 +182,7 @@ fn has_both_pairs(map: &PairsAt) -> bool {
 #[test]
 fn pairs_at_a_key_of_both_are_merged(rt: HostRuntime) -> Result<(), Fail> {
     let mut map = pair_at(&rt, "k", ("a", "x"))?;
-    absorb_pair(&rt, &mut map)?;
-    assert!(rt; map.len() == 1);
-    assert!(rt; has_both_pairs(&map));
+    assert!(rt; absorb_pair(&rt, &mut map).is_ok() && has_both_pairs(&map));
     Ok(())
 }
 
@@ -197,22 +206,7 @@ fn two_items(rt: &HostRuntime, first: &str, second: &str) -> Result<Items, Alloc
 #[test]
 fn items_in_order_make_a_set(rt: HostRuntime) -> Result<(), Fail> {
     let mut items = two_items(&rt, "a", "c")?;
-    assert!(rt; has_just(&items, &["a", "c"]));
-    assert!(rt; insert(&rt, &mut items, "b")?);
-    assert!(rt; has_just(&items, &["a", "b", "c"]));
-    Ok(())
-}
-
-fn absorb_halves(rt: &HostRuntime, map: &mut Many) -> Result<(), AllocError> {
-    let halves = put_all(rt, 2)?;
-    absorb(rt, map, halves)
-}
-
-#[test]
-fn many_keys_are_absorbed_in_order(rt: HostRuntime) -> Result<(), Fail> {
-    let mut map = put_all(&rt, 3)?;
-    absorb_halves(&rt, &mut map)?;
-    assert!(rt; map.len() == 133_333);
-    assert!(rt; are_keys_right(&map));
+    assert!(rt; has_just(&items, &["a", "c"]) && is_new(&rt, &mut items, "b"));
+    assert!(rt; has_just(&items, &ALL));
     Ok(())
 }

@@ -214,14 +214,11 @@ pub(super) fn has_at(map: &ItemsAt, key: &Text, items: &[&str]) -> bool {
     }
 }
 
-pub(super) fn has_just_at(
-    rt: &HostRuntime,
-    map: &ItemsAt,
-    key: &str,
-    items: &[&str],
-) -> Result<bool, AllocError> {
-    let key = text(rt, key)?;
-    Ok(has_at(map, &key, items))
+pub(super) fn has_just_at(rt: &HostRuntime, map: &ItemsAt, key: &str, items: &[&str]) -> bool {
+    match text(rt, key) {
+        Ok(key) => has_at(map, &key, items),
+        Err(_) => false,
+    }
 }
 
 pub(super) fn absorb_set(

@@ -12,8 +12,11 @@ fn second(period: &Period) -> Option<i64> {
 }
 
 // Whether a text is read as the instant of a second.
-fn is_instant(rt: &HostRuntime, spelled: &str, seconds: i64) -> Result<bool, Reason> {
-    Ok(second(&period(rt, spelled)?) == Some(seconds))
+fn is_instant(rt: &HostRuntime, spelled: &str, seconds: i64) -> bool {
+    match period(rt, spelled) {
+        Ok(period) => second(&period) == Some(seconds),
+        Err(_) => false,
+    }
 }
 
 const INSTANTS: [(&str, i64); 24] = [
@@ -44,11 +47,10 @@ const INSTANTS: [(&str, i64); 24] = [
 ];
 
 #[test]
-fn instants_are_read(rt: HostRuntime) -> Result<(), Fail> {
+fn instants_are_read(rt: HostRuntime) {
     for (spelled, seconds) in &INSTANTS {
-        assert!(rt; is_instant(&rt, spelled, *seconds)?, "{spelled}");
+        assert!(rt; is_instant(&rt, spelled, *seconds), "{spelled}");
     }
-    Ok(())
 }
 
 const NO_PERIODS: [&str; 37] = [
@@ -110,20 +112,24 @@ fn bounds(period: &Period) -> Option<(i64, i64)> {
     }
 }
 
+// Whether a period is written as a text.
+fn has_text(rt: &HostRuntime, period: &Period, plain: &str) -> bool {
+    match period_text(rt, period) {
+        Ok(Some(written)) => written.as_str() == plain,
+        _ => false,
+    }
+}
+
 // Whether a period is written as a text, and read back from it.
-fn is_written(rt: &HostRuntime, period: &Period, plain: &str) -> Result<bool, Reason> {
-    let same = match period_text(rt, period)? {
-        Some(written) => written.as_str() == plain,
-        None => false,
-    };
-    Ok(same && super::period(rt, plain)? == *period)
+fn is_written(rt: &HostRuntime, period: &Period, plain: &str) -> bool {
+    has_text(rt, period, plain) && super::period(rt, plain) == Ok(*period)
 }
 
 #[test]
 fn durations_are_read_and_written(rt: HostRuntime) -> Result<(), Fail> {
     let year = period(&rt, "2020-01-01T00:00:00/2020-12-31T24:00:00")?;
     assert!(rt; bounds(&year) == Some((1577836800, 1609459200)));
-    assert!(rt; is_written(&rt, &year, "2020-01-01T00:00:00/2021-01-01T00:00:00")?);
+    assert!(rt; is_written(&rt, &year, "2020-01-01T00:00:00/2021-01-01T00:00:00"));
     Ok(())
 }
 
@@ -132,16 +138,21 @@ fn is_backward(rt: &HostRuntime, spelled: &str) -> bool {
     period(rt, spelled) == Err(Reason::PeriodOrder)
 }
 
+// Whether two texts are of one period.
+fn are_one(rt: &HostRuntime, spelled: &str, other: &str) -> bool {
+    match period(rt, spelled) {
+        Ok(found) => period(rt, other) == Ok(found),
+        Err(_) => false,
+    }
+}
+
 #[test]
-fn a_duration_does_not_end_before_it_starts(rt: HostRuntime) -> Result<(), Fail> {
+fn a_duration_does_not_end_before_it_starts(rt: HostRuntime) {
+    let instant = "2021-01-01T00:00:00";
     assert!(rt; is_backward(&rt, "2021-01-01T00:00:00/2020-01-01T00:00:00"));
     assert!(rt; is_backward(&rt, "2021-01-01T00:00:01/2021-01-01T00:00:00"));
-    let instant = period(&rt, "2021-01-01T00:00:00")?;
-    let start = period(&rt, "2021-01-01T00:00:00/2021-01-01T00:00:00")?;
-    let end = period(&rt, "2020-12-31T24:00:00/2021-01-01T00:00:00")?;
-    assert!(rt; start == instant);
-    assert!(rt; end == instant);
-    Ok(())
+    assert!(rt; are_one(&rt, "2021-01-01T00:00:00/2021-01-01T00:00:00", instant));
+    assert!(rt; are_one(&rt, "2020-12-31T24:00:00/2021-01-01T00:00:00", instant));
 }
 
 const WRITTEN: [(&str, &str); 7] = [
@@ -154,28 +165,37 @@ const WRITTEN: [(&str, &str); 7] = [
     ("9999-12-31T23:59:59", "9999-12-31T23:59:59"),
 ];
 
-#[test]
-fn instants_are_written_with_hours_to_23(rt: HostRuntime) -> Result<(), Fail> {
-    for (spelled, plain) in &WRITTEN {
-        let instant = period(&rt, spelled)?;
-        assert!(rt; is_written(&rt, &instant, plain)?, "{spelled}");
+fn is_rewritten(rt: &HostRuntime, spelled: &str, plain: &str) -> bool {
+    match period(rt, spelled) {
+        Ok(instant) => is_written(rt, &instant, plain),
+        Err(_) => false,
     }
-    assert!(rt; period_text(&rt, &Period::Forever)?.is_none());
-    Ok(())
 }
 
 #[test]
+fn instants_are_written_with_hours_to_23(rt: HostRuntime) {
+    for (spelled, plain) in &WRITTEN {
+        assert!(rt; is_rewritten(&rt, spelled, plain), "{spelled}");
+    }
+    assert!(rt; period_text(&rt, &Period::Forever) == Ok(None));
+}
+
+// Periods that rise, all of them above forever.
+const RISING: [&str; 5] = [
+    "2020-01-01T00:00:00",
+    "2021-01-01T00:00:00",
+    "2019-01-01T00:00:00/2021-01-01T00:00:00",
+    "2019-01-01T00:00:00/2022-01-01T00:00:00",
+    "2020-01-01T00:00:00/2020-06-01T00:00:00",
+];
+
+#[test]
 fn periods_are_ordered(rt: HostRuntime) -> Result<(), Fail> {
-    let rising = [
-        Period::Forever,
-        period(&rt, "2020-01-01T00:00:00")?,
-        period(&rt, "2021-01-01T00:00:00")?,
-        period(&rt, "2019-01-01T00:00:00/2021-01-01T00:00:00")?,
-        period(&rt, "2019-01-01T00:00:00/2022-01-01T00:00:00")?,
-        period(&rt, "2020-01-01T00:00:00/2020-06-01T00:00:00")?,
-    ];
-    for pair in rising.windows(2) {
-        assert!(rt; pair[0] < pair[1]);
+    let mut low = Period::Forever;
+    for spelled in &RISING {
+        let high = period(&rt, spelled)?;
+        assert!(rt; low < high, "{spelled}");
+        low = high;
     }
     Ok(())
 }
@@ -187,16 +207,18 @@ const LANGUAGES: [(&str, &str); 4] = [
     ("de-1996-CH", "de-1996-ch"),
 ];
 
-fn is_kept(rt: &HostRuntime, spelled: &str, kept: &str) -> Result<bool, Reason> {
-    Ok(language(rt, spelled)?.as_str() == kept)
+fn is_kept(rt: &HostRuntime, spelled: &str, kept: &str) -> bool {
+    match language(rt, spelled) {
+        Ok(found) => found.as_str() == kept,
+        Err(_) => false,
+    }
 }
 
 #[test]
-fn languages_are_kept_in_lower_case(rt: HostRuntime) -> Result<(), Fail> {
+fn languages_are_kept_in_lower_case(rt: HostRuntime) {
     for (spelled, kept) in &LANGUAGES {
-        assert!(rt; is_kept(&rt, spelled, kept)?, "{spelled}");
+        assert!(rt; is_kept(&rt, spelled, kept), "{spelled}");
     }
-    Ok(())
 }
 
 const NO_LANGUAGES: [&str; 12] = [

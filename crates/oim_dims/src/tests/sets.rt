@@ -1,8 +1,7 @@
 use super::{copied, dimensions, example, language, name, period, tell_refused, text, unit};
 use crate::{Dimensions, Fact, Member, Period};
-use oim_names::{Aliases, Name, Reason};
+use oim_names::{Aliases, Copied, Name, Reason};
 use oim_value::Value;
-use std::alloc::AllocError;
 use std::test::Fail;
 
 // The dimensions of eg:A with one other part.
@@ -81,43 +80,54 @@ fn names_its_concept_alone(set: &Dimensions) -> bool {
         && set.members().is_empty()
 }
 
-fn is_alone(rt: &HostRuntime, aliases: &Aliases) -> Result<bool, Reason> {
-    let set = dimensions(rt, aliases, "eg:A")?;
-    Ok(names_its_concept_alone(&set))
+fn is_alone(rt: &HostRuntime, aliases: &Aliases) -> bool {
+    match dimensions(rt, aliases, "eg:A") {
+        Ok(set) => names_its_concept_alone(&set),
+        Err(_) => false,
+    }
 }
 
 #[test]
 fn a_concept_alone_holds_forever(rt: HostRuntime) -> Result<(), Fail> {
     let aliases = example(&rt)?;
-    assert!(rt; is_alone(&rt, &aliases)?);
+    assert!(rt; is_alone(&rt, &aliases));
     Ok(())
 }
 
-fn has_entity(rt: &HostRuntime, aliases: &Aliases) -> Result<bool, Reason> {
-    Ok(with_entity(rt, aliases)?.entity().is_some())
+fn has_entity(rt: &HostRuntime, aliases: &Aliases) -> bool {
+    match with_entity(rt, aliases) {
+        Ok(set) => set.entity().is_some(),
+        Err(_) => false,
+    }
 }
 
-fn has_language(rt: &HostRuntime, aliases: &Aliases) -> Result<bool, Reason> {
-    Ok(with_language(rt, aliases)?.language().is_some())
+fn has_language(rt: &HostRuntime, aliases: &Aliases) -> bool {
+    match with_language(rt, aliases) {
+        Ok(set) => set.language().is_some(),
+        Err(_) => false,
+    }
 }
 
 #[test]
 fn parts_are_set(rt: HostRuntime) -> Result<(), Fail> {
     let aliases = example(&rt)?;
-    assert!(rt; has_entity(&rt, &aliases)?);
-    assert!(rt; has_language(&rt, &aliases)?);
+    assert!(rt; has_entity(&rt, &aliases) && has_language(&rt, &aliases));
     Ok(())
 }
 
-fn has_unit(rt: &HostRuntime, aliases: &Aliases, spelled: &str) -> Result<bool, Reason> {
-    Ok(with_unit(rt, aliases, spelled)?.unit().is_some())
+// Whether a set has a unit, or where none is wanted, has none.
+fn is_unit_set(rt: &HostRuntime, aliases: &Aliases, spelled: &str, wanted: bool) -> bool {
+    match with_unit(rt, aliases, spelled) {
+        Ok(set) => set.unit().is_some() == wanted,
+        Err(_) => false,
+    }
 }
 
 #[test]
 fn a_unit_may_be_none(rt: HostRuntime) -> Result<(), Fail> {
     let aliases = example(&rt)?;
-    assert!(rt; has_unit(&rt, &aliases, "x:a")?);
-    assert!(rt; !has_unit(&rt, &aliases, "xbrli:pure")?);
+    assert!(rt; is_unit_set(&rt, &aliases, "x:a", true));
+    assert!(rt; is_unit_set(&rt, &aliases, "xbrli:pure", false));
     Ok(())
 }
 
@@ -134,63 +144,81 @@ fn are_named(members: &[(Name, Member)], locals: &[&str; 4]) -> bool {
     members[1].0.uri() < members[2].0.uri()
 }
 
-fn are_sorted(rt: &HostRuntime, aliases: &Aliases) -> Result<bool, Reason> {
-    let set = with_members(rt, aliases, &["x:a", "eg:b", "x:b", "eg:a"])?;
-    Ok(are_named(set.members(), &["a", "b", "a", "b"]))
+fn are_sorted(rt: &HostRuntime, aliases: &Aliases) -> bool {
+    match with_members(rt, aliases, &["x:a", "eg:b", "x:b", "eg:a"]) {
+        Ok(set) => are_named(set.members(), &["a", "b", "a", "b"]),
+        Err(_) => false,
+    }
 }
 
 #[test]
 fn members_stay_in_the_order_of_names(rt: HostRuntime) -> Result<(), Fail> {
     let aliases = example(&rt)?;
-    assert!(rt; are_sorted(&rt, &aliases)?);
+    assert!(rt; are_sorted(&rt, &aliases));
     Ok(())
 }
 
 // Whether a dimension that is there is refused, and the members stay as they were.
-fn is_kept_once(rt: &HostRuntime, aliases: &Aliases) -> Result<bool, Reason> {
-    let mut set = with_members(rt, aliases, &["eg:b", "eg:a"])?;
-    let again = add_named(rt, &mut set, aliases, "eg:b");
-    Ok(again == Err(Reason::DimensionValue) && set.members().len() == 2)
+fn is_kept_once(rt: &HostRuntime, aliases: &Aliases) -> bool {
+    match with_members(rt, aliases, &["eg:b", "eg:a"]) {
+        Ok(mut set) => {
+            add_named(rt, &mut set, aliases, "eg:b") == Err(Reason::DimensionValue)
+                && set.members().len() == 2
+        }
+        Err(_) => false,
+    }
 }
 
 #[test]
 fn a_dimension_stands_once(rt: HostRuntime) -> Result<(), Fail> {
     let aliases = example(&rt)?;
-    assert!(rt; is_kept_once(&rt, &aliases)?);
+    assert!(rt; is_kept_once(&rt, &aliases));
     Ok(())
 }
 
-fn equals_its_copy(rt: &HostRuntime, set: &Dimensions) -> Result<bool, Reason> {
-    Ok(copied(rt, set)? == *set)
+fn equals_its_copy<T: Copied + PartialEq>(rt: &HostRuntime, value: &T) -> bool {
+    match copied(rt, value) {
+        Ok(copy) => copy == *value,
+        Err(_) => false,
+    }
 }
 
-fn set_equals_its_copy(rt: &HostRuntime, aliases: &Aliases) -> Result<bool, Reason> {
-    let set = with_members(rt, aliases, &["eg:b"])?;
-    equals_its_copy(rt, &set)
+fn set_equals_its_copy(rt: &HostRuntime, aliases: &Aliases) -> bool {
+    match with_members(rt, aliases, &["eg:b"]) {
+        Ok(set) => equals_its_copy(rt, &set),
+        Err(_) => false,
+    }
 }
 
 #[test]
 fn a_copy_equals_its_original(rt: HostRuntime) -> Result<(), Fail> {
     let aliases = example(&rt)?;
-    assert!(rt; set_equals_its_copy(&rt, &aliases)?);
+    assert!(rt; set_equals_its_copy(&rt, &aliases));
     Ok(())
 }
 
-fn kinds(rt: &HostRuntime, name: Name) -> Result<[Member; 3], AllocError> {
-    let typed = text(rt, "z")?;
-    Ok([Member::Nil, Member::Text(typed), Member::Name(name)])
+fn is_between(rt: &HostRuntime, typed: &Member, named: &Member) -> bool {
+    Member::Nil < *typed && *typed < *named && equals_its_copy(rt, typed)
 }
 
-fn member_equals_its_copy(rt: &HostRuntime, member: &Member) -> Result<bool, AllocError> {
-    Ok(copied(rt, member)? == *member)
+fn is_text_between(rt: &HostRuntime, named: &Member) -> bool {
+    match text(rt, "z") {
+        Ok(typed) => is_between(rt, &Member::Text(typed), named),
+        Err(_) => false,
+    }
+}
+
+fn are_kinds_ordered(rt: &HostRuntime, aliases: &Aliases) -> bool {
+    match name(rt, aliases, "eg:a") {
+        Ok(name) => is_text_between(rt, &Member::Name(name)),
+        Err(_) => false,
+    }
 }
 
 #[test]
 fn kinds_of_members_are_ordered(rt: HostRuntime) -> Result<(), Fail> {
     let aliases = example(&rt)?;
-    let rising = kinds(&rt, name(&rt, &aliases, "eg:a")?)?;
-    assert!(rt; rising[0] < rising[1] && rising[1] < rising[2]);
-    assert!(rt; member_equals_its_copy(&rt, &rising[1])?);
+    assert!(rt; are_kinds_ordered(&rt, &aliases));
     Ok(())
 }
 
@@ -215,68 +243,60 @@ fn set_at(rt: &HostRuntime, aliases: &Aliases, place: u8) -> Result<Dimensions, 
     }
 }
 
-fn rises_to(
-    rt: &HostRuntime,
-    aliases: &Aliases,
-    low: &Dimensions,
-    place: u8,
-) -> Result<bool, Reason> {
-    let high = set_at(rt, aliases, place)?;
-    Ok(rises(low, &high))
+fn rises_to(rt: &HostRuntime, aliases: &Aliases, low: &Dimensions, place: u8) -> bool {
+    match set_at(rt, aliases, place) {
+        Ok(high) => rises(low, &high),
+        Err(_) => false,
+    }
 }
 
-fn rise_at(rt: &HostRuntime, aliases: &Aliases, low: u8, high: u8) -> Result<bool, Reason> {
-    let set = set_at(rt, aliases, low)?;
-    rises_to(rt, aliases, &set, high)
+fn rises_at(rt: &HostRuntime, aliases: &Aliases, low: u8, high: u8) -> bool {
+    match set_at(rt, aliases, low) {
+        Ok(low) => rises_to(rt, aliases, &low, high),
+        Err(_) => false,
+    }
 }
 
 #[test]
 fn sets_are_ordered_part_by_part(rt: HostRuntime) -> Result<(), Fail> {
     let aliases = example(&rt)?;
     for place in 0..9u8 {
-        assert!(rt; rise_at(&rt, &aliases, place, place + 1)?, "{place}");
+        assert!(rt; rises_at(&rt, &aliases, place, place + 1), "{place}");
     }
     Ok(())
 }
 
-fn text_fact(rt: &HostRuntime, aliases: &Aliases) -> Result<Fact, Reason> {
-    let value = Value::Text(text(rt, "z")?);
+// The fact of a concept with a value.
+fn fact(rt: &HostRuntime, aliases: &Aliases, concept: &str, value: Value) -> Result<Fact, Reason> {
     Ok(Fact {
-        dimensions: dimensions(rt, aliases, "eg:A")?,
+        dimensions: dimensions(rt, aliases, concept)?,
         value,
     })
 }
 
-fn nil_fact(rt: &HostRuntime, aliases: &Aliases) -> Result<Fact, Reason> {
-    Ok(Fact {
-        dimensions: dimensions(rt, aliases, "eg:B")?,
-        value: Value::Nil,
-    })
+fn text_fact(rt: &HostRuntime, aliases: &Aliases) -> Result<Fact, Reason> {
+    let value = Value::Text(text(rt, "z")?);
+    fact(rt, aliases, "eg:A", value)
 }
 
-fn fact_equals_its_copy(rt: &HostRuntime, fact: &Fact) -> Result<bool, Reason> {
-    Ok(copied(rt, fact)? == *fact)
+// Whether a fact equals its copy, and is below that of another concept with nil.
+fn is_below_nil(rt: &HostRuntime, aliases: &Aliases, low: &Fact) -> bool {
+    match fact(rt, aliases, "eg:B", Value::Nil) {
+        Ok(high) => *low < high && equals_its_copy(rt, low),
+        Err(_) => false,
+    }
 }
 
-fn is_below_nil(rt: &HostRuntime, aliases: &Aliases, low: &Fact) -> Result<bool, Reason> {
-    let high = nil_fact(rt, aliases)?;
-    Ok(*low < high)
-}
-
-fn facts_rise(rt: &HostRuntime, aliases: &Aliases) -> Result<bool, Reason> {
-    let low = text_fact(rt, aliases)?;
-    is_below_nil(rt, aliases, &low)
-}
-
-fn copied_fact_is_equal(rt: &HostRuntime, aliases: &Aliases) -> Result<bool, Reason> {
-    let fact = text_fact(rt, aliases)?;
-    fact_equals_its_copy(rt, &fact)
+fn do_facts_rise(rt: &HostRuntime, aliases: &Aliases) -> bool {
+    match text_fact(rt, aliases) {
+        Ok(low) => is_below_nil(rt, aliases, &low),
+        Err(_) => false,
+    }
 }
 
 #[test]
 fn facts_are_ordered_by_dimensions_first(rt: HostRuntime) -> Result<(), Fail> {
     let aliases = example(&rt)?;
-    assert!(rt; facts_rise(&rt, &aliases)?);
-    assert!(rt; copied_fact_is_equal(&rt, &aliases)?);
+    assert!(rt; do_facts_rise(&rt, &aliases));
     Ok(())
 }

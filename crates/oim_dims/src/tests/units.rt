@@ -1,4 +1,4 @@
-use super::{bind, example, name, tell_refused, unit};
+use super::{aliases_of, example, name, tell_refused, unit};
 use crate::{Unit, can_write_unit, unit_refusal, write_unit};
 use oim_names::{Aliases, Name, Reason, Text};
 use std::alloc::AllocError;
@@ -18,39 +18,36 @@ fn unit_text(rt: &HostRuntime, aliases: &Aliases, unit: &Unit) -> Result<Option<
     }
 }
 
-// Whether two texts are of one unit.
-fn are_one(
-    rt: &HostRuntime,
-    aliases: &Aliases,
-    spelled: &str,
-    other: &str,
-) -> Result<bool, Reason> {
-    let first = unit(rt, aliases, spelled)?;
-    Ok(unit(rt, aliases, other)? == first)
+fn is_same(rt: &HostRuntime, aliases: &Aliases, spelled: &str, first: &Option<Unit>) -> bool {
+    match unit(rt, aliases, spelled) {
+        Ok(found) => found == *first,
+        Err(_) => false,
+    }
 }
 
-fn is_measure(
-    rt: &HostRuntime,
-    aliases: &Aliases,
-    found: &Name,
-    spelled: &str,
-) -> Result<bool, Reason> {
-    Ok(*found == name(rt, aliases, spelled)?)
+// Whether two texts are of one unit.
+fn are_one(rt: &HostRuntime, aliases: &Aliases, spelled: &str, other: &str) -> bool {
+    match unit(rt, aliases, spelled) {
+        Ok(first) => is_same(rt, aliases, other, &first),
+        Err(_) => false,
+    }
+}
+
+fn is_measure(rt: &HostRuntime, aliases: &Aliases, found: &Name, spelled: &str) -> bool {
+    match name(rt, aliases, spelled) {
+        Ok(name) => *found == name,
+        Err(_) => false,
+    }
 }
 
 // Whether names are those of so many texts.
-fn are_measures(
-    rt: &HostRuntime,
-    aliases: &Aliases,
-    found: &[Name],
-    spelled: &[&str],
-) -> Result<bool, Reason> {
+fn are_measures(rt: &HostRuntime, aliases: &Aliases, found: &[Name], spelled: &[&str]) -> bool {
     for (name, spelled) in found.iter().zip(spelled) {
-        if !is_measure(rt, aliases, name, spelled)? {
-            return Ok(false);
+        if !is_measure(rt, aliases, name, spelled) {
+            return false;
         }
     }
-    Ok(found.len() == spelled.len())
+    found.len() == spelled.len()
 }
 
 // Whether a text is of a unit with just these numerators and denominators.
@@ -60,15 +57,15 @@ fn has_measures(
     spelled: &str,
     over: &[&str],
     under: &[&str],
-) -> Result<bool, Reason> {
-    let Some(unit) = unit(rt, aliases, spelled)? else {
-        return Ok(false);
-    };
-    unit.known();
-    Ok(
-        are_measures(rt, aliases, unit.numerators(), over)?
-            && are_measures(rt, aliases, unit.denominators(), under)?,
-    )
+) -> bool {
+    match unit(rt, aliases, spelled) {
+        Ok(Some(unit)) => {
+            unit.known();
+            are_measures(rt, aliases, unit.numerators(), over)
+                && are_measures(rt, aliases, unit.denominators(), under)
+        }
+        _ => false,
+    }
 }
 
 const ONE_UNIT: [&str; 4] = [
@@ -83,9 +80,9 @@ fn measures_come_in_any_order(rt: HostRuntime) -> Result<(), Fail> {
     let aliases = example(&rt)?;
     let plain = "x:a*x:b/x:c";
     for spelled in &ONE_UNIT {
-        assert!(rt; are_one(&rt, &aliases, spelled, plain)?, "{spelled}");
+        assert!(rt; are_one(&rt, &aliases, spelled, plain), "{spelled}");
     }
-    assert!(rt; has_measures(&rt, &aliases, plain, &["x:a", "x:b"], &["x:c"])?);
+    assert!(rt; has_measures(&rt, &aliases, plain, &["x:a", "x:b"], &["x:c"]));
     Ok(())
 }
 
@@ -93,12 +90,16 @@ fn measures_come_in_any_order(rt: HostRuntime) -> Result<(), Fail> {
 fn measures_are_sorted_and_repeats_kept(rt: HostRuntime) -> Result<(), Fail> {
     let aliases = example(&rt)?;
     let sorted = ["eg:z", "x:a", "x:b", "x:b"];
-    assert!(rt; has_measures(&rt, &aliases, "x:b*eg:z*x:a*x:b", &sorted, &[])?);
+    assert!(rt; has_measures(&rt, &aliases, "x:b*eg:z*x:a*x:b", &sorted, &[]));
     Ok(())
 }
 
-fn is_no_unit(rt: &HostRuntime, aliases: &Aliases, spelled: &str) -> Result<bool, Reason> {
-    Ok(unit(rt, aliases, spelled)?.is_none())
+// Whether a text is of a unit, or where none is wanted, of none.
+fn is_unit(rt: &HostRuntime, aliases: &Aliases, spelled: &str, wanted: bool) -> bool {
+    match unit(rt, aliases, spelled) {
+        Ok(found) => found.is_some() == wanted,
+        Err(_) => false,
+    }
 }
 
 const NEARLY_PURE: [&str; 7] = [
@@ -114,10 +115,10 @@ const NEARLY_PURE: [&str; 7] = [
 #[test]
 fn pure_alone_is_no_unit(rt: HostRuntime) -> Result<(), Fail> {
     let aliases = example(&rt)?;
-    assert!(rt; is_no_unit(&rt, &aliases, "xbrli:pure")?);
-    assert!(rt; is_no_unit(&rt, &aliases, "(xbrli:pure)")?);
+    assert!(rt; is_unit(&rt, &aliases, "xbrli:pure", false));
+    assert!(rt; is_unit(&rt, &aliases, "(xbrli:pure)", false));
     for spelled in &NEARLY_PURE {
-        assert!(rt; !is_no_unit(&rt, &aliases, spelled)?, "{spelled}");
+        assert!(rt; is_unit(&rt, &aliases, spelled, true), "{spelled}");
     }
     Ok(())
 }
@@ -178,15 +179,15 @@ const REFUSALS: [(&str, Reason); 11] = [
     ("x:a:b", Reason::NameForm),
 ];
 
+fn has_refusal(rt: &HostRuntime, aliases: &Aliases, spelled: &str, reason: Reason) -> bool {
+    is_refused(rt, aliases, spelled, reason) && unit_refusal(aliases, spelled) == Some(reason)
+}
+
 #[test]
 fn the_least_refusal_of_any_piece_is_answered(rt: HostRuntime) -> Result<(), Fail> {
     let aliases = example(&rt)?;
     for (spelled, reason) in &REFUSALS {
-        assert!(rt; is_refused(&rt, &aliases, spelled, *reason), "{spelled}");
-        assert!(rt;
-            unit_refusal(&aliases, spelled) == Some(*reason),
-            "{spelled}"
-        );
+        assert!(rt; has_refusal(&rt, &aliases, spelled, *reason), "{spelled}");
     }
     assert!(rt; unit_refusal(&aliases, "(x:a*x:b)/x:c").is_none());
     Ok(())
@@ -202,28 +203,22 @@ const WRITTEN: [(&str, &str); 7] = [
     ("x:b*x:a/x:d*x:c*x:c", "(x:a*x:b)/(x:c*x:c*x:d)"),
 ];
 
-fn is_written(
-    rt: &HostRuntime,
-    aliases: &Aliases,
-    unit: &Unit,
-    plain: &str,
-) -> Result<bool, AllocError> {
-    match unit_text(rt, aliases, unit)? {
-        Some(written) => Ok(written.as_str() == plain),
-        None => Ok(false),
+fn is_written(rt: &HostRuntime, aliases: &Aliases, unit: &Unit, plain: &str) -> bool {
+    match unit_text(rt, aliases, unit) {
+        Ok(Some(written)) => written.as_str() == plain,
+        _ => false,
     }
 }
 
-fn is_unit_written(
-    rt: &HostRuntime,
-    aliases: &Aliases,
-    spelled: &str,
-    plain: &str,
-) -> Result<bool, Reason> {
-    match unit(rt, aliases, spelled)? {
-        Some(unit) => Ok(is_written(rt, aliases, &unit, plain)?),
-        None => Ok(false),
+fn is_unit_written(rt: &HostRuntime, aliases: &Aliases, spelled: &str, plain: &str) -> bool {
+    match unit(rt, aliases, spelled) {
+        Ok(Some(unit)) => is_written(rt, aliases, &unit, plain),
+        _ => false,
     }
+}
+
+fn is_written_and_read(rt: &HostRuntime, aliases: &Aliases, spelled: &str, plain: &str) -> bool {
+    is_unit_written(rt, aliases, spelled, plain) && are_one(rt, aliases, spelled, plain)
 }
 
 #[test]
@@ -231,39 +226,41 @@ fn units_are_written_and_read_back(rt: HostRuntime) -> Result<(), Fail> {
     let aliases = example(&rt)?;
     for (spelled, plain) in &WRITTEN {
         assert!(rt;
-            is_unit_written(&rt, &aliases, spelled, plain)?,
+            is_written_and_read(&rt, &aliases, spelled, plain),
             "{spelled}"
         );
-        assert!(rt; are_one(&rt, &aliases, spelled, plain)?, "{spelled}");
     }
     Ok(())
 }
 
-// Aliases with a prefix for one of the measures alone.
-fn few(rt: &HostRuntime) -> Result<Aliases, Reason> {
-    let mut aliases = Aliases::new(rt.alloc());
-    bind(rt, &mut aliases, "x", "http://example.org/u")?;
-    Ok(aliases)
+// A prefix for one of the measures alone.
+const FEW: [(&str, &str); 1] = [("x", "http://example.org/u")];
+
+// And two for the other, of which the first is not plain.
+const HIDDEN: [(&str, &str); 3] = [
+    ("x", "http://example.org/u"),
+    ("e*g", "http://example.org/t"),
+    ("eg", "http://example.org/t"),
+];
+
+fn cannot_write(rt: &HostRuntime, bindings: &[(&str, &str)], unit: &Unit) -> bool {
+    match aliases_of(rt, bindings) {
+        Ok(aliases) => !can_write_unit(&aliases, unit),
+        Err(_) => false,
+    }
 }
 
-// And with two for the other, of which the first is not plain.
-fn hidden(rt: &HostRuntime) -> Result<Aliases, Reason> {
-    let mut aliases = few(rt)?;
-    bind(rt, &mut aliases, "e*g", "http://example.org/t")?;
-    bind(rt, &mut aliases, "eg", "http://example.org/t")?;
-    Ok(aliases)
-}
-
-fn can_write(rt: &HostRuntime, aliases: &Aliases) -> Result<bool, Reason> {
-    match unit(rt, &example(rt)?, "x:a/eg:b")? {
-        Some(unit) => Ok(can_write_unit(aliases, &unit)),
-        None => Ok(true),
+fn is_unwritten(rt: &HostRuntime, aliases: &Aliases, bindings: &[(&str, &str)]) -> bool {
+    match unit(rt, aliases, "x:a/eg:b") {
+        Ok(Some(unit)) => cannot_write(rt, bindings, &unit),
+        _ => false,
     }
 }
 
 #[test]
 fn a_unit_is_written_with_plain_prefixes_alone(rt: HostRuntime) -> Result<(), Fail> {
-    assert!(rt; !can_write(&rt, &few(&rt)?)?);
-    assert!(rt; !can_write(&rt, &hidden(&rt)?)?);
+    let aliases = example(&rt)?;
+    assert!(rt; is_unwritten(&rt, &aliases, &FEW));
+    assert!(rt; is_unwritten(&rt, &aliases, &HIDDEN));
     Ok(())
 }

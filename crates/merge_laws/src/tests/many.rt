@@ -1,0 +1,86 @@
+use super::again::{absorb, merge, put};
+use super::{finite, rounded};
+use crate::{SortedMap, Summary};
+use oim_value::Decimals;
+use std::alloc::AllocError;
+use std::test::Fail;
+
+type Many = SortedMap<Place, Summary>;
+
+type Place = ((Decimals, Decimals), (Decimals, Decimals));
+
+// A key that wants no memory; a greater number gives a greater key.
+fn place(number: i64) -> Place {
+    (digits(number / 625), digits(number))
+}
+
+fn digits(number: i64) -> (Decimals, Decimals) {
+    (finite(number / 25 % 25 - 12), finite(number % 25 - 12))
+}
+
+fn put_all(rt: &HostRuntime, step: i64) -> Result<Many, AllocError> {
+    let mut map = SortedMap::new(rt.alloc());
+    let value = rounded("1");
+    for number in 0..200_000i64 {
+        if number.checked_rem(step) == Some(0) {
+            put(rt, &mut map, &place(number), &value)?;
+        }
+    }
+    Ok(map)
+}
+
+fn is_key_right(map: &Many, number: i64) -> bool {
+    let there = number % 3 == 0 || number % 2 == 0;
+    map.get(&place(number)).is_some() == there
+}
+
+// Whether the keys are those of each third and each second number, as far as some numbers tell.
+fn are_keys_right(map: &Many) -> bool {
+    for number in 0..200_000i64 {
+        if number % 997 == 0 && !is_key_right(map, number) {
+            return false;
+        }
+    }
+    true
+}
+
+fn has_last(map: &Many) -> bool {
+    match map.at(133_332) {
+        Some(entry) => *entry.0 == place(199_998),
+        None => false,
+    }
+}
+
+// Whether there are just the keys of each third and each second number.
+fn has_all_keys(map: &Many) -> bool {
+    map.len() == 133_333 && are_keys_right(map) && has_last(map)
+}
+
+// Takes in the keys of each second number; answers whether they were all there, and all are now.
+fn merges_halves(rt: &HostRuntime, map: &mut Many) -> bool {
+    match put_all(rt, 2) {
+        Ok(halves) => {
+            merge(rt, map, &halves).is_ok() && halves.len() == 100_000 && has_all_keys(map)
+        }
+        Err(_) => false,
+    }
+}
+
+#[test]
+fn many_keys_are_kept_in_order(rt: HostRuntime) -> Result<(), Fail> {
+    let mut map = put_all(&rt, 3)?;
+    assert!(rt; map.len() == 66_667 && merges_halves(&rt, &mut map));
+    Ok(())
+}
+
+fn absorb_halves(rt: &HostRuntime, map: &mut Many) -> Result<(), AllocError> {
+    let halves = put_all(rt, 2)?;
+    absorb(rt, map, halves)
+}
+
+#[test]
+fn many_keys_are_absorbed_in_order(rt: HostRuntime) -> Result<(), Fail> {
+    let mut map = put_all(&rt, 3)?;
+    assert!(rt; absorb_halves(&rt, &mut map).is_ok() && has_all_keys(&map));
+    Ok(())
+}
