@@ -79,6 +79,7 @@ fn read_content<'s, 'a>(
         alloc, sheet, aliases, glossaries, concept, parts, dimensions,
     ) {
         Ok(fact) => Ok(fact),
+        Err(Reason::OutOfMemory) => Err(Reason::OutOfMemory),
         Err(reason) => match names_refusal(sheet, aliases, dimensions, kind, parts.value) {
             Some(refusal) => Err(refusal),
             None => Err(reason),

@@ -46,7 +46,7 @@ fn read_all(
         IfErr result (λ r. (r ≡ at Place.Document Reason.OutOfMemory) ⊎ (said ≡ Err r)) }
 {
     let mut facts = Vec::with_capacity(alloc, objects.len())?;
-    let mut glossaries = Glossaries::new(alloc);
+    let mut glossaries = Glossaries::with_room(alloc, objects.len())?;
     let mut place: u64 = 1;
     for (_identifier, object) in objects.iter() {
         match read_fact(alloc, sheet, aliases, &mut glossaries, object) {

@@ -1,4 +1,4 @@
-ghost use Rattle.std.specs.Prelude.{List};
+ghost use Rattle.std.specs.Prelude.{List, IfOk};
 ghost use Rattle.oim_names.specs.Bindings.{Binding};
 ghost use Rattle.oim_report.specs.Glossaries.{AreGlossaries};
 ghost use Rattle.oim_report.specs.Sheet.{Sheet};
@@ -8,7 +8,7 @@ use crate::dimension_kind::DimensionKind;
 use crate::glossary::Glossary;
 use oim_dims::{Period, Unit};
 use oim_names::{Name, Text};
-use std::alloc::Global;
+use std::alloc::{AllocError, Global};
 
 /// What the texts of one report were read as so far, under one sheet and one set of prefixes.
 #[derive(Drop)]
@@ -26,18 +26,27 @@ pub(crate) struct Glossaries<'s, 'a> {
 }
 
 impl<'s, 'a> Glossaries<'s, 'a> {
-    /// No texts. Later calls take their memory from `alloc`.
-    pub(crate) fn new(alloc: Global) -> Self
-        ensures { (sheet : Sheet) (bs : List Binding) → AreGlossaries sheet bs result }
+    /// No texts, with room for so many in each, and at most `MOST_MEANINGS`.
+    ///
+    /// Errors: no memory.
+    pub(crate) fn with_room(alloc: Global, texts: usize) -> Result<Self, AllocError>
+        ensures { IfOk result (λ gs. (sheet : Sheet) (bs : List Binding) → AreGlossaries sheet bs gs) }
     {
-        Glossaries {
-            concepts: Glossary::new(alloc),
-            dimensions: Glossary::new(alloc),
-            entities: Glossary::new(alloc),
-            periods: Glossary::new(alloc),
-            units: Glossary::new(alloc),
-            languages: Glossary::new(alloc),
-            members: Glossary::new(alloc),
-        }
+        let concepts = Glossary::with_room(alloc, texts)?;
+        let dimensions = Glossary::with_room(alloc, texts)?;
+        let entities = Glossary::with_room(alloc, texts)?;
+        let periods = Glossary::with_room(alloc, texts)?;
+        let units = Glossary::with_room(alloc, texts)?;
+        let languages = Glossary::with_room(alloc, texts)?;
+        let members = Glossary::with_room(alloc, texts)?;
+        Ok(Glossaries {
+            concepts,
+            dimensions,
+            entities,
+            periods,
+            units,
+            languages,
+            members,
+        })
     }
 }

@@ -1,9 +1,9 @@
-ghost use Rattle.std.specs.Prelude.{◌≡◌, ℕ, List, None};
+ghost use Rattle.std.specs.Prelude.{◌≡◌, ℕ, List, None, IfOk};
 ghost use Rattle.std.specs.Option.{option_copied};
 ghost use Rattle.oim_report.specs.Glossary.{Adds, meaning};
 
 use crate::limits::MOST_MEANINGS;
-use std::alloc::Global;
+use std::alloc::{AllocError, Global};
 use std::collections::HashMap;
 
 /// Texts that were read, each with what it stands for, so that what comes again is not read again.
@@ -13,13 +13,14 @@ pub(crate) struct Glossary<'a, T> {
 }
 
 impl<'a, T> Glossary<'a, T> {
-    /// No texts. Later calls take their memory from `alloc`.
-    pub(crate) fn new(alloc: Global) -> Self
-        ensures { (t : List ℕ) → meaning result t ≡ None }
+    /// No texts, with room for so many, and at most `MOST_MEANINGS`.
+    ///
+    /// Errors: no memory.
+    pub(crate) fn with_room(alloc: Global, texts: usize) -> Result<Self, AllocError>
+        ensures { IfOk result (λ g. (t : List ℕ) → meaning g t ≡ None) }
     {
-        Glossary {
-            meanings: HashMap::new(alloc),
-        }
+        let meanings = HashMap::with_capacity(alloc, texts.min(MOST_MEANINGS))?;
+        Ok(Glossary { meanings })
     }
 
     /// What the text stands for, where it was added. It takes no memory.
@@ -31,14 +32,16 @@ impl<'a, T> Glossary<'a, T> {
 }
 
 impl<'a, T: Drop> Glossary<'a, T> {
-    /// Adds what the text stands for. Where there are `MOST_MEANINGS` texts, or there is no memory,
-    /// nothing changes.
+    /// Adds what the text stands for; where there is no room, nothing changes. It takes no memory.
     pub(crate) fn add(&mut self, text: &'a str, value: T)
         ensures { Adds self.old text.now value self.new }
     {
-        if self.meanings.len() >= MOST_MEANINGS {
+        let texts = self.meanings.len();
+        if texts >= MOST_MEANINGS || texts >= self.meanings.capacity() {
             return;
         }
-        let _ = self.meanings.insert(text, value);
+        // With room it takes no memory, so that no request can be refused.
+        let inserted: Result<_, _> = self.meanings.insert(text, value);
+        let _replaced = inserted.unwrap();
     }
 }

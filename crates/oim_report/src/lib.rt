@@ -41,17 +41,7 @@ mod sheet_form;
 mod sheet_kinds;
 mod taxonomy;
 #[cfg(test)]
-mod tests_duplicates;
-#[cfg(test)]
-mod tests_facts;
-#[cfg(test)]
-mod tests_kept;
-#[cfg(test)]
-mod tests_read_back;
-#[cfg(test)]
-mod tests_reports;
-#[cfg(test)]
-mod tests_sheet;
+mod tests;
 
 pub use concept_kind::ConceptKind;
 pub use dimension_kind::DimensionKind;

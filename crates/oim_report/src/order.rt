@@ -9,7 +9,9 @@ use std::cmp::Ordering;
 pub(crate) fn order_of(alloc: Global, facts: &[Fact]) -> Result<Vec<usize>, AllocError>
     ensures { IfOk result (λ places. IsOrderOf facts.now places.items) }
 {
-    let mut places: Vec<usize> = (0..facts.len()).collect(alloc)?;
+    // A list that is collected passes over a refused request for its room.
+    let mut places: Vec<usize> = Vec::with_capacity(alloc, facts.len())?;
+    places.extend(0..facts.len())?;
     places.sort_unstable_by(|i, j| compared(facts, *i, *j));
     Ok(places)
 }

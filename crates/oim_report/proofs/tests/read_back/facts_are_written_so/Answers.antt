@@ -2,7 +2,7 @@ use Rattle.std.proofs.Common.{refl}
 use Rattle.std.specs.Fmt.{digits}
 use Rattle.oim_dims.specs.Unit.{unit_text}
 use Rattle.serde_json.proofs.OnLiterals.{serde_json_on_literals}
-use Rattle.oim_report.proofs.tests_read_back.facts_are_written_so.Goals as goal
+use Rattle.oim_report.proofs.tests.read_back.facts_are_written_so.Goals as goal
 
 pub returns-clause-nothing : goal.returns-clause-nothing
 unfolding serde_json_on_literals

@@ -1,7 +1,7 @@
 use Rattle.std.proofs.Common.{refl}
 use Rattle.std.specs.Fmt.{digits}
 use Rattle.oim_dims.specs.Unit.{denominator_pieces, numerator_pieces, unit_text}
-use Rattle.oim_report.proofs.tests_read_back.parts_are_read_so.Goals as goal
+use Rattle.oim_report.proofs.tests.read_back.parts_are_read_so.Goals as goal
 
 pub returns-clause-text : goal.returns-clause-text
 returns-clause-text c = λ sheet concept region item. rw (concept, region, item) refl

@@ -1,0 +1,161 @@
+mod accepted;
+mod documents;
+mod facts;
+mod features;
+mod limits;
+
+use super::{SHEET, joined, read_sheet, tell_refused, told};
+use crate::{Place, Refusal, Report, Sheet, read_report};
+use oim_dims::Fact;
+use oim_names::{Reason, Text};
+use oim_value::Level;
+use std::alloc::AllocError;
+
+// A report up to what else stands in `documentInfo`.
+const TYPED: &str = r#"{"documentInfo":{"documentType":"https://xbrl.org/2021/xbrl-json""#;
+
+// The same, with the prefixes `eg`, `x`, `xbrli` and `xbrl`.
+const BOUND: &str =
+    r#"{"documentInfo":{"documentType":"https://xbrl.org/2021/xbrl-json","namespaces":{"eg":"http://example.org/t","x":"http://example.org/u","xbrli":"http://www.xbrl.org/2003/instance","xbrl":"https://xbrl.org/2021"}"#;
+
+const NO_FACTS: &str = r#"},"facts":{}}"#;
+
+// The same up to its facts.
+const FACTS: &str =
+    r#"{"documentInfo":{"documentType":"https://xbrl.org/2021/xbrl-json","namespaces":{"eg":"http://example.org/t","x":"http://example.org/u","xbrli":"http://www.xbrl.org/2003/instance","xbrl":"https://xbrl.org/2021"}},"facts":{"#;
+
+// What comes of a report.
+enum Answer<'t> {
+    /// It is refused by a reason of this number, and for a fact, by the fact's place.
+    InDocument(u8),
+    InFact(u8, u64),
+    Read,
+    /// It is read, has so many facts, of this level, and declares none.
+    HasLevel(usize, Level),
+    Declares(Level),
+    /// The references as they are kept.
+    Keeps(&'t [&'t str]),
+    /// The local names of the facts' concepts, and the order of the facts.
+    Sorts(&'t [&'t str], &'t [usize]),
+}
+
+use Answer::{Declares, HasLevel, InDocument, InFact, Keeps, Read, Sorts};
+
+// What comes of texts that stand in a report between two parts.
+struct Table<'t> {
+    start: &'t str,
+    rows: &'t [(Answer<'t>, &'t [&'t str])],
+    end: &'t str,
+}
+
+fn read<'s>(rt: &HostRuntime, sheet: &'s Sheet, bytes: &[u8]) -> Result<Report<'s>, Refusal> {
+    match read_report(rt.alloc(), sheet, bytes) {
+        Err(
+            Refusal {
+                reason: Reason::OutOfMemory,
+                place: Place::Document,
+            },
+        ) => {
+            tell_refused(rt);
+            read_report(rt.alloc(), sheet, bytes)
+        }
+        answer => answer,
+    }
+}
+
+fn is_so_refused(refusal: Refusal, answer: &Answer) -> bool {
+    let number = refusal.reason.number();
+    match answer {
+        InDocument(wanted) => number == *wanted && refusal.place == Place::Document,
+        InFact(wanted, place) => number == *wanted && refusal.place == Place::Fact(*place),
+        _ => false,
+    }
+}
+
+fn are_spelled(found: &[Text], texts: &[&str]) -> bool {
+    for (text, spelled) in found.iter().zip(texts) {
+        if text.as_str() != *spelled {
+            return false;
+        }
+    }
+    found.len() == texts.len()
+}
+
+fn are_of(facts: &[Fact], concepts: &[&str]) -> bool {
+    for (fact, local) in facts.iter().zip(concepts) {
+        if fact.dimensions.concept().local() != *local {
+            return false;
+        }
+    }
+    facts.len() == concepts.len()
+}
+
+fn is_so_read(report: &Report, answer: &Answer) -> bool {
+    match answer {
+        InDocument(_) | InFact(..) => false,
+        Read => true,
+        HasLevel(count, level) => {
+            report.facts().len() == *count
+                && report.level() == *level
+                && report.declared() == Level::All
+        }
+        Declares(level) => report.declared() == *level,
+        Keeps(texts) => are_spelled(report.taxonomy(), texts),
+        Sorts(concepts, order) => are_of(report.facts(), concepts) && report.order() == *order,
+    }
+}
+
+fn is_answer(rt: &HostRuntime, sheet: &Sheet, bytes: &[u8], answer: &Answer) -> bool {
+    match read(rt, sheet, bytes) {
+        Ok(report) => report.sheet().same_as(sheet) && is_so_read(&report, answer),
+        Err(refusal) => is_so_refused(refusal, answer),
+    }
+}
+
+fn is_answer_between(
+    rt: &HostRuntime,
+    sheet: &Sheet,
+    start: &str,
+    text: &str,
+    end: &str,
+    answer: &Answer,
+) -> Result<bool, AllocError> {
+    let report = joined(rt, start, text, end)?;
+    Ok(is_answer(rt, sheet, report.as_bytes(), answer))
+}
+
+fn row_holds(
+    rt: &HostRuntime,
+    sheet: &Sheet,
+    table: &Table,
+    answer: &Answer,
+    texts: &[&str],
+) -> Result<bool, AllocError> {
+    for text in texts {
+        let holds = is_answer_between(rt, sheet, table.start, text, table.end, answer)?;
+        if !told(rt, holds, text) {
+            return Ok(false);
+        }
+    }
+    Ok(true)
+}
+
+fn table_holds(rt: &HostRuntime, sheet: &Sheet, table: &Table) -> Result<bool, AllocError> {
+    for (answer, texts) in table.rows {
+        if !row_holds(rt, sheet, table, answer, texts)? {
+            return Ok(false);
+        }
+    }
+    Ok(true)
+}
+
+/// Whether the tables hold under a sheet.
+fn hold(rt: &HostRuntime, sheet: &str, tables: &[Table]) -> Result<bool, Reason> {
+    let sheet = read_sheet(rt, sheet)?;
+    for table in tables {
+        if !table_holds(rt, &sheet, table)? {
+            return Ok(false);
+        }
+    }
+    Ok(true)
+}

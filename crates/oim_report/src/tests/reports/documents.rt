@@ -1,0 +1,298 @@
+use super::{
+    BOUND, InDocument, InFact, NO_FACTS, Read, SHEET, TYPED, Table, hold, is_answer, read_sheet,
+};
+use crate::Sheet;
+use std::test::Fail;
+
+const EMPTY: &str =
+    r#"{"documentInfo":{"documentType":"https://xbrl.org/2021/xbrl-json","namespaces":{},"taxonomy":[]},"facts":{}}"#;
+
+const TEXTS: [Table; 3] = [
+    // a document is a JSON text
+    Table {
+        start: "",
+        rows: &[(InDocument(1), &["", "{}{}", "\u{feff}\u{feff}{}"])],
+        end: "",
+    },
+    Table {
+        start: r#"{"documentInfo":{"documentType":"https://xbrl.org/2021/xbrl-json"},"eg:x":"#,
+        rows: &[
+            (InDocument(1), &["1e999", r#""\ud800""#, "\"\u{1}\""]),
+            (Read, &["0e999", r#""\ud800\udc00""#]),
+        ],
+        end: "}",
+    },
+    // one byte order mark is skipped
+    Table {
+        start: "",
+        rows: &[
+            (Read, &["", "\u{feff}"]),
+            (InDocument(1), &["\u{feff}\u{feff}", " \u{feff}"]),
+        ],
+        end: EMPTY,
+    },
+];
+
+fn no_prefix_is_read(rt: &HostRuntime, sheet: &Sheet, bytes: &[u8]) -> bool {
+    for (count, _) in bytes.iter().enumerate() {
+        let prefix = bytes.get(..count).unwrap_or(bytes);
+        if !is_answer(rt, sheet, prefix, &InDocument(1)) {
+            return false;
+        }
+    }
+    is_answer(rt, sheet, bytes, &Read)
+}
+
+const HUNDRED: &str =
+    r#"{"documentInfo":{"documentType":"https://xbrl.org/2021/xbrl-json","namespaces":{"eg":"http://example.org/t","x":"http://example.org/u","xbrli":"http://www.xbrl.org/2003/instance","xbrl":"https://xbrl.org/2021"}},"facts":{"a":{"value":"100","decimals":0,"dimensions":{"concept":"eg:A"}}}}"#;
+
+#[test]
+fn a_document_is_a_whole_json_text(rt: HostRuntime) -> Result<(), Fail> {
+    assert!(rt; hold(&rt, SHEET, &TEXTS)?);
+    let sheet = read_sheet(&rt, SHEET)?;
+    // it is UTF-8
+    assert!(rt; is_answer(&rt, &sheet, b"{\"eg:x\":\"\xff\"}", &InDocument(1)));
+    assert!(rt; no_prefix_is_read(&rt, &sheet, HUNDRED.as_bytes()));
+    Ok(())
+}
+
+const MEMBERS: [Table; 4] = [
+    // parts have their kinds
+    Table {
+        start: "",
+        rows: &[
+            (InDocument(2), &["[]", "7", "null", "{}", r#"{"facts":{}}"#]),
+            (
+                InDocument(2),
+                &[r#"{"documentInfo":[]}"#, r#"{"documentInfo":null}"#],
+            ),
+        ],
+        end: "",
+    },
+    Table {
+        start: TYPED,
+        rows: &[
+            (
+                InDocument(2),
+                &[
+                    r#","namespaces":[]}"#,
+                    r#","namespaces":null}"#,
+                    r#","features":[]}"#,
+                    r#","features":null}"#,
+                    r#","taxonomy":{}}"#,
+                    r#","taxonomy":null}"#,
+                    r#"},"facts":[]"#,
+                    r#"},"facts":null"#,
+                ],
+            ),
+            (
+                Read,
+                &[
+                    "}",
+                    r#","namespaces":{},"features":{},"taxonomy":[]},"facts":{}"#,
+                ],
+            ),
+        ],
+        end: "}",
+    },
+    // unknown members are extensions where their keys have a colon
+    Table {
+        start: TYPED,
+        rows: &[
+            (
+                InDocument(3),
+                &[r#"},"colour":1"#, r#"},"":1"#, r#"},"namespaces":{}"#],
+            ),
+            (
+                InDocument(3),
+                &[r#","colour":1}"#, r#","":1}"#, r#","facts":{}}"#],
+            ),
+            (
+                Read,
+                &[
+                    r#","q:x":1,":":[]},"q:y":{"z":null},":":1"#,
+                    r#","linkTypes":7,"linkGroups":null}"#,
+                ],
+            ),
+        ],
+        end: "}",
+    },
+    // the document type is that of xBRL-JSON
+    Table {
+        start: r#"{"documentInfo":{"#,
+        rows: &[
+            (
+                InDocument(4),
+                &[
+                    "",
+                    r#""documentType":null"#,
+                    r#""documentType":["https://xbrl.org/2021/xbrl-json"]"#,
+                    r#""documentType":"https://xbrl.org/2021/xbrl-csv""#,
+                    r#""documentType":"https://xbrl.org/2021/xbrl-json/""#,
+                ],
+            ),
+            (
+                Read,
+                &[
+                    r#""documentType":"https://xbrl.org/2021/xbrl-json""#,
+                    r#""documentType":"https:\/\/xbrl.org/2021/xbrl\u002djson""#,
+                ],
+            ),
+        ],
+        end: "}}",
+    },
+];
+
+const INFO: [Table; 3] = [
+    // prefixes are bound to URIs
+    Table {
+        start: r#"{"documentInfo":{"documentType":"https://xbrl.org/2021/xbrl-json","namespaces":{"#,
+        rows: &[
+            (
+                InDocument(5),
+                &[
+                    r#""":"u:t""#,
+                    r#""a b":"u:t""#,
+                    r#""a\tb":"u:t""#,
+                    r#""a:b":"u:t""#,
+                    r#""a":"""#,
+                    r#""a":null"#,
+                    r#""a":["u:t"]"#,
+                ],
+            ),
+            (
+                Read,
+                &[
+                    r#""a\u000b":"u:t""#,
+                    "\"a\u{a0}*\":\" \"",
+                    r#""a":"u:t","b":"u:t","xbrl":"u:x","c":"https://xbrl.org/2021""#,
+                ],
+            ),
+        ],
+        end: "}}}",
+    },
+    // the base is a web address
+    Table {
+        start: BOUND,
+        rows: &[
+            (
+                InDocument(6),
+                &[
+                    r#","baseURL":"d/r.json""#,
+                    r#","baseURL":"""#,
+                    r#","baseURL":"urn:x:Y""#,
+                    r#","baseURL":"ftp://x.org/""#,
+                    r#","baseURL":null"#,
+                    r#","baseURL":7"#,
+                ],
+            ),
+            (Read, &[r#","baseURL":"HTTPS://x.org""#]),
+        ],
+        end: NO_FACTS,
+    },
+    // references are resolved or refused
+    Table {
+        start: BOUND,
+        rows: &[
+            (
+                InDocument(7),
+                &[
+                    r#","taxonomy":[null]"#,
+                    r#","taxonomy":["a.xsd",1]"#,
+                    r#","taxonomy":[["a.xsd"]]"#,
+                    r#","taxonomy":["http://["],"baseURL":"http://x.org/""#,
+                    r#","taxonomy":["a.xsd","//["],"baseURL":"http://x.org/""#,
+                ],
+            ),
+            (
+                Read,
+                &[
+                    r#","taxonomy":["http://["]"#,
+                    r#","taxonomy":["urn:x:Y","a.xsd",""],"baseURL":"http://x.org/""#,
+                ],
+            ),
+        ],
+        end: NO_FACTS,
+    },
+];
+
+#[test]
+fn parts_of_a_document_have_their_forms(rt: HostRuntime) -> Result<(), Fail> {
+    assert!(rt; hold(&rt, SHEET, &MEMBERS)?);
+    assert!(rt; hold(&rt, SHEET, &INFO)?);
+    Ok(())
+}
+
+// Each document has what is answered, and what has the next number.
+const TWO_FAULTS: [Table; 3] = [
+    Table {
+        start: "",
+        rows: &[
+            (
+                InDocument(2),
+                &[
+                    r#"{"documentInfo":7,"colour":1}"#,
+                    r#"{"documentInfo":{"features":[]},"colour":1}"#,
+                    r#"{"documentInfo":{"colour":1},"facts":[]}"#,
+                ],
+            ),
+            (
+                InDocument(3),
+                &[
+                    r#"{"documentInfo":{"colour":1}}"#,
+                    r#"{"documentInfo":{},"colour":1}"#,
+                ],
+            ),
+            (
+                InDocument(4),
+                &[r#"{"documentInfo":{"namespaces":{"":"u:t"}}}"#],
+            ),
+        ],
+        end: "",
+    },
+    Table {
+        start: TYPED,
+        rows: &[
+            (InDocument(5), &[r#","namespaces":{"":"u:t"},"baseURL":1"#]),
+            (
+                InDocument(6),
+                &[
+                    r#","baseURL":"d","taxonomy":[1]"#,
+                    r#","baseURL":"d","taxonomy":["a.xsd"]"#,
+                ],
+            ),
+        ],
+        end: "}}",
+    },
+    Table {
+        start: BOUND,
+        rows: &[(
+            InDocument(7),
+            &[r#","taxonomy":[1],"features":{"xbrl:allowedDuplicates":1}"#],
+        )],
+        end: NO_FACTS,
+    },
+];
+
+// Each document has a fact that is none.
+const BEFORE_FACTS: Table = Table {
+    start: BOUND,
+    rows: &[
+        (InFact(2, 1), &[""]),
+        (InDocument(3), &[r#","colour":1"#]),
+        (InDocument(6), &[r#","baseURL":1"#]),
+        (InDocument(7), &[r#","taxonomy":[1]"#]),
+        (
+            InDocument(8),
+            &[r#","features":{"xbrl:allowedDuplicates":"some"}"#],
+        ),
+    ],
+    end: r#"},"facts":{"a":7}}"#,
+};
+
+#[test]
+fn the_least_fault_of_a_document_is_answered(rt: HostRuntime) -> Result<(), Fail> {
+    assert!(rt; hold(&rt, SHEET, &TWO_FAULTS)?);
+    assert!(rt; hold(&rt, SHEET, &[BEFORE_FACTS])?);
+    Ok(())
+}

@@ -1,0 +1,222 @@
+use super::{FACTS, InDocument, InFact, Read, SHEET, Table, hold};
+use std::test::Fail;
+
+const PLACES: [Table; 3] = [
+    // the first refused fact is answered by its place
+    Table {
+        start: FACTS,
+        rows: &[
+            (
+                InFact(13, 2),
+                &[
+                    r#""a":{"value":"1","dimensions":{"concept":"eg:A"}},"b":{"value":"1","dimensions":{"concept":"q:A"}},"c":{"value":"2","dimensions":{"concept":"eg:A"}}"#,
+                    r#""b":{"value":"1","dimensions":{"concept":"q:A"}},"a":{"value":"1","dimensions":{"concept":"eg:A"}}"#,
+                ],
+            ),
+            (
+                InFact(2, 1),
+                &[r#""a":7,"b":{"value":"1","dimensions":{"concept":"q:A"}}"#],
+            ),
+            (
+                InFact(13, 1),
+                &[r#""b":7,"a":{"value":"1","dimensions":{"concept":"q:A"}}"#],
+            ),
+        ],
+        end: "}}",
+    },
+    // facts stand in byte order of any identifiers
+    Table {
+        start: FACTS,
+        rows: &[
+            (
+                InFact(2, 1),
+                &[
+                    r#""a":{"value":"1"},"B":7"#,
+                    r#""f9":{"value":"1"},"f10":7"#,
+                    r#""f":{"value":"1"},"":7"#,
+                    "\"\u{10000}\":{\"value\":\"1\"},\"\u{e000}\":7",
+                ],
+            ),
+            (InFact(11, 1), &[r#""f":7,"eg:f":{"value":"1"}"#]),
+        ],
+        end: "}}",
+    },
+    // what comes again elsewhere is read anew
+    Table {
+        start: FACTS,
+        rows: &[
+            (
+                InFact(22, 2),
+                &[
+                    r#""a":{"value":"1","dimensions":{"concept":"eg:A","unit":"x:a"}},"b":{"value":"x","dimensions":{"concept":"eg:T","unit":"x:a"}}"#,
+                ],
+            ),
+            (
+                InFact(12, 2),
+                &[
+                    r#""a":{"value":"1","dimensions":{"concept":"eg:A","entity":"x:a b"}},"b":{"value":"1","dimensions":{"concept":"eg:A","eg:Reg":"x:a b"}}"#,
+                    r#""a":{"value":"1","dimensions":{"concept":"eg:A","eg:Sku":"North"}},"b":{"value":"1","dimensions":{"concept":"eg:A","eg:Reg":"North"}}"#,
+                ],
+            ),
+            (
+                InFact(17, 2),
+                &[
+                    r#""a":{"value":"1","dimensions":{"concept":"eg:A","eg:Reg":"eg:B"}},"b":{"value":"1","dimensions":{"concept":"eg:A","eg:B":"eg:Reg"}}"#,
+                ],
+            ),
+            (
+                InFact(16, 2),
+                &[
+                    r#""a":{"value":"1","dimensions":{"concept":"eg:A","eg:Reg":"eg:North"}},"b":{"value":"1","dimensions":{"concept":"eg:North"}}"#,
+                ],
+            ),
+            (
+                Read,
+                &[
+                    r#""a":{"value":"1","dimensions":{"concept":"eg:A","entity":"x:1","unit":"x:a"}},"b":{"value":"1","dimensions":{"concept":"eg:A","entity":"x:a","unit":"x:1","eg:Reg":"x:a","eg:Sku":"x:1"}}"#,
+                ],
+            ),
+        ],
+        end: "}}",
+    },
+];
+
+const PARTS: [Table; 5] = [
+    // links and notes are refused
+    Table {
+        start: r#"{"documentInfo":{"documentType":"https://xbrl.org/2021/xbrl-json","namespaces":{"eg":"http://example.org/t"}},"facts":{"a":"#,
+        rows: &[
+            (
+                InFact(10, 1),
+                &[r#"{"value":"1","dimensions":{"concept":"eg:A","noteId":"k1"}}"#],
+            ),
+            (
+                InFact(9, 1),
+                &[r#"{"value":"1","dimensions":{"concept":"eg:A"},"links":{"eg:l":{}}}"#],
+            ),
+            (
+                Read,
+                &[r#"{"value":"1","dimensions":{"concept":"eg:A"},"links":{}}"#],
+            ),
+        ],
+        end: "}}",
+    },
+    // numbers have a form and at most 18 digits
+    Table {
+        start: r#"{"documentInfo":{"documentType":"https://xbrl.org/2021/xbrl-json","namespaces":{"eg":"http://example.org/t"}},"facts":{"a":{"dimensions":{"concept":"eg:A"},"value":""#,
+        rows: &[
+            (
+                Read,
+                &[
+                    "999999999999999999",
+                    "000999999999999999999",
+                    "0.000000000000000001",
+                ],
+            ),
+            (Read, &["0.10000000000000000000", "1."]),
+            (
+                InFact(27, 1),
+                &["1000000000000000000", "0.0000000000000000001"],
+            ),
+            (InFact(26, 1), &["", ".", "+", "1e2", "INF", " 1"]),
+        ],
+        end: r#""}}}"#,
+    },
+    // decimals are whole numbers in a range
+    Table {
+        start: r#"{"documentInfo":{"documentType":"https://xbrl.org/2021/xbrl-json","namespaces":{"eg":"http://example.org/t"}},"facts":{"a":{"dimensions":{"concept":"eg:A"},"value":"1","decimals":"#,
+        rows: &[
+            (Read, &["12", "-12"]),
+            (
+                InFact(29, 1),
+                &["13", "-13", "18446744073709551615", "-9223372036854775808"],
+            ),
+            (
+                InFact(28, 1),
+                &["18446744073709551616", "-9223372036854775809", "0.5", "1.0"],
+            ),
+            (InFact(28, 1), &["1e0", "-0", "null"]),
+            (InDocument(1), &["1e999"]),
+        ],
+        end: "}}}",
+    },
+    // periods are real date-times in order
+    Table {
+        start: r#"{"documentInfo":{"documentType":"https://xbrl.org/2021/xbrl-json","namespaces":{"eg":"http://example.org/t"}},"facts":{"a":{"value":"1","dimensions":{"concept":"eg:A","period":""#,
+        rows: &[
+            (
+                Read,
+                &[
+                    "0001-01-01T00:00:00",
+                    "9999-12-30T24:00:00",
+                    "2020-02-29T00:00:00",
+                ],
+            ),
+            (
+                Read,
+                &[
+                    "2021-01-01T24:00:00",
+                    "2021-01-01T00:00:00/2020-12-31T24:00:00",
+                ],
+            ),
+            (
+                InFact(19, 1),
+                &["0000-01-01T00:00:00", "9999-12-31T24:00:00"],
+            ),
+            (
+                InFact(19, 1),
+                &["2021-02-29T00:00:00", "2021-01-01T24:00:01", ""],
+            ),
+            (InFact(20, 1), &["2021-01-01T00:00:00/2020-12-31T23:59:59"]),
+        ],
+        end: r#""}}}}"#,
+    },
+    // units are sides of names
+    Table {
+        start: r#"{"documentInfo":{"documentType":"https://xbrl.org/2021/xbrl-json","namespaces":{"eg":"http://example.org/t","x":"http://example.org/u","xbrli":"http://www.xbrl.org/2003/instance"}},"facts":{"a":{"value":"1","dimensions":{"concept":"eg:A","unit":""#,
+        rows: &[
+            (Read, &["x:a*x:b/x:c", "(x:b*x:a)/(x:c)", "xbrli:pure/x:c"]),
+            (InFact(21, 1), &["x:a/", "x:a/x:b/x:c", "(x:a", ""]),
+            (InFact(12, 1), &["a/x:b"]),
+            (InFact(13, 1), &["q:a"]),
+        ],
+        end: r#""}}}}"#,
+    },
+];
+
+#[test]
+fn facts_are_answered_by_their_places(rt: HostRuntime) -> Result<(), Fail> {
+    assert!(rt; hold(&rt, SHEET, &PLACES)?);
+    assert!(rt; hold(&rt, SHEET, &PARTS)?);
+    Ok(())
+}
+
+const NAMES: Table = Table {
+    start: r#"{"documentInfo":{"documentType":"https://xbrl.org/2021/xbrl-json","namespaces":{"eg":"http://example.org/t","x":"http://example.org/u","xbrli":"http://www.xbrl.org/2003/instance","xbrl":"https://xbrl.org/2021"}},"facts":{"a":{"value":"1","dimensions":{"concept":""#,
+    rows: &[
+        (Read, &["eg:A"]),
+        (InFact(12, 1), &["A", "eg:", "eg:A:B", "eg:A B", ":A"]),
+        (InFact(13, 1), &["EG:A"]),
+        (InFact(14, 1), &["xbrl:A"]),
+        (InFact(16, 1), &["eg:T"]),
+    ],
+    end: r#""}}}}"#,
+};
+
+// Under an empty sheet.
+const UNKNOWN: Table = Table {
+    start: FACTS,
+    rows: &[(
+        InFact(16, 1),
+        &[r#""a":{"value":"1","dimensions":{"concept":"eg:A"}}"#],
+    )],
+    end: "}}",
+};
+
+#[test]
+fn names_are_those_of_the_sheet(rt: HostRuntime) -> Result<(), Fail> {
+    let sheet = r#"{"namespaces":{"zz":"http://example.org/t"},"concepts":{"zz:A":"numeric"}}"#;
+    assert!(rt; hold(&rt, sheet, &[NAMES])?);
+    assert!(rt; hold(&rt, "{}", &[UNKNOWN])?);
+    Ok(())
+}

@@ -1,0 +1,149 @@
+use super::{BOUND, InDocument, InFact, Read, SHEET, Table, hold};
+use std::test::Fail;
+
+// Two equal facts, which `none` does not allow.
+const REPEATED: &str =
+    r#"},"facts":{"a":{"value":"1","dimensions":{"concept":"eg:A"}},"b":{"value":"1","dimensions":{"concept":"eg:A"}}}}"#;
+
+const FEATURES: [Table; 4] = [
+    // a declared level is one of four texts
+    Table {
+        start: r#"{"documentInfo":{"documentType":"https://xbrl.org/2021/xbrl-json","namespaces":{"xbrl":"https://xbrl.org/2021"},"features":{"xbrl:allowedDuplicates":"#,
+        rows: &[
+            (
+                Read,
+                &[r#""none""#, r#""complete""#, r#""consistent""#, r#""all""#],
+            ),
+            (
+                InDocument(8),
+                &[
+                    r#""""#,
+                    r#""None""#,
+                    r#""all ""#,
+                    r#""some""#,
+                    "null",
+                    "0",
+                    r#"["none"]"#,
+                ],
+            ),
+        ],
+        end: "}}}",
+    },
+    // the feature is known by the URI of its prefix
+    Table {
+        start: r#"{"documentInfo":{"documentType":"https://xbrl.org/2021/xbrl-json","namespaces":{"eg":"http://example.org/t","#,
+        rows: &[
+            (
+                InDocument(31),
+                &[
+                    r#""y":"https://xbrl.org/2021"},"features":{"y:allowedDuplicates":"none"}"#,
+                    r#""xbrl":"https://xbrl.org/2021"},"features":{"xbrl:allowedDuplicates":"none"}"#,
+                ],
+            ),
+            (
+                Read,
+                &[
+                    r#""y":"https://xbrl.org/2021"},"features":{"xbrl:allowedDuplicates":"none"}"#,
+                    r#""xbrl":"http://example.org/u"},"features":{"xbrl:allowedDuplicates":"none"}"#,
+                    r#""xbrl":"https://xbrl.org/2021/"},"features":{"xbrl:allowedDuplicates":"none"}"#,
+                ],
+            ),
+        ],
+        end: REPEATED,
+    },
+    // other features are passed over
+    Table {
+        start: BOUND,
+        rows: &[(
+            Read,
+            &[
+                r#","features":{}"#,
+                r#","features":{"x:allowedDuplicates":"none"}"#,
+                r#","features":{"q:allowedDuplicates":7}"#,
+                r#","features":{"allowedDuplicates":7,":allowedDuplicates":7,"":7}"#,
+                r#","features":{"xbrl:allowedDuplicates:":7}"#,
+                r#","features":{"xbrl:alloweddDuplicates":"none"}"#,
+                r#","features":{"xbrl:allowedDuplicates":"all","x:allowedDuplicates":"none"}"#,
+                r#","features":{"xbrl":"none","xbrl:":"none"}"#,
+            ],
+        )],
+        end: REPEATED,
+    },
+    // the feature stands once
+    Table {
+        start: r#"{"documentInfo":{"documentType":"https://xbrl.org/2021/xbrl-json","namespaces":{"xbrl":"https://xbrl.org/2021","y":"https://xbrl.org/2021"},"features":{"#,
+        rows: &[
+            (
+                InDocument(8),
+                &[
+                    r#""xbrl:allowedDuplicates":"all","y:allowedDuplicates":"all""#,
+                    r#""xbrl:allowedDuplicates":"all","y:allowedDuplicates":"none""#,
+                    r#""xbrl:allowedDuplicates":"all","y:allowedDuplicates":7"#,
+                ],
+            ),
+            (Read, &[r#""y:allowedDuplicates":"all""#]),
+        ],
+        end: "}}}",
+    },
+];
+
+const DECLARED: &str =
+    r#"{"documentInfo":{"documentType":"https://xbrl.org/2021/xbrl-json","namespaces":{"eg":"http://example.org/t","xbrl":"https://xbrl.org/2021"},"features":{"xbrl:allowedDuplicates":"#;
+
+const DUPLICATES: [Table; 5] = [
+    // equal facts need `complete`
+    Table {
+        start: DECLARED,
+        rows: &[
+            (InDocument(31), &[r#""none""#]),
+            (Read, &[r#""complete""#, r#""consistent""#, r#""all""#]),
+        ],
+        end: r#"}},"facts":{"a":{"value":"1","decimals":0,"dimensions":{"concept":"eg:A"}},"b":{"value":"1","decimals":0,"dimensions":{"concept":"eg:A"}}}}"#,
+    },
+    // facts that meet need `consistent`
+    Table {
+        start: DECLARED,
+        rows: &[
+            (InDocument(31), &[r#""none""#, r#""complete""#]),
+            (Read, &[r#""consistent""#, r#""all""#]),
+        ],
+        end: r#"}},"facts":{"a":{"value":"1","decimals":0,"dimensions":{"concept":"eg:A"}},"b":{"value":"1","dimensions":{"concept":"eg:A"}}}}"#,
+    },
+    // facts that do not meet need `all`
+    Table {
+        start: DECLARED,
+        rows: &[
+            (
+                InDocument(31),
+                &[r#""none""#, r#""complete""#, r#""consistent""#],
+            ),
+            (Read, &[r#""all""#]),
+        ],
+        end: r#"}},"facts":{"a":{"value":"1","dimensions":{"concept":"eg:A"}},"b":{"value":null,"dimensions":{"concept":"eg:A"}}}}"#,
+    },
+    // facts without duplicates need `none`
+    Table {
+        start: DECLARED,
+        rows: &[(
+            Read,
+            &[r#""none""#, r#""complete""#, r#""consistent""#, r#""all""#],
+        )],
+        end: r#"}},"facts":{"a":{"value":"1","dimensions":{"concept":"eg:A"}},"b":{"value":"1","dimensions":{"concept":"eg:B"}}}}"#,
+    },
+    // duplicates are answered last
+    Table {
+        start: DECLARED,
+        rows: &[
+            (InFact(2, 3), &[r#""none""#]),
+            (InDocument(8), &[r#""some""#]),
+        ],
+        end: r#"}},"facts":{"a":{"value":"1","dimensions":{"concept":"eg:A"}},"b":{"value":"1","dimensions":{"concept":"eg:A"}},"c":7}}"#,
+    },
+];
+
+#[test]
+fn duplicates_are_allowed_by_the_feature(rt: HostRuntime) -> Result<(), Fail> {
+    assert!(rt; hold(&rt, SHEET, &FEATURES)?);
+    assert!(rt; hold(&rt, SHEET, &DUPLICATES)?);
+    Ok(())
+}

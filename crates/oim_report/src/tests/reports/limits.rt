@@ -1,0 +1,88 @@
+use super::{Answer, InDocument, Read, SHEET, is_answer_between, read_sheet};
+use crate::Sheet;
+use crate::tests::{joined, repeated, told};
+use std::alloc::AllocError;
+use std::test::Fail;
+
+// A report with a piece and what closes it, each so many times between a start and an end.
+struct Long<'t> {
+    start: &'t str,
+    piece: &'t str,
+    closing: &'t str,
+    end: &'t str,
+    counts: &'t [(usize, Answer<'t>)],
+}
+
+const LIMITS: [Long; 4] = [
+    // nesting ends at 127
+    Long {
+        start: r#"{"documentInfo":{"documentType":"https://xbrl.org/2021/xbrl-json"},"eg:x":"#,
+        piece: "[",
+        closing: "]",
+        end: "}",
+        counts: &[
+            (100, Read),
+            (126, Read),
+            (127, InDocument(1)),
+            (128, InDocument(1)),
+        ],
+    },
+    // a reference has at most 65,536 bytes, also as it is kept
+    Long {
+        start: r#"{"documentInfo":{"documentType":"https://xbrl.org/2021/xbrl-json","taxonomy":[""#,
+        piece: "a",
+        closing: "",
+        end: r#""]}}"#,
+        counts: &[(65_536, Read), (65_537, InDocument(7))],
+    },
+    Long {
+        start: r#"{"documentInfo":{"documentType":"https://xbrl.org/2021/xbrl-json","taxonomy":["http://x.org/"#,
+        piece: "^",
+        closing: "",
+        end: r#""]}}"#,
+        counts: &[(21_841, Read), (21_842, InDocument(7))],
+    },
+    // a base has at most 65,536 bytes
+    Long {
+        start: r#"{"documentInfo":{"documentType":"https://xbrl.org/2021/xbrl-json","baseURL":"http://x.org/"#,
+        piece: "a",
+        closing: "",
+        end: r#""},"facts":{}}"#,
+        counts: &[(65_523, Read), (65_524, InDocument(6))],
+    },
+];
+
+fn pieces(rt: &HostRuntime, long: &Long, count: usize) -> Result<String, AllocError> {
+    let opened = repeated(rt, long.piece, count)?;
+    let closed = repeated(rt, long.closing, count)?;
+    joined(rt, &opened, "", &closed)
+}
+
+fn count_holds(
+    rt: &HostRuntime,
+    sheet: &Sheet,
+    long: &Long,
+    count: usize,
+    answer: &Answer,
+) -> Result<bool, AllocError> {
+    let pieces = pieces(rt, long, count)?;
+    is_answer_between(rt, sheet, long.start, &pieces, long.end, answer)
+}
+
+fn limit_holds(rt: &HostRuntime, sheet: &Sheet, long: &Long) -> Result<bool, AllocError> {
+    for (count, answer) in long.counts {
+        if !count_holds(rt, sheet, long, *count, answer)? {
+            return Ok(told(rt, false, long.start));
+        }
+    }
+    Ok(true)
+}
+
+#[test]
+fn nesting_and_texts_have_limits(rt: HostRuntime) -> Result<(), Fail> {
+    let sheet = read_sheet(&rt, SHEET)?;
+    for long in &LIMITS {
+        assert!(rt; limit_holds(&rt, &sheet, long)?);
+    }
+    Ok(())
+}

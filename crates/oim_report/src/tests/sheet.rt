@@ -1,0 +1,170 @@
+use super::{aliases_of, read_sheet, tell_refused, told};
+use crate::{ConceptKind, DimensionKind, Sheet};
+use oim_names::{Aliases, Name, Reason};
+use std::test::Fail;
+
+// Sheets by what they are refused for, if anything.
+const SHEETS: [(Option<Reason>, &[&str]); 9] = [
+    (Some(Reason::NotJson), &["", "{"]),
+    // a sheet has its form
+    (
+        Some(Reason::MemberForm),
+        &[
+            "[]",
+            r#"{"namespaces":null}"#,
+            r#"{"concepts":[]}"#,
+            r#"{"dimensions":"eg:D"}"#,
+            r#"{"concepts":[],"colour":1}"#,
+        ],
+    ),
+    (
+        Some(Reason::UnknownMember),
+        &[r#"{"colour":1}"#, r#"{"namespaces":{"":""},"colour":1}"#],
+    ),
+    (
+        Some(Reason::Namespace),
+        &[
+            r#"{"namespaces":{"":"u:t"}}"#,
+            r#"{"namespaces":{"eg":1}}"#,
+            r#"{"namespaces":{"eg":""}}"#,
+            r#"{"namespaces":{"eg":1},"concepts":{"A":"text"}}"#,
+        ],
+    ),
+    // keys of a sheet are names
+    (
+        Some(Reason::NameForm),
+        &[
+            r#"{"concepts":{"A":"numeric"}}"#,
+            r#"{"dimensions":{"A":"typed"}}"#,
+            r#"{"concepts":{"q:A":"text"},"dimensions":{"A":1}}"#,
+        ],
+    ),
+    (
+        Some(Reason::UnboundPrefix),
+        &[
+            r#"{"concepts":{"eg:A":"text"}}"#,
+            r#"{"dimensions":{"eg:A":"typed"}}"#,
+            r#"{"namespaces":{"xbrl":"https://xbrl.org/2021"},"concepts":{"xbrl:A":"text"},"dimensions":{"q:A":1}}"#,
+        ],
+    ),
+    (
+        Some(Reason::ReservedNamespace),
+        &[
+            r#"{"namespaces":{"xbrl":"https://xbrl.org/2021"},"concepts":{"xbrl:A":"name"}}"#,
+            r#"{"namespaces":{"xbrl":"https://xbrl.org/2021"},"dimensions":{"xbrl:A":"typed"}}"#,
+            r#"{"namespaces":{"eg":"u:t","xbrl":"https://xbrl.org/2021"},"concepts":{"eg:A":1},"dimensions":{"xbrl:A":"typed"}}"#,
+        ],
+    ),
+    (
+        Some(Reason::SheetKind),
+        &[
+            // kinds are those of a sheet
+            r#"{"namespaces":{"eg":"u:t"},"concepts":{"eg:A":"typed"}}"#,
+            r#"{"namespaces":{"eg":"u:t"},"concepts":{"eg:A":"Numeric"}}"#,
+            r#"{"namespaces":{"eg":"u:t"},"concepts":{"eg:A":1}}"#,
+            r#"{"namespaces":{"eg":"u:t"},"concepts":{"eg:A":null}}"#,
+            r#"{"namespaces":{"eg":"u:t"},"dimensions":{"eg:A":"numeric"}}"#,
+            r#"{"namespaces":{"eg":"u:t"},"dimensions":{"eg:A":{}}}"#,
+            // a name has one kind
+            r#"{"namespaces":{"eg":"u:t","zz":"u:t"},"concepts":{"eg:A":"numeric","zz:A":"text"}}"#,
+            r#"{"namespaces":{"eg":"u:t","zz":"u:t"},"concepts":{"eg:A":"text","zz:A":"name","zz:B":"name"}}"#,
+            r#"{"namespaces":{"eg":"u:t","zz":"u:t"},"dimensions":{"eg:A":"typed","zz:A":"explicit"}}"#,
+        ],
+    ),
+    (
+        None,
+        &[
+            r#"{"namespaces":{"eg":"u:t","zz":"u:t"},"concepts":{"eg:A":"numeric","zz:A":"numeric"}}"#,
+            r#"{"namespaces":{"eg":"u:t","zz":"u:t"},"dimensions":{"eg:A":"typed","zz:A":"typed"}}"#,
+            r#"{"namespaces":{"eg":"u:t"},"concepts":{"eg:A":"numeric"},"dimensions":{"eg:A":"typed"}}"#,
+        ],
+    ),
+];
+
+fn are_answered(rt: &HostRuntime, reason: Option<Reason>, texts: &[&str]) -> bool {
+    for text in texts {
+        if !told(rt, read_sheet(rt, text).err() == reason, text) {
+            return false;
+        }
+    }
+    true
+}
+
+#[test]
+fn the_first_fault_of_a_sheet_is_answered(rt: HostRuntime) {
+    for (reason, texts) in &SHEETS {
+        assert!(rt; are_answered(&rt, *reason, texts));
+    }
+}
+
+const SHEET: &str =
+    "\u{feff}{\"namespaces\":{\"a\":\"u:z\",\"b\":\"u:m\",\"c\":\"u:z\"},\"concepts\":{\"a:N\":\"numeric\",\"b:N\":\"text\",\"c:M\":\"name\",\"c:N\":\"numeric\"},\"dimensions\":{\"a:D\":\"typed\",\"b:D\":\"explicit\"},\"eg:x\":1}";
+
+fn read_name(rt: &HostRuntime, aliases: &Aliases, text: &str) -> Result<Name, Reason> {
+    match aliases.expand(text) {
+        Err(Reason::OutOfMemory) => {
+            tell_refused(rt);
+            aliases.expand(text)
+        }
+        answer => answer,
+    }
+}
+
+type Kinds = (Option<ConceptKind>, Option<DimensionKind>);
+
+// The kinds that a sheet lists for a name, as a concept and as a dimension.
+fn kinds(rt: &HostRuntime, sheet: &Sheet, aliases: &Aliases, text: &str) -> Result<Kinds, Reason> {
+    let name = read_name(rt, aliases, text)?;
+    Ok((sheet.concept(&name), sheet.dimension(&name)))
+}
+
+const KINDS: [(&str, Kinds); 6] = [
+    ("z:N", (Some(ConceptKind::Numeric), None)),
+    ("m:N", (Some(ConceptKind::Text), None)),
+    ("z:M", (Some(ConceptKind::Name), None)),
+    ("m:M", (None, None)),
+    ("z:D", (None, Some(DimensionKind::Typed))),
+    ("m:D", (None, Some(DimensionKind::Explicit))),
+];
+
+#[test]
+fn a_sheet_lists_kinds_by_expanded_name(rt: HostRuntime) -> Result<(), Fail> {
+    let aliases = aliases_of(&rt, &[("m", "u:m"), ("z", "u:z")])?;
+    let sheet = read_sheet(&rt, SHEET)?;
+    for (text, wanted) in &KINDS {
+        assert!(rt; kinds(&rt, &sheet, &aliases, text)? == *wanted, "{text}");
+    }
+    Ok(())
+}
+
+fn is_same(rt: &HostRuntime, sheet: &Sheet, text: &str) -> Result<bool, Reason> {
+    Ok(sheet.same_as(&read_sheet(rt, text)?))
+}
+
+fn are_same(rt: &HostRuntime, text: &str, other: &str) -> Result<bool, Reason> {
+    let sheet = read_sheet(rt, text)?;
+    is_same(rt, &sheet, other)
+}
+
+const PAIRS: [(&str, &str, bool); 4] = [
+    ("{}", r#"{"namespaces":{"eg":"u:t"},"concepts":{}}"#, true),
+    (
+        SHEET,
+        r#"{"namespaces":{"m":"u:m","z":"u:z"},"concepts":{"m:N":"text","z:M":"name","z:N":"numeric"},"dimensions":{"m:D":"explicit","z:D":"typed"}}"#,
+        true,
+    ),
+    (SHEET, "{}", false),
+    (
+        SHEET,
+        r#"{"namespaces":{"m":"u:m","z":"u:z"},"concepts":{"m:N":"text","z:M":"name","z:N":"text"},"dimensions":{"m:D":"explicit","z:D":"typed"}}"#,
+        false,
+    ),
+];
+
+#[test]
+fn sheets_are_the_same_by_names_and_kinds(rt: HostRuntime) -> Result<(), Fail> {
+    for (text, other, same) in &PAIRS {
+        assert!(rt; are_same(&rt, text, other)? == *same, "{other}");
+    }
+    Ok(())
+}
