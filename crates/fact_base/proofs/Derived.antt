@@ -1,19 +1,17 @@
 -- The orders and merges that the code's types have, in the words of the definitions.
-use Rattle.std.proofs.Common.{◌≡◌, ◌∙◌, List, [], ◌∷◌, Result, Ok, Err}
+use Rattle.std.proofs.Common.{◌≡◌, List, Result, Ok, Err, sym, subst}
 use Rattle.std.specs.Prelude.{OnOk}
-use Rattle.merge_laws.specs.Ends.{Summarised, both_summaries, summary_of}
-use Rattle.merge_laws.specs.Sorted.{IsSet, itself, value_at}
-use Rattle.merge_laws.proofs.Rising.{one_rises}
-use Rattle.merge_laws.specs.Union.{map_union, map_with, set_union}
+use Rattle.merge_laws.specs.Ends.{both_summaries}
+use Rattle.merge_laws.specs.Sorted.{IsRising, entry_key, value_at}
+use Rattle.merge_laws.specs.Union.{map_union, set_union}
 use Rattle.oim_value.specs.contracts.value.ValueOrd.TheImpl.{cmp-value as derived_values}
 use Rattle.oim_value.specs.declared.value.Value.{Value}
 use Rattle.oim_value.proofs.ValueOrders.{values_agree}
 use Rattle.oim_dims.specs.contracts.dimensions.DimensionsOrd.TheImpl.{cmp-value as derived_dimensions}
 use Rattle.oim_dims.specs.DimensionSet.{DimensionSet}
 use Rattle.oim_dims.specs.FactOrder.{dimensions_cmp}
-use Rattle.oim_dims.specs.declared.fact.Fact.{Fact}
 use Rattle.oim_dims.proofs.Orders.{dimensions_agree}
-use Rattle.fact_base.specs.Entries.{Entry, Summed, summed_of_both, with_fact}
+use Rattle.fact_base.specs.Entries.{Entry, Summed, summed_of_both}
 
 abbrev derived_union : Summed → Summed → Summed
 derived_union p q = (set_union derived_values.it p.0 q.0, both_summaries p.1 q.1)
@@ -24,11 +22,8 @@ union_is es fs = λ i. map_union (λ (x y : DimensionSet). dimensions_agree x y 
 pub value_at_is : (s : DimensionSet) (es : List Entry) → value_at derived_dimensions.it s es ≡ value_at dimensions_cmp s es
 value_at_is s es = λ i. value_at (λ (x y : DimensionSet). dimensions_agree x y i) s es
 
-pub put_is : (f : Fact) (vs : List Value) (s : Summarised) (es : List Entry) → vs ≡ f.value ∷ [] → s ≡ summary_of f.value → map_with derived_dimensions.it derived_union f.dimensions (vs, s) es ≡ with_fact f es
-put_is f vs s es values summary = (λ i. map_with derived_dimensions.it derived_union f.dimensions (values i, summary i) es) ∙ union_is es ((f.dimensions, (f.value ∷ [], summary_of f.value)) ∷ [])
-
-pub one_rises_too : (v : Value) → IsSet derived_values.it (v ∷ [])
-one_rises_too v = one_rises derived_values.it itself v
+pub rises_too : (es : List Entry) → IsRising dimensions_cmp entry_key es → IsRising derived_dimensions.it entry_key es
+rises_too es rise = subst (λ R. IsRising R entry_key es) (λ i x y. sym (dimensions_agree x y) i) rise
 
 pub on_ok : {A B P Q : Type 0} (r : Result A B) → (P → Q) → OnOk r P → OnOk r Q
 on_ok (Ok a) f h = f h

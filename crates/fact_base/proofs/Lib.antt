@@ -11,6 +11,8 @@ pub mod Verdicts
 pub mod RowsOf
 pub mod Fitting
 pub mod Puts
+pub mod Pushes
 pub mod Stored
 pub mod Derived
 pub mod Walks
+pub mod Passed

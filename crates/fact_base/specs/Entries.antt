@@ -1,6 +1,7 @@
 -- What a base stores (own).
-use Rattle.std.specs.Prelude.{map, ◌≡◌, ◌≢◌, ◌↔◌, ℕ, List, [], ◌∷◌, Contains}
+use Rattle.std.specs.Prelude.{map, ◌≡◌, ◌≢◌, ◌↔◌, ℕ, false, List, [], ◌∷◌, Contains}
 use Rattle.std.specs.List.{All, flat_map}
+use Rattle.std.specs.Ordering.{is_gt}
 use Rattle.merge_laws.specs.Ends.{Summarised, both_summaries, summary_of, summary_of_all}
 use Rattle.merge_laws.specs.Sorted.{IsRising, IsSet, entry_key}
 use Rattle.merge_laws.specs.Union.{map_with, set_union}
@@ -25,9 +26,23 @@ Entry = DimensionSet × Summed
 abbrev pub summed_of_both : Summed → Summed → Summed
 summed_of_both p q = (set_union value_cmp p.0 q.0, both_summaries p.1 q.1)
 
--- entries with one fact more
+-- one value, and others with it among them
+abbrev pub summed : Value → Summed
+summed v = (v ∷ [], summary_of v)
+
+abbrev pub with_value : Value → Summed → Summed
+with_value v kept = summed_of_both kept (summed v)
+
+-- the entry of one fact, and entries with one fact more
+abbrev pub entry_of : Fact → Entry
+entry_of f = (f.dimensions, summed f.value)
+
 abbrev pub with_fact : Fact → List Entry → List Entry
-with_fact f es = map_with dimensions_cmp summed_of_both f.dimensions (f.value ∷ [], summary_of f.value) es
+with_fact f es = map_with dimensions_cmp summed_of_both f.dimensions (summed f.value) es
+
+-- no entry is above some dimensions
+abbrev pub NoneAbove : DimensionSet → List Entry → Type 0
+NoneAbove s es = All (λ e. is_gt (dimensions_cmp e.0 s) ≡ false) es
 
 -- the facts of an entry, and those of several, one entry after another
 abbrev pub facts_with : DimensionSet → List Value → List Fact

@@ -8,3 +8,4 @@ pub mod Rows
 pub mod Sets
 pub mod Shown
 pub mod Verdict
+pub mod Passed

@@ -1,7 +1,7 @@
 ghost use Rattle.std.specs.Prelude.{map, ◌≡◌, ◌↔◌, length, IsTrue, IfOk, OnOk, slice_get};
 ghost use Rattle.std.specs.List.{All};
 ghost use Rattle.std.specs.Option.{option_map};
-ghost use Rattle.fact_base.specs.Entries.{AreEntriesOf, facts_of_entries, with_fact};
+ghost use Rattle.fact_base.specs.Entries.{AreEntriesOf, NoneAbove, entry_of, facts_of_entries, with_fact, with_value};
 ghost use Rattle.fact_base.specs.Judged.{AreSummarised, level_at};
 ghost use Rattle.fact_base.specs.Shown.{row_of};
 ghost use Rattle.merge_laws.specs.Sorted.{IsRising, entry_key};
@@ -11,7 +11,7 @@ ghost use Rattle.oim_report.specs.Order.{IsOrderOf};
 
 use crate::judging::verdict_of;
 use crate::verdict::Verdict;
-use merge_laws::{SortedMap, SortedSet, Summary};
+use merge_laws::{Merge, SortedMap, SortedSet, Summary};
 use oim_dims::{Dimensions, Fact};
 use oim_names::Copied;
 use oim_value::{Level, Value};
@@ -20,8 +20,11 @@ use std::alloc::{AllocError, Global};
 /// What a base stores: its dimension sets in order, each with its values and their summary.
 pub(crate) type Entries = SortedMap<Dimensions, (SortedSet<Value>, Summary)>;
 
-/// The entries of facts, of which each stands at one place of `order`. Facts that come in order are
-/// put behind those before them.
+/// A dimension set with its values and their summary.
+type Entry = (Dimensions, (SortedSet<Value>, Summary));
+
+/// The entries of facts, of which each stands at one place of `order`. In that order each fact goes
+/// to the last entry or behind it, so that it is copied once and nothing is looked up.
 pub(crate) fn entries_of(
     alloc: Global,
     facts: &[Fact],
@@ -30,20 +33,51 @@ pub(crate) fn entries_of(
     requires { IsOrderOf facts.now order.now }
     ensures { IfOk result (AreEntriesOf facts.now) }
 {
-    let mut entries = SortedMap::new(alloc);
+    let mut entries = Vec::new(alloc);
     for place in order {
-        put(alloc, &mut entries, &facts[*place])?;
+        push(alloc, &mut entries, &facts[*place])?;
     }
-    Ok(entries)
+    Ok(SortedMap::of_rising(entries))
 }
 
-fn put(alloc: Global, entries: &mut Entries, fact: &Fact) -> Result<(), AllocError>
-    ensures { OnOk result (entries.new ≡ with_fact fact.now entries.old) }
+fn push(alloc: Global, entries: &mut Vec<Entry>, fact: &Fact) -> Result<(), AllocError>
+    requires rise { IsRising dimensions_cmp entry_key entries.old.items }
+    requires below { NoneAbove fact.now.dimensions entries.old.items }
+    ensures { OnOk result (entries.new.items ≡ with_fact fact.now entries.old.items) }
 {
-    let mut values = Vec::new(alloc);
-    values.push(fact.value.copied(alloc)?)?;
-    let one = (SortedSet::of_rising(values), Summary::of(&fact.value));
-    entries.put(&fact.dimensions, &one)
+    match entries.len().checked_sub(1) {
+        Some(last) if entries[last].0 == fact.dimensions => {
+            add(alloc, &mut entries[last].1, &fact.value)
+        }
+        _ => {
+            entries.push(entry_of(alloc, fact)?)?;
+            Ok(())
+        }
+    }
+}
+
+// Adds a value to those of an entry.
+fn add(
+    alloc: Global,
+    kept: &mut (SortedSet<Value>, Summary),
+    value: &Value,
+) -> Result<(), AllocError>
+    ensures { OnOk result (kept.new ≡ with_value value.now kept.old) }
+{
+    kept.0.insert(value)?;
+    kept.1.merge(alloc, &Summary::of(value))
+}
+
+// The entry of a dimension set with one value.
+fn entry_of(alloc: Global, fact: &Fact) -> Result<Entry, AllocError>
+    ensures { IfOk result (λ entry. entry ≡ entry_of fact.now) }
+{
+    let mut values = SortedSet::new(alloc);
+    values.insert(&fact.value)?;
+    Ok((
+        fact.dimensions.copied(alloc)?,
+        (values, Summary::of(&fact.value)),
+    ))
 }
 
 /// How many facts the entries have.

@@ -1,4 +1,7 @@
 mod bases;
+mod many;
+mod pairs;
+mod refused;
 mod verdicts;
 
 use crate::{Base, Evidence, Verdict};
@@ -12,11 +15,16 @@ use std::alloc::AllocError;
 const SHEET: &str =
     r#"{"namespaces":{"eg":"http://example.org/t"},"concepts":{"eg:A":"numeric","eg:B":"numeric","eg:T":"text","eg:Q":"name"}}"#;
 
-// A report of one fact of `eg:A`, up to its value, and what follows.
+// A report of one fact up to its value.
 const FACT: &str =
     r#"{"documentInfo":{"documentType":"https://xbrl.org/2021/xbrl-json","namespaces":{"eg":"http://example.org/t"}},"facts":{"a":{"#;
 
+// What follows the value: a number's, a text's and a name's dimension set.
 const OF_A: &str = r#","dimensions":{"concept":"eg:A"}}}}"#;
+
+const OF_T: &str = r#","dimensions":{"concept":"eg:T"}}}}"#;
+
+const OF_Q: &str = r#","dimensions":{"concept":"eg:Q"}}}}"#;
 
 fn tell_refused(rt: &HostRuntime) {
     let _ = eprintln!(rt; "refused");
@@ -63,33 +71,49 @@ fn take(rt: &HostRuntime, base: &mut Base<'_>, report: &Report<'_>) -> bool {
     base.take(report).is_ok()
 }
 
-// Adds a report of one fact with this value and decimals; false where it is not read.
-fn add(rt: &HostRuntime, base: &mut Base<'_>, value: &str) -> bool {
-    let Ok(text) = joined(rt, FACT, value, OF_A) else {
-        return false;
-    };
-    match read(rt, base.sheet(), text.as_str()) {
+// Takes a report of this text; false where it is not read.
+fn take_text(rt: &HostRuntime, base: &mut Base<'_>, text: &str) -> bool {
+    match read(rt, base.sheet(), text) {
         Some(report) => take(rt, base, &report),
         None => false,
     }
 }
 
-// A base of one report for each value.
-fn base_of<'s>(rt: &HostRuntime, sheet: &'s Sheet, values: &[&str]) -> Option<Base<'s>> {
+// Adds a report of three texts, of which the second tells it from others; false where it is not read.
+fn add(rt: &HostRuntime, base: &mut Base<'_>, start: &str, text: &str, end: &str) -> bool {
+    match joined(rt, start, text, end) {
+        Ok(report) => take_text(rt, base, report.as_str()),
+        Err(_) => false,
+    }
+}
+
+// A base of one report for each text, all with the same start and end.
+fn base_between<'s>(
+    rt: &HostRuntime,
+    sheet: &'s Sheet,
+    start: &str,
+    texts: &[&str],
+    end: &str,
+) -> Option<Base<'s>> {
     let mut base = Base::new(rt.alloc(), sheet);
-    for value in values {
-        if !add(rt, &mut base, value) {
+    for text in texts {
+        if !add(rt, &mut base, start, text, end) {
             return None;
         }
     }
     Some(base)
 }
 
+// A base of one report for each value and its decimals.
+fn base_of<'s>(rt: &HostRuntime, sheet: &'s Sheet, values: &[&str]) -> Option<Base<'s>> {
+    base_between(rt, sheet, FACT, values, OF_A)
+}
+
 // What is said of the first dimension set of a base.
 fn judged(base: &Base<'_>) -> Option<(Verdict, Evidence)> {
     let row = base.rows().next()?;
-    Some((
-        base.verdict(row.dimensions)?,
-        base.evidence(row.dimensions)?,
-    ))
+    match (base.verdict(row.dimensions), base.evidence(row.dimensions)) {
+        (Some(verdict), Some(evidence)) => Some((verdict, evidence)),
+        _ => None,
+    }
 }

@@ -1,0 +1,137 @@
+-- Entries that are built from their front to their end.
+use Rattle.std.proofs.Common.{◌≡◌, ℕ, zero, suc, ◌<◌, ◌+◌, length, get_or, set, false, List, [], ◌∷◌, ◌++◌, refl, sym, ap, subst, ◌∙◌, arith, Some, slice_get}
+use mathlib.Core.Bool.{true≢false}
+use Rattle.std.specs.List.{All, AllByRecursion}
+use Rattle.std.specs.List.Sorted.{IsStrictlySortedBy}
+use Rattle.std.specs.Cmp.{tied_itself}
+use Rattle.std.specs.Option.{option_cmp}
+use Rattle.std.specs.Ordering.{is_eq, is_gt, is_lt, match_ordering, ordering_reverse, ordering_then}
+use Rattle.std.specs.declared.cmp.Ordering.{Ordering}
+use Rattle.std.specs.declared.cmp.Ordering.TheVariants.{Less, Equal, Greater}
+use Rattle.std.proofs.lemmas.Option.{slice_get-get_or}
+use Rattle.merge_laws.specs.Sorted.{IsRising, entry_key}
+use Rattle.merge_laws.specs.Union.{merged_entries}
+use Rattle.merge_laws.proofs.Members.{all_of_union}
+use Rattle.oim_dims.specs.DimensionSet.{DimensionSet}
+use Rattle.oim_value.specs.ValueOrder.{value_cmp}
+use Rattle.oim_dims.specs.FactOrder.{dimensions_cmp, fact_cmp}
+use Rattle.oim_dims.specs.declared.fact.Fact.{Fact}
+use Rattle.oim_dims.proofs.Orders.{dimensions_cmp_exact, dimensions_cmp_total, fact_cmp_total}
+use Rattle.oim_report.specs.Order.{IsOrderOf}
+use Rattle.oim_report.proofs.Places.{places_within}
+use Rattle.fact_base.specs.Entries.{Entry, NoneAbove, Summed, entry_of, summed_of_both, with_fact, with_value}
+use Rattle.fact_base.proofs.Members.{turn_there}
+
+-- ---- orders
+
+up_cases : {P : Type 0} (a : Ordering) → is_gt a ≡ false → (a ≡ Less → P) → (a ≡ Equal → P) → P
+up_cases Less up less equal = less refl
+up_cases Equal up less equal = equal refl
+up_cases Greater up less equal = absurd (true≢false up)
+
+less_from : (a : Ordering) → is_gt a ≡ false → is_eq a ≡ false → a ≡ Less
+less_from Less up other = refl
+less_from Equal up other = absurd (true≢false other)
+less_from Greater up other = absurd (true≢false up)
+
+up_then_up : (r s t : DimensionSet) → is_gt (dimensions_cmp r s) ≡ false → is_gt (dimensions_cmp s t) ≡ false → is_gt (dimensions_cmp r t) ≡ false
+up_then_up r s t first second =
+    up_cases (dimensions_cmp r s) first
+    (λ less. up_cases (dimensions_cmp s t) second
+    (λ more. ap is_gt (dimensions_cmp_total.trans r s t less more))
+    (λ same. ap is_gt (subst (λ u. dimensions_cmp r u ≡ Less) (dimensions_cmp_exact s t same) less)))
+    (λ same. ap is_gt (dimensions_cmp_total.congr r s t same) ∙ second)
+
+turned : (r s : DimensionSet) → dimensions_cmp r s ≡ Less → dimensions_cmp s r ≡ Greater
+turned r s less = dimensions_cmp_total.antisymm s r ∙ ap ordering_reverse less
+
+-- ---- a fact of other dimensions goes behind all entries
+
+abbrev pub AllBelow : DimensionSet → List Entry → Type 0
+AllBelow s = AllByRecursion (λ e. dimensions_cmp e.0 s ≡ Less)
+
+later : (P : Entry → Type 0) (e : Entry) (es : List Entry) → All P (e ∷ es) → All P es
+later P e es all k d within = all (suc k) d (omega (arith, within))
+
+pub all_below : (es : List Entry) (s : DimensionSet) (n : ℕ) (x : Entry) → IsRising dimensions_cmp entry_key es → NoneAbove s es → suc n ≡ length es → x ≡ get_or es n x → is_eq (dimensions_cmp x.0 s) ≡ false → AllBelow s es
+unfolding IsStrictlySortedBy
+all_below [] s n x rise up count is other = absurd (omega (arith, count))
+all_below (e ∷ []) s zero x rise up count is other = (less_from (dimensions_cmp e.0 s) (up zero e (omega arith)) (subst (λ (y : Entry). is_eq (dimensions_cmp y.0 s) ≡ false) is other), tt)
+all_below (e ∷ []) s (suc n) x rise up count is other = absurd (omega (arith, count))
+all_below (e ∷ d ∷ es) s zero x rise up count is other = absurd (omega (arith, count))
+all_below (e ∷ d ∷ es) s (suc n) x rise up count is other =
+    let rest = all_below (d ∷ es) s n x rise.1 (later (λ (y : Entry). is_gt (dimensions_cmp y.0 s) ≡ false) e (d ∷ es) up) (omega (arith, count)) is other in
+    (dimensions_cmp_total.trans e.0 d.0 s rise.0.0 rest.0, rest)
+
+pub none_below : (es : List Entry) (s : DimensionSet) → length es ≡ 0 → AllBelow s es
+none_below [] s count = tt
+none_below (e ∷ es) s count = absurd (omega (arith, count))
+
+pub put_behind : (es : List Entry) (f : Fact) → AllBelow f.dimensions es → es ++ entry_of f ∷ [] ≡ with_fact f es
+put_behind [] f below = refl
+put_behind (e ∷ es) f below =
+    ap (λ ds. e ∷ ds) (put_behind es f below.1)
+    ∙ sym (ap (λ r. match_ordering r (entry_of f ∷ e ∷ es) (merged_entries summed_of_both e (entry_of f) ∷ es) (e ∷ with_fact f es)) (turned e.0 f.dimensions below.0))
+
+-- ---- one of the last entry's dimensions goes to that
+
+pub put_last : (es : List Entry) (f : Fact) (n : ℕ) (x : Entry) (kept : Summed) → IsRising dimensions_cmp entry_key es → suc n ≡ length es → x ≡ get_or es n x → x.0 ≡ f.dimensions → kept ≡ with_value f.value x.1 → set es n (x.0, kept) ≡ with_fact f es
+unfolding IsStrictlySortedBy
+put_last [] f n x kept rise count is same made = absurd (omega (arith, count))
+put_last (e ∷ []) f zero x kept rise count is same made =
+    let ties : dimensions_cmp f.dimensions e.0 ≡ Equal = ap (dimensions_cmp f.dimensions) (sym (ap (λ (y : Entry). y.0) is) ∙ same) ∙ tied_itself dimensions_cmp_total f.dimensions in
+    let all : kept ≡ with_value f.value e.1 = made ∙ ap (λ (y : Entry). with_value f.value y.1) is in
+    (λ i. ((is i).0, all i) ∷ [])
+    ∙ sym (ap (λ r. match_ordering r (entry_of f ∷ e ∷ []) (merged_entries summed_of_both e (entry_of f) ∷ []) (e ∷ with_fact f [])) ties)
+put_last (e ∷ []) f (suc n) x kept rise count is same made = absurd (omega (arith, count))
+put_last (e ∷ d ∷ es) f zero x kept rise count is same made = absurd (omega (arith, count))
+put_last (e ∷ d ∷ es) f (suc n) x kept rise count is same made =
+    let there : dimensions_cmp e.0 x.0 ≡ Less = turn_there (λ (y : Entry). dimensions_cmp e.0 y.0 ≡ Less) (d ∷ es) x rise.0 (n, omega (arith, count), sym is) in
+    let less : dimensions_cmp e.0 f.dimensions ≡ Less = sym (ap (dimensions_cmp e.0) same) ∙ there in
+    ap (λ ds. e ∷ ds) (put_last (d ∷ es) f n x kept rise.1 (omega (arith, count)) is same made)
+    ∙ sym (ap (λ r. match_ordering r (entry_of f ∷ e ∷ d ∷ es) (merged_entries summed_of_both e (entry_of f) ∷ d ∷ es) (e ∷ with_fact f (d ∷ es))) (turned e.0 f.dimensions less))
+
+-- ---- facts that do not fall
+
+-- where no entry is above a fact, none is above the next one once that fact is put
+pub none_above_next : (es : List Entry) (f g : Fact) → NoneAbove f.dimensions es → is_gt (dimensions_cmp f.dimensions g.dimensions) ≡ false → NoneAbove g.dimensions (with_fact f es)
+none_above_next es f g up next =
+    all_of_union dimensions_cmp_exact summed_of_both (λ s _. is_gt (dimensions_cmp s g.dimensions) ≡ false) (λ s _ _ h _. h) es (entry_of f ∷ [])
+    (λ k d within. up_then_up (get_or es k d).0 f.dimensions g.dimensions (up k d within) next)
+    one
+  where
+    one : NoneAbove g.dimensions (entry_of f ∷ [])
+    one zero d within = next
+    one (suc k) d within = absurd (omega (arith, within))
+
+first_up : (a b : Ordering) → is_gt (ordering_then a b) ≡ false → is_gt a ≡ false
+first_up Less b up = refl
+first_up Equal b up = refl
+first_up Greater b up = up
+
+turned_up : (a : Ordering) → is_lt a ≡ false → is_gt (ordering_reverse a) ≡ false
+turned_up Less up = absurd (true≢false up)
+turned_up Equal up = refl
+turned_up Greater up = refl
+
+-- the facts at two places one after the other
+dimensions_rise : (facts : List Fact) (places : List ℕ) (i : ℕ) (f g : Fact) → IsOrderOf facts places → i + 1 < length places → f ≡ get_or facts (get_or places i 0) f → g ≡ get_or facts (get_or places (i + 1) 0) g → is_gt (dimensions_cmp f.dimensions g.dimensions) ≡ false
+dimensions_rise facts places i f g order within here there =
+    let p : ℕ = get_or places i 0 in
+    let q : ℕ = get_or places (i + 1) 0 in
+    let first : slice_get facts p ≡ Some f = slice_get-get_or facts p f (places_within facts places order i 0 (omega (arith, within))) ∙ ap Some (sym here) in
+    let second : slice_get facts q ≡ Some g = slice_get-get_or facts q g (places_within facts places order (i + 1) 0 within) ∙ ap Some (sym there) in
+    let falls : is_lt (option_cmp fact_cmp (slice_get facts q) (slice_get facts p)) ≡ false = order.rising i 0 (omega arith) within in
+    let ordered : is_lt (fact_cmp g f) ≡ false = sym (λ k. is_lt (option_cmp fact_cmp (second k) (first k))) ∙ falls in
+    first_up (dimensions_cmp f.dimensions g.dimensions) (value_cmp f.value g.value) (ap is_gt (fact_cmp_total.antisymm f g) ∙ turned_up (fact_cmp g f) ordered)
+
+-- no entry is above the fact at a place of an order, where there is such a place
+abbrev pub Reached : List Fact → List ℕ → ℕ → List Entry → Type 0
+Reached facts places i es = (f : Fact) → i < length places → f ≡ get_or facts (get_or places i 0) f → NoneAbove f.dimensions es
+
+pub none_reached : (facts : List Fact) (places : List ℕ) → Reached facts places 0 []
+none_reached facts places f within is k d low = absurd (omega (arith, low))
+
+pub next_reached : (facts : List Fact) (places : List ℕ) (i : ℕ) (f : Fact) (es : List Entry) → IsOrderOf facts places → i < length places → f ≡ get_or facts (get_or places i 0) f → Reached facts places i es → Reached facts places (i + 1) (with_fact f es)
+next_reached facts places i f es order within is reached g further there =
+    none_above_next es f g (reached f within is) (dimensions_rise facts places i f g order further is there)

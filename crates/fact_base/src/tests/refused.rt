@@ -1,0 +1,182 @@
+use super::{read, read_sheet, tell_refused};
+use crate::Base;
+use oim_report::{Report, Sheet};
+
+// A report of a number and a reference.
+const BEFORE: &str =
+    r#"{"documentInfo":{"documentType":"https://xbrl.org/2021/xbrl-json","namespaces":{"eg":"http://example.org/t"},"taxonomy":["b.xsd"]},"facts":{"a":{"value":"100","decimals":0,"dimensions":{"concept":"eg:A"}}}}"#;
+
+// A report of another number of the same dimensions, a text and another reference.
+const ADDED: &str =
+    r#"{"documentInfo":{"documentType":"https://xbrl.org/2021/xbrl-json","namespaces":{"eg":"http://example.org/t"},"taxonomy":["a.xsd"]},"facts":{"a":{"value":"101","decimals":0,"dimensions":{"concept":"eg:A"}},"b":{"value":"x","dimensions":{"concept":"eg:T"}}}}"#;
+
+// Takes a report. Where a request for memory is refused, the base is to be as another, and the next
+// request is not refused.
+fn take(rt: &HostRuntime, base: &mut Base<'_>, before: &Base<'_>, report: &Report<'_>) -> bool {
+    if !base.same_sheet(report.sheet()) {
+        return false;
+    }
+    if base.take(report).is_ok() {
+        return true;
+    }
+    tell_refused(rt);
+    base.same_as(before) && base.take(report).is_ok()
+}
+
+fn join(rt: &HostRuntime, base: &mut Base<'_>, before: &Base<'_>, other: &Base<'_>) -> bool {
+    if !base.same_sheet(other.sheet()) {
+        return false;
+    }
+    if base.join(other).is_ok() {
+        return true;
+    }
+    tell_refused(rt);
+    base.same_as(before) && base.join(other).is_ok()
+}
+
+// The same where the other is given up; it is lost where a request is refused, and `again` comes then.
+fn absorb(
+    rt: &HostRuntime,
+    base: &mut Base<'_>,
+    before: &Base<'_>,
+    other: Base<'_>,
+    again: &Base<'_>,
+) -> bool {
+    if !base.same_sheet(other.sheet()) {
+        return false;
+    }
+    if base.absorb(other).is_ok() {
+        return true;
+    }
+    tell_refused(rt);
+    base.same_as(before) && join(rt, base, before, again)
+}
+
+// Takes the first report of a base.
+fn take_first(rt: &HostRuntime, base: &mut Base<'_>, report: &Report<'_>) -> bool {
+    let empty = Base::new(rt.alloc(), report.sheet());
+    take(rt, base, &empty, report)
+}
+
+// A base of one report.
+fn base_of<'s>(rt: &HostRuntime, report: &Report<'s>) -> Option<Base<'s>> {
+    let mut base = Base::new(rt.alloc(), report.sheet());
+    if !take_first(rt, &mut base, report) {
+        return None;
+    }
+    Some(base)
+}
+
+// How a base gets what a report says.
+#[derive(Clone, Copy)]
+enum Way {
+    Take,
+    Join,
+    Absorb,
+}
+
+// Absorbs the base of a report, of which another base is one too.
+fn absorb_report(
+    rt: &HostRuntime,
+    base: &mut Base<'_>,
+    before: &Base<'_>,
+    report: &Report<'_>,
+    again: &Base<'_>,
+) -> bool {
+    match base_of(rt, report) {
+        Some(other) => absorb(rt, base, before, other, again),
+        None => false,
+    }
+}
+
+// Joins or absorbs the base of a report.
+fn add_base(
+    rt: &HostRuntime,
+    way: Way,
+    base: &mut Base<'_>,
+    before: &Base<'_>,
+    report: &Report<'_>,
+) -> bool {
+    let Some(other) = base_of(rt, report) else {
+        return false;
+    };
+    match way {
+        Way::Absorb => absorb_report(rt, base, before, report, &other),
+        _ => join(rt, base, before, &other),
+    }
+}
+
+fn add(
+    rt: &HostRuntime,
+    way: Way,
+    base: &mut Base<'_>,
+    before: &Base<'_>,
+    report: &Report<'_>,
+) -> bool {
+    match way {
+        Way::Take => take(rt, base, before, report),
+        _ => add_base(rt, way, base, before, report),
+    }
+}
+
+// Whether a base has what both reports say.
+fn has_both(base: &Base<'_>) -> bool {
+    base.row_count() == 2 && base.fact_count() == 3 && base.taxonomy().len() == 2
+}
+
+// Whether the base of the first report gets what the other says.
+fn gets(
+    rt: &HostRuntime,
+    way: Way,
+    before: &Base<'_>,
+    first: &Report<'_>,
+    added: &Report<'_>,
+) -> bool {
+    match base_of(rt, first) {
+        Some(mut base) => add(rt, way, &mut base, before, added) && has_both(&base),
+        None => false,
+    }
+}
+
+fn gets_report(rt: &HostRuntime, way: Way, first: &Report<'_>, added: &Report<'_>) -> bool {
+    match base_of(rt, first) {
+        Some(before) => gets(rt, way, &before, first, added),
+        None => false,
+    }
+}
+
+fn gets_added(rt: &HostRuntime, way: Way, first: &Report<'_>) -> bool {
+    match read(rt, first.sheet(), ADDED) {
+        Some(added) => gets_report(rt, way, first, &added),
+        None => false,
+    }
+}
+
+fn gets_both_under(rt: &HostRuntime, way: Way, sheet: &Sheet) -> bool {
+    match read(rt, sheet, BEFORE) {
+        Some(first) => gets_added(rt, way, &first),
+        None => false,
+    }
+}
+
+fn gets_both(rt: &HostRuntime, way: Way) -> bool {
+    match read_sheet(rt) {
+        Ok(sheet) => gets_both_under(rt, way, &sheet),
+        Err(_) => false,
+    }
+}
+
+#[test]
+fn a_refused_report_leaves_the_base(rt: HostRuntime) {
+    assert!(rt; gets_both(&rt, Way::Take));
+}
+
+#[test]
+fn a_refused_base_leaves_the_one_that_joins_it(rt: HostRuntime) {
+    assert!(rt; gets_both(&rt, Way::Join));
+}
+
+#[test]
+fn a_refused_base_leaves_the_one_that_absorbs_it(rt: HostRuntime) {
+    assert!(rt; gets_both(&rt, Way::Absorb));
+}
