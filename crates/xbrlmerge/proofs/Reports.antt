@@ -1,28 +1,28 @@
--- A base that takes one more document, and refusals that follow one another.
-use Rattle.std.proofs.Common.{◌≡◌, ◌+◌, ℕ, suc, List, [], ◌∷◌, ◌++◌, Result, Ok, sym, ap, ◌∙◌, append_assoc, arith}
-use Rattle.xbrlmerge.specs.declared.refusal.Refusal.{Refusal}
-use Rattle.xbrlmerge.specs.Body.{Body, body, union, BodyOfBoth}
-use Rattle.xbrlmerge.specs.Document.{Document}
-use Rattle.xbrlmerge.specs.Outcome.{outcome}
-use Rattle.xbrlmerge.specs.Run.{document_in, accepted, refusal_in, refused_from, refused}
-use Rattle.xbrlmerge.specs.Sheet.{Sheet}
+-- Reports that are read one after another.
+use Rattle.std.proofs.Common.{◌≡◌, ◌+◌, ℕ, suc, List, [], ◌∷◌, ◌++◌, Result, Ok, Err, sym, ap, ◌∙◌, append_assoc, arith}
+use Rattle.oim_report.specs.declared.refusal.Refusal.{Refusal}
+use Rattle.oim_report.specs.Document.{Document}
+use Rattle.oim_report.specs.Outcome.{outcome}
+use Rattle.oim_report.specs.Sheet.{Sheet}
+use Rattle.fact_base.specs.Contents.{Contents}
+use Rattle.xbrlmerge.specs.Gathered.{AreBases, AreBasesOf}
+use Rattle.xbrlmerge.specs.Reports.{document_in, accepted, refusal_in, refused_from, refused}
 
--- the base that took an accepted report's document
-pub body-taken : BodyOfBoth → (docs : List Document) (d : Document) (o : Result Document Refusal) (old new : Body) → o ≡ Ok d → old ≡ body docs → new ≡ union old (body (d ∷ [])) → new ≡ body (docs ++ document_in o)
-body-taken both docs d o old new is were took = took ∙ ap (λ b. union b (body (d ∷ []))) were ∙ sym (both docs (d ∷ [])) ∙ ap (λ p. body (docs ++ document_in p)) (sym is)
-
--- some documents have this body, and with those of the reports that are left they are those of all
-pub record HasMerged (sheet : Sheet) (base : Body) (left all : List (List ℕ)) : Type 0 where
+-- bases took some documents, which with those of the reports that are left are those of all
+pub record HasMerged (sheet : Sheet) (bases : List Contents) (left all : List (List ℕ)) : Type 0 where
   pub documents : List Document
-  pub is_body : base ≡ body documents
+  pub are_bases : AreBasesOf sheet documents bases
   pub whole : documents ++ accepted sheet left ≡ accepted sheet all
 
-pub merged_more : (sheet : Sheet) (p : List ℕ) (ps left all : List (List ℕ)) (base new : Body) → left ≡ p ∷ ps → HasMerged sheet base left all → ((docs : List Document) → base ≡ body docs → new ≡ body (docs ++ document_in (outcome sheet p))) → HasMerged sheet new ps all
-merged_more sheet p ps left all base new is before took = record {
+pub merged_more : (sheet : Sheet) (p : List ℕ) (ps left all : List (List ℕ)) (bases new : List Contents) → left ≡ p ∷ ps → HasMerged sheet bases left all → ((docs : List Document) → AreBasesOf sheet docs bases → AreBasesOf sheet (docs ++ document_in (outcome sheet p)) new) → HasMerged sheet new ps all
+merged_more sheet p ps left all bases new is before took = record {
   documents = before.documents ++ document_in (outcome sheet p);
-  is_body = took before.documents before.is_body;
+  are_bases = took before.documents before.are_bases;
   whole = append_assoc before.documents (document_in (outcome sheet p)) (accepted sheet ps) ∙ ap (λ l. before.documents ++ accepted sheet l) (sym is) ∙ before.whole;
 }
+
+pub some_merged : (sheet : Sheet) (bases : List Contents) (left all : List (List ℕ)) → HasMerged sheet bases left all → AreBases sheet bases
+some_merged sheet bases left all h = (h.documents, h.are_bases)
 
 pub refused_more : (sheet : Sheet) (p : List ℕ) (ps left all : List (List ℕ)) (told new : List (ℕ × Refusal)) (n m : ℕ) → left ≡ p ∷ ps → new ≡ told ++ refusal_in (n + 1) (outcome sheet p) → m ≡ n + 1 → told ++ refused_from (n + 1) sheet left ≡ refused sheet all → new ++ refused_from (m + 1) sheet ps ≡ refused sheet all
 refused_more sheet p ps left all told new n m is appended counted before =

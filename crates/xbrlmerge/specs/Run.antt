@@ -1,72 +1,83 @@
--- What comes of a sheet and reports (own).
-use Rattle.std.specs.Prelude.{◌≡◌, ◌⊎◌, ◌+◌, ℕ, suc, Option, List, [], ◌∷◌, ◌++◌, flat_map, Result, Ok, Err}
+-- What merging leaves behind (own).
+use Rattle.std.specs.Prelude.{◌≡◌, ◌⊎◌, ◌+◌, ℕ, Option, List, [], Result, Ok, Err}
 use Rattle.std.specs.Io.KnownBytes.{Appends}
-use Rattle.xbrlmerge.specs.declared.fault.Fault.{Fault}
-use Rattle.xbrlmerge.specs.declared.fault.Fault.TheVariants.{OutOfMemory, Device, Sheet as SheetFault}
-use Rattle.xbrlmerge.specs.declared.refusal.Refusal.{Refusal}
-use Rattle.xbrlmerge.specs.declared.write_fault.WriteFault.{WriteFault}
-use Rattle.xbrlmerge.specs.declared.write_fault.WriteFault.TheVariants.{OutOfMemory as WriteOutOfMemory, Device as WriteDevice}
-use Rattle.xbrlmerge.specs.Body.{body, HaveSameMembers}
+use Rattle.oim_value.specs.declared.level.Level.{Level}
+use Rattle.oim_value.specs.declared.level.Level.TheVariants.{All as AllLevel}
+use Rattle.oim_report.specs.Sheet.{Sheet, sheet_outcome}
+use Rattle.oim_report.specs.declared.refusal.Refusal.{Refusal}
+use Rattle.fact_base.specs.Body.{Body}
+use Rattle.fact_base.specs.Passed.{SameMembers}
+use Rattle.oim_write.specs.Bytes.{canonical}
+use Rattle.oim_write.specs.Sink.{AppendsFront}
+use Rattle.oim_write.specs.declared.write_fault.WriteFault.{WriteFault}
+use Rattle.oim_write.specs.declared.write_fault.WriteFault.TheVariants.{OutOfMemory as WriteOutOfMemory, Device as WriteDevice}
+use Rattle.xbrlmerge.specs.Above.{IsFirstAbove, StaysWithin}
 use Rattle.xbrlmerge.specs.Bundle.{sheet_piece, report_pieces}
-use Rattle.xbrlmerge.specs.Bytes.{canonical}
-use Rattle.xbrlmerge.specs.Document.{Document}
-use Rattle.xbrlmerge.specs.Outcome.{outcome}
-use Rattle.xbrlmerge.specs.Sheet.{Sheet, sheet_outcome}
-use Rattle.xbrlmerge.specs.Sink.{AppendsFront}
+use Rattle.xbrlmerge.specs.Reports.{accepted, merged, refused}
+use Rattle.xbrlmerge.specs.declared.fault.Fault.{Fault}
+use Rattle.xbrlmerge.specs.declared.fault.Fault.TheVariants.{OutOfMemory, Device, TooLoose, Sheet as SheetFault}
 
--- the document of an accepted report
-abbrev pub document_in : Result Document Refusal → List Document
-document_in (Ok d) = d ∷ []
-document_in (Err r) = []
+-- ---- a body that is written where it stays within a level
 
--- the documents of the accepted reports, in the order of these
-abbrev pub accepted : Sheet → List (List ℕ) → List Document
-accepted sheet reports = flat_map (λ bytes. document_in (outcome sheet bytes)) reports
+-- the body stays within the level, these refusals were told, and its text was appended
+pub record Writes (level : Level) (b : Body) (refusals : List (ℕ × Refusal)) (old new : Option (List ℕ)) (told : List (ℕ × Refusal)) : Type 0 where
+  pub within : StaysWithin level b
+  pub refusals_are : told ≡ refusals
+  pub appended : Appends old new (canonical b)
 
--- the refusal of a report, with the report's number
-abbrev pub refusal_in : ℕ → Result Document Refusal → List (ℕ × Refusal)
-refusal_in n (Ok d) = []
-refusal_in n (Err r) = (n, r) ∷ []
-
--- the refused reports in their order, where the first has the number n
-abbrev pub refused_from : ℕ → Sheet → List (List ℕ) → List (ℕ × Refusal)
-refused_from n sheet [] = []
-refused_from n sheet (bytes ∷ reports) = refusal_in n (outcome sheet bytes) ++ refused_from (suc n) sheet reports
-
-abbrev pub refused : Sheet → List (List ℕ) → List (ℕ × Refusal)
-refused sheet reports = refused_from 1 sheet reports
-
--- ---- a bundle
-
-abbrev pub IsSheetOf : List ℕ → Sheet → Type 0
-IsSheetOf bytes sheet = sheet_outcome (sheet_piece bytes) ≡ Ok sheet
-
--- the canonical text of what the accepted reports say
-abbrev pub merged_text : List ℕ → Sheet → List ℕ
-merged_text bytes sheet = canonical (body (accepted sheet (report_pieces bytes)))
-
--- the refused reports were told, and the text of the others was appended
-pub record Consolidates (bytes : List ℕ) (old new : Option (List ℕ)) (told : List (ℕ × Refusal)) : Type 0 where
-  pub sheet : Sheet
-  pub read : IsSheetOf bytes sheet
-  pub refusals : told ≡ refused sheet (report_pieces bytes)
-  pub appended : Appends old new (merged_text bytes sheet)
-
--- a front of that text was appended, and so many bytes were counted
-pub record StopsWithin (bytes : List ℕ) (old new : Option (List ℕ)) (written : ℕ) : Type 0 where
-  pub sheet : Sheet
-  pub read : IsSheetOf bytes sheet
-  pub front : AppendsFront old new (merged_text bytes sheet) written
+-- it does, a front of its text was appended, and so many bytes were counted
+pub record StopsWithin (level : Level) (b : Body) (old new : Option (List ℕ)) (written : ℕ) : Type 0 where
+  pub within : StaysWithin level b
+  pub front : AppendsFront old new (canonical b) written
 
 -- nothing was appended yet
 abbrev pub StopsBefore : Option (List ℕ) → Option (List ℕ) → ℕ → Type 0
 StopsBefore old new written = (written ≡ 0) × Appends old new []
 
+-- the row of this number is the first above the level, these refusals were told, and nothing was appended
+pub record IsTooLoose (level : Level) (b : Body) (refusals : List (ℕ × Refusal)) (old new : Option (List ℕ)) (row : ℕ) (told : List (ℕ × Refusal)) : Type 0 where
+  pub first : IsFirstAbove level b row
+  pub refusals_are : told ≡ refusals
+  pub appended : Appends old new []
+
 -- what a fault leaves behind
-abbrev pub Stops : List ℕ → Option (List ℕ) → Option (List ℕ) → Fault → Type 0
-Stops bytes old new (SheetFault reason) = (sheet_outcome (sheet_piece bytes) ≡ Err reason) × Appends old new []
-Stops bytes old new (Device written) = StopsWithin bytes old new written
-Stops bytes old new (OutOfMemory written) = StopsBefore old new written ⊎ StopsWithin bytes old new written
+abbrev pub Stops : Level → Body → List (ℕ × Refusal) → Option (List ℕ) → Option (List ℕ) → Fault → Type 0
+Stops level b refusals old new (OutOfMemory written) = StopsBefore old new written ⊎ StopsWithin level b old new written
+Stops level b refusals old new (Device written) = StopsWithin level b old new written
+Stops level b refusals old new (TooLoose row told) = IsTooLoose level b refusals old new row told
+Stops level b refusals old new (SheetFault reason) = ⊥
+
+-- ---- reports
+
+-- what the accepted reports say was written, and the refused ones were told
+abbrev pub Consolidates : Sheet → List (List ℕ) → Level → Option (List ℕ) → Option (List ℕ) → List (ℕ × Refusal) → Type 0
+Consolidates sheet reports level = Writes level (merged sheet reports) (refused sheet reports)
+
+abbrev pub ConsolidationStops : Sheet → List (List ℕ) → Level → Option (List ℕ) → Option (List ℕ) → Fault → Type 0
+ConsolidationStops sheet reports level = Stops level (merged sheet reports) (refused sheet reports)
+
+-- ---- a bundle, in which all duplicates are allowed
+
+abbrev pub IsSheetOf : List ℕ → Sheet → Type 0
+IsSheetOf bytes sheet = sheet_outcome (sheet_piece bytes) ≡ Ok sheet
+
+pub record ConsolidatesBundle (bytes : List ℕ) (old new : Option (List ℕ)) (told : List (ℕ × Refusal)) : Type 0 where
+  pub sheet : Sheet
+  pub read : IsSheetOf bytes sheet
+  pub consolidates : Consolidates sheet (report_pieces bytes) AllLevel old new told
+
+-- the sheet was read, and then this fault came
+pub record StopsBehindSheet (bytes : List ℕ) (old new : Option (List ℕ)) (fault : Fault) : Type 0 where
+  pub sheet : Sheet
+  pub read : IsSheetOf bytes sheet
+  pub stops : ConsolidationStops sheet (report_pieces bytes) AllLevel old new fault
+
+abbrev pub BundleStops : List ℕ → Option (List ℕ) → Option (List ℕ) → Fault → Type 0
+BundleStops bytes old new (SheetFault reason) = (sheet_outcome (sheet_piece bytes) ≡ Err reason) × Appends old new []
+BundleStops bytes old new (OutOfMemory written) = StopsBefore old new written ⊎ StopsBehindSheet bytes old new (OutOfMemory written)
+BundleStops bytes old new fault = StopsBehindSheet bytes old new fault
+
+-- ---- faults
 
 abbrev pub fault_of : WriteFault → Fault
 fault_of (WriteOutOfMemory n) = OutOfMemory n
@@ -78,9 +89,10 @@ failures_after_run (Ok x) n = n
 failures_after_run (Err (Device w)) n = n + 1
 failures_after_run (Err _) n = n
 
--- neither the order of the accepted reports of a bundle nor how often each comes matters
-abbrev pub BundlesIgnoreOrder : Type 0
-BundlesIgnoreOrder =
-    (bundle other : List ℕ) (sheet : Sheet) →
-    HaveSameMembers (accepted sheet (report_pieces bundle)) (accepted sheet (report_pieces other)) →
-    merged_text bundle sheet ≡ merged_text other sheet
+-- ---- order
+
+-- neither the order of the accepted reports nor how often each comes matters
+abbrev pub ReportsIgnoreOrder : Type 0
+ReportsIgnoreOrder =
+    (sheet : Sheet) (reports others : List (List ℕ)) → SameMembers (accepted sheet reports) (accepted sheet others) →
+    canonical (merged sheet reports) ≡ canonical (merged sheet others)

@@ -1,21 +1,24 @@
 ghost use Rattle.std.specs.Prelude.{◌≡◌, ◌-◌, ◌^◌, ◌<◌, IfOk, IfErr};
 ghost use Rattle.std.specs.List.{before_first, after_first, position_or_len};
-ghost use Rattle.xbrlmerge.specs.Body.{body};
 ghost use Rattle.xbrlmerge.specs.Bundle.{is_line_end, filled_pieces};
-ghost use Rattle.xbrlmerge.specs.Run.{accepted, refused, Consolidates, Stops, failures_after_run};
+ghost use Rattle.xbrlmerge.specs.Gathered.{base_of};
+ghost use Rattle.xbrlmerge.specs.Reports.{accepted, refused};
+ghost use Rattle.xbrlmerge.specs.Run.{BundleStops, ConsolidatesBundle, failures_after_run};
 
+use crate::consolidation::write_within;
 use crate::fault::Fault;
+use crate::merged::Merged;
 use crate::merging::Merging;
 use crate::refusals::Refusals;
-use crate::sheet::Sheet;
-use crate::sink::Sink;
-use crate::writer::write_to;
 use oim_names::Reason;
+use oim_report::Sheet;
+use oim_value::Level;
+use oim_write::Sink;
 use std::alloc::{AllocError, Global};
 
 /// Merges a bundle: its first line is a concept sheet, and each further line that is not empty is
 /// a report. The reports that are accepted are merged, and the canonical text of what they say goes
-/// to the sink; the others are answered, by their numbers from 1.
+/// to the sink, with whatever duplicates it has; the others are answered, by their numbers from 1.
 ///
 /// Errors: `Sheet` where the sheet is refused, and then nothing is written; `Device` where the sink
 /// failed; `OutOfMemory`.
@@ -25,8 +28,8 @@ pub fn consolidate_bundle<S: Sink>(
     out: &mut S,
 ) -> Result<Refusals, Fault>
     requires { S.failures out.old < 2 ^ 64 - 1 }
-    ensures ok { IfOk result (Consolidates bytes.now (S.told out.old) (S.told out.new)) }
-    ensures err { IfErr result (Stops bytes.now (S.told out.old) (S.told out.new)) }
+    ensures ok { IfOk result (ConsolidatesBundle bytes.now (S.told out.old) (S.told out.new)) }
+    ensures err { IfErr result (BundleStops bytes.now (S.told out.old) (S.told out.new)) }
     ensures failures { S.failures out.new ≡ failures_after_run result (S.failures out.old) }
 {
     let (first, rest) = cut_line(bytes);
@@ -35,13 +38,10 @@ pub fn consolidate_bundle<S: Sink>(
         Err(Reason::OutOfMemory) => return Err(Fault::OutOfMemory(0)),
         Err(reason) => return Err(Fault::Sheet(reason)),
     };
-    let Ok(merging) = read_reports(alloc, &sheet, rest) else {
+    let Ok(merged) = merge_lines(alloc, &sheet, rest) else {
         return Err(Fault::OutOfMemory(0));
     };
-    match write_to(alloc, &merging.base, out) {
-        Ok(()) => Ok(merging.refusals),
-        Err(fault) => Err(Fault::from(fault)),
-    }
+    write_within(alloc, merged, Level::All, out)
 }
 
 /// The bytes before the first line end, and those behind it.
@@ -69,20 +69,20 @@ fn line_end(bytes: &[u8]) -> usize
 }
 
 /// Reads each line that is not empty.
-fn read_reports(alloc: Global, sheet: &Sheet, lines: &[u8]) -> Result<Merging, AllocError>
-    ensures base { IfOk result
-        (λ merging. merging.base ≡ body (accepted sheet.now (filled_pieces lines.now))) }
+fn merge_lines<'s>(alloc: Global, sheet: &'s Sheet, lines: &[u8]) -> Result<Merged<'s>, AllocError>
+    ensures base { IfOk result (λ merged.
+        merged.base ≡ base_of sheet.now (accepted sheet.now (filled_pieces lines.now))) }
     ensures refusals { IfOk result
-        (λ merging. merging.refusals ≡ refused sheet.now (filled_pieces lines.now)) }
+        (λ merged. merged.refusals ≡ refused sheet.now (filled_pieces lines.now)) }
 {
-    let mut merging = Merging::new(alloc);
+    let mut merging = Merging::new(alloc, sheet);
     let mut rest = lines;
     while !rest.is_empty() {
         let (line, behind) = cut_line(rest);
         if !line.is_empty() {
-            merging.read(alloc, sheet, line)?;
+            merging.read(alloc, line)?;
         }
         rest = behind;
     }
-    Ok(merging)
+    Merged::from_merging(alloc, merging)
 }

@@ -126,3 +126,22 @@ impl Write for NeverFlushed {
         Err(fault(Then::Fails))
     }
 }
+
+/// Takes so many bytes, and then fails.
+#[derive(Clone, Copy)]
+pub struct FullAfter(pub usize);
+
+impl Write for FullAfter {
+    fn write(&mut self, bytes: &[u8]) -> io::Result<usize> {
+        let taken = bytes.len().min(self.0);
+        if taken == 0 && !bytes.is_empty() {
+            return Err(fault(Then::Fails));
+        }
+        self.0 -= taken;
+        Ok(taken)
+    }
+
+    fn flush(&mut self) -> io::Result<()> {
+        Ok(())
+    }
+}

@@ -1,19 +1,71 @@
+ghost use Rattle.std.specs.Prelude.{◌-◌, ◌^◌, ◌<◌};
+
+use crate::checked::Checked;
 use crate::fault::Fault;
-use crate::place::Place;
 use crate::read_fault::ReadFault;
-use crate::refusal::Refusal;
+use crate::refusals::Refusals;
+use crate::stop::Stop;
+use oim_report::{Place, Refusal};
+use oim_write::{Sink, put_all};
+use std::alloc::Global;
 use std::io::Write;
 
-// The lines on standard error. A fault in writing them is passed over.
+// What is printed. On standard error a fault in writing is passed over.
 
-/// The line of a refused report.
-pub(crate) fn print_refusal<E: Write>(err: &mut E, report: u64, refusal: &Refusal) {
+/// Puts a text on standard output.
+///
+/// Errors: `Device`, with how many of its bytes were taken.
+pub(crate) fn put_text<S: Sink>(out: &mut S, text: &str) -> Result<(), Fault>
+    requires { S.failures out.old < 2 ^ 64 - 1 }
+{
+    match put_all(out, text.as_bytes()) {
+        Ok(()) => Ok(()),
+        Err(taken) => Err(Fault::Device(taken as u64)),
+    }
+}
+
+/// Puts the line of an accepted report on standard output.
+///
+/// Errors: want of memory, and `Device`.
+pub(crate) fn put_checked<S: Sink>(
+    alloc: Global,
+    out: &mut S,
+    checked: &Checked,
+) -> Result<(), Fault>
+    requires { S.failures out.old < 2 ^ 64 - 1 }
+{
+    let (facts, level) = (checked.facts, checked.level.text());
+    match format!(in alloc; "accepted {facts} {level}\n") {
+        Ok(line) => put_text(out, line.as_str()),
+        Err(_) => Err(Fault::OutOfMemory(0)),
+    }
+}
+
+/// The lines of refused reports.
+pub(crate) fn print_refusals<E: Write>(err: &mut E, refusals: &Refusals) {
+    for (report, refusal) in refusals.as_slice() {
+        print_refusal(err, *report, refusal);
+    }
+}
+
+fn print_refusal<E: Write>(err: &mut E, report: u64, refusal: &Refusal) {
     let number = refusal.reason.number();
     let name = refusal.reason.name();
     let _ = match refusal.place {
         Place::Document => writeln!(err, "report {report}: {number} {name} at document"),
         Place::Fact(fact) => writeln!(err, "report {report}: {number} {name} at fact {fact}"),
     };
+}
+
+/// The lines of what stopped the program.
+pub(crate) fn print_stop<E: Write>(err: &mut E, stop: &Stop<'_>) {
+    match stop {
+        Stop::Words(error) => {
+            let _ = write!(err, "{error}");
+        }
+        Stop::File(file, fault) => print_read_fault(err, file, *fault),
+        Stop::Run(fault) => print_fault(err, fault),
+    }
 }
 
 /// The line of a file that is not read.
@@ -25,11 +77,14 @@ pub(crate) fn print_read_fault<E: Write>(err: &mut E, file: &str, fault: ReadFau
     };
 }
 
-/// The line of a fault.
-pub(crate) fn print_fault<E: Write>(err: &mut E, fault: Fault) {
+fn print_fault<E: Write>(err: &mut E, fault: &Fault) {
     let _ = match fault {
         Fault::OutOfMemory(_) => writeln!(err, "out of memory"),
         Fault::Device(written) => writeln!(err, "device: {written} bytes written"),
         Fault::Sheet(reason) => writeln!(err, "sheet: {} {}", reason.number(), reason.name()),
+        Fault::TooLoose { row, refused } => {
+            print_refusals(err, refused);
+            writeln!(err, "too loose: row {row}")
+        }
     };
 }

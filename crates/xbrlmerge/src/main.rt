@@ -1,68 +1,65 @@
 //! Consolidates xBRL-JSON reports.
 #![tactic(auto)]
 
+mod arguments;
 #[cfg(test)]
 mod asked_again;
-mod base;
 mod bundle;
 #[cfg(test)]
 mod canonical_parts;
-mod concept_kind;
+mod checked;
+mod commands;
+mod consolidation;
 #[cfg(test)]
 mod devices;
-mod document;
-mod document_form;
-mod encoded;
-mod fact;
-mod fact_form;
-mod fact_set;
-mod fact_text;
-mod fact_value;
+#[cfg(test)]
+mod drawn;
+#[cfg(test)]
+mod expecting;
 mod fault;
-mod json_tree;
+mod files;
+mod gathering;
 pub mod laws;
 mod lines;
+mod listing;
+mod merged;
 mod merging;
-mod name_faults;
-mod namespaces;
-mod parts;
-mod place;
-mod prefix_table;
-mod ranked;
+#[cfg(test)]
+mod ran;
 mod read_all;
 mod read_fault;
-mod reader;
-mod refusal;
 mod refusals;
+mod round_trip;
 mod run;
-mod sets;
-mod sheet;
-mod sink;
-mod sink_buffer;
 mod source;
-mod std_sink;
 mod std_source;
+mod stop;
+mod task;
 #[cfg(test)]
-mod tests_documents;
+mod tests_calls;
 #[cfg(test)]
-mod tests_facts;
+mod tests_files;
 #[cfg(test)]
 mod tests_io;
 #[cfg(test)]
+mod tests_round_trip;
+#[cfg(test)]
 mod tests_run;
 #[cfg(test)]
-mod tests_sheet;
+mod tests_sinks;
 #[cfg(test)]
-mod tests_writing;
-mod write_fault;
-mod writer;
+mod tests_texts;
+#[cfg(test)]
+mod tests_words;
+mod verdict_line;
+mod words;
 
 use run::run;
 use std::process::ExitCode;
 use std::{env, io};
 
 /// The words after the program's name.
-fn words(rt: &HostRuntime) -> io::Result<Vec<String>> {
+fn given(rt: &HostRuntime) -> io::Result<Vec<String>> {
     let mut words = Vec::new(rt.alloc());
     for word in env::args(rt)?.skip(1) {
         words.push(word)?;
@@ -71,7 +68,7 @@ fn words(rt: &HostRuntime) -> io::Result<Vec<String>> {
 }
 
 fn main(rt: HostRuntime) -> ExitCode {
-    let words = match words(&rt) {
+    let words = match given(&rt) {
         Ok(words) => words,
         Err(fault) => {
             if fault.kind() == io::ErrorKind::OutOfMemory {
@@ -81,5 +78,5 @@ fn main(rt: HostRuntime) -> ExitCode {
         }
     };
     let alloc = rt.alloc();
-    ExitCode::from(run(alloc, &words, rt.stdin(), rt.stdout(), rt.stderr()))
+    ExitCode::from(run(alloc, &rt, &words, rt.stdin(), rt.stdout(), rt.stderr()))
 }

@@ -1,56 +1,73 @@
-ghost use Rattle.std.specs.Prelude.{◌≡◌, ◌+◌, ◌^◌, ◌<◌, [], ◌++◌, List, OnOk};
-ghost use Rattle.xbrlmerge.specs.Body.{body};
-ghost use Rattle.xbrlmerge.specs.Document.{Document as DocumentValue};
-ghost use Rattle.xbrlmerge.specs.Outcome.{outcome};
-ghost use Rattle.xbrlmerge.specs.Run.{document_in, refusal_in};
+ghost use Rattle.std.specs.Prelude.{◌≡◌, ◌+◌, ◌^◌, ◌<◌, [], ◌∷◌, ◌++◌, List, OnOk, IfOk};
+ghost use Rattle.oim_report.specs.Document.{Document};
+ghost use Rattle.oim_report.specs.Outcome.{outcome};
+ghost use Rattle.xbrlmerge.specs.Gathered.{AreBases, AreBasesOf, base_of};
+ghost use Rattle.xbrlmerge.specs.Reports.{document_in, refusal_in};
 
-use crate::base::Base;
-use crate::reader::read_report;
+use crate::gathering::{joined, put};
 use crate::refusals::Refusals;
-use crate::sheet::Sheet;
+use fact_base::Base;
 use oim_names::Reason;
+use oim_report::{Report, Sheet, read_report};
 use std::alloc::{AllocError, Global};
 
-/// A base on its way: what the accepted reports say, the refused ones, and how many came.
-#[derive(Debug, Drop)]
-pub(crate) struct Merging {
-    pub base: Base,
+/// Reports on their way into one base: what the accepted ones say, in bases of growing size, the
+/// refused ones, and how many came.
+#[derive(Drop)]
+pub(crate) struct Merging<'s> {
+    pub sheet: &'s Sheet,
+    pub bases: Vec<Base<'s>>,
     pub refusals: Refusals,
     pub reports: u64,
 }
 
-impl Merging {
-    pub(crate) fn new(alloc: Global) -> Merging
-        ensures base { result.base ≡ body [] }
+impl<'s> Merging<'s> {
+    /// No report yet; those that come are read under the sheet.
+    pub(crate) fn new(alloc: Global, sheet: &'s Sheet) -> Merging<'s>
+        ensures sheet { result.sheet.now ≡ sheet.now }
+        ensures bases { result.bases.items ≡ [] }
         ensures refusals { result.refusals ≡ [] }
         ensures reports { result.reports ≡ 0 }
     {
         Merging {
-            base: Base::new(alloc),
+            sheet,
+            bases: Vec::new(alloc),
             refusals: Refusals::new(alloc),
             reports: 0,
         }
     }
 
     /// Reads one more report and takes it, or keeps its refusal.
-    pub(crate) fn read(
-        &mut self,
-        alloc: Global,
-        sheet: &Sheet,
-        bytes: &[u8],
-    ) -> Result<(), AllocError>
-        requires { self.old.reports + 1 < 2 ^ 64 }
-        ensures base { (docs : List DocumentValue) → self.old.base ≡ body docs →
-            OnOk result (self.new.base ≡ body (docs ++ document_in (outcome sheet.now bytes.now))) }
-        ensures refusals { OnOk result (self.new.refusals ≡
-            self.old.refusals ++ refusal_in (self.old.reports + 1) (outcome sheet.now bytes.now)) }
+    pub(crate) fn read(&mut self, alloc: Global, bytes: &[u8]) -> Result<(), AllocError>
+        requires count { self.old.reports + 1 < 2 ^ 64 }
+        requires bases { AreBases self.old.sheet.now self.old.bases.items }
+        ensures sheet { OnOk result (self.new.sheet.now ≡ self.old.sheet.now) }
+        ensures bases { (docs : List Document) → AreBasesOf self.old.sheet.now docs self.old.bases.items →
+            OnOk result (AreBasesOf self.old.sheet.now
+            (docs ++ document_in (outcome self.old.sheet.now bytes.now)) self.new.bases.items) }
+        ensures refusals { OnOk result (self.new.refusals ≡ self.old.refusals
+            ++ refusal_in (self.old.reports + 1) (outcome self.old.sheet.now bytes.now)) }
         ensures reports { OnOk result (self.new.reports ≡ self.old.reports + 1) }
     {
         self.reports += 1;
-        match read_report(alloc, sheet, bytes) {
-            Ok(document) => self.base.take(document),
+        match read_report(alloc, self.sheet, bytes) {
+            Ok(report) => put(&mut self.bases, base_with(alloc, self.sheet, &report)?),
             Err(refusal) if refusal.reason == Reason::OutOfMemory => Err(AllocError),
             Err(refusal) => self.refusals.push(self.reports, refusal),
         }
     }
+}
+
+/// A base of one report.
+fn base_with<'s>(
+    alloc: Global,
+    sheet: &'s Sheet,
+    report: &Report<'_>,
+) -> Result<Base<'s>, AllocError>
+    requires { report.now.sheet ≡ sheet.now }
+    ensures { IfOk result (λ base. base ≡ base_of sheet.now (report.now.document ∷ [])) }
+{
+    let mut base = Base::new(alloc, sheet);
+    base.take(report)?;
+    Ok(base)
 }

@@ -2,9 +2,9 @@ ghost use Rattle.std.specs.Prelude.{◌≡◌, ◌+◌, ◌-◌, ◌^◌, ◌<�
 ghost use Rattle.std.specs.Io.KnownBytes.{Consumes, IsAtEnd, Keeps};
 ghost use Rattle.xbrlmerge.specs.Source.{GivesBefore, failures_after_read};
 
-use crate::encoded::Encoded;
 use crate::read_fault::ReadFault;
 use crate::source::{Source, SourceError};
+use oim_write::Encoded;
 use std::alloc::{AllocError, Global};
 
 /// How many bytes a source is asked for at once, at most.

@@ -1,6 +1,6 @@
 ghost use Rattle.std.specs.Prelude.{◌≡◌, [], ◌++◌, ◌∷◌, OnOk, OnErr};
 
-use crate::refusal::Refusal;
+use oim_report::Refusal;
 use std::alloc::{AllocError, Global};
 use std::marker::Model;
 
@@ -12,7 +12,7 @@ pub struct Refusals {
 
 impl Model for Refusals {
     ghost use Rattle.std.specs.Prelude.{List, ℕ};
-    ghost use Rattle.xbrlmerge.specs.declared.refusal.Refusal.{Refusal as Refused};
+    ghost use Rattle.oim_report.specs.declared.refusal.Refusal.{Refusal as Refused};
 
     ghost Value = { List (ℕ × Refused) };
 

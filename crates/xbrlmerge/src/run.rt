@@ -1,87 +1,90 @@
-use crate::bundle::consolidate_bundle;
+ghost use Rattle.std.specs.Prelude.{◌-◌, ◌^◌, ◌<◌};
+
+use crate::commands::bundle::merge_bundle;
+use crate::commands::show::show;
 use crate::fault::Fault;
-use crate::lines::{print_fault, print_read_fault, print_refusal};
-use crate::read_all::read_all;
-use crate::read_fault::ReadFault;
+use crate::lines::{print_refusals, print_stop};
 use crate::refusals::Refusals;
-use crate::std_sink::StdSink;
-use crate::std_source::StdSource;
+use crate::stop::Stop;
+use crate::task::Task;
+use crate::words::read_words;
+use oim_write::{Sink, StdSink};
 use std::alloc::Global;
+use std::convert::AsStr;
 use std::io::{Read, Write};
-
-/// How many bytes a file may have.
-const MOST_BYTES: u32 = 2_147_483_648;
-
-/// What standard input is called in a line.
-const STANDARD_INPUT: &str = "-";
+use std::rt::Files;
 
 // The statuses with which the program ends.
 const DONE: u8 = 0;
 
 const REFUSED: u8 = 1;
 
+const TOO_LOOSE: u8 = 2;
+
 const FAILED: u8 = 3;
 
-/// Why the program stopped.
-#[derive(Clone, Copy, Debug)]
-enum Stop {
-    File(ReadFault),
-    Run(Fault),
-}
-
-/// The program: a bundle on `input` is merged to `out`, and `err` has a line for each refused
-/// report, or for what stopped it. It answers the status: 0, 1 where a report was refused, 3 where
-/// it stopped. It takes no words yet: with any it prints nothing and answers 3.
-pub fn run<R, O, E>(alloc: Global, words: &[String], input: R, out: O, mut err: E) -> u8
+/// The program: it does what the words after its name ask for. With none it merges the bundle on
+/// `input`. What it answers goes to `out`, and `err` has a line for each refused report, or for
+/// what stopped it. It answers the status: 0; 1 where a report was refused; 2 where a row is above
+/// the level that is allowed; 3 where it stopped.
+pub fn run<F, W, R, O, E>(alloc: Global, files: &F, words: &[W], input: R, out: O, mut err: E) -> u8
 where
+    F: Files,
+    W: AsStr,
     R: Read + Drop,
     O: Write + Drop,
     E: Write + Drop,
 {
-    if !words.is_empty() {
-        return FAILED;
+    let mut sink = StdSink::new(out);
+    let worked = work(alloc, files, words, input, &mut sink);
+    let ended = flush(worked, sink);
+    match &ended {
+        Ok(refusals) => print_refusals(&mut err, refusals),
+        Err(stop) => print_stop(&mut err, stop),
     }
-    match merge_bundle(alloc, input, out) {
-        Ok(refusals) => {
-            for (report, refusal) in refusals.as_slice() {
-                print_refusal(&mut err, *report, refusal);
-            }
-            if refusals.as_slice().is_empty() {
-                DONE
-            } else {
-                REFUSED
-            }
-        }
-        Err(Stop::File(fault)) => {
-            print_read_fault(&mut err, STANDARD_INPUT, fault);
-            FAILED
-        }
-        Err(Stop::Run(fault)) => {
-            print_fault(&mut err, fault);
-            FAILED
-        }
+    status_of(&ended)
+}
+
+/// Does what the words ask for, and answers the refused reports.
+fn work<'w, F: Files, W: AsStr, R: Read + Drop, S: Sink>(
+    alloc: Global,
+    files: &F,
+    words: &'w [W],
+    input: R,
+    out: &mut S,
+) -> Result<Refusals, Stop<'w>>
+    requires { S.failures out.old < 2 ^ 64 - 1 }
+{
+    match read_words(alloc, words)? {
+        Task::Bundle => merge_bundle(alloc, input, out),
+        Task::Show(asked) => show(alloc, &asked, out),
+        Task::Merge(merge) => merge.run(alloc, files, out),
+        Task::Verdicts(verdicts) => verdicts.run(alloc, files, out),
+        Task::Check(check) => check.run(alloc, files, out),
     }
 }
 
-/// Reads the bundle, merges it and flushes the text.
-fn merge_bundle<R, O>(alloc: Global, input: R, out: O) -> Result<Refusals, Stop>
-where
-    R: Read + Drop,
-    O: Write + Drop,
-{
-    let mut source = StdSource::new(input);
-    let bytes = match read_all(alloc, &mut source, MOST_BYTES) {
-        Ok(bytes) => bytes,
-        Err(fault) => return Err(Stop::File(fault)),
-    };
-    let mut sink = StdSink::new(out);
-    let refusals = match consolidate_bundle(alloc, bytes.as_bytes(), &mut sink) {
-        Ok(refusals) => refusals,
-        Err(fault) => return Err(Stop::Run(fault)),
-    };
+/// Flushes standard output, unless the program stopped. Where that fails it has stopped, with the
+/// whole length written.
+fn flush<'w, O: Write + Drop>(
+    worked: Result<Refusals, Stop<'w>>,
+    sink: StdSink<O>,
+) -> Result<Refusals, Stop<'w>> {
+    if status_of(&worked) == FAILED {
+        return worked;
+    }
     let written = sink.taken();
     match sink.into_inner().flush() {
-        Ok(()) => Ok(refusals),
+        Ok(()) => worked,
         Err(_) => Err(Stop::Run(Fault::Device(written))),
+    }
+}
+
+fn status_of(ended: &Result<Refusals, Stop<'_>>) -> u8 {
+    match ended {
+        Ok(refusals) if refusals.as_slice().is_empty() => DONE,
+        Ok(_) => REFUSED,
+        Err(Stop::Run(Fault::TooLoose { .. })) => TOO_LOOSE,
+        Err(_) => FAILED,
     }
 }

@@ -2,6 +2,7 @@ use crate::asked_again::{INFO, SHEET, joined, tell_refused};
 use crate::canonical_parts::{END, HEAD, MIDDLE, ONE_URI, WRITTEN_HUNDRED};
 use crate::devices::{NeverFlushed, TestReader, TestWriter, Then};
 use crate::lines::print_read_fault;
+use crate::ran::NO_WORDS;
 use crate::read_fault::ReadFault;
 use crate::run::run;
 use std::alloc::AllocError;
@@ -17,9 +18,6 @@ const OTHER_INFO: &str =
     r#"{"documentInfo":{"documentType":"https://xbrl.org/2021/xbrl-json","namespaces":{"zz":"http://example.org/t","x":"http://example.org/u","xbrli":"http://www.xbrl.org/2003/instance","xbrl":"https://xbrl.org/2021"}},"facts":{"#;
 
 const HUNDRED: &str = r#""a":{"value":"100","decimals":0,"dimensions":{"concept":"eg:A"}}"#;
-
-/// The same, to the end of its report.
-const JUST_HUNDRED: &str = r#""a":{"value":"100","decimals":0,"dimensions":{"concept":"eg:A"}}}}"#;
 
 const OTHER_HUNDRED: &str = r#""a":{"value":"100","decimals":0,"dimensions":{"concept":"zz:A"}}"#;
 
@@ -44,7 +42,7 @@ struct Ran {
 fn run_once(rt: &HostRuntime, input: TestReader<'_>, room: usize) -> Result<Ran, AllocError> {
     let mut out = writer(rt, room)?;
     let mut err = writer(rt, ROOM)?;
-    let status = run(rt.alloc(), &[], input, &mut out, &mut err);
+    let status = run(rt.alloc(), rt, NO_WORDS, input, &mut out, &mut err);
     Ok(Ran { status, out, err })
 }
 
@@ -89,16 +87,14 @@ fn no_report_gives_the_empty_text(rt: HostRuntime) -> Result<(), Fail> {
 }
 
 #[test]
-fn prefixes_carry_no_meaning(rt: HostRuntime) -> Result<(), Fail> {
+fn reports_in_either_order_give_one_text(rt: HostRuntime) -> Result<(), Fail> {
     let text = [HEAD, ONE_URI, MIDDLE, WRITTEN_HUNDRED, END];
     assert_eq!(rt; joined(&rt, &text)?.len(), 200);
     let [a, b, c, d, e] = [INFO, OTHER_INFO, HUNDRED, OTHER_HUNDRED, END];
     let bundles = [
-        [SHEET, "\n", a, c, e, "", "", "", "", "", "", ""],
-        [SHEET, "\n", b, d, e, "\n", "", "", "", "", "", ""],
-        [SHEET, "\n", a, c, e, "\n", b, d, e, "\n", "", ""],
-        [SHEET, "\n", b, d, e, "\n", a, c, e, "\n", "", ""],
-        [SHEET, "\n", a, c, e, "\n", a, c, e, "\n\n", a, JUST_HUNDRED],
+        [SHEET, "\n", a, c, e, "\n", "", "", "", "", "", "", "", ""],
+        [SHEET, "\n", b, d, e, "\n", a, c, e, "", "", "", "", ""],
+        [SHEET, "\n", a, c, e, "\n", b, d, e, "\n", a, c, e, "\n"],
     ];
     for bundle in bundles {
         assert!(rt; gives(&rt, &bundle, 0, &text, "")?);
@@ -107,47 +103,23 @@ fn prefixes_carry_no_meaning(rt: HostRuntime) -> Result<(), Fail> {
 }
 
 #[test]
-fn bundle_of_two_reports_and_one_again(rt: HostRuntime) -> Result<(), Fail> {
-    let text = [HEAD, ONE_URI, MIDDLE, WRITTEN_HUNDRED, END];
-    let [a, b, c, d, e] = [INFO, OTHER_INFO, HUNDRED, OTHER_HUNDRED, END];
-    let bundle = [SHEET, "\n", a, c, e, "\n", b, d, e, "\n", a, c, e, "\n"];
-    assert!(rt; gives(&rt, &bundle, 0, &text, "")?);
-    Ok(())
-}
-
-#[test]
-fn one_number_has_one_text(rt: HostRuntime) -> Result<(), Fail> {
-    let zeros = [
+fn whole_reports_are_merged(rt: HostRuntime) -> Result<(), Fail> {
+    let bundle = [
         SHEET,
         "\n",
         INFO,
-        r#""a":{"value":"-0","dimensions":{"concept":"eg:A"}},"#,
-        r#""b":{"value":"+0.00","dimensions":{"concept":"eg:A"}},"#,
-        r#""c":{"value":".0","dimensions":{"concept":"eg:A"}},"#,
-        r#""d":{"value":"0","dimensions":{"concept":"eg:A"}}"#,
+        r#""a":{"value":"Blue","dimensions":{"concept":"eg:T","entity":"x:529900:A1","period":"2020-01-01T00:00:00/2020-12-31T24:00:00","language":"en-GB","eg:Reg":"eg:North","eg:Sku":"a b"}}"#,
         END,
     ];
-    let zero = r#""f1":{"dimensions":{"concept":"n1:A"},"value":"0"}"#;
-    assert!(rt; gives(&rt, &zeros, 0, &[HEAD, ONE_URI, MIDDLE, zero, END], "")?);
-    let others = [
-        SHEET,
-        "\n",
-        INFO,
-        r#""a":{"value":"1.","dimensions":{"concept":"eg:A"}},"#,
-        r#""b":{"value":"0.10000000000000000000","dimensions":{"concept":"eg:A"}},"#,
-        r#""c":{"value":"0.000000000000000001","dimensions":{"concept":"eg:A"}}"#,
-        END,
-    ];
-    let written = [
+    let text = [
         HEAD,
         ONE_URI,
+        r#","n2":"http://example.org/u""#,
         MIDDLE,
-        r#""f1":{"dimensions":{"concept":"n1:A"},"value":"0.000000000000000001"},"#,
-        r#""f2":{"dimensions":{"concept":"n1:A"},"value":"0.1"},"#,
-        r#""f3":{"dimensions":{"concept":"n1:A"},"value":"1"}"#,
+        r#""f1":{"dimensions":{"concept":"n1:T","entity":"n2:529900:A1","language":"en-gb","n1:Reg":"n1:North","n1:Sku":"a b","period":"2020-01-01T00:00:00/2021-01-01T00:00:00"},"value":"Blue"}"#,
         END,
     ];
-    assert!(rt; gives(&rt, &others, 0, &written, "")?);
+    assert!(rt; gives(&rt, &bundle, 0, &text, "")?);
     Ok(())
 }
 
@@ -170,75 +142,6 @@ fn a_refused_report_changes_nothing(rt: HostRuntime) -> Result<(), Fail> {
     ];
     let lines = "report 1: 13 UnboundPrefix at fact 2\nreport 3: 2 MemberForm at document\n";
     assert!(rt; gives(&rt, &bundle, 1, &hundred, lines)?);
-    Ok(())
-}
-
-#[test]
-fn refusals_are_told_with_their_place(rt: HostRuntime) -> Result<(), Fail> {
-    let rows = [
-        (
-            r#""a":{"value":"1","dimensions":{"concept":"eg:A","noteId":"k1"}}"#,
-            "report 1: 10 Notes at fact 1\n",
-        ),
-        (
-            r#""a":{"value":"1","links":{"eg:l":{}},"dimensions":{"concept":"eg:A"}}"#,
-            "report 1: 9 Links at fact 1\n",
-        ),
-        (
-            r#""a":{"value":"1","decimals":13,"dimensions":{"concept":"eg:A"}}"#,
-            "report 1: 29 DecimalsRange at fact 1\n",
-        ),
-        (
-            r#""a":{"value":"0.0000000000000000001","dimensions":{"concept":"eg:A"}}"#,
-            "report 1: 27 NumberDigits at fact 1\n",
-        ),
-        (
-            r#""b":{"value":" 1","dimensions":{"concept":"eg:A"}},"a":{"value":"1","dimensions":{"concept":"eg:A"}}"#,
-            "report 1: 26 NumberForm at fact 2\n",
-        ),
-        (r#""a":7"#, "report 1: 2 MemberForm at fact 1\n"),
-        (r#""a":{"#, "report 1: 1 NotJson at document\n"),
-    ];
-    for (facts, line) in rows {
-        let bundle = [SHEET, "\n", INFO, facts, END];
-        assert!(rt; gives(&rt, &bundle, 1, &[HEAD, MIDDLE, END], line)?);
-    }
-    Ok(())
-}
-
-#[test]
-fn identifiers_are_padded(rt: HostRuntime) -> Result<(), Fail> {
-    let mut report = joined(&rt, &[SHEET, "\n", INFO])?;
-    let mut text = joined(&rt, &[HEAD, ONE_URI, MIDDLE])?;
-    for (place, number) in ["1", "2", "3", "4", "5", "6", "7", "8", "9", "10"]
-        .iter()
-        .enumerate()
-    {
-        let [comma, zero] = [
-            [",", ""][usize::from(place == 0)],
-            ["0", ""][usize::from(place == 9)],
-        ];
-        for part in [comma, "\"", *number, r#"":{"value":""#, *number] {
-            report.extend_from_slice(part.as_bytes())?;
-        }
-        report.extend_from_slice(br#"","decimals":0,"dimensions":{"concept":"eg:A"}}"#)?;
-        for part in [
-            comma,
-            "\"f",
-            zero,
-            *number,
-            r#"":{"decimals":0,"dimensions":{"concept":"n1:A"},"value":""#,
-            *number,
-            "\"}",
-        ] {
-            text.extend_from_slice(part.as_bytes())?;
-        }
-    }
-    report.extend_from_slice(END.as_bytes())?;
-    text.extend_from_slice(END.as_bytes())?;
-    let ran = run_in(&rt, TestReader::new(&report, ROOM, Then::Ends), ROOM)?;
-    assert_eq!(rt; ran.status, 0);
-    assert_eq!(rt; ran.out.held(), text.as_slice());
     Ok(())
 }
 
@@ -306,34 +209,16 @@ fn a_failing_device_ends_the_run(rt: HostRuntime) -> Result<(), Fail> {
 }
 
 #[test]
-fn words_are_not_taken_yet(rt: HostRuntime) -> Result<(), Fail> {
-    let mut out = writer(&rt, ROOM)?;
-    let mut err = writer(&rt, ROOM)?;
-    let word = match String::from_str(rt.alloc(), "--help") {
-        Err(_) => {
-            tell_refused(&rt);
-            String::from_str(rt.alloc(), "--help")?
-        }
-        Ok(word) => word,
-    };
-    let input = TestReader::new(SHEET.as_bytes(), ROOM, Then::Ends);
-    let status = run(rt.alloc(), &[word], input, &mut out, &mut err);
-    assert_eq!(rt; status, 3);
-    assert!(rt; out.held().is_empty() && err.held().is_empty());
-    Ok(())
-}
-
-#[test]
 fn a_text_that_is_not_flushed_is_a_fault(rt: HostRuntime) -> Result<(), Fail> {
     let refused = [SHEET, "\n{}\n", INFO, HUNDRED, END];
     let bundle = joined(&rt, &refused)?;
     let mut err = writer(&rt, ROOM)?;
     let input = TestReader::new(&bundle, ROOM, Then::Ends);
-    let mut status = run(rt.alloc(), &[], input, NeverFlushed, &mut err);
+    let mut status = run(rt.alloc(), &rt, NO_WORDS, input, NeverFlushed, &mut err);
     if err.held() == b"out of memory\n".as_slice() {
         tell_refused(&rt);
         err = writer(&rt, ROOM)?;
-        status = run(rt.alloc(), &[], input, NeverFlushed, &mut err);
+        status = run(rt.alloc(), &rt, NO_WORDS, input, NeverFlushed, &mut err);
     }
     assert_eq!(rt; status, 3);
     assert_eq!(rt; err.held(), b"device: 200 bytes written\n".as_slice());
@@ -346,7 +231,7 @@ fn a_failing_standard_error_is_passed_over(rt: HostRuntime) -> Result<(), Fail> 
     let mut out = writer(&rt, ROOM)?;
     let mut err = writer(&rt, 3)?;
     let input = TestReader::new(&bundle, ROOM, Then::Ends);
-    let status = run(rt.alloc(), &[], input, &mut out, &mut err);
+    let status = run(rt.alloc(), &rt, NO_WORDS, input, &mut out, &mut err);
     if err.held() == b"out".as_slice() {
         tell_refused(&rt);
         return Ok(());

@@ -1,0 +1,17 @@
+pub mod Digits
+pub mod Numerals
+pub mod Ranks
+pub mod UriSets
+pub mod RowNames
+pub mod Passing
+pub mod Tokens
+pub mod UrisOfFacts
+pub mod NameOrder
+pub mod WrittenOrder
+pub mod PartTexts
+pub mod NumberedFacts
+pub mod Labels
+pub mod SpelledFacts
+pub mod Namespaces
+pub mod PlainTrees
+pub mod Canonical

@@ -1,0 +1,72 @@
+-- The URIs of facts that fit a sheet are namespaces.
+use Rattle.std.proofs.Common.{◌≡◌, ℕ, List, [], ◌∷◌, ◌++◌, Option, Some, None, ⊎_elim, subst, sym}
+use Rattle.std.specs.Prelude.{All, Contains, flat_map}
+use Rattle.oim_names.specs.QName.{QName}
+use Rattle.oim_value.specs.declared.value.Value.{Value}
+use Rattle.oim_value.specs.declared.value.Value.TheVariants.{Nil, Number, Text as AText, Name as AName}
+use Rattle.oim_dims.specs.DimensionSet.{DimensionSet}
+use Rattle.oim_dims.specs.Unit.{Measures}
+use Rattle.oim_dims.specs.declared.fact.Fact.{Fact}
+use Rattle.oim_dims.specs.declared.member.Member.{Member}
+use Rattle.oim_dims.specs.declared.member.Member.TheVariants.{Nil as NoMember, Text as MemberText, Name as MemberName}
+use Rattle.fact_base.specs.Body.{Body}
+use Rattle.fact_base.specs.Fits.{Fits}
+use Rattle.fact_base.specs.Passed.{ConceptKind, DimensionFits, DimensionKind, EntityFits, Explicit, FactFits, FitsName, IsNamespace, MemberFits, Name, Numeric, Sheet, Text, Typed, UnitFits, ValueFits}
+use Rattle.fact_base.proofs.Members.{each_by_there, each_there, first_or_later, from_map, in_flat_map, in_one_of_both, none_there}
+use Rattle.oim_write.specs.Uris.{defined_names, dimension_names, entity_names, fact_names, unit_names, uris, value_names}
+use Rattle.oim_write.proofs.UrisOfFacts.{uris_are_set}
+
+abbrev Allowed : QName → Type 0
+Allowed n = IsNamespace n.uri
+
+only : (n m : QName) → Allowed n → Contains (n ∷ []) m → Allowed m
+only n m fits at = ⊎_elim (λ is. subst Allowed is fits) (none_there m) (first_or_later n [] m at)
+
+entity_allowed : (e : Option QName) → EntityFits e → (n : QName) → Contains (entity_names e) n → Allowed n
+entity_allowed None fits n at = none_there n at
+entity_allowed (Some e) fits n at = only e n fits.scheme at
+
+unit_allowed : (kind : ConceptKind) (m : Option Measures) → UnitFits kind m → (n : QName) → Contains (unit_names m) n → Allowed n
+unit_allowed kind None fits n at = none_there n at
+unit_allowed kind (Some m) fits n at = ⊎_elim (λ l. (each_there FitsName m.numerators n fits.numerators l).namespace) (λ r. (each_there FitsName m.denominators n fits.denominators r).namespace) ((in_one_of_both m.numerators m.denominators n).0 at)
+
+member_allowed : (kind : DimensionKind) (m : Member) → MemberFits kind m → (e n : QName) → Allowed e → Contains (defined_names (e, m)) n → Allowed n
+member_allowed kind NoMember fits e n own at = only e n own at
+member_allowed kind (MemberText t) fits e n own at = only e n own at
+member_allowed Explicit (MemberName m) fits e n own at = ⊎_elim (λ is. subst Allowed is own) (λ later. only m n fits.namespace later) (first_or_later e (m ∷ []) n at)
+member_allowed Typed (MemberName m) fits e n own at = absurd fits
+
+value_allowed : (kind : ConceptKind) (v : Value) → ValueFits kind v → (n : QName) → Contains (value_names v) n → Allowed n
+value_allowed kind Nil fits n at = none_there n at
+value_allowed kind (Number units d) fits n at = none_there n at
+value_allowed kind (AText t) fits n at = none_there n at
+value_allowed Numeric (AName m) fits n at = absurd fits
+value_allowed Text (AName m) fits n at = absurd fits
+value_allowed Name (AName m) fits n at = only m n fits.namespace at
+
+dimensions_allowed : (sheet : Sheet) (f : Fact) → FactFits sheet f → (n : QName) → Contains (dimension_names f.dimensions) n → Allowed n
+dimensions_allowed sheet f fits n at =
+    let d = f.dimensions in
+    let entity = entity_names d.entity in
+    let unit = unit_names d.unit in
+    let defined = flat_map defined_names d.members in
+    ⊎_elim (λ is. subst Allowed is fits.concept.namespace)
+    (λ rest. ⊎_elim (entity_allowed d.entity fits.entity n)
+    (λ further. ⊎_elim (unit_allowed fits.kind d.unit fits.unit n)
+    (λ last.
+    let some = (in_flat_map defined_names d.members n).0 last in
+    let e = some.1 in
+    let here = each_there (DimensionFits sheet) d.members e fits.members (some.0, some.2, some.3) in
+    member_allowed here.kind e.1 here.member e.0 n here.name.namespace some.4)
+    ((in_one_of_both unit defined n).0 further))
+    ((in_one_of_both entity (unit ++ defined) n).0 rest))
+    (first_or_later d.concept (entity ++ (unit ++ defined)) n at)
+
+fact_allowed : (sheet : Sheet) (f : Fact) → FactFits sheet f → (n : QName) → Contains (fact_names f) n → Allowed n
+fact_allowed sheet f fits n at = ⊎_elim (dimensions_allowed sheet f fits n) (value_allowed fits.kind f.value fits.value n) ((in_one_of_both (dimension_names f.dimensions) (value_names f.value) n).0 at)
+
+pub uris_are_namespaces : (sheet : Sheet) (b : Body) → Fits sheet b → All IsNamespace (uris b.facts)
+uris_are_namespaces sheet b fits = each_by_there IsNamespace (uris b.facts) (λ u at.
+    let named = from_map (λ n. n.uri) (flat_map fact_names b.facts) u (((uris_are_set b.facts).members u).0 at) in
+    let some = (in_flat_map fact_names b.facts named.0).0 named.1.0 in
+    subst IsNamespace named.1.1 (fact_allowed sheet some.1 (each_there (FactFits sheet) b.facts some.1 fits.facts (some.0, some.2, some.3)) named.0 some.4))

@@ -1,0 +1,84 @@
+-- The tokens of members, one after another.
+use Rattle.std.proofs.Common.{◌≡◌, List, [], ◌∷◌, ◌++◌, append_assoc, append-nil, Option, Some, None, Result, Ok, Err, refl, sym, ap, ◌∙◌}
+use Rattle.std.specs.Prelude.{ℕ, OnOk}
+use Rattle.json.specs.Token.{Token, begin_object, end_object, key}
+use Rattle.json.specs.Tree as tree
+use Rattle.json.specs.Written.{Writes, Written}
+use Rattle.serde_json.specs.Data.{Data, object, Members, no_members, member}
+use Rattle.serde_json.specs.Written.{members_outline, outline}
+use Rattle.oim_names.specs.QName.{QName}
+use Rattle.oim_value.specs.declared.value.Value.{Value}
+use Rattle.oim_value.specs.declared.value.Value.TheVariants.{Nil, Number, Text as AText, Name as AName}
+use Rattle.oim_dims.specs.declared.member.Member.{Member}
+use Rattle.fact_base.specs.Passed.{member_data}
+use Rattle.oim_write.specs.Ordered.{decimals_member, defined_members, text_member}
+use Rattle.oim_write.specs.Parts.{Adds, AddsValue, AddsMembers, members_tokens}
+
+outlined : (ms : Members) → tree.members_tokens (members_outline ms) ≡ members_tokens ms ++ end_object ∷ []
+outlined no_members = refl
+outlined (member k d ms) = ap (λ ts. key k ∷ (tree.json_tokens (outline d) ++ ts)) (outlined ms) ∙ ap (λ ts. key k ∷ ts) (sym (append_assoc (tree.json_tokens (outline d)) (members_tokens ms) (end_object ∷ [])))
+
+-- an object's tokens are those of its members between the brackets
+pub object_tokens : (ms : Members) → tree.json_tokens (outline (object ms)) ≡ begin_object ∷ (members_tokens ms ++ end_object ∷ [])
+object_tokens ms = ap (λ ts. begin_object ∷ ts) (outlined ms)
+
+pub text_tokens : (k : List ℕ) (o : Option (List ℕ)) (ms : Members) → members_tokens (text_member k o ms) ≡ members_tokens (text_member k o no_members) ++ members_tokens ms
+text_tokens k None ms = refl
+text_tokens k (Some t) ms = refl
+
+pub decimals_tokens : (v : Value) (ms : Members) → members_tokens (decimals_member v ms) ≡ members_tokens (decimals_member v no_members) ++ members_tokens ms
+decimals_tokens (Number units (Some d)) ms = refl
+decimals_tokens (Number units None) ms = refl
+decimals_tokens Nil ms = refl
+decimals_tokens (AText t) ms = refl
+decimals_tokens (AName n) ms = refl
+
+module _ (spelled : QName → List ℕ) where
+  pub defined_tokens : (es : List (QName × Member)) (ms : Members) → members_tokens (defined_members spelled es ms) ≡ members_tokens (defined_members spelled es no_members) ++ members_tokens ms
+  defined_tokens [] ms = refl
+  defined_tokens (e ∷ es) ms =
+      ap (λ ts. key (spelled e.0) ∷ (tree.json_tokens (outline (member_data spelled e.1)) ++ ts)) (defined_tokens es ms)
+      ∙ ap (λ ts. key (spelled e.0) ∷ ts) (sym (append_assoc (tree.json_tokens (outline (member_data spelled e.1))) (members_tokens (defined_members spelled es no_members)) (members_tokens ms)))
+
+  -- one more at the end
+  pub defined_next : (es : List (QName × Member)) (e : QName × Member) →
+      members_tokens (defined_members spelled (es ++ e ∷ []) no_members)
+      ≡ members_tokens (defined_members spelled es no_members) ++ key (spelled e.0) ∷ tree.json_tokens (outline (member_data spelled e.1))
+  defined_next [] e = ap (λ ts. key (spelled e.0) ∷ ts) (append-nil _)
+  defined_next (f ∷ es) e =
+      ap (λ ts. key (spelled f.0) ∷ (tree.json_tokens (outline (member_data spelled f.1)) ++ ts)) (defined_next es e)
+      ∙ ap (λ ts. key (spelled f.0) ∷ ts) (sym (append_assoc (tree.json_tokens (outline (member_data spelled f.1))) (members_tokens (defined_members spelled es no_members)) _))
+
+-- ---- what was written behind what stood there
+
+pub Adds-is : {a b : Written} {ts us : List Token} → ts ≡ us → Adds a b ts → Adds a b us
+Adds-is {a = a} is added = record { tokens = added.tokens ∙ ap (λ xs. a.tokens ++ xs) is; before = added.before }
+
+pub Adds-trans : {a b c : Written} {ts us : List Token} → Adds a b ts → Adds b c us → Adds a c (ts ++ us)
+Adds-trans {a = a} {ts = ts} {us = us} first second = record {
+  tokens = second.tokens ∙ ap (λ xs. xs ++ us) first.tokens ∙ append_assoc a.tokens ts us;
+  before = second.before ∙ first.before;
+}
+
+pub Adds-none : {a : Written} → Adds a a []
+Adds-none {a} = record { tokens = sym (append-nil a.tokens); before = refl }
+
+pub Adds-one : {E : Type 0} {a b : Written} {t : Token} {done : Unit {0}} → Writes {E = E} (Ok done) a b t → Adds a b (t ∷ [])
+Adds-one written = record { tokens = written.ok; before = written.room.0 }
+
+pub then_member : {a b c e : Written} (k : List ℕ) (d : Data) (ms : Members) → Adds a b (key k ∷ []) → AddsValue b c d → AddsMembers c e ms → AddsMembers a e (member k d ms)
+then_member k d ms name value rest = Adds-trans name (Adds-trans value rest)
+
+pub then_text : {a b c : Written} (k : List ℕ) {o p : Option (List ℕ)} (ms : Members) → o ≡ p → AddsMembers a b (text_member k o no_members) → AddsMembers b c ms → AddsMembers a c (text_member k p ms)
+then_text k {o} ms is text rest = Adds-is (sym (text_tokens k o ms) ∙ ap (λ t. members_tokens (text_member k t ms)) is) (Adds-trans text rest)
+
+pub then_decimals : {a b c : Written} (v : Value) (ms : Members) → AddsMembers a b (decimals_member v no_members) → AddsMembers b c ms → AddsMembers a c (decimals_member v ms)
+then_decimals v ms decimals rest = Adds-is (sym (decimals_tokens v ms)) (Adds-trans decimals rest)
+
+pub then_defined : {a b c : Written} (spelled : QName → List ℕ) {es fs : List (QName × Member)} (ms : Members) → es ≡ fs → AddsMembers a b (defined_members spelled es no_members) → AddsMembers b c ms → AddsMembers a c (defined_members spelled fs ms)
+then_defined spelled {es} ms is defined rest = Adds-is (sym (defined_tokens spelled es ms) ∙ ap (λ ds. members_tokens (defined_members spelled ds ms)) is) (Adds-trans defined rest)
+
+-- an object that is closed at the end
+pub closed_object : {E : Type 0} {a b c d : Written} (r : Result (Unit {0}) E) (ms : Members) → Adds a b (begin_object ∷ []) → AddsMembers b c ms → Writes r c d end_object → OnOk r (AddsValue a d (object ms))
+closed_object (Ok done) ms begun members closed = Adds-is (sym (object_tokens ms)) (Adds-trans begun (Adds-trans members (Adds-one closed)))
+closed_object (Err e) ms begun members closed = tt

@@ -1,0 +1,24 @@
+use Rattle.std.proofs.Common.{◌≡◌, ◌≤◌, List, ℕ, map, take, length, sym, ap, subst, ◌∙◌, arith}
+use Rattle.oim_names.specs.Bindings.{bound}
+use Rattle.fact_base.specs.Body.{text_cmp}
+use Rattle.fact_base.specs.Passed.{IsSet}
+use Rattle.fact_base.proofs.Members.{to_the_end}
+use Rattle.oim_write.specs.Prefixes.{bindings_of}
+use Rattle.oim_write.specs.Tree.{prefix}
+use Rattle.oim_write.proofs.Labels.{bound_more}
+use Rattle.oim_write.proofs.bindings.prefixes.Goals as goal
+
+pub loop-uri-preserved : goal.loop-uri-preserved
+loop-uri-preserved c =
+    let us = c.uris-uri-items.result.now in
+    let rises = subst (IsSet text_cmp) (c.table.view_is ∙ sym c.uris-uri-items.ensures) c.table.invariant.rises in
+    c.in_ok-bind.ensures
+    ∙ (λ i. bound (c.loop-uri.invariant i) (prefix (sym c.uris-uri-items.ensures i) (c.as_str.ensures.bytes i)) (c.as_str.ensures.bytes i))
+    ∙ bound_more us c.loop-uri.uri-index c.uri-item.result rises (omega arith) c.uri-item.is
+
+pub returns : goal.returns
+returns c =
+    let us = c.uris-uri-items.result.now in
+    c.loop-uri.invariant
+    ∙ ap (map (λ u. record { prefix = prefix us u; uri = u })) (to_the_end us c.loop-uri.uri-index (omega arith))
+    ∙ ap bindings_of (c.uris-uri-items.ensures ∙ c.in_ok-table.ensures)

@@ -1,0 +1,8 @@
+use Rattle.std.proofs.Common.{◌≡◌, map, take}
+use Rattle.oim_names.specs.Bindings.{Binding}
+use Rattle.oim_write.specs.Tree.{prefix}
+use Rattle.oim_write.proofs.bindings.prefixes.Given as goal
+
+-- the URIs so far have their prefixes
+abbrev pub invariant-loop-uri : goal.invariant-loop-uri
+invariant-loop-uri l = l.aliases ≡ map (λ u. record { prefix = prefix l.uri-items u; uri = u }) (take l.uri-index l.uri-items)

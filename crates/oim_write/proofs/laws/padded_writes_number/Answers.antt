@@ -1,0 +1,5 @@
+use Rattle.oim_write.proofs.Numerals.{padded_writes_number}
+use Rattle.oim_write.proofs.laws.padded_writes_number.Goals as goal
+
+pub returns : goal.returns
+returns c = padded_writes_number

@@ -1,0 +1,7 @@
+use Rattle.std.proofs.Common.{take}
+use Rattle.std.specs.Prelude.{flat_map}
+use Rattle.oim_write.specs.Uris.{Gains, defined_names}
+use Rattle.oim_write.proofs.uri_set.UriSet.add_members.Given as goal
+
+abbrev pub invariant-loop-member : goal.invariant-loop-member
+invariant-loop-member l = Gains l.initial.self (flat_map defined_names (take l.member-index l.members)) l.self

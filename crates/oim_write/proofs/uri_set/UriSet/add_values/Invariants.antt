@@ -1,0 +1,7 @@
+use Rattle.std.proofs.Common.{take}
+use Rattle.std.specs.Prelude.{flat_map}
+use Rattle.oim_write.specs.Uris.{Gains, value_names}
+use Rattle.oim_write.proofs.uri_set.UriSet.add_values.Given as goal
+
+abbrev pub invariant-loop-value : goal.invariant-loop-value
+invariant-loop-value l = Gains l.initial.self (flat_map value_names (take l.value-index l.values)) l.self

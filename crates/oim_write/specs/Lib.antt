@@ -1,0 +1,9 @@
+pub mod Rank
+pub mod Uris
+pub mod Tree
+pub mod Ordered
+pub mod Bytes
+pub mod Prefixes
+pub mod Sink
+pub mod SinkBuffer
+pub mod Parts

@@ -1,0 +1,68 @@
+-- The canonical text part by part: what is written at a time (own).
+use Rattle.std.specs.Prelude.{◌≡◌, ℕ, ◌+◌, nat_lt, List, [], ◌∷◌, ◌++◌, length, codes, Bool, true, false}
+use Rattle.json.specs.Print.{quoted}
+use Rattle.json.specs.Token.{Token, key}
+use Rattle.json.specs.Tree.{json_tokens}
+use Rattle.json.specs.Written.{Written}
+use Rattle.serde_json.specs.Data.{Data, string, Members, no_members, member}
+use Rattle.serde_json.specs.Written.{comma_if, compact_text, outline}
+use Rattle.oim_dims.specs.declared.fact.Fact.{Fact}
+use Rattle.oim_write.specs.Ordered.{ordered_fact}
+use Rattle.oim_write.specs.Rank.{padded, width}
+use Rattle.oim_write.specs.Tree.{members_by, name_text, prefix}
+
+-- the tokens were written behind what stood there
+pub record Adds (old new : Written) (further : List Token) : Type 0 where
+  pub tokens : new.tokens ≡ old.tokens ++ further
+  pub before : new.before ≡ old.before
+
+-- a value's tokens were
+abbrev pub AddsValue : Written → Written → Data → Type 0
+AddsValue old new d = Adds old new (json_tokens (outline d))
+
+-- the tokens of an object's members
+abbrev pub members_tokens : Members → List Token
+members_tokens no_members = []
+members_tokens (member k d ms) = key k ∷ (json_tokens (outline d) ++ members_tokens ms)
+
+-- the members were written into an object that was begun
+abbrev pub AddsMembers : Written → Written → Members → Type 0
+AddsMembers old new ms = Adds old new (members_tokens ms)
+
+-- a member of an object, behind a comma where it is not the first
+abbrev pub part : Bool → List ℕ → Data → List ℕ
+part later name d = comma_if later ++ (quoted name ++ 58 ∷ compact_text d)
+
+-- the members of an object one after another, without its brackets
+abbrev pub parts : Bool → Members → List ℕ
+parts later no_members = []
+parts later (member name d ms) = part later name d ++ parts true ms
+
+abbrev pub namespace_members : List (List ℕ) → List (List ℕ) → Members
+namespace_members us some = members_by (prefix us) string some
+
+-- the items of an array of texts, without its brackets
+abbrev pub text_parts : Bool → List (List ℕ) → List ℕ
+text_parts later [] = []
+text_parts later (t ∷ ts) = (comma_if later ++ quoted t) ++ text_parts true ts
+
+-- all that stands before the first fact
+abbrev pub head_text : List (List ℕ) → List (List ℕ) → List ℕ
+head_text us references =
+    codes "{\"documentInfo\":{\"documentType\":\"https://xbrl.org/2021/xbrl-json\",\"namespaces\":{"
+    ++ (parts false (namespace_members us us)
+    ++ (codes "},\"taxonomy\":["
+    ++ (text_parts false references
+    ++ codes "]},\"facts\":{")))
+
+-- facts that are numbered with so many digits, where so many stand before them
+abbrev pub numbered_members : List (List ℕ) → ℕ → ℕ → List Fact → Members
+numbered_members us digits before [] = no_members
+numbered_members us digits before (f ∷ fs) = member (102 ∷ padded digits (before + 1)) (ordered_fact (name_text us) f) (numbered_members us digits (before + 1) fs)
+
+abbrev pub numbered_text : List (List ℕ) → ℕ → ℕ → List Fact → List ℕ
+numbered_text us digits before fs = parts (nat_lt 0 before) (numbered_members us digits before fs)
+
+-- all facts, one after another
+abbrev pub facts_text : List (List ℕ) → List Fact → List ℕ
+facts_text us facts = numbered_text us (width (length facts)) 0 facts

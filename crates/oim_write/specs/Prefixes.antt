@@ -1,0 +1,22 @@
+-- The prefixes of a text (own).
+use Rattle.std.specs.Prelude.{◌≡◌, ℕ, List, map, length, Contains}
+use Rattle.fact_base.specs.Passed.{IsSet, SpellsFact}
+use Rattle.oim_names.specs.Bindings.{Binding}
+use Rattle.oim_dims.specs.declared.fact.Fact.{Fact}
+use Rattle.fact_base.specs.Body.{text_cmp}
+use Rattle.oim_write.specs.Rank.{width}
+use Rattle.oim_write.specs.Tree.{name_text, prefix}
+use Rattle.oim_write.specs.Uris.{uris}
+
+-- a prefix for each of these URIs, in their order
+abbrev pub bindings_of : List (List ℕ) → List Binding
+bindings_of us = map (λ u. record { prefix = prefix us u; uri = u }) us
+
+-- what a table of prefixes keeps: the URIs rise, and so many digits number them
+pub record IsTable (us : List (List ℕ)) (digits : ℕ) : Type 0 where
+  pub rises : IsSet text_cmp us
+  pub enough : digits ≡ width (length us)
+
+-- each name of the facts is spelled by a prefix that is bound to its URI
+abbrev pub FactsAreSpelled : Type 0
+FactsAreSpelled = (facts : List Fact) (f : Fact) → Contains facts f → SpellsFact (bindings_of (uris facts)) (name_text (uris facts)) f

@@ -1,0 +1,28 @@
+-- A text on its way to a sink (own).
+use Rattle.std.specs.Prelude.{◌≡◌, ℕ, ◌+◌, ◌++◌, List, [], Option, length}
+use Rattle.std.specs.Io.KnownBytes.{Appends}
+use Rattle.oim_write.specs.Sink.{saturated}
+
+-- how many bytes the sink took, and those that wait to be put
+pub record Pending : Type 0 where
+  pub written : ℕ
+  pub bytes : List ℕ
+
+-- nothing was pushed yet
+abbrev pub nothing_yet : Pending
+nothing_yet = record { written = 0; bytes = [] }
+
+-- the text came behind what waited: the sink took a front of both, and the rest waits
+pub record Passes (old new : Option (List ℕ)) (before after : Pending) (text : List ℕ) : Type 0 where
+  pub front : List ℕ
+  pub whole : before.bytes ++ text ≡ front ++ after.bytes
+  pub appended : Appends old new front
+  pub count : saturated after.written ≡ saturated (before.written + length front)
+
+-- the text was to come behind what waited: the sink took a front of both before a fault, which tells what is written
+pub record Breaks (old new : Option (List ℕ)) (before : Pending) (text : List ℕ) (written : ℕ) : Type 0 where
+  pub front : List ℕ
+  pub rest : List ℕ
+  pub whole : before.bytes ++ text ≡ front ++ rest
+  pub appended : Appends old new front
+  pub count : written ≡ saturated (before.written + length front)

@@ -1,0 +1,55 @@
+-- The namespaces of the names of facts, each of which a prefix stands for (OIM Common 1.0: names are expanded, so that prefixes carry no meaning).
+use Rattle.std.specs.Prelude.{◌≡◌, ◌↔◌, ◌⊎◌, Contains, ℕ, List, [], ◌∷◌, ◌++◌, map, flat_map, Option, Some, None}
+use Rattle.oim_names.specs.QName.{QName}
+use Rattle.oim_value.specs.declared.value.Value.{Value}
+use Rattle.oim_value.specs.declared.value.Value.TheVariants.{Nil, Number, Text as AText, Name as AName}
+use Rattle.oim_dims.specs.DimensionSet.{DimensionSet}
+use Rattle.oim_dims.specs.Unit.{Measures}
+use Rattle.oim_dims.specs.declared.fact.Fact.{Fact}
+use Rattle.oim_dims.specs.declared.member.Member.{Member}
+use Rattle.oim_dims.specs.declared.member.Member.TheVariants.{Nil as NoMember, Text as MemberText, Name as MemberName}
+use Rattle.fact_base.specs.Body.{text_cmp}
+use Rattle.fact_base.specs.Rows.{Row}
+use Rattle.fact_base.specs.Sets.{set_of}
+
+abbrev pub entity_names : Option QName → List QName
+entity_names None = []
+entity_names (Some n) = n ∷ []
+
+abbrev pub unit_names : Option Measures → List QName
+unit_names None = []
+unit_names (Some m) = m.numerators ++ m.denominators
+
+-- a dimension, and its member where that is a name
+abbrev pub defined_names : QName × Member → List QName
+defined_names (n, NoMember) = n ∷ []
+defined_names (n, MemberText t) = n ∷ []
+defined_names (n, MemberName m) = n ∷ m ∷ []
+
+abbrev pub dimension_names : DimensionSet → List QName
+dimension_names d = d.concept ∷ (entity_names d.entity ++ (unit_names d.unit ++ flat_map defined_names d.members))
+
+abbrev pub value_names : Value → List QName
+value_names Nil = []
+value_names (Number units d) = []
+value_names (AText t) = []
+value_names (AName n) = n ∷ []
+
+-- each name of a fact: its concept, entity, measures, dimensions, explicit members, and a value that is one
+abbrev pub fact_names : Fact → List QName
+fact_names f = dimension_names f.dimensions ++ value_names f.value
+
+abbrev pub uris_of_names : List QName → List (List ℕ)
+uris_of_names names = map (λ n. n.uri) names
+
+-- the set of their namespaces, in byte order
+abbrev pub uris : List Fact → List (List ℕ)
+uris facts = set_of text_cmp (uris_of_names (flat_map fact_names facts))
+
+-- the names of a row: of its dimensions, and of its values
+abbrev pub row_names : Row → List QName
+row_names r = dimension_names r.0 ++ flat_map value_names r.1
+
+-- what a set of URIs has after it was given the namespaces of further names
+pub record Gains (old : List (List ℕ)) (names : List QName) (new : List (List ℕ)) : Type 0 where
+  pub members : (u : List ℕ) → Contains new u ↔ (Contains old u ⊎ Contains (uris_of_names names) u)

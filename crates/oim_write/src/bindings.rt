@@ -1,0 +1,38 @@
+ghost use Rattle.std.specs.Prelude.{◌≡◌, IfOk, OnOk};
+ghost use Rattle.oim_names.specs.Bindings.{bound};
+ghost use Rattle.oim_write.specs.Prefixes.{bindings_of};
+ghost use Rattle.oim_write.specs.Tree.{prefix};
+ghost use Rattle.oim_write.specs.Uris.{uris};
+
+use crate::prefix_table::PrefixTable;
+use fact_base::Base;
+use oim_names::Aliases;
+use std::alloc::{AllocError, Global};
+
+/// The prefixes of a base's text: for each URI of a name of its facts, in byte order of the URIs,
+/// the letter `n` and its rank, from 1, with zeros on the left to the width of their number (own).
+///
+/// Errors: want of memory.
+pub fn prefixes(alloc: Global, base: &Base<'_>) -> Result<Aliases, AllocError>
+    ensures { IfOk result (λ aliases. aliases ≡ bindings_of (uris base.now.body.facts)) }
+{
+    let table = PrefixTable::of(alloc, base)?;
+    let mut aliases = Aliases::new(alloc);
+    for uri in table.uris() {
+        bind(alloc, &mut aliases, &table, uri.as_str())?;
+    }
+    Ok(aliases)
+}
+
+// Each prefix has its form and is new, so that only memory can be wanting.
+fn bind(
+    alloc: Global,
+    aliases: &mut Aliases,
+    table: &PrefixTable,
+    uri: &str,
+) -> Result<(), AllocError>
+    ensures { OnOk result (aliases.new ≡ bound aliases.old (prefix table.now uri.now) uri.now) }
+{
+    let prefix = table.prefix(alloc, uri)?;
+    aliases.add(&prefix, uri).map_err(|_| AllocError)
+}

@@ -1,0 +1,42 @@
+ghost use Rattle.std.specs.Prelude.{◌≡◌, IfOk};
+
+use std::alloc::{AllocError, Global};
+use std::marker::Model;
+
+/// A text as bytes. Contracts see the list of its bytes.
+#[derive(Debug, Drop)]
+pub struct Encoded {
+    bytes: Vec<u8>,
+}
+
+impl Model for Encoded {
+    ghost use Rattle.std.specs.Prelude.{List, ℕ};
+
+    ghost Value = { List ℕ };
+
+    ghost view = { λ e. e.bytes.items };
+}
+
+impl Encoded {
+    /// A copy of these bytes, where there is memory.
+    pub fn new(alloc: Global, bytes: &[u8]) -> Result<Encoded, AllocError>
+        ensures { IfOk result (λ made. made ≡ bytes.now) }
+    {
+        let bytes = Vec::from_slice(alloc, bytes)?;
+        Ok(Encoded { bytes })
+    }
+
+    /// These bytes, without a copy.
+    pub fn from_vec(bytes: Vec<u8>) -> Encoded
+        ensures { result ≡ bytes.items }
+    {
+        Encoded { bytes }
+    }
+
+    /// The bytes.
+    pub fn as_bytes(&self) -> &[u8]
+        ensures { result.now ≡ self.now }
+    {
+        self.bytes.as_slice()
+    }
+}

@@ -1,0 +1,164 @@
+ghost use Rattle.std.specs.Prelude.{◌≡◌, OnOk, codes};
+ghost use Rattle.std.specs.Option.{option_copied};
+ghost use Rattle.oim_dims.specs.Period.{period_text};
+ghost use Rattle.serde_json.specs.Data.{object, no_members};
+ghost use Rattle.fact_base.specs.Passed.{member_data, option_spelled, option_unit_text, value_data};
+ghost use Rattle.oim_write.specs.Ordered.{decimals_member, defined_members, ordered_dimensions, ordered_fact, text_member};
+ghost use Rattle.oim_write.specs.Parts.{AddsMembers, AddsValue};
+ghost use Rattle.oim_write.specs.Tree.{name_text};
+
+use crate::prefix_table::PrefixTable;
+use crate::unit_text::text_of_unit;
+use json::Writer;
+use oim_dims::{Dimensions, Member, Period, Unit, write_period};
+use oim_names::{Name, Text};
+use oim_value::{Value, write_fixed};
+use std::alloc::{AllocError, Global};
+
+/// Writes a fact as an object (xBRL-JSON 1.0, section 3).
+pub(crate) fn write_fact(
+    alloc: Global,
+    json: &mut Writer,
+    table: &PrefixTable,
+    dimensions: &Dimensions,
+    value: &Value,
+) -> Result<(), AllocError>
+    ensures { OnOk result (AddsValue json.old json.new (ordered_fact (name_text table.now) (record { dimensions = dimensions.now; value = value.now }))) }
+{
+    json.begin_object()?;
+    write_decimals(json, value)?;
+    json.key("dimensions")?;
+    write_dimensions(alloc, json, table, dimensions)?;
+    json.key("value")?;
+    write_value(alloc, json, table, value)?;
+    json.end_object()
+}
+
+// The decimals are a member where they are finite.
+fn write_decimals(json: &mut Writer, value: &Value) -> Result<(), AllocError>
+    ensures { OnOk result (AddsMembers json.old json.new (decimals_member value.now no_members)) }
+{
+    let Value::Number(_, decimals) = value else {
+        return Ok(());
+    };
+    let Some(places) = decimals.get() else {
+        return Ok(());
+    };
+    json.key("decimals")?;
+    json.i64(i64::from(places))
+}
+
+fn write_dimensions(
+    alloc: Global,
+    json: &mut Writer,
+    table: &PrefixTable,
+    dimensions: &Dimensions,
+) -> Result<(), AllocError>
+    ensures { OnOk result (AddsValue json.old json.new (object (ordered_dimensions (name_text table.now) dimensions.now))) }
+{
+    json.begin_object()?;
+    json.key("concept")?;
+    json.string(&table.name_text(alloc, dimensions.concept())?)?;
+    write_entity(alloc, json, table, dimensions.entity())?;
+    write_language(json, dimensions.language())?;
+    write_defined(alloc, json, table, dimensions.members())?;
+    write_period_member(alloc, json, dimensions.period())?;
+    write_unit_member(alloc, json, table, dimensions.unit())?;
+    json.end_object()
+}
+
+fn write_entity(
+    alloc: Global,
+    json: &mut Writer,
+    table: &PrefixTable,
+    entity: Option<&Name>,
+) -> Result<(), AllocError>
+    ensures { OnOk result (AddsMembers json.old json.new (text_member (codes "entity") (option_spelled (name_text table.now) (option_copied entity.entry)) no_members)) }
+{
+    let Some(entity) = entity else {
+        return Ok(());
+    };
+    json.key("entity")?;
+    json.string(&table.name_text(alloc, entity)?)
+}
+
+fn write_language(json: &mut Writer, language: Option<&Text>) -> Result<(), AllocError>
+    ensures { OnOk result (AddsMembers json.old json.new (text_member (codes "language") (option_copied language.entry) no_members)) }
+{
+    let Some(language) = language else {
+        return Ok(());
+    };
+    json.key("language")?;
+    json.string(language.as_str())
+}
+
+fn write_defined(
+    alloc: Global,
+    json: &mut Writer,
+    table: &PrefixTable,
+    members: &[(Name, Member)],
+) -> Result<(), AllocError>
+    ensures { OnOk result (AddsMembers json.old json.new (defined_members (name_text table.now) members.now no_members)) }
+{
+    for (name, member) in members {
+        json.key(&table.name_text(alloc, name)?)?;
+        write_member(alloc, json, table, member)?;
+    }
+    Ok(())
+}
+
+fn write_member(
+    alloc: Global,
+    json: &mut Writer,
+    table: &PrefixTable,
+    member: &Member,
+) -> Result<(), AllocError>
+    ensures { OnOk result (AddsValue json.old json.new (member_data (name_text table.now) member.now)) }
+{
+    match member {
+        Member::Nil => json.null(),
+        Member::Text(text) => json.string(text.as_str()),
+        Member::Name(name) => json.string(&table.name_text(alloc, name)?),
+    }
+}
+
+fn write_period_member(alloc: Global, json: &mut Writer, period: Period) -> Result<(), AllocError>
+    ensures { OnOk result (AddsMembers json.old json.new (text_member (codes "period") (period_text period) no_members)) }
+{
+    let Some(text) = write_period(alloc, &period)? else {
+        return Ok(());
+    };
+    json.key("period")?;
+    json.string(text.as_str())
+}
+
+fn write_unit_member(
+    alloc: Global,
+    json: &mut Writer,
+    table: &PrefixTable,
+    unit: Option<&Unit>,
+) -> Result<(), AllocError>
+    ensures { OnOk result (AddsMembers json.old json.new (text_member (codes "unit") (option_unit_text (name_text table.now) (option_copied unit.entry)) no_members)) }
+{
+    let Some(unit) = unit else {
+        return Ok(());
+    };
+    json.key("unit")?;
+    json.string(&text_of_unit(alloc, table, unit)?)
+}
+
+fn write_value(
+    alloc: Global,
+    json: &mut Writer,
+    table: &PrefixTable,
+    value: &Value,
+) -> Result<(), AllocError>
+    ensures { OnOk result (AddsValue json.old json.new (value_data (name_text table.now) value.now)) }
+{
+    match value {
+        Value::Nil => json.null(),
+        Value::Number(number, _) => json.string(write_fixed(alloc, *number)?.as_str()),
+        Value::Text(text) => json.string(text.as_str()),
+        Value::Name(name) => json.string(&table.name_text(alloc, name)?),
+    }
+}

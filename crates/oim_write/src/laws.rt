@@ -1,0 +1,50 @@
+//! Laws of the definitions, each the contract of a function that does nothing.
+ghost use Rattle.oim_dims.specs.FactOrder.{fact_cmp};
+ghost use Rattle.fact_base.specs.Body.{text_cmp};
+ghost use Rattle.oim_write.specs.Bytes.{BytesIgnoreOrder, TreesArePlain};
+ghost use Rattle.oim_write.specs.Ordered.{FactsAreWrittenInOrder};
+ghost use Rattle.oim_write.specs.Prefixes.{FactsAreSpelled};
+ghost use Rattle.oim_write.specs.Rank.{PaddedKeepsOrder, PaddedWritesNumber, RanksAreWithin, WidthIsFewestDigits};
+
+/// Documents in any order, each as often as one likes, are written by the same bytes.
+pub fn bytes_ignore_order()
+    ensures { BytesIgnoreOrder }
+{}
+
+/// The tree of a body that fits a sheet has UTF-8 texts and no float, and each of its objects has
+/// its keys in byte order, each once.
+pub fn trees_are_plain()
+    ensures { TreesArePlain }
+{}
+
+/// The members of a fact object stand in byte order of their keys where the dimensions that a
+/// taxonomy defines stand in the order of their names, between `language` and `period`.
+pub fn facts_are_written_in_order()
+    ensures { FactsAreWrittenInOrder }
+{}
+
+/// Each name of a body's facts is spelled by a prefix of letters and digits that is bound to its URI.
+pub fn facts_are_spelled()
+    ensures { FactsAreSpelled }
+{}
+
+/// A number that fits is written by so many decimal digits, and they read as the number.
+pub fn padded_writes_number()
+    ensures { PaddedWritesNumber }
+{}
+
+/// The width of a number is the fewest digits that write it.
+pub fn width_is_fewest_digits()
+    ensures { WidthIsFewestDigits }
+{}
+
+/// The members of a set have ranks from 1 to their number.
+pub fn ranks_are_within()
+    ensures facts { RanksAreWithin fact_cmp }
+    ensures uris { RanksAreWithin text_cmp }
+{}
+
+/// Padded texts of one width are in the order of their numbers.
+pub fn padded_keeps_order()
+    ensures { PaddedKeepsOrder }
+{}

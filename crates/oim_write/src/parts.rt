@@ -1,0 +1,146 @@
+ghost use Rattle.std.specs.Prelude.{◌≡◌, ◌+◌, ◌^◌, ◌<◌, ◌∷◌, ◌++◌, false, nat_lt, IfOk, OnOk};
+ghost use Rattle.serde_json.specs.Data.{string};
+ghost use Rattle.serde_json.specs.Written.{comma_if};
+ghost use Rattle.json.specs.Print.{quoted};
+ghost use Rattle.oim_write.specs.Ordered.{ordered_fact};
+ghost use Rattle.oim_write.specs.Parts.{head_text, namespace_members, part, parts, text_parts};
+ghost use Rattle.oim_write.specs.Rank.{padded};
+ghost use Rattle.oim_write.specs.Tree.{name_text, prefix};
+
+use crate::fact_text::write_fact;
+use crate::prefix_table::PrefixTable;
+use crate::ranked::label;
+use json::Writer;
+use oim_dims::Dimensions;
+use oim_names::Text;
+use oim_value::Value;
+use std::alloc::{AllocError, Global};
+use std::mem;
+
+// The parts of the canonical text. Where memory is refused, the text so far is given up.
+
+/// What the facts of a text are labelled with: the prefixes of their names, and how many digits an
+/// identifier has.
+#[derive(Clone, Copy)]
+pub(crate) struct Labels<'t> {
+    pub table: &'t PrefixTable,
+    pub digits: usize,
+}
+
+/// All that stands before the first fact.
+pub(crate) fn head(
+    alloc: Global,
+    table: &PrefixTable,
+    references: &[Text],
+) -> Result<Vec<u8>, AllocError>
+    ensures { IfOk result (λ text. text.items ≡ head_text table.now references.now) }
+{
+    let mut text = Vec::new(alloc);
+    text.extend_from_slice(
+        b"{\"documentInfo\":{\"documentType\":\"https://xbrl.org/2021/xbrl-json\",",
+    )?;
+    text.extend_from_slice(b"\"namespaces\":{")?;
+    append_namespaces(alloc, &mut text, table)?;
+    text.extend_from_slice(b"},\"taxonomy\":[")?;
+    append_references(alloc, &mut text, references)?;
+    text.extend_from_slice(b"]},\"facts\":{")?;
+    Ok(text)
+}
+
+fn append_namespaces(
+    alloc: Global,
+    text: &mut Vec<u8>,
+    table: &PrefixTable,
+) -> Result<(), AllocError>
+    ensures { OnOk result (text.new.items
+        ≡ text.old.items ++ parts false (namespace_members table.now table.now)) }
+{
+    let mut later = false;
+    for uri in table.uris() {
+        append_namespace(alloc, text, table, later, uri.as_str())?;
+        later = true;
+    }
+    Ok(())
+}
+
+// One member of `namespaces`.
+fn append_namespace(
+    alloc: Global,
+    text: &mut Vec<u8>,
+    table: &PrefixTable,
+    later: bool,
+    uri: &str,
+) -> Result<(), AllocError>
+    ensures { OnOk result
+        (text.new.items ≡ text.old.items ++ part later (prefix table.now uri.now) (string uri.now)) }
+{
+    append_comma(text, later)?;
+    let mut json = Writer::new(mem::replace(text, Vec::new(alloc)));
+    json.key(&table.prefix(alloc, uri)?)?;
+    json.string(uri)?;
+    *text = json.into_inner();
+    Ok(())
+}
+
+fn append_references(
+    alloc: Global,
+    text: &mut Vec<u8>,
+    references: &[Text],
+) -> Result<(), AllocError>
+    ensures { OnOk result (text.new.items ≡ text.old.items ++ text_parts false references.now) }
+{
+    let mut later = false;
+    for reference in references {
+        append_reference(alloc, text, later, reference)?;
+        later = true;
+    }
+    Ok(())
+}
+
+// One item of `taxonomy`.
+fn append_reference(
+    alloc: Global,
+    text: &mut Vec<u8>,
+    later: bool,
+    reference: &Text,
+) -> Result<(), AllocError>
+    ensures { OnOk result
+        (text.new.items ≡ text.old.items ++ (comma_if later ++ quoted reference.now)) }
+{
+    append_comma(text, later)?;
+    let mut json = Writer::new(mem::replace(text, Vec::new(alloc)));
+    json.string(reference.as_str())?;
+    *text = json.into_inner();
+    Ok(())
+}
+
+/// One member of `facts`, where so many facts stand before it.
+pub(crate) fn append_fact(
+    alloc: Global,
+    text: &mut Vec<u8>,
+    labels: &Labels<'_>,
+    before: u128,
+    dimensions: &Dimensions,
+    value: &Value,
+) -> Result<(), AllocError>
+    requires { before + 1 < 2 ^ 128 }
+    ensures { OnOk result (text.new.items ≡ text.old.items
+        ++ part (nat_lt 0 before) (102 ∷ padded labels.now.digits (before + 1))
+        (ordered_fact (name_text labels.now.table.now) (record { dimensions = dimensions.now; value = value.now }))) }
+{
+    append_comma(text, before > 0)?;
+    let mut json = Writer::new(mem::replace(text, Vec::new(alloc)));
+    json.key(&label(alloc, "f", labels.digits, before + 1)?)?;
+    write_fact(alloc, &mut json, labels.table, dimensions, value)?;
+    *text = json.into_inner();
+    Ok(())
+}
+
+fn append_comma(text: &mut Vec<u8>, later: bool) -> Result<(), AllocError>
+    ensures { OnOk result (text.new.items ≡ text.old.items ++ comma_if later) }
+{
+    if later {
+        text.push(b',')?;
+    }
+    Ok(())
+}

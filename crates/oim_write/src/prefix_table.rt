@@ -1,0 +1,75 @@
+ghost use Rattle.std.specs.Prelude.{◌≡◌, IfOk, string_bytes};
+ghost use Rattle.fact_base.specs.Body.{text_cmp};
+ghost use Rattle.oim_write.specs.Rank.{rank};
+ghost use Rattle.oim_write.specs.Tree.{name_text, prefix};
+ghost use Rattle.oim_write.specs.Uris.{uris};
+
+use crate::ranked::{label, width_of};
+use crate::uri_set::UriSet;
+use fact_base::Base;
+use oim_names::{Name, Text};
+use std::alloc::{AllocError, Global};
+use std::marker::Model;
+
+/// The URIs of a base's names, each of which has a prefix. Contracts see them in order.
+#[derive(Debug, Drop)]
+pub(crate) struct PrefixTable {
+    uris: Vec<Text>,
+    digits: usize,
+}
+
+impl Model for PrefixTable {
+    ghost use Rattle.std.specs.Prelude.{ℕ, List};
+    ghost use Rattle.oim_write.specs.Prefixes.{IsTable};
+
+    ghost Value = { List (List ℕ) };
+
+    ghost view = { λ t. t.uris.items };
+
+    ghost invariant = { λ t. IsTable t.uris.items t.digits };
+}
+
+impl PrefixTable {
+    /// The URIs of the names of a base's facts, found in one pass over its rows.
+    pub(crate) fn of(alloc: Global, base: &Base<'_>) -> Result<PrefixTable, AllocError>
+        ensures { IfOk result (λ table. table ≡ uris base.now.body.facts) }
+    {
+        let mut set = UriSet::new(alloc);
+        for row in base.rows() {
+            set.add_row(alloc, row)?;
+        }
+        let uris = set.into_uris();
+        let digits = width_of(uris.len() as u128);
+        Ok(PrefixTable { uris, digits })
+    }
+
+    /// The URIs, each once and in order.
+    pub(crate) fn uris(&self) -> &[Text]
+        ensures { result.now ≡ self.now }
+    {
+        self.uris.as_slice()
+    }
+
+    /// The prefix of a URI: the letter n, and its rank.
+    pub(crate) fn prefix(&self, alloc: Global, uri: &str) -> Result<String, AllocError>
+        ensures { IfOk result (λ text. string_bytes text ≡ prefix self.now uri.now) }
+    {
+        label(alloc, "n", self.digits, self.rank(uri))
+    }
+
+    fn rank(&self, uri: &str) -> u128
+        ensures { result ≡ rank text_cmp uri.now self.now }
+    {
+        1 + self.uris.partition_point(|known| known.as_str() < uri) as u128
+    }
+
+    /// The text of a name: the prefix of its URI, a colon and the local part.
+    pub(crate) fn name_text(&self, alloc: Global, name: &Name) -> Result<String, AllocError>
+        ensures { IfOk result (λ text. string_bytes text ≡ name_text self.now name.now) }
+    {
+        let mut text = self.prefix(alloc, name.uri())?;
+        text.push_str(":")?;
+        text.push_str(name.local())?;
+        Ok(text)
+    }
+}

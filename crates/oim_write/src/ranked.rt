@@ -1,0 +1,59 @@
+ghost use Rattle.std.specs.Prelude.{◌≡◌, ◌∷◌, ◌++◌, IfOk, OnOk, string_bytes};
+ghost use Rattle.oim_write.specs.Rank.{padded, width};
+
+use oim_names::Text;
+use std::alloc::{AllocError, Global};
+
+/// Room for a label, asked for at once; most are no longer.
+const LABEL: usize = 16;
+
+/// The identifier of a fact in a canonical text: the letter `f` and its rank, from 1, with zeros on
+/// the left to the width of the count (own).
+///
+/// Errors: want of memory.
+pub fn identifier(alloc: Global, rank: u128, count: u128) -> Result<Text, AllocError>
+    ensures { IfOk result (λ text. text ≡ 102 ∷ padded (width count) rank) }
+{
+    let text = label(alloc, "f", width_of(count), rank)?;
+    Text::new(alloc, text.as_str())
+}
+
+/// How many digits a number has.
+#[tactic(auto, unfolding(crate::specs::Rank::digits_up_to))]
+pub(crate) fn width_of(number: u128) -> usize
+    ensures { result ≡ width number }
+{
+    let mut digits = 1;
+    let mut rest = number;
+    while rest >= 10 {
+        rest /= 10;
+        digits += 1;
+    }
+    digits
+}
+
+/// A text with the last `digits` digits of a number behind it.
+pub(crate) fn label(
+    alloc: Global,
+    front: &str,
+    digits: usize,
+    number: u128,
+) -> Result<String, AllocError>
+    ensures { IfOk result (λ text. string_bytes text ≡ front.now ++ padded digits number) }
+{
+    let mut text = String::with_capacity(alloc, LABEL)?;
+    text.push_str(front)?;
+    push_padded(&mut text, digits, number)?;
+    Ok(text)
+}
+
+#[tactic(auto, unfolding(crate::specs::Rank::padded))]
+fn push_padded(text: &mut String, digits: usize, number: u128) -> Result<(), AllocError>
+    ensures { OnOk result (string_bytes text.new ≡ string_bytes text.old ++ padded digits number) }
+{
+    if digits == 0 {
+        return Ok(());
+    }
+    push_padded(text, digits - 1, number / 10)?;
+    text.push(char::from(b'0' + (number % 10) as u8))
+}

@@ -1,0 +1,48 @@
+ghost use Rattle.std.specs.Prelude.{◌≡◌, ℕ, ◌+◌, ◌-◌, ◌^◌, ◌<◌, ◌≤◌, List, Option, length, IfOk, IfErr, OnOk, is_ok, if◌then◌else◌};
+ghost use Rattle.std.specs.Io.KnownBytes.{Appends, WriteAppends};
+ghost use Rattle.oim_write.specs.Sink.{AppendsFirst};
+
+/// A sink did not take what it was given.
+#[derive(Clone, Copy, Debug, PartialEq, Eq)]
+pub struct SinkError;
+
+/// Takes bytes, and counts how often it failed to.
+pub trait Sink {
+    /// The bytes that it holds, where it tells them: a list in memory does, a file does not.
+    ghost told: { Self → Option (List ℕ) };
+
+    /// How often it has failed.
+    ghost failures: { Self → ℕ };
+
+    /// Appends the first bytes of these and answers how many, at least one where any were given.
+    /// On an error it appends none and has failed once more.
+    fn put(&mut self, bytes: &[u8]) -> Result<usize, SinkError>
+        requires { failures self.old < 2 ^ 64 - 1 }
+        ensures bytes { WriteAppends (told self.old) (told self.new) result bytes.now }
+        ensures count { IfOk result (λ n. (n ≤ length bytes.now) × (0 < length bytes.now → 0 < n)) }
+        ensures failures { failures self.new ≡
+            (if is_ok result then failures self.old else failures self.old + 1) };
+
+    /// How often it has failed.
+    fn failures(&self) -> u64
+        ensures { result ≡ failures self.now };
+}
+
+/// Puts all the bytes, or answers how many of them the sink took before it failed.
+pub fn put_all<S: Sink>(sink: &mut S, bytes: &[u8]) -> Result<(), usize>
+    requires { S.failures sink.old < 2 ^ 64 - 1 }
+    ensures ok { OnOk result (Appends (S.told sink.old) (S.told sink.new) bytes.now) }
+    ensures err { IfErr result
+        (λ n. AppendsFirst (S.told sink.old) (S.told sink.new) bytes.now n) }
+    ensures failures { S.failures sink.new ≡
+        (if is_ok result then S.failures sink.old else S.failures sink.old + 1) }
+{
+    let mut taken = 0;
+    while taken < bytes.len() {
+        match sink.put(&bytes[taken..]) {
+            Ok(n) => taken += n,
+            Err(SinkError) => return Err(taken),
+        }
+    }
+    Ok(())
+}

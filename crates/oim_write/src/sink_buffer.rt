@@ -1,0 +1,98 @@
+ghost use Rattle.std.specs.Prelude.{◌≡◌, ◌-◌, ◌^◌, ◌<◌, [], IfOk, IfErr, OnOk};
+ghost use Rattle.oim_write.specs.SinkBuffer.{Breaks, Passes, nothing_yet};
+ghost use Rattle.oim_write.specs.Sink.{failures_after_fault, failures_after_write, written_of};
+
+use crate::sink::{Sink, put_all};
+use crate::write_fault::WriteFault;
+use std::alloc::{AllocError, Global};
+use std::marker::Model;
+
+/// How many bytes wait, at least, before a sink is given them.
+const CHUNK: usize = 1 << 16;
+
+/// A text on its way to a sink. What the sink took is counted; the end of the text waits in memory
+/// until it fills a chunk, or is flushed. After a fault it is of no further use.
+#[derive(Drop)]
+pub struct SinkBuffer {
+    buffer: Vec<u8>,
+    written: u64,
+}
+
+impl Model for SinkBuffer {
+    ghost use Rattle.std.specs.Prelude.{◌-◌, ◌^◌, ◌≤◌};
+    ghost use Rattle.oim_write.specs.SinkBuffer.{Pending};
+
+    ghost Value = { Pending };
+
+    ghost view = { λ p. record { written = p.written; bytes = p.buffer.items } };
+
+    ghost invariant = { λ p. p.written ≤ 2 ^ 64 - 1 };
+}
+
+impl SinkBuffer {
+    /// No text yet, and room for a chunk, where there is memory.
+    pub fn new(alloc: Global) -> Result<SinkBuffer, AllocError>
+        ensures { IfOk result (λ made. made ≡ nothing_yet) }
+    {
+        Ok(SinkBuffer {
+            buffer: Vec::with_capacity(alloc, CHUNK)?,
+            written: 0,
+        })
+    }
+
+    /// Lets these bytes follow. The sink is given what waits once that fills a chunk.
+    pub fn push<S: Sink>(&mut self, sink: &mut S, bytes: &[u8]) -> Result<(), WriteFault>
+        requires { S.failures sink.old < 2 ^ 64 - 1 }
+        ensures ok { OnOk result
+            (Passes (S.told sink.old) (S.told sink.new) self.old self.new bytes.now) }
+        ensures err { IfErr result (λ fault. Breaks (S.told sink.old) (S.told sink.new) self.old
+            bytes.now (written_of fault)) }
+        ensures failures { S.failures sink.new ≡ failures_after_write result (S.failures sink.old) }
+    {
+        if self.buffer.extend_from_slice(bytes).is_err() {
+            return Err(self.stop(sink));
+        }
+        if self.buffer.len() < CHUNK {
+            return Ok(());
+        }
+        self.flush(sink)
+    }
+
+    /// Gives the sink all that waits.
+    pub fn flush<S: Sink>(&mut self, sink: &mut S) -> Result<(), WriteFault>
+        requires { S.failures sink.old < 2 ^ 64 - 1 }
+        ensures ok { OnOk result (Passes (S.told sink.old) (S.told sink.new) self.old self.new []) }
+        ensures empty { OnOk result (self.new.bytes ≡ []) }
+        ensures err { IfErr result (λ fault. Breaks (S.told sink.old) (S.told sink.new) self.old
+            [] (written_of fault)) }
+        ensures failures { S.failures sink.new ≡ failures_after_write result (S.failures sink.old) }
+    {
+        match put_all(sink, &self.buffer) {
+            Ok(()) => {
+                self.written = self.written.saturating_add(self.buffer.len() as u64);
+                self.buffer.clear();
+                Ok(())
+            }
+            Err(taken) => Err(WriteFault::Device(self.written.saturating_add(taken as u64))),
+        }
+    }
+
+    /// Memory was refused on the way: what waits is put first, so that it is counted.
+    pub fn stop<S: Sink>(&mut self, sink: &mut S) -> WriteFault
+        requires { S.failures sink.old < 2 ^ 64 - 1 }
+        ensures broken { Breaks (S.told sink.old) (S.told sink.new) self.old [] (written_of result) }
+        ensures failures { S.failures sink.new ≡ failures_after_fault result (S.failures sink.old) }
+    {
+        match self.flush(sink) {
+            Ok(()) => WriteFault::OutOfMemory(self.written),
+            Err(fault) => fault,
+        }
+    }
+
+    /// How many bytes the sink took.
+    pub fn written(&self) -> u64
+        ensures { result ≡ self.now.written }
+    {
+        self.written
+    }
+}

@@ -1,0 +1,148 @@
+ghost use Rattle.std.specs.Prelude.{◌≡◌, [], ◌∷◌, ◌++◌, flat_map, OnOk};
+ghost use Rattle.fact_base.specs.Body.{text_cmp};
+ghost use Rattle.fact_base.specs.Passed.{IsSet};
+ghost use Rattle.fact_base.specs.Shown.{shown};
+ghost use Rattle.oim_write.specs.Uris.{Gains, defined_names, dimension_names, entity_names, row_names, unit_names, value_names};
+
+use fact_base::Row;
+use oim_dims::{Dimensions, Member};
+use oim_names::{Name, Text};
+use oim_value::Value;
+use std::alloc::{AllocError, Global};
+use std::marker::Model;
+
+/// The URIs of names, each once and in byte order.
+#[derive(Debug, Drop)]
+pub(crate) struct UriSet {
+    uris: Vec<Text>,
+}
+
+impl Model for UriSet {
+    ghost use Rattle.std.specs.Prelude.{ℕ, List};
+    ghost use Rattle.fact_base.specs.Passed.{IsSet};
+    ghost use Rattle.fact_base.specs.Body.{text_cmp};
+
+    ghost Value = { List (List ℕ) };
+
+    ghost view = { λ s. s.uris.items };
+
+    ghost invariant = { λ s. IsSet text_cmp s.uris.items };
+}
+
+impl UriSet {
+    pub(crate) fn new(alloc: Global) -> UriSet
+        ensures { result ≡ [] }
+    {
+        UriSet {
+            uris: Vec::new(alloc),
+        }
+    }
+
+    /// The URIs in order.
+    pub(crate) fn into_uris(self) -> Vec<Text>
+        ensures uris { result.items ≡ self }
+        ensures rises { IsSet text_cmp result.items }
+    {
+        self.uris
+    }
+
+    /// Those of a row's names.
+    pub(crate) fn add_row(&mut self, alloc: Global, row: Row<'_>) -> Result<(), AllocError>
+        ensures { OnOk result (Gains self.old (row_names (shown row.entry)) self.new) }
+    {
+        self.add_dimensions(alloc, row.dimensions)?;
+        self.add_values(alloc, row.values)
+    }
+
+    fn add_dimensions(&mut self, alloc: Global, dimensions: &Dimensions) -> Result<(), AllocError>
+        ensures { OnOk result (Gains self.old (dimension_names dimensions.now) self.new) }
+    {
+        self.add(alloc, dimensions.concept())?;
+        self.add_entity(alloc, dimensions)?;
+        self.add_unit(alloc, dimensions)?;
+        self.add_members(alloc, dimensions.members())
+    }
+
+    fn add_entity(&mut self, alloc: Global, dimensions: &Dimensions) -> Result<(), AllocError>
+        ensures { OnOk result (Gains self.old (entity_names dimensions.now.entity) self.new) }
+    {
+        match dimensions.entity() {
+            Some(entity) => self.add(alloc, entity),
+            None => Ok(()),
+        }
+    }
+
+    fn add_unit(&mut self, alloc: Global, dimensions: &Dimensions) -> Result<(), AllocError>
+        ensures { OnOk result (Gains self.old (unit_names dimensions.now.unit) self.new) }
+    {
+        match dimensions.unit() {
+            Some(unit) => {
+                self.add_each(alloc, unit.numerators())?;
+                self.add_each(alloc, unit.denominators())
+            }
+            None => Ok(()),
+        }
+    }
+
+    fn add_each(&mut self, alloc: Global, names: &[Name]) -> Result<(), AllocError>
+        ensures { OnOk result (Gains self.old names.now self.new) }
+    {
+        for name in names {
+            self.add(alloc, name)?;
+        }
+        Ok(())
+    }
+
+    fn add_members(&mut self, alloc: Global, members: &[(Name, Member)]) -> Result<(), AllocError>
+        ensures { OnOk result (Gains self.old (flat_map defined_names members.now) self.new) }
+    {
+        for member in members {
+            self.add_defined(alloc, member)?;
+        }
+        Ok(())
+    }
+
+    // A dimension, and its member where that is a name.
+    fn add_defined(&mut self, alloc: Global, defined: &(Name, Member)) -> Result<(), AllocError>
+        ensures { OnOk result (Gains self.old (defined_names defined.now) self.new) }
+    {
+        self.add(alloc, &defined.0)?;
+        match &defined.1 {
+            Member::Name(name) => self.add(alloc, name),
+            Member::Nil | Member::Text(_) => Ok(()),
+        }
+    }
+
+    fn add_values(&mut self, alloc: Global, values: &[Value]) -> Result<(), AllocError>
+        ensures { OnOk result (Gains self.old (flat_map value_names values.now) self.new) }
+    {
+        for value in values {
+            self.add_value(alloc, value)?;
+        }
+        Ok(())
+    }
+
+    fn add_value(&mut self, alloc: Global, value: &Value) -> Result<(), AllocError>
+        ensures { OnOk result (Gains self.old (value_names value.now) self.new) }
+    {
+        match value {
+            Value::Name(name) => self.add(alloc, name),
+            Value::Nil | Value::Number(..) | Value::Text(_) => Ok(()),
+        }
+    }
+
+    // Takes memory for a new URI alone.
+    fn add(&mut self, alloc: Global, name: &Name) -> Result<(), AllocError>
+        ensures { OnOk result (Gains self.old (name.now ∷ []) self.new) }
+    {
+        let uri = name.uri();
+        let place = self.uris.partition_point(|known| known.as_str() < uri);
+        match self.uris.get(place) {
+            Some(known) if known.as_str() == uri => Ok(()),
+            _ => {
+                self.uris.insert(place, Text::new(alloc, uri)?)?;
+                Ok(())
+            }
+        }
+    }
+}

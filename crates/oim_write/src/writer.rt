@@ -1,0 +1,137 @@
+ghost use Rattle.std.specs.Prelude.{◌≡◌, ◌+◌, ◌-◌, ◌^◌, ◌<◌, ◌++◌, codes, length, IfOk, IfErr, OnOk};
+ghost use Rattle.std.specs.Io.KnownBytes.{Appends};
+ghost use Rattle.fact_base.specs.Entries.{facts_with};
+ghost use Rattle.oim_write.specs.Bytes.{canonical};
+ghost use Rattle.oim_write.specs.Parts.{facts_text, numbered_text};
+ghost use Rattle.oim_write.specs.SinkBuffer.{Breaks, Passes};
+ghost use Rattle.oim_write.specs.Sink.{AppendsFront, failures_after_write, written_of};
+
+use crate::encoded::Encoded;
+use crate::memory_sink::MemorySink;
+use crate::parts::{Labels, append_fact, head};
+use crate::prefix_table::PrefixTable;
+use crate::ranked::width_of;
+use crate::sink::Sink;
+use crate::sink_buffer::SinkBuffer;
+use crate::write_fault::WriteFault;
+use fact_base::{Base, Row};
+use std::alloc::{AllocError, Global};
+
+/// The canonical text of a base (xBRL-JSON 1.0; the choice of prefixes and identifiers is own).
+///
+/// Errors: want of memory.
+pub fn text(alloc: Global, base: &Base<'_>) -> Result<Encoded, AllocError>
+    ensures { IfOk result (λ text. text ≡ canonical base.now.body) }
+{
+    let mut sink = MemorySink::new(alloc);
+    match write_to(alloc, base, &mut sink) {
+        Ok(()) => Ok(Encoded::from_vec(sink.bytes)),
+        Err(_) => Err(AllocError),
+    }
+}
+
+/// Appends the canonical text of the base to the sink, fact by fact, in chunks of at least 64 kB but
+/// the last. On a fault the sink has the front of it whose length the fault tells.
+///
+/// Errors: `Device` where the sink failed; `OutOfMemory`, and what was written by then is counted.
+pub fn write_to<S: Sink>(alloc: Global, base: &Base<'_>, out: &mut S) -> Result<(), WriteFault>
+    requires { S.failures out.old < 2 ^ 64 - 1 }
+    ensures ok { OnOk result (Appends (S.told out.old) (S.told out.new) (canonical base.now.body)) }
+    ensures err { IfErr result (λ fault. AppendsFront (S.told out.old) (S.told out.new)
+        (canonical base.now.body) (written_of fault)) }
+    ensures failures { S.failures out.new ≡ failures_after_write result (S.failures out.old) }
+{
+    base.known();
+    let Ok(table) = PrefixTable::of(alloc, base) else {
+        return Err(WriteFault::OutOfMemory(0));
+    };
+    let Ok(head) = head(alloc, &table, base.taxonomy()) else {
+        return Err(WriteFault::OutOfMemory(0));
+    };
+    let Ok(mut buffer) = SinkBuffer::new(alloc) else {
+        return Err(WriteFault::OutOfMemory(0));
+    };
+    write_parts(alloc, &mut buffer, out, &head, &table, base)?;
+    buffer.flush(out)
+}
+
+fn write_parts<S: Sink>(
+    alloc: Global,
+    buffer: &mut SinkBuffer,
+    out: &mut S,
+    head: &[u8],
+    table: &PrefixTable,
+    base: &Base<'_>,
+) -> Result<(), WriteFault>
+    requires { S.failures out.old < 2 ^ 64 - 1 }
+    ensures ok { OnOk result (Passes (S.told out.old) (S.told out.new) buffer.old buffer.new
+        (head.now ++ (facts_text table.now base.now.body.facts ++ codes "}}"))) }
+    ensures err { IfErr result (λ fault. Breaks (S.told out.old) (S.told out.new) buffer.old
+        (head.now ++ (facts_text table.now base.now.body.facts ++ codes "}}")) (written_of fault)) }
+    ensures failures { S.failures out.new ≡ failures_after_write result (S.failures out.old) }
+{
+    buffer.push(out, head)?;
+    write_facts(alloc, buffer, out, table, base)?;
+    buffer.push(out, b"}}")
+}
+
+fn write_facts<S: Sink>(
+    alloc: Global,
+    buffer: &mut SinkBuffer,
+    out: &mut S,
+    table: &PrefixTable,
+    base: &Base<'_>,
+) -> Result<(), WriteFault>
+    requires { S.failures out.old < 2 ^ 64 - 1 }
+    ensures ok { OnOk result (Passes (S.told out.old) (S.told out.new) buffer.old buffer.new
+        (facts_text table.now base.now.body.facts)) }
+    ensures err { IfErr result (λ fault. Breaks (S.told out.old) (S.told out.new) buffer.old
+        (facts_text table.now base.now.body.facts) (written_of fault)) }
+    ensures failures { S.failures out.new ≡ failures_after_write result (S.failures out.old) }
+{
+    let digits = width_of(base.fact_count());
+    let labels = Labels { table, digits };
+    let mut part = Vec::new(alloc);
+    let mut before = 0;
+    for row in base.rows() {
+        write_row(alloc, buffer, out, &labels, before, row, &mut part)?;
+        before += row.values.len() as u128;
+    }
+    Ok(())
+}
+
+/// Writes the facts of a row, where so many stand before them. `part` is room for one.
+fn write_row<S: Sink>(
+    alloc: Global,
+    buffer: &mut SinkBuffer,
+    out: &mut S,
+    labels: &Labels<'_>,
+    before: u128,
+    row: Row<'_>,
+    part: &mut Vec<u8>,
+) -> Result<(), WriteFault>
+    requires failures { S.failures out.old < 2 ^ 64 - 1 }
+    requires room { before + length row.values.now < 2 ^ 128 }
+    ensures ok { OnOk result (Passes (S.told out.old) (S.told out.new) buffer.old buffer.new
+        (numbered_text labels.now.table.now labels.now.digits before (facts_with row.entry.dimensions.now row.entry.values.now))) }
+    ensures err { IfErr result (λ fault. Breaks (S.told out.old) (S.told out.new) buffer.old
+        (numbered_text labels.now.table.now labels.now.digits before (facts_with row.entry.dimensions.now row.entry.values.now)) (written_of fault)) }
+    ensures failures { S.failures out.new ≡ failures_after_write result (S.failures out.old) }
+{
+    for (i, value) in row.values.iter().enumerate() {
+        part.clear();
+        let fact = append_fact(
+            alloc,
+            part,
+            labels,
+            before + i as u128,
+            row.dimensions,
+            value,
+        );
+        if fact.is_err() {
+            return Err(buffer.stop(out));
+        }
+        buffer.push(out, part)?;
+    }
+    Ok(())
+}

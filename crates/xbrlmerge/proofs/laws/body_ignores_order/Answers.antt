@@ -1,5 +1,0 @@
-use Rattle.xbrlmerge.proofs.Bodies.{body_ignores_order}
-use Rattle.xbrlmerge.proofs.laws.body_ignores_order.Goals as goal
-
-pub returns : goal.returns
-returns c = body_ignores_order

@@ -1,5 +1,0 @@
-use Rattle.xbrlmerge.proofs.Numerals.{padded_writes_number}
-use Rattle.xbrlmerge.proofs.laws.padded_writes_number.Goals as goal
-
-pub returns : goal.returns
-returns c = padded_writes_number

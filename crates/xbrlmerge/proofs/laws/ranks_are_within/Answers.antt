@@ -1,7 +1,0 @@
-use Rattle.std.specs.Cmp.Lexicographic.{nat_list_cmp_total}
-use Rattle.xbrlmerge.proofs.FactOrder.{fact_cmp_total}
-use Rattle.xbrlmerge.proofs.Ranks.{ranks_are_within}
-use Rattle.xbrlmerge.proofs.laws.ranks_are_within.Goals as goal
-
-pub returns : goal.returns
-returns c = record { facts = ranks_are_within fact_cmp_total; uris = ranks_are_within nat_list_cmp_total }

@@ -1,5 +1,0 @@
-use Rattle.xbrlmerge.proofs.Numerals.{width_is_fewest_digits}
-use Rattle.xbrlmerge.proofs.laws.width_is_fewest_digits.Goals as goal
-
-pub returns : goal.returns
-returns c = width_is_fewest_digits

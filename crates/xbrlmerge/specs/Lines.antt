@@ -1,0 +1,51 @@
+-- The lines that tell of duplicates: one for each dimension set, in order (own; the words are those of the XBRL working group note on
+-- duplicate facts). In bytes, a space is 32, a line end 10.
+use Rattle.std.specs.Prelude.{◌≡◌, ℕ, suc, ◌-◌, List, [], ◌∷◌, ◌++◌, map, length, get_or, codes}
+use Rattle.std.specs.Fmt.{decimal}
+use Rattle.oim_value.specs.Plain.{plain}
+use Rattle.oim_dims.specs.declared.fact.Fact.{Fact}
+use Rattle.fact_base.specs.Body.{Body}
+use Rattle.fact_base.specs.Entries.{facts_with}
+use Rattle.fact_base.specs.Fits.{Fits}
+use Rattle.fact_base.specs.Passed.{Sheet}
+use Rattle.fact_base.specs.Rows.{Row, rows_of}
+use Rattle.fact_base.specs.Verdict.{IsEvidence}
+use Rattle.fact_base.specs.declared.evidence.Evidence.{Evidence}
+use Rattle.fact_base.specs.declared.evidence.Evidence.TheVariants.{Alike, Common, Apart}
+use Rattle.oim_write.specs.Tree.{identifier}
+
+-- the identifier of the fact at a place, from 0, of a dimension set, by which the canonical text has it
+abbrev pub identifier_at : List Fact → Row → ℕ → List ℕ
+identifier_at facts r i = get_or (map (identifier facts) (facts_with r.0 r.1)) i []
+
+-- evidence in words, where the facts have these identifiers
+abbrev pub evidence_text : (ℕ → List ℕ) → Evidence → List ℕ
+evidence_text name Alike = codes "complete"
+evidence_text name (Common c) = codes "consistent common " ++ (plain c.low ++ 32 ∷ plain c.high)
+evidence_text name (Apart i j) = codes "inconsistent apart " ++ (name i ++ 32 ∷ name j)
+
+-- the line of a dimension set: its number, the identifiers of its first and its last fact, and the evidence
+abbrev pub line_text : ℕ → (ℕ → List ℕ) → ℕ → Evidence → List ℕ
+line_text number name count evidence = decimal number ++ 32 ∷ (name 0 ++ 32 ∷ (name (count - 1) ++ 32 ∷ (evidence_text name evidence ++ 10 ∷ [])))
+
+pub record IsLine (facts : List Fact) (number : ℕ) (r : Row) (line : List ℕ) : Type 0 where
+  pub evidence : Evidence
+  pub shows : IsEvidence r.1 evidence
+  pub text : line ≡ line_text number (identifier_at facts r) (length r.1) evidence
+
+-- the lines of dimension sets, the first of which has the number n
+abbrev pub AreLinesFrom : List Fact → ℕ → List Row → List ℕ → Type 0
+AreLinesFrom facts n [] text = text ≡ []
+AreLinesFrom facts n (r ∷ rs) text = (line rest : List ℕ) × ((text ≡ line ++ rest) × (IsLine facts n r line × AreLinesFrom facts (suc n) rs rest))
+
+abbrev pub AreLines : Body → List ℕ → Type 0
+AreLines b = AreLinesFrom b.facts 1 (rows_of b.facts)
+
+-- a body that fits a sheet has lines, and has no others
+pub record HasOneText (b : Body) : Type 0 where
+  pub text : List ℕ
+  pub lines : AreLines b text
+  pub only : (other : List ℕ) → AreLines b other → other ≡ text
+
+abbrev pub LinesAreOne : Type 0
+LinesAreOne = (sheet : Sheet) (b : Body) → Fits sheet b → HasOneText b

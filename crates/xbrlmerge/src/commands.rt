@@ -1,0 +1,7 @@
+//! The commands, each in a file of its own: its words and help, and what it does.
+
+pub(crate) mod bundle;
+pub(crate) mod check;
+pub(crate) mod merge;
+pub(crate) mod show;
+pub(crate) mod verdicts;

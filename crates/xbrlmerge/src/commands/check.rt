@@ -1,0 +1,89 @@
+ghost use Rattle.std.specs.Prelude.{◌-◌, ◌^◌, ◌<◌};
+
+use crate::arguments::{REPORT, SHEET, report_argument, sheet_argument};
+use crate::checked::check_report;
+use crate::fault::Fault;
+use crate::files::{read_file, read_sheet};
+use crate::lines::put_checked;
+use crate::refusals::Refusals;
+use crate::stop::Stop;
+use clap::{ArgMatches, Command};
+use oim_names::Reason;
+use oim_write::Sink;
+use std::alloc::{AllocError, Global};
+use std::rt::Files;
+
+/// The word of this command.
+pub(crate) const NAME: &str = "check";
+
+const ABOUT: &str = "Tells of one report how many facts it has and which duplicates are among them";
+
+const MORE: &str = "Of a report that is accepted the line is
+
+  accepted FACTS LEVEL
+
+  FACTS       how many facts it has, repeats counted
+  LEVEL       what its facts of the same dimensions are:
+  none        there are none
+  complete    equal
+  consistent  equal, or numbers whose rounding intervals meet
+  all         some contradict each other
+
+Example:
+  xbrlmerge check --sheet examples/sheet.json examples/ledgerline.json
+
+Status:
+  0  the report is accepted
+  1  it is refused, and standard error tells why and where
+  3  it was not checked: the words are wrong, the sheet is refused, a file or a device failed,
+     or memory was refused";
+
+/// The report of this file is checked under the sheet of that file.
+#[derive(Debug, Drop)]
+pub(crate) struct Check<'w> {
+    sheet: &'w str,
+    report: &'w str,
+}
+
+impl<'w> Check<'w> {
+    /// The words of this command, with its help.
+    pub(crate) fn words(alloc: Global) -> Result<Command<'w>, AllocError> {
+        Command::new(alloc, NAME)
+            .about(ABOUT)
+            .after_help(MORE)
+            .arg(sheet_argument(alloc))?
+            .arg(report_argument(alloc))
+    }
+
+    /// What was found in its words; None where a word that it needs is not there.
+    pub(crate) fn asked(found: &ArgMatches<'w>) -> Option<Check<'w>> {
+        let sheet = found.get_str(SHEET)?;
+        let report = found.get_str(REPORT)?;
+        Some(Check { sheet, report })
+    }
+
+    /// Reads both files and writes the line of an accepted report to `out`. A refused one it
+    /// answers, as report 1.
+    ///
+    /// Errors: those of the files and of the sheet, want of memory, and `Fault::Device`.
+    pub(crate) fn run<F: Files, S: Sink>(
+        &self,
+        alloc: Global,
+        files: &F,
+        out: &mut S,
+    ) -> Result<Refusals, Stop<'w>>
+        requires { S.failures out.old < 2 ^ 64 - 1 }
+    {
+        let sheet = read_sheet(alloc, files, self.sheet)?;
+        let bytes = read_file(alloc, files, self.report)?;
+        let mut refusals = Refusals::new(alloc);
+        match check_report(alloc, &sheet, bytes.as_bytes()) {
+            Ok(checked) => put_checked(alloc, out, &checked)?,
+            Err(refusal) if refusal.reason == Reason::OutOfMemory => {
+                return Err(Stop::Run(Fault::OutOfMemory(0)));
+            }
+            Err(refusal) => refusals.push(1, refusal)?,
+        }
+        Ok(refusals)
+    }
+}

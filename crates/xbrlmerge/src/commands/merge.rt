@@ -1,0 +1,105 @@
+ghost use Rattle.std.specs.Prelude.{◌-◌, ◌^◌, ◌<◌};
+
+use crate::arguments::{REPORT, SHEET, reports_argument, sheet_argument, values_of};
+use crate::consolidation::consolidate;
+use crate::files::{read_files, read_sheet};
+use crate::refusals::Refusals;
+use crate::stop::Stop;
+use clap::builder::ValueParser;
+use clap::{Arg, ArgMatches, Command};
+use oim_value::Level;
+use oim_write::Sink;
+use std::alloc::{AllocError, Global};
+use std::rt::Files;
+
+/// The word of this command.
+pub(crate) const NAME: &str = "merge";
+
+const ALLOW: &str = "allow";
+
+/// The texts of the levels.
+static LEVELS: [&str; 4] = ["none", "complete", "consistent", "all"];
+
+const ABOUT: &str = "Writes one canonical report of all that the reports say";
+
+const MORE: &str =
+    "Equal facts are one, whoever reports them. The text does not depend on the order of the reports,
+nor on how often one is named. A report with a fault is passed over whole.
+
+LEVEL tells which rows the text may have. A row is the facts of the same dimensions.
+  none, complete  rows of one fact
+  consistent      also rows of numbers whose rounding intervals meet
+  all             also rows of facts that contradict each other
+
+Example:
+  xbrlmerge merge --sheet examples/sheet.json examples/issuer.json examples/statfeed.json
+
+Status:
+  0  every report was merged
+  1  a report was refused, and standard error tells why; the others were merged
+  2  a row is above LEVEL: nothing was written, and standard error tells the number of the
+     first such row, as `verdicts` counts them
+  3  nothing was merged, or not to the end: the words are wrong, the sheet is refused, a file
+     or a device failed, or memory was refused";
+
+/// The reports of these files are merged under the sheet of that file.
+#[derive(Debug, Drop)]
+pub(crate) struct Merge<'w> {
+    sheet: &'w str,
+    reports: Vec<&'w str>,
+    allow: Level,
+}
+
+impl<'w> Merge<'w> {
+    /// The words of this command, with its help.
+    pub(crate) fn words(alloc: Global) -> Result<Command<'w>, AllocError> {
+        let allow = Arg::new(alloc, ALLOW)
+            .long(ALLOW)
+            .value_name("LEVEL")
+            .value_parser(ValueParser::Names(LEVELS.as_slice()))
+            .default_value("all")
+            .help("Which rows the text may have");
+        Command::new(alloc, NAME)
+            .about(ABOUT)
+            .after_help(MORE)
+            .arg(sheet_argument(alloc))?
+            .arg(allow)?
+            .arg(reports_argument(alloc))
+    }
+
+    /// What was found in its words; None where a word that it needs is not there.
+    pub(crate) fn asked(
+        alloc: Global,
+        found: &ArgMatches<'w>,
+    ) -> Result<Option<Merge<'w>>, AllocError> {
+        let reports = values_of(alloc, found, REPORT)?;
+        let Some(sheet) = found.get_str(SHEET) else {
+            return Ok(None);
+        };
+        let Some(allow) = found.get_str(ALLOW).and_then(Level::read) else {
+            return Ok(None);
+        };
+        Ok(Some(Merge {
+            sheet,
+            reports,
+            allow,
+        }))
+    }
+
+    /// Reads the files and writes the merged text to `out`. It answers the refused reports, by
+    /// their places among the words, from 1.
+    ///
+    /// Errors: those of the files, of the sheet and of `consolidate`.
+    pub(crate) fn run<F: Files, S: Sink>(
+        &self,
+        alloc: Global,
+        files: &F,
+        out: &mut S,
+    ) -> Result<Refusals, Stop<'w>>
+        requires { S.failures out.old < 2 ^ 64 - 1 }
+    {
+        let sheet = read_sheet(alloc, files, self.sheet)?;
+        let reports = read_files(alloc, files, self.reports.as_slice())?;
+        Ok(consolidate(alloc, &sheet, reports.as_slice(), self.allow, out)?)
+    }
+}

@@ -1,0 +1,23 @@
+ghost use Rattle.std.specs.Prelude.{◌≡◌, IfOk};
+
+use fact_base::Base;
+use oim_report::read_report;
+use oim_write::text;
+use std::alloc::{AllocError, Global};
+
+/// Writes the canonical text of a base, reads it under the base's sheet, and takes the report into
+/// a new base: the same base again. (That it is the same is this project's promise.)
+///
+/// Errors: want of memory.
+pub fn read_back<'s>(alloc: Global, base: &Base<'s>) -> Result<Base<'s>, AllocError>
+    ensures { IfOk result (λ back. back ≡ base.now) }
+{
+    base.known();
+    let text = text(alloc, base)?;
+    let Ok(report) = read_report(alloc, base.sheet(), text.as_bytes()) else {
+        return Err(AllocError);
+    };
+    let mut back = Base::new(alloc, base.sheet());
+    back.take(&report)?;
+    Ok(back)
+}

@@ -1,0 +1,33 @@
+use crate::fault::Fault;
+use crate::read_fault::ReadFault;
+use clap::Error;
+use std::alloc::{AllocError, AllocFailed};
+
+/// Why the program stopped before its work was done.
+#[derive(Debug, Drop)]
+pub(crate) enum Stop<'w> {
+    /// The words are not those of a command. The error has clap's text for the user.
+    Words(Error),
+    /// The file of this name was not read.
+    File(&'w str, ReadFault),
+    /// The work had a fault.
+    Run(Fault),
+}
+
+impl From<Fault> for Stop<'_> {
+    fn from(fault: Fault) -> Self {
+        Stop::Run(fault)
+    }
+}
+
+impl From<AllocError> for Stop<'_> {
+    fn from(_: AllocError) -> Self {
+        Stop::Run(Fault::OutOfMemory(0))
+    }
+}
+
+impl<T: Drop> From<AllocFailed<T>> for Stop<'_> {
+    fn from(_: AllocFailed<T>) -> Self {
+        Stop::Run(Fault::OutOfMemory(0))
+    }
+}

@@ -1,0 +1,19 @@
+use crate::commands::check::Check;
+use crate::commands::merge::Merge;
+use crate::commands::verdicts::Verdicts;
+use clap::Error;
+
+/// What the words ask for.
+#[derive(Debug, Drop)]
+pub(crate) enum Task<'w> {
+    /// To merge the bundle on standard input.
+    Bundle,
+    /// To show help or the version: the text that the error has.
+    Show(Error),
+    /// The command `merge`.
+    Merge(Merge<'w>),
+    /// The command `verdicts`.
+    Verdicts(Verdicts<'w>),
+    /// The command `check`.
+    Check(Check<'w>),
+}

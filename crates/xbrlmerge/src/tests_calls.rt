@@ -1,0 +1,147 @@
+use crate::asked_again::{INFO, tell_refused};
+use crate::canonical_parts::END;
+use crate::checked::{Checked, check_report};
+use crate::consolidation::consolidate;
+use crate::expecting::Expecting;
+use crate::fault::Fault;
+use crate::listing::verdict_lines;
+use crate::refusals::Refusals;
+use crate::tests_sinks::sheet;
+use oim_names::Reason;
+use oim_report::{Place, Refusal, Sheet};
+use oim_value::Level;
+use oim_write::{Encoded, StdSink};
+use std::alloc::{AllocError, Global};
+use std::test::Fail;
+
+// The calls of the library. Where a request for memory is refused, the next one is not: the call is
+// made again.
+
+const HUNDRED: &str = r#""a":{"value":"100","decimals":0,"dimensions":{"concept":"eg:A"}}"#;
+
+const ABOVE: &str = r#""a":{"value":"102","decimals":0,"dimensions":{"concept":"eg:A"}}"#;
+
+const UNBOUND: &str = r#""a":{"value":"1","dimensions":{"concept":"q:A"}}"#;
+
+const ELEVEN_DECIMALS: &str = r#""a":{"value":"1","decimals":11,"dimensions":{"concept":"eg:A"}}"#;
+
+const TWELVE_DECIMALS: &str = r#""a":{"value":"1","decimals":12,"dimensions":{"concept":"eg:A"}}"#;
+
+const TWICE: &str =
+    r#""a":{"value":"1","decimals":0,"dimensions":{"concept":"eg:A"}},"b":{"value":"1","decimals":0,"dimensions":{"concept":"eg:A"}}"#;
+
+const COMMON: &[u8] = b"1 f1 f2 consistent common 0.9999999999995 1.0000000000005\n";
+
+const AT_FIRST_FACT: Refusal = Refusal {
+    reason: Reason::UnboundPrefix,
+    place: Place::Fact(1),
+};
+
+/// A report of these facts.
+fn report(alloc: Global, facts: &str) -> Result<Encoded, AllocError> {
+    let text = format!(in alloc; "{INFO}{facts}{END}")?;
+    Encoded::new(alloc, text.as_bytes())
+}
+
+/// A report of each of these.
+fn reports(alloc: Global, each: &[&str]) -> Result<Vec<Encoded>, AllocError> {
+    let mut reports = Vec::with_capacity(alloc, each.len())?;
+    for facts in each {
+        reports.push(report(alloc, facts)?)?;
+    }
+    Ok(reports)
+}
+
+/// Whether the second report alone is refused, at its first fact.
+fn tells_second(refused: &Refusals) -> bool {
+    let mut refused = refused.as_slice().iter();
+    let told = match refused.next() {
+        Some((report, refusal)) => *report == 2 && *refusal == AT_FIRST_FACT,
+        None => false,
+    };
+    told && refused.next().is_none()
+}
+
+/// Whether row 1 is above the level, and nothing is written.
+fn is_too_loose(alloc: Global) -> Result<bool, AllocError> {
+    let sheet = sheet(alloc)?;
+    let reports = reports(alloc, [HUNDRED, UNBOUND, ABOVE].as_slice())?;
+    let mut sink = StdSink::new(Expecting::just(b""));
+    match consolidate(
+        alloc,
+        &sheet,
+        reports.as_slice(),
+        Level::Consistent,
+        &mut sink,
+    ) {
+        Err(Fault::OutOfMemory(_)) => Err(AllocError),
+        Err(Fault::TooLoose { row, refused }) => Ok(
+            row == 1 && tells_second(&refused) && sink.taken() == 0,
+        ),
+        _ => Ok(false),
+    }
+}
+
+/// Whether the ends of the common interval are written.
+fn tells_ends(alloc: Global) -> Result<bool, AllocError> {
+    let sheet = sheet(alloc)?;
+    let reports = reports(
+        alloc,
+        [TWELVE_DECIMALS, UNBOUND, ELEVEN_DECIMALS].as_slice(),
+    )?;
+    let mut sink = StdSink::new(Expecting::just(COMMON));
+    match verdict_lines(alloc, &sheet, reports.as_slice(), &mut sink) {
+        Err(Fault::OutOfMemory(_)) => Err(AllocError),
+        Ok(refused) => Ok(tells_second(&refused) && sink.into_inner().is_met()),
+        Err(_) => Ok(false),
+    }
+}
+
+/// Whether both facts are counted.
+fn counts_repeats(alloc: Global) -> Result<bool, AllocError> {
+    let sheet = sheet(alloc)?;
+    let report = report(alloc, TWICE)?;
+    match check_report(alloc, &sheet, report.as_bytes()) {
+        Err(refusal) if refusal.reason == Reason::OutOfMemory => Err(AllocError),
+        checked => Ok(
+            checked
+                == Ok(Checked {
+                    facts: 2,
+                    level: Level::Complete,
+                }),
+        ),
+    }
+}
+
+#[test]
+fn a_merge_is_held_to_a_level(rt: HostRuntime) -> Result<(), Fail> {
+    let mut answer = is_too_loose(rt.alloc());
+    if answer.is_err() {
+        tell_refused(&rt);
+        answer = is_too_loose(rt.alloc());
+    }
+    assert!(rt; answer == Ok(true));
+    Ok(())
+}
+
+#[test]
+fn ends_of_intervals_are_told(rt: HostRuntime) -> Result<(), Fail> {
+    let mut answer = tells_ends(rt.alloc());
+    if answer.is_err() {
+        tell_refused(&rt);
+        answer = tells_ends(rt.alloc());
+    }
+    assert!(rt; answer == Ok(true));
+    Ok(())
+}
+
+#[test]
+fn repeats_are_counted(rt: HostRuntime) -> Result<(), Fail> {
+    let mut answer = counts_repeats(rt.alloc());
+    if answer.is_err() {
+        tell_refused(&rt);
+        answer = counts_repeats(rt.alloc());
+    }
+    assert!(rt; answer == Ok(true));
+    Ok(())
+}

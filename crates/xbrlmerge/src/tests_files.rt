@@ -1,0 +1,81 @@
+mod made;
+mod rows;
+
+use crate::asked_again::{joined, tell_refused};
+use crate::devices::{FullAfter, NeverFlushed, TestReader, Then};
+use crate::expecting::Expecting;
+use crate::ran::{ends, stops, words_of};
+use crate::run::run;
+use made::{FOLDER, made};
+use rows::{CHECKED, FULL, JUDGED, MERGED, Row, STOPPED, UNFLUSHED, UNHEARD};
+use std::test::Fail;
+use std::{env, fs};
+
+// Where a request for memory is refused, the next one is not: the program is run again.
+
+/// Whether the program leaves what each row says.
+fn are_met(rt: &HostRuntime, rows: &[Row]) -> Result<bool, Fail> {
+    let mut all = true;
+    for (line, status, out, err) in rows {
+        let words = words_of(rt, line)?;
+        let text = joined(rt, out)?;
+        let err = Expecting::just(err.as_bytes());
+        all = ends(rt, &words, *status, Expecting::just(&text), err) && all;
+    }
+    Ok(all)
+}
+
+fn stops_when_full(rt: &HostRuntime) -> Result<bool, Fail> {
+    let mut all = true;
+    for (line, room, err) in FULL {
+        let words = words_of(rt, line)?;
+        all = stops(rt, &words, FullAfter(room), err) && all;
+    }
+    Ok(all)
+}
+
+fn stops_unflushed(rt: &HostRuntime) -> Result<bool, Fail> {
+    let mut all = true;
+    for (line, err) in UNFLUSHED {
+        let words = words_of(rt, line)?;
+        all = stops(rt, &words, NeverFlushed, err) && all;
+    }
+    Ok(all)
+}
+
+/// Whether the program ends so where standard error takes three bytes.
+fn ends_unheard(rt: &HostRuntime, words: &[&str], status: u8, out: &[u8]) -> bool {
+    let input = TestReader::new(b"", 1, Then::Fails);
+    let mut out = Expecting::just(out);
+    let ended = run(rt.alloc(), rt, words, input, &mut out, FullAfter(3));
+    ended == status && out.is_met()
+}
+
+fn are_unheard(rt: &HostRuntime) -> Result<bool, Fail> {
+    let mut all = true;
+    for (line, status, out, _) in UNHEARD {
+        let words = words_of(rt, line)?;
+        let text = joined(rt, out)?;
+        if !ends_unheard(rt, &words, status, &text) {
+            tell_refused(rt);
+            all = ends_unheard(rt, &words, status, &text) && all;
+        }
+    }
+    Ok(all)
+}
+
+// One test makes the files, since tests may run side by side.
+#[test]
+fn files_are_read_and_answered(rt: HostRuntime) -> Result<(), Fail> {
+    made(&rt)?;
+    assert!(rt; are_met(&rt, MERGED.as_slice())?);
+    assert!(rt; are_met(&rt, JUDGED.as_slice())?);
+    assert!(rt; are_met(&rt, CHECKED.as_slice())?);
+    assert!(rt; are_met(&rt, STOPPED.as_slice())?);
+    assert!(rt; stops_when_full(&rt)?);
+    assert!(rt; stops_unflushed(&rt)?);
+    assert!(rt; are_unheard(&rt)?);
+    env::set_current_dir(&rt, "../..")?;
+    let _ = fs::remove_dir_all(&rt, FOLDER);
+    Ok(())
+}

@@ -1,0 +1,152 @@
+use crate::asked_again::{SHEET, tell_refused};
+use crate::devices::{TestWriter, Then};
+use fact_base::Base;
+use oim_report::{Sheet, read_report};
+use oim_write::{StdSink, WriteFault, prefixes, text, write_to};
+use std::alloc::{AllocError, Global};
+use std::test::Fail;
+
+// Where a request for memory is refused, the next one is not: what asked for it is asked again.
+
+/// Two numbers whose rounding intervals touch.
+pub(crate) const TOUCHING: &str =
+    r#"{"documentInfo":{"documentType":"https://xbrl.org/2021/xbrl-json","namespaces":{"eg":"http://example.org/t"}},"facts":{"a":{"value":"100","decimals":0,"dimensions":{"concept":"eg:A"}},"b":{"value":"101","decimals":0,"dimensions":{"concept":"eg:A"}}}}"#;
+
+/// A fact with names of two namespaces.
+pub(crate) const EVERY_DIMENSION: &str =
+    r#"{"documentInfo":{"documentType":"https://xbrl.org/2021/xbrl-json","namespaces":{"eg":"http://example.org/t","x":"http://example.org/u"}},"facts":{"a":{"value":"Blue","dimensions":{"concept":"eg:T","entity":"x:529900:A1","period":"2020-01-01T00:00:00/2020-12-31T24:00:00","language":"en-GB","eg:Reg":"eg:North","eg:Sku":"a b"}}}}"#;
+
+pub(crate) fn sheet(alloc: Global) -> Result<Sheet, AllocError> {
+    match Sheet::read(alloc, SHEET.as_bytes()) {
+        Ok(sheet) => Ok(sheet),
+        Err(_) => Err(AllocError),
+    }
+}
+
+/// The base of one report, which is accepted.
+pub(crate) fn base_of<'s>(
+    alloc: Global,
+    sheet: &'s Sheet,
+    report: &str,
+) -> Result<Base<'s>, AllocError> {
+    let Ok(report) = read_report(alloc, sheet, report.as_bytes()) else {
+        return Err(AllocError);
+    };
+    let mut base = Base::new(alloc, sheet);
+    base.take(&report)?;
+    Ok(base)
+}
+
+/// Whether a sink that takes so many bytes, some at a time, holds just these of the text.
+fn holds_the_front(
+    alloc: Global,
+    base: &Base<'_>,
+    text: &[u8],
+    step: usize,
+    room: usize,
+) -> Result<bool, AllocError> {
+    let mut sink = StdSink::new(TestWriter::new(alloc, step, room, Then::Fails)?);
+    let ended = write_to(alloc, base, &mut sink);
+    let expected = if room < text.len() {
+        ended == Err(WriteFault::Device(room as u64))
+    } else {
+        ended == Ok(())
+    };
+    if matches!(ended, Err(WriteFault::OutOfMemory(_))) {
+        return Err(AllocError);
+    }
+    let writer = sink.into_inner();
+    let held = writer.held();
+    Ok(expected && text.starts_with(held) && held.len() == room.min(text.len()))
+}
+
+fn holds_each_front(alloc: Global, base: &Base<'_>) -> Result<bool, AllocError> {
+    let text = text(alloc, base)?;
+    let length = text.as_bytes().len();
+    for room in 0..=length {
+        if !holds_the_front(alloc, base, text.as_bytes(), length, room)? {
+            return Ok(false);
+        }
+    }
+    Ok(length == 266)
+}
+
+fn fails_after_each(alloc: Global) -> Result<bool, AllocError> {
+    let sheet = sheet(alloc)?;
+    let base = base_of(alloc, &sheet, TOUCHING)?;
+    holds_each_front(alloc, &base)
+}
+
+fn takes_byte_by_byte(alloc: Global) -> Result<bool, AllocError> {
+    let sheet = sheet(alloc)?;
+    let base = Base::new(alloc, &sheet);
+    let text = text(alloc, &base)?;
+    Ok(text.as_bytes().len() == 108 && holds_the_front(alloc, &base, text.as_bytes(), 1, 108)?)
+}
+
+/// Whether a sink that takes seven bytes holds the first seven, and the fault tells so.
+fn takes_seven(alloc: Global) -> Result<bool, AllocError> {
+    let sheet = sheet(alloc)?;
+    let base = Base::new(alloc, &sheet);
+    let mut sink = StdSink::new(TestWriter::new(alloc, 7, 7, Then::Fails)?);
+    let ended = write_to(alloc, &base, &mut sink);
+    if matches!(ended, Err(WriteFault::OutOfMemory(_))) {
+        return Err(AllocError);
+    }
+    Ok(ended == Err(WriteFault::Device(7)) && sink.into_inner().held() == br#"{"docum"#.as_slice())
+}
+
+fn has_two_prefixes(alloc: Global) -> Result<bool, AllocError> {
+    let sheet = sheet(alloc)?;
+    let base = base_of(alloc, &sheet, EVERY_DIMENSION)?;
+    let aliases = prefixes(alloc, &base)?;
+    Ok(
+        aliases.uri("n2") == Some("http://example.org/u")
+            && aliases.prefix_of("http://example.org/t") == Some("n1")
+            && aliases.uri("n3") == None,
+    )
+}
+
+#[test]
+fn a_sink_that_fails_after_each_byte_holds_the_front(rt: HostRuntime) -> Result<(), Fail> {
+    let mut answer = fails_after_each(rt.alloc());
+    if answer.is_err() {
+        tell_refused(&rt);
+        answer = fails_after_each(rt.alloc());
+    }
+    assert!(rt; answer == Ok(true));
+    Ok(())
+}
+
+#[test]
+fn a_sink_that_takes_one_byte_at_a_time_holds_the_text(rt: HostRuntime) -> Result<(), Fail> {
+    let mut answer = takes_byte_by_byte(rt.alloc());
+    if answer.is_err() {
+        tell_refused(&rt);
+        answer = takes_byte_by_byte(rt.alloc());
+    }
+    assert!(rt; answer == Ok(true));
+    Ok(())
+}
+
+#[test]
+fn a_sink_that_takes_seven_bytes_holds_these(rt: HostRuntime) -> Result<(), Fail> {
+    let mut answer = takes_seven(rt.alloc());
+    if answer.is_err() {
+        tell_refused(&rt);
+        answer = takes_seven(rt.alloc());
+    }
+    assert!(rt; answer == Ok(true));
+    Ok(())
+}
+
+#[test]
+fn prefixes_are_those_of_the_text(rt: HostRuntime) -> Result<(), Fail> {
+    let mut answer = has_two_prefixes(rt.alloc());
+    if answer.is_err() {
+        tell_refused(&rt);
+        answer = has_two_prefixes(rt.alloc());
+    }
+    assert!(rt; answer == Ok(true));
+    Ok(())
+}

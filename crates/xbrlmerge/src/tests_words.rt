@@ -1,0 +1,127 @@
+use crate::devices::FullAfter;
+use crate::expecting::Expecting;
+use crate::ran::{ends, stops, words_of};
+use std::test::Fail;
+
+// The text of help and usage is clap's.
+
+/// Whether the words are refused, with clap's text on standard error alone.
+fn is_usage(rt: &HostRuntime, words: &[&str]) -> bool {
+    let out = Expecting::just(b"");
+    ends(rt, words, 3, out, Expecting::front(b"error: "))
+}
+
+/// Whether the words are answered by a text with this front, on standard output alone.
+fn is_answered(rt: &HostRuntime, words: &[&str], front: &str) -> bool {
+    let out = Expecting::front(front.as_bytes());
+    ends(rt, words, 0, out, Expecting::just(b""))
+}
+
+const WRONG: [&str; 22] = [
+    "replay --sheet s",
+    "Merge --sheet s",
+    "s",
+    "",
+    "-",
+    "--",
+    "--sheet s",
+    "help replay",
+    "merge",
+    "merge r",
+    "merge --sheet",
+    "merge --sheet s --sheet s",
+    "merge --sheet s --allow",
+    "merge --sheet s --allow some",
+    "merge --sheet s --allow ALL",
+    "merge --sheet s --replicas 2",
+    "merge --version",
+    "verdicts",
+    "verdicts --sheet s --allow all",
+    "check --sheet s",
+    "check r",
+    "check --sheet s r r",
+];
+
+#[test]
+fn other_words_are_usage(rt: HostRuntime) -> Result<(), Fail> {
+    for line in WRONG {
+        let words = words_of(&rt, line)?;
+        assert!(rt; is_usage(&rt, &words), "{line}");
+    }
+    Ok(())
+}
+
+const USAGE: [(&str, &str); 4] = [
+    (
+        "merge r",
+        "error: the following required arguments were not provided:
+  --sheet <SHEET>
+
+Usage: xbrlmerge merge --sheet <SHEET> [REPORT]...
+
+For more information, try '--help'.
+",
+    ),
+    (
+        "merge --sheet s --allow some",
+        "error: invalid value 'some' for '--allow <LEVEL>'
+  [possible values: none, complete, consistent, all]
+
+  tip: a similar value exists: 'complete'
+
+For more information, try '--help'.
+",
+    ),
+    (
+        "replay",
+        "error: unrecognized subcommand 'replay'
+
+Usage: xbrlmerge [COMMAND]
+
+For more information, try '--help'.
+",
+    ),
+    (
+        "--",
+        "error: a command is missing
+
+Usage: xbrlmerge [COMMAND]
+
+For more information, try '--help'.
+",
+    ),
+];
+
+#[test]
+fn usage_tells_what_is_wrong(rt: HostRuntime) -> Result<(), Fail> {
+    for (line, text) in USAGE {
+        let words = words_of(&rt, line)?;
+        assert!(rt; stops(&rt, &words, FullAfter(0), text), "{line}");
+    }
+    Ok(())
+}
+
+const ANSWERED: [(&str, &str); 13] = [
+    ("help", "Consolidates xBRL-JSON reports"),
+    ("-h", "Consolidates xBRL-JSON reports"),
+    ("--help", "Consolidates xBRL-JSON reports"),
+    ("help merge", "Writes one canonical report"),
+    ("merge -h", "Writes one canonical report"),
+    ("merge --help", "Writes one canonical report"),
+    ("merge r --sheet s --help", "Writes one canonical report"),
+    ("help verdicts", "Tells of each row of facts"),
+    ("verdicts --help", "Tells of each row of facts"),
+    ("help check", "Tells of one report"),
+    ("check -h", "Tells of one report"),
+    ("--version", "xbrlmerge 0.1.0\n"),
+    ("-V", "xbrlmerge 0.1.0\n"),
+];
+
+#[test]
+fn help_is_answered(rt: HostRuntime) -> Result<(), Fail> {
+    for (line, front) in ANSWERED {
+        let words = words_of(&rt, line)?;
+        assert!(rt; is_answered(&rt, &words, front), "{line}");
+    }
+    Ok(())
+}

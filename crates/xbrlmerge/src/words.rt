@@ -1,0 +1,80 @@
+use crate::commands::check::Check;
+use crate::commands::merge::Merge;
+use crate::commands::verdicts::Verdicts;
+use crate::commands::{check, merge, verdicts};
+use crate::fault::Fault;
+use crate::stop::Stop;
+use crate::task::Task;
+use clap::error::ErrorKind;
+use clap::{ArgMatches, Command, Error};
+use std::alloc::{AllocError, Global};
+use std::convert::AsStr;
+
+const PROGRAM: &str = "xbrlmerge";
+
+const VERSION: &str = "0.1.0";
+
+const ABOUT: &str = "Consolidates xBRL-JSON reports, and tells where they contradict each other";
+
+const MORE: &str =
+    "With no words it merges the bundle on standard input: its first line is a concept sheet, and
+each further line that is not empty is a report.
+
+Example:
+  cat examples/sheet.json examples/issuer.json examples/statfeed.json | xbrlmerge
+
+Status, of each command:
+  0  all was done
+  1  a report was refused, and standard error tells why
+  2  `merge` wrote nothing, since a row is above what --allow allows
+  3  it was not done, or not to the end: the words are wrong, the sheet is refused, a file or a
+     device failed, or memory was refused";
+
+/// Reads what the words ask for, those after the program's name.
+///
+/// Errors: `Stop::Words` where they are not those of a command, and want of memory.
+pub(crate) fn read_words<W: AsStr>(alloc: Global, words: &[W]) -> Result<Task<'_>, Stop<'_>> {
+    if words.is_empty() {
+        return Ok(Task::Bundle);
+    }
+    match task_of(alloc, words) {
+        Ok(task) => Ok(task),
+        Err(error) => match error.kind() {
+            ErrorKind::DisplayHelp | ErrorKind::DisplayVersion => Ok(Task::Show(error)),
+            ErrorKind::OutOfMemory => Err(Stop::Run(Fault::OutOfMemory(0))),
+            _ => Err(Stop::Words(error)),
+        },
+    }
+}
+
+fn task_of<W: AsStr>(alloc: Global, words: &[W]) -> Result<Task<'_>, Error> {
+    let mut program = program(alloc)?;
+    let matches = program.try_get_matches_from_mut(words)?;
+    match asked(alloc, &matches)? {
+        Some(task) => Ok(task),
+        None => Err(program.error(ErrorKind::MissingSubcommand, "a command is missing")?),
+    }
+}
+
+/// What was found in the words; None where they name no command.
+fn asked<'w>(alloc: Global, matches: &ArgMatches<'w>) -> Result<Option<Task<'w>>, AllocError> {
+    Ok(match matches.subcommand() {
+        Some((merge::NAME, found)) => Merge::asked(alloc, found)?.map(Task::Merge),
+        Some((verdicts::NAME, found)) => Verdicts::asked(alloc, found)?.map(Task::Verdicts),
+        Some((check::NAME, found)) => Check::asked(found).map(Task::Check),
+        _ => None,
+    })
+}
+
+/// The words of the program, with its help.
+fn program<'w>(alloc: Global) -> Result<Command<'w>, AllocError> {
+    Command::new(alloc, PROGRAM)
+        .no_binary_name(true)
+        .bin_name(PROGRAM)?
+        .version(VERSION)
+        .about(ABOUT)
+        .after_help(MORE)
+        .subcommand(Merge::words(alloc)?)?
+        .subcommand(Verdicts::words(alloc)?)?
+        .subcommand(Check::words(alloc)?)
+}
