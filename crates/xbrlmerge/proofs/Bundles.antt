@@ -4,7 +4,6 @@ use Rattle.std.specs.List.{after_first, before_first}
 use Rattle.oim_value.specs.declared.level.Level.TheVariants.{All as AllLevel}
 use Rattle.oim_report.specs.Sheet.{Sheet, sheet_outcome}
 use Rattle.oim_report.specs.declared.refusal.Refusal.{Refusal}
-use Rattle.fact_base.specs.Body.{Body, body}
 use Rattle.fact_base.specs.Contents.{Contents}
 use Rattle.xbrlmerge.specs.Bundle.{is_line_end, filled_pieces, report_pieces}
 use Rattle.xbrlmerge.specs.Gathered.{base_of}

@@ -1,13 +1,12 @@
 -- The evidence of the dimension sets of a body that fits a sheet.
-use Rattle.std.proofs.Common.{◌≡◌, ◌≢◌, ℕ, zero, suc, ◌<◌, ◌≤◌, ◌&&◌, Bool, true, false, List, [], ◌∷◌, length, Option, Some, None, refl, sym, ap, subst, ◌∙◌, arith}
+use Rattle.std.proofs.Common.{◌≡◌, ◌≢◌, ℕ, zero, suc, ◌<◌, ◌≤◌, Bool, true, false, List, [], ◌∷◌, length, Option, Some, None, refl, sym, ap, subst, ◌∙◌, arith}
 use mathlib.Core.Bool.{true≢false}
 use Rattle.std.specs.Prelude.{Contains, is_some, slice_get, ℤ, ◌≤ℤ◌}
 use Rattle.std.specs.Option.{unwrap_or}
 use Rattle.std.proofs.lemmas.Int.{ints}
 use Rattle.std.proofs.lemmas.Option.{get_or_from_slice_get}
 use Rattle.merge_laws.specs.Ends.{Summarised, summary_of_all}
-use Rattle.oim_value.specs.Ends.{has_interval, intervals_of}
-use Rattle.oim_value.specs.Interval.{IsWithin}
+use Rattle.oim_value.specs.Ends.{intervals_of}
 use Rattle.oim_value.specs.Meets.{Meets}
 use Rattle.oim_value.specs.SeveralMeet.{AreApart, EachTwoValuesMeet, place_of_greatest_low, place_of_least_high}
 use Rattle.oim_value.specs.ValueOrder.{value_cmp}
@@ -17,7 +16,6 @@ use Rattle.oim_value.specs.declared.value.Value.TheVariants.{Nil, Number, Text a
 use Rattle.oim_value.proofs.Ends.{ends_exist}
 use Rattle.oim_value.proofs.Meeting.{meets_is_reflexive}
 use Rattle.oim_value.proofs.SeveralMeet.{each_two_meet_by_members}
-use Rattle.oim_dims.specs.declared.fact.Fact.{Fact}
 use Rattle.fact_base.specs.Body.{Body}
 use Rattle.fact_base.specs.Entries.{EntryFits, facts_with}
 use Rattle.fact_base.specs.Fits.{Fits}

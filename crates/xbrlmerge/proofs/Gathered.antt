@@ -2,10 +2,10 @@
 use Rattle.std.proofs.Common.{◌≡◌, List, [], ◌∷◌, ◌++◌, append-nil, append_assoc, refl, sym, ap, ◌∙◌}
 use Rattle.oim_report.specs.Document.{Document}
 use Rattle.oim_report.specs.Sheet.{Sheet}
-use Rattle.fact_base.specs.Body.{Body, body, union}
+use Rattle.fact_base.specs.Body.{Body, union}
 use Rattle.fact_base.specs.Contents.{Contents}
 use Rattle.fact_base.proofs.Bodies.{body_of_both}
-use Rattle.xbrlmerge.specs.Gathered.{AreBases, AreBasesOf, base_of}
+use Rattle.xbrlmerge.specs.Gathered.{AreBasesOf, base_of}
 
 -- one base more, which took further documents
 pub bases_with : (sheet : Sheet) (docs further : List Document) (bases : List Contents) (b : Contents) → AreBasesOf sheet docs bases → b ≡ base_of sheet further → AreBasesOf sheet (docs ++ further) (bases ++ b ∷ [])

@@ -1,7 +1,6 @@
 -- Histories by their documents, and texts that are read again.
-use Rattle.std.proofs.Common.{◌≡◌, ◌⊎◌, inl, inr, ⊎_elim, List, [], ◌∷◌, ◌++◌, append-nil, Result, Ok, Err, refl, sym, ap, subst, ◌∙◌}
-use Rattle.std.specs.Prelude.{Contains, All}
-use Rattle.merge_laws.specs.Members.{SameMembers}
+use Rattle.std.proofs.Common.{◌≡◌, inl, ⊎_elim, [], ◌∷◌, ◌++◌, append-nil, Result, Ok, Err, refl, sym, ap, subst, ◌∙◌}
+use Rattle.std.specs.Prelude.{Contains}
 use Rattle.oim_value.specs.declared.level.Level.TheVariants.{All as AllLevel}
 use Rattle.oim_dims.proofs.Orders.{fact_cmp_exact, fact_cmp_total}
 use Rattle.oim_dims.specs.FactOrder.{fact_cmp}

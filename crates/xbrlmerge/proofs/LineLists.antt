@@ -1,7 +1,6 @@
 -- The lines of dimension sets, one after another.
-use Rattle.std.proofs.Common.{◌≡◌, ℕ, suc, ◌+◌, ◌-◌, ◌<◌, ◌≤◌, List, [], ◌∷◌, ◌++◌, map, length, get_or, codes, zero, true, inr, Option, Some, refl, sym, ap, subst, ◌∙◌, append_assoc, append-nil, arith}
-use mathlib.Core.Bool.{true≢false}
-use Rattle.std.specs.Prelude.{◌≢◌, Contains, is_some, slice_get}
+use Rattle.std.proofs.Common.{◌≡◌, ℕ, suc, ◌+◌, ◌-◌, ◌<◌, ◌≤◌, List, [], ◌∷◌, ◌++◌, length, get_or, codes, inr, Option, refl, sym, ap, subst, ◌∙◌, append_assoc, append-nil, arith}
+use Rattle.std.specs.Prelude.{◌≢◌, Contains}
 use Rattle.std.specs.Fmt.{decimal}
 use Rattle.std.proofs.lemmas.List.{get_or-append-add, get_or-map, get_or_append_left, length-append, length-map}
 use Rattle.std.proofs.lemmas.Grind.{flat_map-append}
@@ -18,7 +17,7 @@ use Rattle.fact_base.specs.declared.evidence.Evidence.{Evidence}
 use Rattle.fact_base.specs.declared.evidence.Evidence.TheVariants.{Alike, Common, Apart}
 use Rattle.fact_base.proofs.Members.{each_there, first_there, in_one_of_both, later_there}
 use Rattle.fact_base.proofs.RowsOf.{rows_tell_facts}
-use Rattle.oim_write.specs.Rank.{padded, rank, width}
+use Rattle.oim_write.specs.Rank.{padded, width}
 use Rattle.oim_write.specs.SinkBuffer.{Passes, Pending}
 use Rattle.oim_write.specs.Tree.{identifier}
 use Rattle.oim_write.proofs.NumberedFacts.{row_facts, rows_facts, rows_facts_are}

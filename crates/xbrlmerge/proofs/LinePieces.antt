@@ -13,13 +13,13 @@ use Rattle.xbrlmerge.specs.Bundle.{is_line_end, is_filled, line_pieces, filled_p
 abbrev pub if_filled : List ℕ → List (List ℕ)
 if_filled piece = filter is_filled (piece ∷ [])
 
-no_line_end : (bytes : List ℕ) → length bytes ≤ position_or_len is_line_end bytes → line_pieces bytes ≡ bytes ∷ []
+pub no_line_end : (bytes : List ℕ) → length bytes ≤ position_or_len is_line_end bytes → line_pieces bytes ≡ bytes ∷ []
 no_line_end bytes h = slice_split_none is_line_end bytes (λ k d less. fails_before_first is_line_end bytes k d (omega arith))
 
-at_end : (bytes : List ℕ) → length bytes ≤ position_or_len is_line_end bytes → after_first is_line_end bytes ≡ []
+pub at_end : (bytes : List ℕ) → length bytes ≤ position_or_len is_line_end bytes → after_first is_line_end bytes ≡ []
 at_end bytes h = drop_all (position_or_len is_line_end bytes + 1) bytes (omega arith)
 
-whole : (bytes : List ℕ) → length bytes ≤ position_or_len is_line_end bytes → before_first is_line_end bytes ≡ bytes
+pub whole : (bytes : List ℕ) → length bytes ≤ position_or_len is_line_end bytes → before_first is_line_end bytes ≡ bytes
 whole bytes h = take_all (position_or_len is_line_end bytes) bytes h
 
 -- the reports are the pieces with a byte behind the first line end

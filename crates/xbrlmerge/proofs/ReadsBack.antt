@@ -1,6 +1,6 @@
 -- The value of a text is read as the document that it was written for.
-use Rattle.std.proofs.Common.{◌≡◌, ℕ, ◌+◌, List, [], ◌∷◌, Bool, true, false, not, cond, ◌&&◌, ◌||◌, Option, Some, None, is_none, Result, Ok, Err, refl, sym, ap, subst, bytes_eq, ◌≢◌, ◌∙◌, codes, map, arith}
-use Rattle.std.specs.Prelude.{All, ◌<◌, ◌≤◌, nat_lt}
+use Rattle.std.proofs.Common.{◌≡◌, ℕ, ◌+◌, List, [], ◌∷◌, true, false, cond, Some, None, Ok, refl, sym, ap, subst, bytes_eq, ◌≢◌, ◌∙◌, codes, map, arith}
+use Rattle.std.specs.Prelude.{All, ◌<◌, nat_lt}
 use Rattle.std.specs.List.{list_all}
 use Rattle.std.specs.Str.{IsAscii, is_utf8}
 use Rattle.std.proofs.lemmas.Bool.{and_parts}
@@ -8,7 +8,7 @@ use Rattle.std.proofs.lemmas.Bool.Decides.{nat_tests}
 use Rattle.std.proofs.lemmas.Str.{is_utf8-from_IsUtf8, IsUtf8-from_ascii}
 use Rattle.std.proofs.lemmas.Str.Ascii.{IsAscii-nil, IsAscii-cons}
 use Rattle.std.proofs.lemmas.List.Elements.{All-head, All-tail}
-use Rattle.serde_json.specs.Data.{Data, string, array, object, Items, no_items, item, Members, no_members, member}
+use Rattle.serde_json.specs.Data.{Data, string, array, object, Members, no_members, member}
 use Rattle.oim_names.specs.QName.{QName}
 use Rattle.oim_names.specs.Bindings.{Binding}
 use Rattle.oim_value.specs.Level.{level_cmp}
@@ -21,23 +21,21 @@ use Rattle.oim_report.specs.FactFits.{FactFits}
 use Rattle.oim_report.specs.FactObject.{fact_object}
 use Rattle.oim_report.specs.Json.{any_member, given, other, text, values}
 use Rattle.oim_report.specs.Namespaces.{binds_nothing, bindings_in}
-use Rattle.oim_report.specs.Info.{document_type, said_references, said_reference, accepted_reference, document_refusal, references_said}
-use Rattle.oim_report.specs.Kept.{IsKeptReference, kept, is_within_limit}
+use Rattle.oim_report.specs.Info.{document_type, said_references, said_reference, document_refusal}
+use Rattle.oim_report.specs.Kept.{IsKeptReference}
 use Rattle.oim_report.specs.Outcome.{all_or_first, fact_outcome, facts_said, tree_outcome}
 use Rattle.oim_report.specs.Refusal.{map_ok}
 use Rattle.oim_report.specs.ReadBack.{SpellsFact}
 use Rattle.oim_report.specs.Sheet.{Sheet}
 use Rattle.oim_report.proofs.ReadFact.{fact_back}
 use Rattle.fact_base.specs.Body.{Body}
-use Rattle.fact_base.specs.Fits.{Fits}
 use Rattle.oim_report.proofs.TextUtf8.{object_text_back}
 use Rattle.fact_base.proofs.Members.{each_by_there}
 use Rattle.oim_report.specs.FactFits.{IsNamespace}
 use Rattle.oim_report.specs.Json.{json}
 use Rattle.oim_report.specs.PlainJson.{IsPlainJson}
-use Rattle.serde_json.specs.Read.{max_depth}
 use Rattle.oim_report.specs.Outcome.{outcome}
-use Rattle.oim_write.specs.Tree.{identifier, info_object, members_by, name_text, prefix, text_items, tree}
+use Rattle.oim_write.specs.Tree.{identifier, members_by, name_text, prefix, text_items, tree}
 use Rattle.oim_write.specs.Uris.{uris}
 use Rattle.oim_write.specs.Bytes.{canonical}
 use Rattle.oim_write.specs.Prefixes.{bindings_of}

@@ -1,5 +1,5 @@
 -- Bases by what they took and joined, and what their texts say (own).
-use Rattle.std.specs.Prelude.{◌≡◌, List, [], ◌∷◌, ◌++◌, Contains, Ok}
+use Rattle.std.specs.Prelude.{◌≡◌, ℕ, List, [], ◌∷◌, ◌++◌, Contains, Ok}
 use Rattle.std.specs.List.{All}
 use Rattle.merge_laws.specs.Members.{SameMembers}
 use Rattle.oim_report.specs.Document.{Document}
@@ -33,14 +33,15 @@ HistoriesAreForgotten = (h k : History) → SameMembers (documents_of h) (docume
 
 -- ---- round trips
 
--- the text of a body that fits a sheet is read as a document that has just that body
-pub record IsReadAsBody (sheet : Sheet) (b : Body) : Type 0 where
+-- bytes are read as a document that has just this body
+pub record IsReadAsBody (sheet : Sheet) (bytes : List ℕ) (b : Body) : Type 0 where
   pub document : Document
-  pub read : outcome sheet (canonical b) ≡ Ok document
+  pub read : outcome sheet bytes ≡ Ok document
   pub same : body (document ∷ []) ≡ b
 
+-- the text of a body that fits a sheet gives it again
 abbrev pub TextsGiveBodies : Type 0
-TextsGiveBodies = (sheet : Sheet) (b : Body) → Fits sheet b → IsReadAsBody sheet b
+TextsGiveBodies = (sheet : Sheet) (b : Body) → Fits sheet b → IsReadAsBody sheet (canonical b) b
 
 -- a text that documents were merged to, merged with itself and with any of them, is that text again
 abbrev pub MergedTextsMerge : Type 0

@@ -10,3 +10,8 @@ pub mod Checked
 pub mod Source
 pub mod ReadBack
 pub mod History
+pub mod EventLines
+pub mod EventParts
+pub mod Schedule
+pub mod Replicas
+pub mod Replay

@@ -1,12 +1,12 @@
 ghost use Rattle.std.specs.Prelude.{◌≡◌, ◌-◌, ◌^◌, ◌<◌, IfOk, IfErr};
-ghost use Rattle.std.specs.List.{before_first, after_first, position_or_len};
-ghost use Rattle.xbrlmerge.specs.Bundle.{is_line_end, filled_pieces};
+ghost use Rattle.xbrlmerge.specs.Bundle.{filled_pieces};
 ghost use Rattle.xbrlmerge.specs.Gathered.{base_of};
 ghost use Rattle.xbrlmerge.specs.Reports.{accepted, refused};
 ghost use Rattle.xbrlmerge.specs.Run.{BundleStops, ConsolidatesBundle, failures_after_run};
 
 use crate::consolidation::write_within;
 use crate::fault::Fault;
+use crate::line_cut::cut_line;
 use crate::merged::Merged;
 use crate::merging::Merging;
 use crate::refusals::Refusals;
@@ -42,30 +42,6 @@ pub fn consolidate_bundle<S: Sink>(
         return Err(Fault::OutOfMemory(0));
     };
     write_within(alloc, merged, Level::All, out)
-}
-
-/// The bytes before the first line end, and those behind it.
-fn cut_line(bytes: &[u8]) -> (&[u8], &[u8])
-    ensures line { result.0.now ≡ before_first is_line_end bytes.now }
-    ensures rest { result.1.now ≡ after_first is_line_end bytes.now }
-{
-    let end = line_end(bytes);
-    if end < bytes.len() {
-        (&bytes[..end], &bytes[end + 1..])
-    } else {
-        (bytes, &bytes[bytes.len()..])
-    }
-}
-
-fn line_end(bytes: &[u8]) -> usize
-    ensures { result ≡ position_or_len is_line_end bytes.now }
-{
-    for (i, c) in bytes.iter().enumerate() {
-        if *c == b'\n' {
-            return i;
-        }
-    }
-    bytes.len()
 }
 
 /// Reads each line that is not empty.

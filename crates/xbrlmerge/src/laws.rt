@@ -1,7 +1,9 @@
 //! Laws of the definitions, each the contract of a function that does nothing.
+ghost use Rattle.xbrlmerge.specs.EventLines.{LinesSayOneEvent};
 ghost use Rattle.xbrlmerge.specs.History.{HistoriesAreForgotten, MergedTextsMerge, TextsGiveBodies};
 ghost use Rattle.xbrlmerge.specs.Lines.{LinesAreOne};
 ghost use Rattle.xbrlmerge.specs.ReadBack.{CanonicalReadsBack};
+ghost use Rattle.xbrlmerge.specs.Replicas.{EqualSetsWriteTheSame, ReplicasSayAsAfresh, ReplicasStay, WireAgrees};
 ghost use Rattle.xbrlmerge.specs.Run.{ReportsIgnoreOrder};
 
 /// Reports under one sheet of which the accepted ones say the same documents, in any order and each
@@ -35,4 +37,26 @@ pub fn merged_texts_merge()
 /// A body that fits a sheet has lines of verdicts, and has no others.
 pub fn lines_are_one()
     ensures { LinesAreOne }
+{}
+
+/// Replicas that exchange their texts have, after every schedule without a bad event, the bases of
+/// the documents that reached them, and every text that they sent is accepted, whoever wrote it.
+pub fn wire_agrees()
+    ensures agrees { WireAgrees }
+    ensures stay { ReplicasStay }
+{}
+
+/// So what such a replica says is what is said by the reports that reached it, merged afresh.
+pub fn replicas_say_as_afresh()
+    ensures { ReplicasSayAsAfresh }
+{}
+
+/// So two that the same reports reached write the same bytes.
+pub fn equal_sets_write_the_same()
+    ensures { EqualSetsWriteTheSame }
+{}
+
+/// A line of a schedule says one event at most.
+pub fn lines_say_one_event()
+    ensures { LinesSayOneEvent }
 {}

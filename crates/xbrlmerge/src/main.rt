@@ -14,12 +14,16 @@ mod consolidation;
 mod devices;
 #[cfg(test)]
 mod drawn;
+mod event;
+mod event_line;
+mod events;
 #[cfg(test)]
 mod expecting;
 mod fault;
 mod files;
 mod gathering;
 pub mod laws;
+mod line_cut;
 mod lines;
 mod listing;
 mod merged;
@@ -27,8 +31,14 @@ mod merging;
 #[cfg(test)]
 mod ran;
 mod read_all;
+mod read_events;
 mod read_fault;
+mod reading;
 mod refusals;
+mod replay_fault;
+mod replayed;
+mod replaying;
+mod replicas;
 mod round_trip;
 mod run;
 mod source;

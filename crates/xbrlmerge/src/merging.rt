@@ -5,10 +5,10 @@ ghost use Rattle.xbrlmerge.specs.Gathered.{AreBases, AreBasesOf, base_of};
 ghost use Rattle.xbrlmerge.specs.Reports.{document_in, refusal_in};
 
 use crate::gathering::{joined, put};
+use crate::reading::read;
 use crate::refusals::Refusals;
 use fact_base::Base;
-use oim_names::Reason;
-use oim_report::{Report, Sheet, read_report};
+use oim_report::{Report, Sheet};
 use std::alloc::{AllocError, Global};
 
 /// Reports on their way into one base: what the accepted ones say, in bases of growing size, the
@@ -50,9 +50,8 @@ impl<'s> Merging<'s> {
         ensures reports { OnOk result (self.new.reports ≡ self.old.reports + 1) }
     {
         self.reports += 1;
-        match read_report(alloc, self.sheet, bytes) {
+        match read(alloc, self.sheet, bytes)? {
             Ok(report) => put(&mut self.bases, base_with(alloc, self.sheet, &report)?),
-            Err(refusal) if refusal.reason == Reason::OutOfMemory => Err(AllocError),
             Err(refusal) => self.refusals.push(self.reports, refusal),
         }
     }

@@ -7,12 +7,10 @@ use Rattle.fact_base.specs.Fits.{Fits}
 use Rattle.fact_base.specs.Passed.{Sheet}
 use Rattle.fact_base.specs.Rows.{Row, rows_of}
 use Rattle.fact_base.specs.Shown.{rows_left, shown}
-use Rattle.fact_base.proofs.Members.{in_one_of_both, later_there}
+use Rattle.fact_base.proofs.Members.{in_one_of_both}
 use Rattle.oim_write.proofs.NumberedFacts.{rows_facts}
 use Rattle.oim_write.proofs.Passing.{Breaks-more, Breaks-trans, Passes-trans}
-use Rattle.oim_write.specs.Sink.{written_of}
 use Rattle.xbrlmerge.specs.Lines.{AreLinesFrom, IsLine}
-use Rattle.xbrlmerge.specs.Listing.{BreaksLines}
 use Rattle.xbrlmerge.specs.Named.{IsLineBy}
 use Rattle.xbrlmerge.proofs.Evidenced.{evidence_exists}
 use Rattle.xbrlmerge.proofs.LineLists.{count_with_row, line_is, lines_both, lines_exist, one_line, row_filled, row_within}

@@ -1,12 +1,10 @@
 use Rattle.std.proofs.Common.{[], append-nil, Result, Ok, Err, refl, subst}
 use Rattle.std.specs.Io.KnownBytes.{Appends}
-use Rattle.std.specs.Prelude.{IfErr, OnOk}
+use Rattle.std.specs.Prelude.{OnOk}
 use Rattle.std.proofs.KnownBytes.{Appends-nil}
 use Rattle.std.proofs.lemmas.Result.{err_from_is_err_and, IfErr-weaker}
 use Rattle.fact_base.specs.Rows.{rows_of}
-use Rattle.oim_write.specs.Sink.{AppendsFront, written_of}
 use Rattle.oim_write.proofs.Passing.{Passes-trans, Appends-passed, AppendsFront-broken, AppendsFront-flushed}
-use Rattle.xbrlmerge.specs.Listing.{AppendsFrontOfLines, AppendsLines}
 use Rattle.xbrlmerge.proofs.Evidenced.{evidence_exists}
 use Rattle.xbrlmerge.proofs.LineLists.{lines_exist}
 use Rattle.xbrlmerge.proofs.listing.write_lines.Goals as goal

@@ -1,4 +1,4 @@
-use Rattle.std.proofs.Common.{◌≡◌, ◌-◌, [], ◌++◌, take, append-nil, sym, ap, subst, ◌∙◌}
+use Rattle.std.proofs.Common.{◌≡◌, ◌-◌, [], take, append-nil, sym, ap, subst, ◌∙◌}
 use Rattle.fact_base.specs.Contents.{Contents}
 use Rattle.xbrlmerge.specs.Gathered.{AreBases, AreBasesOf, base_of}
 use Rattle.xbrlmerge.proofs.Gathered.{ends_with}

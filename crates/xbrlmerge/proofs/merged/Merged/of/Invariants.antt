@@ -1,4 +1,4 @@
-use Rattle.std.proofs.Common.{◌≡◌, ◌≤◌, ◌+◌, ◌++◌, drop, length}
+use Rattle.std.proofs.Common.{◌≡◌, ◌+◌, ◌++◌, drop}
 use Rattle.xbrlmerge.specs.Reports.{refused, refused_from}
 use Rattle.xbrlmerge.proofs.Reports.{HasMerged}
 use Rattle.xbrlmerge.proofs.merged.Merged.of.Given as goal

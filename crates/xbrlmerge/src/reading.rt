@@ -1,0 +1,25 @@
+ghost use Rattle.std.specs.Prelude.{◌≡◌, IfOk, MatchResult, Ok, Err};
+ghost use Rattle.oim_report.specs.Outcome.{outcome};
+
+use oim_names::Reason;
+use oim_report::{Refusal, Report, Sheet, read_report};
+use std::alloc::{AllocError, Global};
+
+/// The report that the bytes say under the sheet, or its refusal.
+///
+/// Errors: want of memory, which is no refusal here.
+pub(crate) fn read<'s>(
+    alloc: Global,
+    sheet: &'s Sheet,
+    bytes: &[u8],
+) -> Result<Result<Report<'s>, Refusal>, AllocError>
+    ensures { IfOk result (λ read. MatchResult read
+        (λ report. (outcome sheet.now bytes.now ≡ Ok report.document) × (report.sheet ≡ sheet.now))
+        (λ refusal. outcome sheet.now bytes.now ≡ Err refusal)) }
+{
+    match read_report(alloc, sheet, bytes) {
+        Ok(report) => Ok(Ok(report)),
+        Err(refusal) if refusal.reason == Reason::OutOfMemory => Err(AllocError),
+        Err(refusal) => Ok(Err(refusal)),
+    }
+}
