@@ -1,4 +1,4 @@
-ghost use Rattle.std.specs.Prelude.{◌-◌, ◌^◌, ◌<◌};
+ghost use Rattle.std.specs.Prelude.{◌≡◌, ◌-◌, ◌^◌, ◌<◌, OnOk};
 
 use crate::checked::Checked;
 use crate::fault::Fault;
@@ -17,6 +17,7 @@ use std::io::Write;
 /// Errors: `Device`, with how many of its bytes were taken.
 pub(crate) fn put_text<S: Sink>(out: &mut S, text: &str) -> Result<(), Fault>
     requires { S.failures out.old < 2 ^ 64 - 1 }
+    ensures { OnOk result (S.failures out.new ≡ S.failures out.old) }
 {
     match put_all(out, text.as_bytes()) {
         Ok(()) => Ok(()),
@@ -64,6 +65,9 @@ pub(crate) fn print_stop<E: Write>(err: &mut E, stop: &Stop<'_>) {
             let _ = write!(err, "{error}");
         }
         Stop::File(file, fault) => print_read_fault(err, file, *fault),
+        Stop::Event(line) => {
+            let _ = writeln!(err, "event {line}: refused");
+        }
         Stop::Run(fault) => print_fault(err, fault),
     }
 }

@@ -61,22 +61,24 @@ fn work<'w, F: Files, W: AsStr, R: Read + Drop, S: Sink>(
         Task::Merge(merge) => merge.run(alloc, files, out),
         Task::Verdicts(verdicts) => verdicts.run(alloc, files, out),
         Task::Check(check) => check.run(alloc, files, out),
+        Task::Replay(replay) => replay.run(alloc, files, out),
     }
 }
 
-/// Flushes standard output, unless the program stopped. Where that fails it has stopped, with the
-/// whole length written.
+/// Flushes standard output, unless the program stopped. Where that fails it has stopped. A fault of
+/// standard output tells all that it took in this run.
 fn flush<'w, O: Write + Drop>(
     worked: Result<Refusals, Stop<'w>>,
     sink: StdSink<O>,
 ) -> Result<Refusals, Stop<'w>> {
-    if status_of(&worked) == FAILED {
-        return worked;
-    }
     let written = sink.taken();
-    match sink.into_inner().flush() {
-        Ok(()) => worked,
-        Err(_) => Err(Stop::Run(Fault::Device(written))),
+    match worked {
+        Err(Stop::Run(Fault::Device(_))) => Err(Stop::Run(Fault::Device(written))),
+        worked if status_of(&worked) == FAILED => worked,
+        worked => match sink.into_inner().flush() {
+            Ok(()) => worked,
+            Err(_) => Err(Stop::Run(Fault::Device(written))),
+        },
     }
 }
 

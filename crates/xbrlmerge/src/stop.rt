@@ -1,5 +1,6 @@
 use crate::fault::Fault;
 use crate::read_fault::ReadFault;
+use crate::replay_fault::ReplayFault;
 use clap::Error;
 use std::alloc::{AllocError, AllocFailed};
 
@@ -10,6 +11,8 @@ pub(crate) enum Stop<'w> {
     Words(Error),
     /// The file of this name was not read.
     File(&'w str, ReadFault),
+    /// This line, from 1, is no event, or its event names what is not there.
+    Event(u64),
     /// The work had a fault.
     Run(Fault),
 }
@@ -17,6 +20,15 @@ pub(crate) enum Stop<'w> {
 impl From<Fault> for Stop<'_> {
     fn from(fault: Fault) -> Self {
         Stop::Run(fault)
+    }
+}
+
+impl From<ReplayFault> for Stop<'_> {
+    fn from(fault: ReplayFault) -> Self {
+        match fault {
+            ReplayFault::OutOfMemory => Stop::Run(Fault::OutOfMemory(0)),
+            ReplayFault::BadEvent(line) => Stop::Event(line),
+        }
     }
 }
 

@@ -1,5 +1,6 @@
 use crate::commands::check::Check;
 use crate::commands::merge::Merge;
+use crate::commands::replay::Replay;
 use crate::commands::verdicts::Verdicts;
 use clap::Error;
 
@@ -16,4 +17,6 @@ pub(crate) enum Task<'w> {
     Verdicts(Verdicts<'w>),
     /// The command `check`.
     Check(Check<'w>),
+    /// The command `replay`.
+    Replay(Replay<'w>),
 }

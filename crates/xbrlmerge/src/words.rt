@@ -1,7 +1,8 @@
 use crate::commands::check::Check;
 use crate::commands::merge::Merge;
+use crate::commands::replay::Replay;
 use crate::commands::verdicts::Verdicts;
-use crate::commands::{check, merge, verdicts};
+use crate::commands::{check, merge, replay, verdicts};
 use crate::fault::Fault;
 use crate::stop::Stop;
 use crate::task::Task;
@@ -27,8 +28,8 @@ Status, of each command:
   0  all was done
   1  a report was refused, and standard error tells why
   2  `merge` wrote nothing, since a row is above what --allow allows
-  3  it was not done, or not to the end: the words are wrong, the sheet is refused, a file or a
-     device failed, or memory was refused";
+  3  it was not done, or not to the end: the words are wrong, the sheet or an event is refused, a
+     file or a device failed, or memory was refused";
 
 /// Reads what the words ask for, those after the program's name.
 ///
@@ -62,6 +63,7 @@ fn asked<'w>(alloc: Global, matches: &ArgMatches<'w>) -> Result<Option<Task<'w>>
         Some((merge::NAME, found)) => Merge::asked(alloc, found)?.map(Task::Merge),
         Some((verdicts::NAME, found)) => Verdicts::asked(alloc, found)?.map(Task::Verdicts),
         Some((check::NAME, found)) => Check::asked(found).map(Task::Check),
+        Some((replay::NAME, found)) => Replay::asked(alloc, found)?.map(Task::Replay),
         _ => None,
     })
 }
@@ -76,5 +78,6 @@ fn program<'w>(alloc: Global) -> Result<Command<'w>, AllocError> {
         .after_help(MORE)
         .subcommand(Merge::words(alloc)?)?
         .subcommand(Verdicts::words(alloc)?)?
-        .subcommand(Check::words(alloc)?)
+        .subcommand(Check::words(alloc)?)?
+        .subcommand(Replay::words(alloc)?)
 }

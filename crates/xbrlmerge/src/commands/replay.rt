@@ -1,0 +1,166 @@
+ghost use Rattle.std.specs.Prelude.{◌≡◌, ◌-◌, ◌^◌, ◌<◌, OnOk};
+
+use crate::arguments::{REPORT, SHEET, reports_argument, sheet_argument, values_of};
+use crate::fault::Fault;
+use crate::files::{read_file, read_files, read_sheet};
+use crate::lines::put_text;
+use crate::read_events::read_events;
+use crate::refusals::Refusals;
+use crate::replaying::replay;
+use crate::stop::Stop;
+use clap::builder::ValueParser;
+use clap::{Arg, ArgMatches, Command};
+use fact_base::Base;
+use oim_write::{Sink, write_to};
+use std::alloc::{AllocError, Global};
+use std::rt::Files;
+
+/// The word of this command.
+pub(crate) const NAME: &str = "replay";
+
+const REPLICAS: &str = "replicas";
+
+const EVENTS: &str = "events";
+
+/// How many replicas there may be.
+const MOST_REPLICAS: i64 = 64;
+
+const ABOUT: &str = "Runs a schedule on replicas that exchange texts, and writes what each has";
+
+const MORE: &str =
+    "A replica keeps what some of the reports say, as an office does that merges those that reach it
+and sends on what it has merged. Each of the N begins with nothing. EVENTS has a line for each
+thing that happens, in order. Replicas, reports and sent texts are counted from 1.
+
+  take I R      replica I takes report R
+  join I J      replica I joins all that replica J has
+  send I        the text of replica I is sent; it is the next sent text
+  receive I K   replica I takes sent text K, however late and however often
+  restart I     replica I loses all that it has
+
+Then the text of each replica is written, from the first to the last, as `merge` writes it, each
+with a line end behind it. It is that of one merge of the reports that reached the replica, by
+itself or through others, whatever the schedule was.
+
+Example:
+  xbrlmerge replay --sheet examples/sheet.json --replicas 2 \\
+      --events examples/offices/events.txt examples/issuer.json \\
+      examples/ledgerline.json examples/statfeed.json
+
+Status:
+  0  every event happened
+  1  a report that was taken was refused, and standard error tells why, one line a take; the
+     others were taken
+  3  nothing was written, or not to the end: the words are wrong, the sheet is refused, a line of
+     EVENTS is no event or names what is not there, a file or a device failed, or memory was
+     refused";
+
+/// The schedule in this file is run on so many replicas, which take the reports of these files
+/// under the sheet of that file.
+#[derive(Debug, Drop)]
+pub(crate) struct Replay<'w> {
+    sheet: &'w str,
+    replicas: usize,
+    events: &'w str,
+    reports: Vec<&'w str>,
+}
+
+impl<'w> Replay<'w> {
+    /// The words of this command, with its help.
+    pub(crate) fn words(alloc: Global) -> Result<Command<'w>, AllocError> {
+        Command::new(alloc, NAME)
+            .about(ABOUT)
+            .after_help(MORE)
+            .arg(sheet_argument(alloc))?
+            .arg(replicas_argument(alloc))?
+            .arg(events_argument(alloc))?
+            .arg(reports_argument(alloc))
+    }
+
+    /// What was found in its words; None where a word that it needs is not there.
+    pub(crate) fn asked(
+        alloc: Global,
+        found: &ArgMatches<'w>,
+    ) -> Result<Option<Replay<'w>>, AllocError> {
+        let reports = values_of(alloc, found, REPORT)?;
+        let words = (
+            found.get_str(SHEET),
+            found.get_one(REPLICAS),
+            found.get_str(EVENTS),
+        );
+        Ok(match words {
+            (Some(sheet), Some(replicas), Some(events)) => Some(Replay {
+                sheet,
+                replicas,
+                events,
+                reports,
+            }),
+            _ => None,
+        })
+    }
+
+    /// Reads the files, runs the schedule and writes the text of each replica to `out`. It answers
+    /// the refused takes, by the places of their reports among the words, from 1.
+    ///
+    /// Errors: those of the files and of the sheet; `Stop::Event` where a line is no event, which
+    /// comes before any report is read, or where it names what is not there; want of memory;
+    /// `Fault::Device`.
+    pub(crate) fn run<F: Files, S: Sink>(
+        &self,
+        alloc: Global,
+        files: &F,
+        out: &mut S,
+    ) -> Result<Refusals, Stop<'w>>
+        requires { S.failures out.old < 2 ^ 64 - 1 }
+    {
+        let sheet = read_sheet(alloc, files, self.sheet)?;
+        let lines = read_file(alloc, files, self.events)?;
+        let events = read_events(alloc, lines.as_bytes())?;
+        let reports = read_files(alloc, files, self.reports.as_slice())?;
+        let replayed = replay(alloc, &sheet, self.replicas, reports.as_slice(), &events)?;
+        put_replicas(alloc, out, replayed.replicas())?;
+        Ok(replayed.into_refused())
+    }
+}
+
+/// How many replicas there are, which has to be told.
+fn replicas_argument<'w>(alloc: Global) -> Arg<'w> {
+    Arg::new(alloc, REPLICAS)
+        .long(REPLICAS)
+        .value_name("N")
+        .required(true)
+        .value_parser(ValueParser::Signed(1, MOST_REPLICAS))
+        .help("How many replicas there are, from 1 to 64")
+}
+
+/// The option that names the schedule, which has to be there.
+fn events_argument<'w>(alloc: Global) -> Arg<'w> {
+    Arg::new(alloc, EVENTS)
+        .long(EVENTS)
+        .value_name("EVENTS")
+        .required(true)
+        .help("The file of the schedule, one event a line")
+}
+
+/// Puts the text of each replica on standard output.
+///
+/// Errors: want of memory, and `Device`. How many bytes were taken of all texts, `run` tells.
+fn put_replicas<S: Sink>(alloc: Global, out: &mut S, replicas: &[Base<'_>]) -> Result<(), Fault>
+    requires { S.failures out.old < 2 ^ 64 - 1 }
+{
+    for base in replicas {
+        put_replica(alloc, out, base)?;
+    }
+    Ok(())
+}
+
+/// Puts the text of a replica on standard output, with a line end behind it.
+///
+/// Errors: want of memory, and `Device`, with how many bytes were taken of the text or the line end.
+fn put_replica<S: Sink>(alloc: Global, out: &mut S, base: &Base<'_>) -> Result<(), Fault>
+    requires { S.failures out.old < 2 ^ 64 - 1 }
+    ensures { OnOk result (S.failures out.new ≡ S.failures out.old) }
+{
+    write_to(alloc, base, out)?;
+    put_text(out, "\n")
+}
