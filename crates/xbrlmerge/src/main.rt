@@ -52,6 +52,8 @@ mod tests_files;
 #[cfg(test)]
 mod tests_io;
 #[cfg(test)]
+mod tests_replay;
+#[cfg(test)]
 mod tests_round_trip;
 #[cfg(test)]
 mod tests_run;

@@ -17,11 +17,13 @@ use std::test::Fail;
 // The calls of the library. Where a request for memory is refused, the next one is not: the call is
 // made again.
 
-const HUNDRED: &str = r#""a":{"value":"100","decimals":0,"dimensions":{"concept":"eg:A"}}"#;
+pub(crate) const HUNDRED: &str =
+    r#""a":{"value":"100","decimals":0,"dimensions":{"concept":"eg:A"}}"#;
 
-const ABOVE: &str = r#""a":{"value":"102","decimals":0,"dimensions":{"concept":"eg:A"}}"#;
+pub(crate) const ABOVE: &str =
+    r#""a":{"value":"102","decimals":0,"dimensions":{"concept":"eg:A"}}"#;
 
-const UNBOUND: &str = r#""a":{"value":"1","dimensions":{"concept":"q:A"}}"#;
+pub(crate) const UNBOUND: &str = r#""a":{"value":"1","dimensions":{"concept":"q:A"}}"#;
 
 const ELEVEN_DECIMALS: &str = r#""a":{"value":"1","decimals":11,"dimensions":{"concept":"eg:A"}}"#;
 
@@ -32,7 +34,7 @@ const TWICE: &str =
 
 const COMMON: &[u8] = b"1 f1 f2 consistent common 0.9999999999995 1.0000000000005\n";
 
-const AT_FIRST_FACT: Refusal = Refusal {
+pub(crate) const AT_FIRST_FACT: Refusal = Refusal {
     reason: Reason::UnboundPrefix,
     place: Place::Fact(1),
 };
@@ -44,7 +46,7 @@ fn report(alloc: Global, facts: &str) -> Result<Encoded, AllocError> {
 }
 
 /// A report of each of these.
-fn reports(alloc: Global, each: &[&str]) -> Result<Vec<Encoded>, AllocError> {
+pub(crate) fn reports(alloc: Global, each: &[&str]) -> Result<Vec<Encoded>, AllocError> {
     let mut reports = Vec::with_capacity(alloc, each.len())?;
     for facts in each {
         reports.push(report(alloc, facts)?)?;

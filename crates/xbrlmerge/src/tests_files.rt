@@ -1,4 +1,5 @@
 mod made;
+mod replayed;
 mod rows;
 
 use crate::asked_again::{joined, tell_refused};
@@ -7,7 +8,8 @@ use crate::expecting::Expecting;
 use crate::ran::{ends, stops, words_of};
 use crate::run::run;
 use made::{FOLDER, made};
-use rows::{CHECKED, FULL, JUDGED, MERGED, Row, STOPPED, UNFLUSHED, UNHEARD};
+use replayed::REPLAYED;
+use rows::{CHECKED, FULL, Full, JUDGED, MERGED, Row, STOPPED, UNFLUSHED, UNHEARD};
 use std::test::Fail;
 use std::{env, fs};
 
@@ -25,18 +27,18 @@ fn are_met(rt: &HostRuntime, rows: &[Row]) -> Result<bool, Fail> {
     Ok(all)
 }
 
-fn stops_when_full(rt: &HostRuntime) -> Result<bool, Fail> {
+fn stop_when_full(rt: &HostRuntime, rows: &[Full]) -> Result<bool, Fail> {
     let mut all = true;
-    for (line, room, err) in FULL {
+    for (line, room, err) in rows {
         let words = words_of(rt, line)?;
-        all = stops(rt, &words, FullAfter(room), err) && all;
+        all = stops(rt, &words, FullAfter(*room), err) && all;
     }
     Ok(all)
 }
 
-fn stops_unflushed(rt: &HostRuntime) -> Result<bool, Fail> {
+fn stop_unflushed(rt: &HostRuntime, rows: &[(&str, &str)]) -> Result<bool, Fail> {
     let mut all = true;
-    for (line, err) in UNFLUSHED {
+    for (line, err) in rows {
         let words = words_of(rt, line)?;
         all = stops(rt, &words, NeverFlushed, err) && all;
     }
@@ -51,14 +53,14 @@ fn ends_unheard(rt: &HostRuntime, words: &[&str], status: u8, out: &[u8]) -> boo
     ended == status && out.is_met()
 }
 
-fn are_unheard(rt: &HostRuntime) -> Result<bool, Fail> {
+fn are_unheard(rt: &HostRuntime, rows: &[Row]) -> Result<bool, Fail> {
     let mut all = true;
-    for (line, status, out, _) in UNHEARD {
+    for (line, status, out, _) in rows {
         let words = words_of(rt, line)?;
         let text = joined(rt, out)?;
-        if !ends_unheard(rt, &words, status, &text) {
+        if !ends_unheard(rt, &words, *status, &text) {
             tell_refused(rt);
-            all = ends_unheard(rt, &words, status, &text) && all;
+            all = ends_unheard(rt, &words, *status, &text) && all;
         }
     }
     Ok(all)
@@ -71,10 +73,15 @@ fn files_are_read_and_answered(rt: HostRuntime) -> Result<(), Fail> {
     assert!(rt; are_met(&rt, MERGED.as_slice())?);
     assert!(rt; are_met(&rt, JUDGED.as_slice())?);
     assert!(rt; are_met(&rt, CHECKED.as_slice())?);
+    assert!(rt; are_met(&rt, REPLAYED.as_slice())?);
     assert!(rt; are_met(&rt, STOPPED.as_slice())?);
-    assert!(rt; stops_when_full(&rt)?);
-    assert!(rt; stops_unflushed(&rt)?);
-    assert!(rt; are_unheard(&rt)?);
+    assert!(rt; are_met(&rt, replayed::STOPPED.as_slice())?);
+    assert!(rt; stop_when_full(&rt, FULL.as_slice())?);
+    assert!(rt; stop_when_full(&rt, replayed::FULL.as_slice())?);
+    assert!(rt; stop_unflushed(&rt, UNFLUSHED.as_slice())?);
+    assert!(rt; stop_unflushed(&rt, replayed::UNFLUSHED.as_slice())?);
+    assert!(rt; are_unheard(&rt, UNHEARD.as_slice())?);
+    assert!(rt; are_unheard(&rt, replayed::UNHEARD.as_slice())?);
     env::set_current_dir(&rt, "../..")?;
     let _ = fs::remove_dir_all(&rt, FOLDER);
     Ok(())

@@ -17,15 +17,35 @@ fn is_answered(rt: &HostRuntime, words: &[&str], front: &str) -> bool {
     ends(rt, words, 0, out, Expecting::just(b""))
 }
 
-const WRONG: [&str; 22] = [
+const WRONG: [&str; 42] = [
+    "replay",
     "replay --sheet s",
+    "replay --sheet s --replicas 2",
+    "replay --sheet s --events e",
+    "replay --replicas 2 --events e",
+    "replay --sheet s --replicas --events e",
+    "replay --sheet s --replicas 2 --events",
+    "replay --sheet s --replicas 0 --events e",
+    "replay --sheet s --replicas 65 --events e r",
+    "replay --sheet s --replicas -1 --events e",
+    "replay --sheet s --replicas=-1 --events e",
+    "replay --sheet s --replicas= --events e",
+    "replay --sheet s --replicas two --events e",
+    "replay --sheet s --replicas 2.0 --events e",
+    "replay --sheet s --replicas 4294967298 --events e",
+    "replay --sheet s --replicas 2 --replicas 2 --events e",
+    "replay --sheet s --replicas 2 --events e --events e",
+    "replay --sheet s --sheet s --replicas 2 --events e",
+    "replay --sheet s --replicas 2 --events e --allow all",
+    "Replay --sheet s --replicas 2 --events e",
+    "merge --sheet s --events e",
     "Merge --sheet s",
     "s",
     "",
     "-",
     "--",
     "--sheet s",
-    "help replay",
+    "help replays",
     "merge",
     "merge r",
     "merge --sheet",
@@ -51,7 +71,7 @@ fn other_words_are_usage(rt: HostRuntime) -> Result<(), Fail> {
     Ok(())
 }
 
-const USAGE: [(&str, &str); 4] = [
+const USAGE: [(&str, &str); 6] = [
     (
         "merge r",
         "error: the following required arguments were not provided:
@@ -73,8 +93,27 @@ For more information, try '--help'.
 ",
     ),
     (
-        "replay",
-        "error: unrecognized subcommand 'replay'
+        "replay r",
+        "error: the following required arguments were not provided:
+  --sheet <SHEET>
+  --replicas <N>
+  --events <EVENTS>
+
+Usage: xbrlmerge replay --sheet <SHEET> --replicas <N> --events <EVENTS> [REPORT]...
+
+For more information, try '--help'.
+",
+    ),
+    (
+        "replay --sheet s --replicas 65 --events e",
+        "error: invalid value '65' for '--replicas <N>': 65 is not in 1..=64
+
+For more information, try '--help'.
+",
+    ),
+    (
+        "s",
+        "error: unrecognized subcommand 's'
 
 Usage: xbrlmerge [COMMAND]
 
@@ -101,7 +140,7 @@ fn usage_tells_what_is_wrong(rt: HostRuntime) -> Result<(), Fail> {
     Ok(())
 }
 
-const ANSWERED: [(&str, &str); 13] = [
+const ANSWERED: [(&str, &str); 15] = [
     ("help", "Consolidates xBRL-JSON reports"),
     ("-h", "Consolidates xBRL-JSON reports"),
     ("--help", "Consolidates xBRL-JSON reports"),
@@ -113,6 +152,8 @@ const ANSWERED: [(&str, &str); 13] = [
     ("verdicts --help", "Tells of each row of facts"),
     ("help check", "Tells of one report"),
     ("check -h", "Tells of one report"),
+    ("help replay", "Runs a schedule"),
+    ("replay --help", "Runs a schedule"),
     ("--version", "xbrlmerge 0.1.0\n"),
     ("-V", "xbrlmerge 0.1.0\n"),
 ];
@@ -122,6 +163,25 @@ fn help_is_answered(rt: HostRuntime) -> Result<(), Fail> {
     for (line, front) in ANSWERED {
         let words = words_of(&rt, line)?;
         assert!(rt; is_answered(&rt, &words, front), "{line}");
+    }
+    Ok(())
+}
+
+/// How many replicas there are, in words that are right.
+const COUNTS: [&str; 5] = [
+    "replay --sheet none --replicas 1 --events e",
+    "replay --sheet none --replicas 64 --events e",
+    "replay --sheet none --replicas +3 --events e",
+    "replay --sheet none --replicas 03 --events e",
+    "replay --sheet none --replicas 00064 --events e",
+];
+
+#[test]
+fn replicas_are_counted_in_digits(rt: HostRuntime) -> Result<(), Fail> {
+    for line in COUNTS {
+        let words = words_of(&rt, line)?;
+        let stopped = "file none: cannot be read\n";
+        assert!(rt; stops(&rt, &words, FullAfter(0), stopped), "{line}");
     }
     Ok(())
 }

@@ -10,10 +10,19 @@ const OTHER_INFO: &str =
     r#"{"documentInfo":{"documentType":"https://xbrl.org/2021/xbrl-json","namespaces":{"zz":"http://example.org/t"}},"facts":{"#;
 
 /// Each file's name and text, which is in two parts. `zz` says what `100` says, by another prefix.
-const FILES: [(&str, &str, &str); 14] = [
+const FILES: [(&str, &str, &str); 19] = [
     ("sheet", "", SHEET),
     ("empty", "", ""),
     ("list", "", "[]"),
+    (
+        "mail",
+        "take 1 1\nsend 1\ntake 2 2\n",
+        "receive 2 1\nreceive 2 1\njoin 1 2\n",
+    ),
+    ("once", "take 1 1\nsend 1\n", "receive 2 1\n"),
+    ("again", "take 1 1\ntake 2 1\n", "take 1 2"),
+    ("late", "take 1 1\nsend 1\n", "receive 2 2\n"),
+    ("spaced", "take 1 1\nsend 1\n", "take 1  1\n"),
     (
         "100",
         INFO,

@@ -4,13 +4,16 @@ use crate::canonical_parts::{END, HEAD, MIDDLE, ONE_URI, WRITTEN_HUNDRED};
 /// on standard error.
 pub(super) type Row = (&'static str, u8, &'static [&'static str], &'static str);
 
-const SECOND: &str = "report 2: 13 UnboundPrefix at fact 1\n";
+/// Words, how many bytes standard output takes, and the line that tells it.
+pub(super) type Full = (&'static str, usize, &'static str);
+
+pub(super) const SECOND: &str = "report 2: 13 UnboundPrefix at fact 1\n";
 
 const TOO_LOOSE: &str = "too loose: row 1\n";
 
 const NOT_JSON: &str = "report 1: 1 NotJson at document\n";
 
-const NOT_READ: &str = "file none: cannot be read\n";
+pub(super) const NOT_READ: &str = "file none: cannot be read\n";
 
 const A_FOLDER: &str = "file .: cannot be read\n";
 
@@ -20,7 +23,7 @@ const EMPTY: &[&str] = &[HEAD, MIDDLE, END];
 /// The text of 100.
 const ONE: &[&str] = &[HEAD, ONE_URI, MIDDLE, WRITTEN_HUNDRED, END];
 
-const FIRST: &str =
+pub(super) const FIRST: &str =
     r#""f1":{"decimals":0,"dimensions":{"concept":"n1:A"},"value":"100"},"f2":{"decimals":0,"dimensions":{"concept":"n1:A"},"value":"#;
 
 /// The text of 100 and 101.
@@ -194,7 +197,7 @@ pub(super) const UNHEARD: [Row; 4] = [
 ];
 
 /// Standard output takes so many bytes, and the line tells how many.
-pub(super) const FULL: [(&str, usize, &str); 4] = [
+pub(super) const FULL: [Full; 4] = [
     ("merge --sheet sheet 100", 0, "device: 0 bytes written\n"),
     (
         "merge --sheet sheet 100",
