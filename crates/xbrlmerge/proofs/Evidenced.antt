@@ -1,7 +1,7 @@
 -- The evidence of the dimension sets of a body that fits a sheet.
 use Rattle.std.proofs.Common.{◌≡◌, ◌≢◌, ℕ, zero, suc, ◌<◌, ◌≤◌, Bool, true, false, List, [], ◌∷◌, length, Option, Some, None, refl, sym, ap, subst, ◌∙◌, arith}
 use mathlib.Core.Bool.{true≢false}
-use Rattle.std.specs.Prelude.{Contains, is_some, slice_get, ℤ, ◌≤ℤ◌}
+use Rattle.std.specs.Prelude.{Contains, is_some, slice_get, ℤ, ◌≤ℤ◌, if◌then◌else◌}
 use Rattle.std.specs.Option.{unwrap_or}
 use Rattle.std.proofs.lemmas.Int.{ints}
 use Rattle.std.proofs.lemmas.Option.{get_or_from_slice_get}
@@ -16,19 +16,24 @@ use Rattle.oim_value.specs.declared.value.Value.TheVariants.{Nil, Number, Text a
 use Rattle.oim_value.proofs.Ends.{ends_exist}
 use Rattle.oim_value.proofs.Meeting.{meets_is_reflexive}
 use Rattle.oim_value.proofs.SeveralMeet.{each_two_meet_by_members}
+use Rattle.oim_dims.specs.DimensionSet.{DimensionSet}
+use Rattle.oim_dims.specs.declared.fact.Fact.{Fact}
 use Rattle.fact_base.specs.Body.{Body}
 use Rattle.fact_base.specs.Entries.{EntryFits, facts_with}
 use Rattle.fact_base.specs.Fits.{Fits}
 use Rattle.fact_base.specs.Judged.{AreSummarised, shared_by}
 use Rattle.fact_base.specs.Passed.{FactFits, IsSet, Sheet}
-use Rattle.fact_base.specs.Rows.{Row, rows_of}
-use Rattle.fact_base.specs.Verdict.{IsCommonOf, IsEvidence, IsPairOf, begin_with_numbers}
+use Rattle.fact_base.specs.Rows.{Row, rows_of, values_at}
+use Rattle.fact_base.specs.Verdict.{IsCommonOf, IsEvidence, IsPairOf, begin_with_numbers, each_meet, verdict, verdict_of}
+use Rattle.fact_base.specs.declared.verdict.Verdict.TheVariants.{Complete, Consistent, Inconsistent}
 use Rattle.fact_base.specs.declared.evidence.Evidence.{Evidence}
 use Rattle.fact_base.specs.declared.evidence.Evidence.TheVariants.{Alike, Common, Apart}
 use Rattle.fact_base.proofs.Fitting.{entry_summarised}
 use Rattle.fact_base.proofs.Members.{each_by_there, each_there, in_flat_map, some_there}
 use Rattle.fact_base.proofs.RowsOf.{rows_tell_facts}
+use Rattle.fact_base.proofs.Verdicts.{inconsistent_is_apart}
 use Rattle.fact_base.proofs.Summaries.{crossed_are_apart, nil_is_apart, no_number_is_apart, shared_is_common}
+use Rattle.xbrlmerge.specs.Lines.{LinesTellVerdicts, verdict_shown}
 use Rattle.oim_write.proofs.NumberedFacts.{row_facts, rows_facts_are}
 
 -- the values of a dimension set are different, in order and of one kind
@@ -136,3 +141,35 @@ one_evidence vs (Common c) (Apart i j) h g = absurd (none_apart vs i j h.each g.
 one_evidence vs (Apart i j) Alike h g = absurd (one_not_apart vs i j g h.apart)
 one_evidence vs (Apart i j) (Common c) h g = absurd (none_apart vs i j g.each h.apart)
 one_evidence vs (Apart i j) (Apart k l) h g = let same = one_pair vs (begin_with_numbers vs) refl i j k l h.shown g.shown in λ n. Apart (same.0 n) (same.1 n)
+
+-- ---- verdicts
+
+alone : (vs : List Value) → length vs ≡ 1 → verdict_of vs ≡ Some Complete
+alone [] one = absurd (omega (arith, one))
+alone (v ∷ []) one = refl
+alone (v ∷ w ∷ vs) one = absurd (omega (arith, one))
+
+unless_inconsistent : (vs : List Value) → 2 ≤ length vs → ¬ (verdict_of vs ≡ Some Inconsistent) → verdict_of vs ≡ Some Consistent
+unless_inconsistent [] several not = absurd (omega (arith, several))
+unless_inconsistent (v ∷ []) several not = absurd (omega (arith, several))
+unless_inconsistent (v ∷ w ∷ vs) several not = by_test (each_meet (v ∷ w ∷ vs)) not
+  where
+    by_test : (meet : Bool) → ¬ (Some (if meet then Consistent else Inconsistent) ≡ Some Inconsistent) → Some (if meet then Consistent else Inconsistent) ≡ Some Consistent
+    by_test true not = refl
+    by_test false not = absurd (not refl)
+
+-- evidence shows the verdict
+evidence_shows : (facts : List Fact) (s : DimensionSet) (e : Evidence) → IsEvidence (values_at s facts) e → verdict facts s ≡ Some (verdict_shown e)
+evidence_shows facts s Alike is = alone (values_at s facts) is
+evidence_shows facts s (Common c) is =
+    unless_inconsistent (values_at s facts) is.several (λ inconsistent.
+    let apart = (inconsistent_is_apart facts s).0 inconsistent in
+    apart.2.1.1 ((each_two_meet_by_members (values_at s facts)).0 is.each apart.0 apart.1 apart.2.0 apart.2.1.0))
+evidence_shows facts s (Apart i j) is =
+    let vs = values_at s facts in
+    (inconsistent_is_apart facts s).1 (is.apart.first, is.apart.second, (stands vs i is.apart.first is.apart.first_there, (stands vs j is.apart.second is.apart.second_there, is.apart.apart)))
+
+pub lines_tell_verdicts : LinesTellVerdicts
+lines_tell_verdicts sheet b fits r at number line is =
+    let values = each_there (λ (q : Row). q.1 ≡ values_at q.0 b.facts) (rows_of b.facts) r (rows_tell_facts b.facts fits.rises.facts).values at in
+    evidence_shows b.facts r.0 is.evidence (subst (λ vs. IsEvidence vs is.evidence) values is.shows)

@@ -1,6 +1,6 @@
 -- The lines that tell of duplicates: one for each dimension set, in order (own; the words are those of the XBRL working group note on
 -- duplicate facts). In bytes, a space is 32, a line end 10.
-use Rattle.std.specs.Prelude.{◌≡◌, ℕ, suc, ◌-◌, List, [], ◌∷◌, ◌++◌, map, length, get_or, codes}
+use Rattle.std.specs.Prelude.{◌≡◌, ℕ, suc, ◌-◌, List, [], ◌∷◌, ◌++◌, map, length, get_or, codes, Contains, Some}
 use Rattle.std.specs.Fmt.{decimal}
 use Rattle.oim_value.specs.Plain.{plain}
 use Rattle.oim_dims.specs.declared.fact.Fact.{Fact}
@@ -9,9 +9,11 @@ use Rattle.fact_base.specs.Entries.{facts_with}
 use Rattle.fact_base.specs.Fits.{Fits}
 use Rattle.fact_base.specs.Passed.{Sheet}
 use Rattle.fact_base.specs.Rows.{Row, rows_of}
-use Rattle.fact_base.specs.Verdict.{IsEvidence}
+use Rattle.fact_base.specs.Verdict.{IsEvidence, verdict}
 use Rattle.fact_base.specs.declared.evidence.Evidence.{Evidence}
 use Rattle.fact_base.specs.declared.evidence.Evidence.TheVariants.{Alike, Common, Apart}
+use Rattle.fact_base.specs.declared.verdict.Verdict.{Verdict}
+use Rattle.fact_base.specs.declared.verdict.Verdict.TheVariants.{Complete, Consistent, Inconsistent}
 use Rattle.oim_write.specs.Tree.{identifier}
 
 -- the identifier of the fact at a place, from 0, of a dimension set, by which the canonical text has it
@@ -49,3 +51,15 @@ pub record HasOneText (b : Body) : Type 0 where
 
 abbrev pub LinesAreOne : Type 0
 LinesAreOne = (sheet : Sheet) (b : Body) → Fits sheet b → HasOneText b
+
+-- the verdict that evidence shows, whose word stands in the line
+abbrev pub verdict_shown : Evidence → Verdict
+verdict_shown Alike = Complete
+verdict_shown (Common c) = Consistent
+verdict_shown (Apart i j) = Inconsistent
+
+-- it is the verdict on the dimension set
+abbrev pub LinesTellVerdicts : Type 0
+LinesTellVerdicts =
+    (sheet : Sheet) (b : Body) → Fits sheet b → (r : Row) → Contains (rows_of b.facts) r →
+    (number : ℕ) (line : List ℕ) (is : IsLine b.facts number r line) → verdict b.facts r.0 ≡ Some (verdict_shown is.evidence)

@@ -1,7 +1,7 @@
 //! Laws of the definitions, each the contract of a function that does nothing.
 ghost use Rattle.xbrlmerge.specs.EventLines.{LinesSayOneEvent};
 ghost use Rattle.xbrlmerge.specs.History.{HistoriesAreForgotten, MergedTextsMerge, TextsGiveBodies};
-ghost use Rattle.xbrlmerge.specs.Lines.{LinesAreOne};
+ghost use Rattle.xbrlmerge.specs.Lines.{LinesAreOne, LinesTellVerdicts};
 ghost use Rattle.xbrlmerge.specs.ReadBack.{CanonicalReadsBack};
 ghost use Rattle.xbrlmerge.specs.Replicas.{EqualSetsWriteTheSame, ReplicasSayAsAfresh, ReplicasStay, WireAgrees};
 ghost use Rattle.xbrlmerge.specs.Run.{ReportsIgnoreOrder};
@@ -37,6 +37,11 @@ pub fn merged_texts_merge()
 /// A body that fits a sheet has lines of verdicts, and has no others.
 pub fn lines_are_one()
     ensures { LinesAreOne }
+{}
+
+/// The word in a line is that of the verdict on its dimension set.
+pub fn lines_tell_verdicts()
+    ensures { LinesTellVerdicts }
 {}
 
 /// Replicas that exchange their texts have, after every schedule without a bad event, the bases of
