@@ -136,9 +136,8 @@ fn sent_texts_are_reports(alloc: Global) -> Result<bool, AllocError> {
         return Ok(false);
     };
     let mut texts = Vec::new(alloc);
-    for sent in [one, two] {
-        texts.push(Encoded::new(alloc, sent.as_bytes())?)?;
-    }
+    texts.push(Encoded::new(alloc, one.as_bytes())?)?;
+    texts.push(Encoded::new(alloc, two.as_bytes())?)?;
     let Ok(after) = with_memory(taken_as_reports(alloc, &sheet, &texts))? else {
         return Ok(false);
     };
