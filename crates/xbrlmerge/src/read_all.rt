@@ -7,8 +7,11 @@ use crate::source::{Source, SourceError};
 use oim_write::Encoded;
 use std::alloc::{AllocError, Global};
 
-/// How many bytes a source is asked for at once, at most.
-const CHUNK: usize = 1 << 16;
+/// How many bytes a source is asked for at once: first the fewest, then as many as it has given, up to
+/// the most, so that what a small file leaves empty is small.
+const FEWEST: usize = 1 << 12;
+
+const MOST: usize = 1 << 16;
 
 /// Reads a source to its end, as long as it gives at most `limit` bytes. It asks the source at
 /// most `limit` + 1 times, since each answer but the last has at least one byte.
@@ -49,7 +52,7 @@ fn make_room(bytes: &mut Vec<u8>, filled: usize, most: usize) -> Result<(), Allo
     ensures within { vec_len bytes.new ≤ most }
 {
     if filled == bytes.len() {
-        bytes.resize(most.min(filled.saturating_add(CHUNK)), 0)?;
+        bytes.resize(most.min(filled.saturating_add(filled.max(FEWEST).min(MOST))), 0)?;
     }
     Ok(())
 }
