@@ -109,9 +109,9 @@ impl<T: Key> Key for Sequence<T> {
 fn copied_items<T: Copied>(alloc: Global, items: &[T]) -> Result<Vec<T>, AllocError>
     ensures { IfOk result (λ copies. copies.items ≡ items.now) }
 {
-    let mut copies = Vec::new(alloc);
+    let mut copies = Vec::with_capacity(alloc, items.len())?;
     for item in items {
-        copies.push(item.copied(alloc)?)?;
+        copies.push_reserved(item.copied(alloc)?);
     }
     Ok(copies)
 }
