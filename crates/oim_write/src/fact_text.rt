@@ -1,25 +1,26 @@
 ghost use Rattle.std.specs.Prelude.{◌≡◌, OnOk, codes};
 ghost use Rattle.std.specs.Option.{option_copied};
 ghost use Rattle.oim_dims.specs.Period.{period_text};
-ghost use Rattle.serde_json.specs.Data.{object, no_members};
+ghost use Rattle.serde_json.specs.Data.{object, no_members, string};
 ghost use Rattle.fact_base.specs.Passed.{member_data, option_spelled, option_unit_text, value_data};
 ghost use Rattle.oim_write.specs.Ordered.{decimals_member, defined_members, ordered_dimensions, ordered_fact, text_member};
 ghost use Rattle.oim_write.specs.Parts.{AddsMembers, AddsValue};
 ghost use Rattle.oim_write.specs.Tree.{name_text};
 
 use crate::prefix_table::PrefixTable;
-use crate::unit_text::text_of_unit;
+use crate::unit_text::spell_unit;
 use json::Writer;
 use oim_dims::{Dimensions, Member, Period, Unit, write_period};
 use oim_names::{Name, Text};
 use oim_value::{Value, write_fixed};
 use std::alloc::{AllocError, Global};
 
-/// Writes a fact as an object (xBRL-JSON 1.0, section 3).
+/// Writes a fact as an object (xBRL-JSON 1.0, section 3). `room` is room for a name or a unit.
 pub(crate) fn write_fact(
     alloc: Global,
     json: &mut Writer,
     table: &PrefixTable,
+    room: &mut String,
     dimensions: &Dimensions,
     value: &Value,
 ) -> Result<(), AllocError>
@@ -28,9 +29,9 @@ pub(crate) fn write_fact(
     json.begin_object()?;
     write_decimals(json, value)?;
     json.key("dimensions")?;
-    write_dimensions(alloc, json, table, dimensions)?;
+    write_dimensions(alloc, json, table, room, dimensions)?;
     json.key("value")?;
-    write_value(alloc, json, table, value)?;
+    write_value(alloc, json, table, room, value)?;
     json.end_object()
 }
 
@@ -52,25 +53,27 @@ fn write_dimensions(
     alloc: Global,
     json: &mut Writer,
     table: &PrefixTable,
+    room: &mut String,
     dimensions: &Dimensions,
 ) -> Result<(), AllocError>
     ensures { OnOk result (AddsValue json.old json.new (object (ordered_dimensions (name_text table.now) dimensions.now))) }
 {
     json.begin_object()?;
     json.key("concept")?;
-    json.string(&table.name_text(alloc, dimensions.concept())?)?;
-    write_entity(alloc, json, table, dimensions.entity())?;
+    table.spell(room, dimensions.concept())?;
+    json.string(room.as_str())?;
+    write_entity(json, table, room, dimensions.entity())?;
     write_language(json, dimensions.language())?;
-    write_defined(alloc, json, table, dimensions.members())?;
+    write_defined(json, table, room, dimensions.members())?;
     write_period_member(alloc, json, dimensions.period())?;
-    write_unit_member(alloc, json, table, dimensions.unit())?;
+    write_unit_member(json, table, room, dimensions.unit())?;
     json.end_object()
 }
 
 fn write_entity(
-    alloc: Global,
     json: &mut Writer,
     table: &PrefixTable,
+    room: &mut String,
     entity: Option<&Name>,
 ) -> Result<(), AllocError>
     ensures { OnOk result (AddsMembers json.old json.new (text_member (codes "entity") (option_spelled (name_text table.now) (option_copied entity.entry)) no_members)) }
@@ -79,7 +82,8 @@ fn write_entity(
         return Ok(());
     };
     json.key("entity")?;
-    json.string(&table.name_text(alloc, entity)?)
+    table.spell(room, entity)?;
+    json.string(room.as_str())
 }
 
 fn write_language(json: &mut Writer, language: Option<&Text>) -> Result<(), AllocError>
@@ -93,24 +97,25 @@ fn write_language(json: &mut Writer, language: Option<&Text>) -> Result<(), Allo
 }
 
 fn write_defined(
-    alloc: Global,
     json: &mut Writer,
     table: &PrefixTable,
+    room: &mut String,
     members: &[(Name, Member)],
 ) -> Result<(), AllocError>
     ensures { OnOk result (AddsMembers json.old json.new (defined_members (name_text table.now) members.now no_members)) }
 {
     for (name, member) in members {
-        json.key(&table.name_text(alloc, name)?)?;
-        write_member(alloc, json, table, member)?;
+        table.spell(room, name)?;
+        json.key(room.as_str())?;
+        write_member(json, table, room, member)?;
     }
     Ok(())
 }
 
 fn write_member(
-    alloc: Global,
     json: &mut Writer,
     table: &PrefixTable,
+    room: &mut String,
     member: &Member,
 ) -> Result<(), AllocError>
     ensures { OnOk result (AddsValue json.old json.new (member_data (name_text table.now) member.now)) }
@@ -118,8 +123,20 @@ fn write_member(
     match member {
         Member::Nil => json.null(),
         Member::Text(text) => json.string(text.as_str()),
-        Member::Name(name) => json.string(&table.name_text(alloc, name)?),
+        Member::Name(name) => write_name(json, table, room, name),
     }
+}
+
+fn write_name(
+    json: &mut Writer,
+    table: &PrefixTable,
+    room: &mut String,
+    name: &Name,
+) -> Result<(), AllocError>
+    ensures { OnOk result (AddsValue json.old json.new (string (name_text table.now name.now))) }
+{
+    table.spell(room, name)?;
+    json.string(room.as_str())
 }
 
 fn write_period_member(alloc: Global, json: &mut Writer, period: Period) -> Result<(), AllocError>
@@ -133,9 +150,9 @@ fn write_period_member(alloc: Global, json: &mut Writer, period: Period) -> Resu
 }
 
 fn write_unit_member(
-    alloc: Global,
     json: &mut Writer,
     table: &PrefixTable,
+    room: &mut String,
     unit: Option<&Unit>,
 ) -> Result<(), AllocError>
     ensures { OnOk result (AddsMembers json.old json.new (text_member (codes "unit") (option_unit_text (name_text table.now) (option_copied unit.entry)) no_members)) }
@@ -144,13 +161,15 @@ fn write_unit_member(
         return Ok(());
     };
     json.key("unit")?;
-    json.string(&text_of_unit(alloc, table, unit)?)
+    spell_unit(room, table, unit)?;
+    json.string(room.as_str())
 }
 
 fn write_value(
     alloc: Global,
     json: &mut Writer,
     table: &PrefixTable,
+    room: &mut String,
     value: &Value,
 ) -> Result<(), AllocError>
     ensures { OnOk result (AddsValue json.old json.new (value_data (name_text table.now) value.now)) }
@@ -159,6 +178,6 @@ fn write_value(
         Value::Nil => json.null(),
         Value::Number(number, _) => json.string(write_fixed(alloc, *number)?.as_str()),
         Value::Text(text) => json.string(text.as_str()),
-        Value::Name(name) => json.string(&table.name_text(alloc, name)?),
+        Value::Name(name) => write_name(json, table, room, name),
     }
 }

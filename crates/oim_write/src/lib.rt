@@ -9,6 +9,7 @@ mod memory_sink;
 mod parts;
 mod prefix_table;
 mod ranked;
+mod recent;
 mod sink;
 mod sink_buffer;
 mod std_sink;

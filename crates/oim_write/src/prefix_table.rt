@@ -1,10 +1,11 @@
-ghost use Rattle.std.specs.Prelude.{◌≡◌, IfOk, string_bytes};
+ghost use Rattle.std.specs.Prelude.{◌≡◌, ◌++◌, IfOk, OnOk, string_bytes};
 ghost use Rattle.fact_base.specs.Body.{text_cmp};
 ghost use Rattle.oim_write.specs.Rank.{rank};
 ghost use Rattle.oim_write.specs.Tree.{name_text, prefix};
 ghost use Rattle.oim_write.specs.Uris.{uris};
 
-use crate::ranked::{label, width_of};
+use crate::ranked::{label, push_label, width_of};
+use crate::recent::Recent;
 use crate::uri_set::UriSet;
 use fact_base::Base;
 use oim_names::{Name, Text};
@@ -12,10 +13,11 @@ use std::alloc::{AllocError, Global};
 use std::marker::Model;
 
 /// The URIs of a base's names, each of which has a prefix. Contracts see them in order.
-#[derive(Debug, Drop)]
+#[derive(Drop)]
 pub(crate) struct PrefixTable {
     uris: Vec<Text>,
     digits: usize,
+    recent: Recent,
 }
 
 impl Model for PrefixTable {
@@ -40,7 +42,12 @@ impl PrefixTable {
         }
         let uris = set.into_uris();
         let digits = width_of(uris.len() as u128);
-        Ok(PrefixTable { uris, digits })
+        let recent = places_of(uris.as_slice());
+        Ok(PrefixTable {
+            uris,
+            digits,
+            recent,
+        })
     }
 
     /// The URIs, each once and in order.
@@ -57,19 +64,46 @@ impl PrefixTable {
         label(alloc, "n", self.digits, self.rank(uri))
     }
 
+    // Most are where the URI of their class is.
     fn rank(&self, uri: &str) -> u128
+        ensures { result ≡ rank text_cmp uri.now self.now }
+    {
+        let place = self.recent.place(uri);
+        match self.uris.get(place) {
+            Some(known) if known.as_str() == uri => 1 + place as u128,
+            _ => self.counted(uri),
+        }
+    }
+
+    fn counted(&self, uri: &str) -> u128
         ensures { result ≡ rank text_cmp uri.now self.now }
     {
         1 + self.uris.partition_point(|known| known.as_str() < uri) as u128
     }
 
-    /// The text of a name: the prefix of its URI, a colon and the local part.
-    pub(crate) fn name_text(&self, alloc: Global, name: &Name) -> Result<String, AllocError>
-        ensures { IfOk result (λ text. string_bytes text ≡ name_text self.now name.now) }
+    /// Appends the text of a name: the prefix of its URI, a colon and the local part.
+    pub(crate) fn push_name(&self, text: &mut String, name: &Name) -> Result<(), AllocError>
+        ensures { OnOk result (string_bytes text.new ≡ string_bytes text.old ++ name_text self.now name.now) }
     {
-        let mut text = self.prefix(alloc, name.uri())?;
+        push_label(text, "n", self.digits, self.rank(name.uri()))?;
         text.push_str(":")?;
-        text.push_str(name.local())?;
-        Ok(text)
+        text.push_str(name.local())
     }
+
+    /// The same in the place of what the text was.
+    pub(crate) fn spell(&self, text: &mut String, name: &Name) -> Result<(), AllocError>
+        ensures { OnOk result (string_bytes text.new ≡ name_text self.now name.now) }
+    {
+        text.clear();
+        self.push_name(text, name)
+    }
+}
+
+// Where the last URI of each class is.
+fn places_of(uris: &[Text]) -> Recent {
+    let mut recent = Recent::new();
+    for (place, uri) in uris.iter().enumerate() {
+        recent.set(uri.as_str(), place);
+    }
+    recent
 }

@@ -42,9 +42,21 @@ pub(crate) fn label(
     ensures { IfOk result (λ text. string_bytes text ≡ front.now ++ padded digits number) }
 {
     let mut text = String::with_capacity(alloc, LABEL)?;
-    text.push_str(front)?;
-    push_padded(&mut text, digits, number)?;
+    push_label(&mut text, front, digits, number)?;
     Ok(text)
+}
+
+/// Appends a text with the last `digits` digits of a number behind it.
+pub(crate) fn push_label(
+    text: &mut String,
+    front: &str,
+    digits: usize,
+    number: u128,
+) -> Result<(), AllocError>
+    ensures { OnOk result (string_bytes text.new ≡ string_bytes text.old ++ (front.now ++ padded digits number)) }
+{
+    text.push_str(front)?;
+    push_padded(text, digits, number)
 }
 
 #[tactic(auto, unfolding(crate::specs::Rank::padded))]

@@ -1,9 +1,11 @@
-ghost use Rattle.std.specs.Prelude.{◌≡◌, [], ◌∷◌, ◌++◌, flat_map, OnOk};
+ghost use Rattle.std.specs.Prelude.{◌≡◌, [], ◌∷◌, ◌++◌, Contains, flat_map, OnOk};
+ghost use Rattle.std.specs.Bool.{OnTrue};
 ghost use Rattle.fact_base.specs.Body.{text_cmp};
 ghost use Rattle.fact_base.specs.Passed.{IsSet};
 ghost use Rattle.fact_base.specs.Shown.{shown};
 ghost use Rattle.oim_write.specs.Uris.{Gains, defined_names, dimension_names, entity_names, row_names, unit_names, value_names};
 
+use crate::recent::Recent;
 use fact_base::Row;
 use oim_dims::{Dimensions, Member};
 use oim_names::{Name, Text};
@@ -12,9 +14,10 @@ use std::alloc::{AllocError, Global};
 use std::marker::Model;
 
 /// The URIs of names, each once and in byte order.
-#[derive(Debug, Drop)]
+#[derive(Drop)]
 pub(crate) struct UriSet {
     uris: Vec<Text>,
+    recent: Recent,
 }
 
 impl Model for UriSet {
@@ -35,6 +38,7 @@ impl UriSet {
     {
         UriSet {
             uris: Vec::new(alloc),
+            recent: Recent::new(),
         }
     }
 
@@ -131,17 +135,40 @@ impl UriSet {
         }
     }
 
-    // Takes memory for a new URI alone.
+    // Takes memory for a new URI alone. Most are where one of their class was seen last.
     fn add(&mut self, alloc: Global, name: &Name) -> Result<(), AllocError>
+        ensures { OnOk result (Gains self.old (name.now ∷ []) self.new) }
+    {
+        let uri = name.uri();
+        if self.is_at(self.recent.place(uri), uri) {
+            return Ok(());
+        }
+        let place = self.put(alloc, name)?;
+        self.recent.set(uri, place);
+        Ok(())
+    }
+
+    // Whether the URI is at a place.
+    fn is_at(&self, place: usize, uri: &str) -> bool
+        ensures { OnTrue result (Contains self.now uri.now) }
+    {
+        match self.uris.get(place) {
+            Some(known) => known.as_str() == uri,
+            None => false,
+        }
+    }
+
+    // The same as `add`, and where the URI is.
+    fn put(&mut self, alloc: Global, name: &Name) -> Result<usize, AllocError>
         ensures { OnOk result (Gains self.old (name.now ∷ []) self.new) }
     {
         let uri = name.uri();
         let place = self.uris.partition_point(|known| known.as_str() < uri);
         match self.uris.get(place) {
-            Some(known) if known.as_str() == uri => Ok(()),
+            Some(known) if known.as_str() == uri => Ok(place),
             _ => {
                 self.uris.insert(place, Text::new(alloc, uri)?)?;
-                Ok(())
+                Ok(place)
             }
         }
     }

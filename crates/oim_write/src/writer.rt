@@ -92,15 +92,19 @@ fn write_facts<S: Sink>(
     let digits = width_of(base.fact_count());
     let labels = Labels { table, digits };
     let mut part = Vec::new(alloc);
+    let mut room = String::new(alloc);
     let mut before = 0;
     for row in base.rows() {
-        write_row(alloc, buffer, out, &labels, before, row, &mut part)?;
+        write_row(
+            alloc, buffer, out, &labels, before, row, &mut part, &mut room,
+        )?;
         before += row.values.len() as u128;
     }
     Ok(())
 }
 
-/// Writes the facts of a row, where so many stand before them. `part` is room for one.
+/// Writes the facts of a row, where so many stand before them. `part` is room for one, and `room` for
+/// a name.
 fn write_row<S: Sink>(
     alloc: Global,
     buffer: &mut SinkBuffer,
@@ -109,6 +113,7 @@ fn write_row<S: Sink>(
     before: u128,
     row: Row<'_>,
     part: &mut Vec<u8>,
+    room: &mut String,
 ) -> Result<(), WriteFault>
     requires failures { S.failures out.old < 2 ^ 64 - 1 }
     requires room { before + length row.values.now < 2 ^ 128 }
@@ -123,6 +128,7 @@ fn write_row<S: Sink>(
         let fact = append_fact(
             alloc,
             part,
+            room,
             labels,
             before + i as u128,
             row.dimensions,

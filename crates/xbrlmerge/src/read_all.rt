@@ -52,7 +52,10 @@ fn make_room(bytes: &mut Vec<u8>, filled: usize, most: usize) -> Result<(), Allo
     ensures within { vec_len bytes.new ≤ most }
 {
     if filled == bytes.len() {
-        bytes.resize(most.min(filled.saturating_add(filled.max(FEWEST).min(MOST))), 0)?;
+        bytes.resize(
+            most.min(filled.saturating_add(filled.max(FEWEST).min(MOST))),
+            0,
+        )?;
     }
     Ok(())
 }

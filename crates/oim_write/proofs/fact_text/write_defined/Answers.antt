@@ -15,6 +15,6 @@ loop-name-preserved c =
     let i = c.loop-name.name-index in
     let e = c.loop-name-item.result in
     let more = take_more es i e (omega arith) ∙ ap (λ x. take i es ++ x ∷ []) (sym c.loop-name-item.is) in
-    let name = Adds-is (ap (λ t. key t ∷ []) (c.deref.ensures ∙ c.in_ok-name_text.ensures)) (Adds-one c.in_ok-key.ensures) in
+    let name = Adds-is (ap (λ t. key t ∷ []) (c.as_str.ensures.value ∙ c.in_ok-spell.ensures)) (Adds-one c.in_ok-key.ensures) in
     Adds-is (sym (defined_next spelled (take i es) e) ∙ ap (λ ds. members_tokens (defined_members spelled ds no_members)) (sym more))
     (Adds-trans c.loop-name.invariant (Adds-trans name c.in_ok-write_member.ensures))

@@ -11,7 +11,7 @@ use Rattle.oim_write.proofs.fact_text.write_dimensions.Goals as goal
 pub returns : goal.returns
 returns c =
     let spelled = name_text c.args.table.now in
-    let concept = Adds-is (ap (λ t. Token.string t ∷ []) (c.deref.ensures ∙ c.in_ok-name_text.ensures ∙ ap spelled c.concept.ensures)) (Adds-one c.in_ok-string.ensures) in
+    let concept = Adds-is (ap (λ t. Token.string t ∷ []) (c.as_str.ensures.value ∙ c.in_ok-spell.ensures ∙ ap spelled c.concept.ensures)) (Adds-one c.in_ok-string.ensures) in
     closed_object c.end_object.result (ordered_dimensions spelled c.args.dimensions.now) (Adds-one c.in_ok-begin_object.ensures)
     (then_member (codes "concept") (string (spelled c.args.dimensions.now.concept)) _ (Adds-one c.in_ok-key.ensures) concept
     (then_text (codes "entity") _ (ap (option_spelled spelled) c.entity.ensures) c.in_ok-write_entity.ensures

@@ -9,7 +9,7 @@ use Rattle.oim_write.proofs.parts.append_fact.Goals as goal
 pub returns : goal.returns
 returns c =
     let labels = c.args.labels.now in
-    let name = ap (λ t. c.new-json.result.tokens ++ key t ∷ []) (c.deref.ensures ∙ c.in_ok-label.ensures) in
+    let name = ap (λ t. c.new-json.result.tokens ++ key t ∷ []) (c.as_str.ensures.value ∙ (c.in_ok-push_label.ensures ∙ ap (λ t. t ++ 102 ∷ padded labels.digits (c.args.before + 1)) c.clear.ensures.bytes)) in
     c.into_inner.ensures.items
     ∙ part_is c.args.text.now.items c.write_fact.new.json.before (nat_lt 0 c.args.before) (102 ∷ padded labels.digits (c.args.before + 1))
     (ordered_fact (name_text labels.table.now) (record { dimensions = c.args.dimensions.now; value = c.args.value.now })) c.write_fact.new.json.tokens

@@ -1,4 +1,4 @@
-use Rattle.std.proofs.Common.{◌++◌, string_bytes, ap, ◌∙◌, arith}
+use Rattle.std.proofs.Common.{arith}
 use Rattle.oim_dims.proofs.Products.{product_next, written_on}
 use Rattle.oim_write.specs.Tree.{name_text}
 use Rattle.oim_write.proofs.unit_text.push_product.Goals as goal
@@ -7,5 +7,5 @@ pub loop-name-preserved : goal.loop-name-preserved
 loop-name-preserved c = λ m is.
     let next = product_next (name_text c.args.table.now) m c.name-item.result c.in-Some.others.now c.loop-name.name-index (omega arith) c.name-item.is in
     let so_far = c.loop-name.invariant m is in
-    let measure = c.in_ok-push_str-3.ensures.bytes ∙ ap (λ t. string_bytes c.push_str-in-loop-name.new.self ++ t) (c.deref-in-loop-name.ensures ∙ c.in_ok-name_text-2.ensures) in
-    written_on _ _ _ _ _ _ _ c.in_ok-push_str-2.ensures.bytes measure so_far next
+    let measure = c.in_ok-push_name-2.ensures in
+    written_on _ _ _ _ _ _ _ c.in_ok-push_str.ensures.bytes measure so_far next

@@ -12,8 +12,8 @@ use mathlib.Core.Bool.{false≢true}
 use Rattle.oim_write.specs.Uris.{Gains}
 use Rattle.oim_write.proofs.Ranks.{parted}
 use Rattle.oim_write.proofs.UriSets.{gains_at, is_set_at}
-use Rattle.oim_write.proofs.uri_set.UriSet.add.Goals as goal
-use Rattle.oim_write.proofs.uri_set.UriSet.add.Goals.{in_default-via-in-Some+else-eq, in_default-via-in_default}
+use Rattle.oim_write.proofs.uri_set.UriSet.put.Goals as goal
+use Rattle.oim_write.proofs.uri_set.UriSet.put.Goals.{in_default-via-in-Some+else-eq, in_default-via-in_default}
 
 point : (c : goal.In_ok-insert-in_default) → IsPartitionPoint (λ y. is_lt (text_cmp y c.uri-uri.result.now) ≡ true) (λ y. is_lt (text_cmp y c.uri-uri.result.now) ≡ false) c.self.inside.uris.items c.partition_point-place.result
 point c =
