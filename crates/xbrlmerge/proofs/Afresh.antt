@@ -10,7 +10,7 @@ use Rattle.fact_base.specs.Contents.{Contents}
 use Rattle.fact_base.specs.Rows.{values_at}
 use Rattle.fact_base.specs.Verdict.{verdict}
 use Rattle.oim_write.specs.Bytes.{canonical}
-use Rattle.xbrlmerge.specs.Replicas.{EqualSetsWriteTheSame, Numbers, ReplicasSayAsAfresh, Writer, base_named, named, reached, wire}
+use Rattle.xbrlmerge.specs.Replicas.{EqualSetsWriteTheSame, Numbers, ReplicasSayAsAfresh, Writer, base_named, documents_named, reached, wire}
 use Rattle.xbrlmerge.specs.Schedule.{numbered, world_after}
 use Rattle.xbrlmerge.specs.declared.event.Event.{Event}
 use Rattle.xbrlmerge.proofs.Agreement.{agree}
@@ -35,7 +35,7 @@ module _ (sheet : Sheet) (writers : List Writer) (reports : List (List ℕ)) (n 
 
 pub replicas_say_as_afresh : ReplicasSayAsAfresh
 replicas_say_as_afresh sheet writers reports n events good i numbers base set there =
-    let is : base.body ≡ body (named sheet reports numbers) = ap (λ (c : Contents). c.body) (base_is sheet writers reports n events i numbers base set there) in
+    let is : base.body ≡ body (documents_named sheet reports numbers) = ap (λ (c : Contents). c.body) (base_is sheet writers reports n events i numbers base set there) in
     record {
       bytes = ap canonical is;
       verdicts = λ d. ap (λ (b : Body). verdict b.facts d) is;

@@ -11,7 +11,7 @@ use Rattle.fact_base.specs.Contents.{Contents}
 use Rattle.xbrlmerge.specs.Gathered.{base_of}
 use Rattle.xbrlmerge.specs.History.{IsReadAsBody}
 use Rattle.xbrlmerge.specs.Reports.{document_in}
-use Rattle.xbrlmerge.specs.Replicas.{Agree, Numbers, ReplicasStay, WireAgrees, Writer, base_named, both, joined_with, named, present, reached, report, text_by, text_chosen, wire, with_accepted, with_outcome}
+use Rattle.xbrlmerge.specs.Replicas.{Agree, Numbers, ReplicasStay, WireAgrees, Writer, base_named, both, documents_named, joined_with, present, reached, report, text_by, text_chosen, wire, with_accepted, with_outcome}
 use Rattle.xbrlmerge.specs.Schedule.{Machine, World, happens, keeps, kept_by, numbered, receives, run, start, world_after}
 use Rattle.xbrlmerge.specs.declared.event.Event.{Event}
 use Rattle.xbrlmerge.specs.declared.event.Event.TheVariants.{Take, Join, Send, Receive, Restart}
@@ -60,7 +60,7 @@ module _ (sheet : Sheet) (writers : List Writer) (reports : List (List ℕ)) whe
   says numbers = base_named sheet reports numbers
 
   abbrev Says : List ℕ → Numbers → Type 0
-  Says bytes numbers = IsReadAsBody sheet bytes (body (named sheet reports numbers))
+  Says bytes numbers = IsReadAsBody sheet bytes (body (documents_named sheet reports numbers))
 
   abbrev sets_machine : Machine Numbers Numbers
   sets_machine = reached sheet reports
@@ -104,7 +104,7 @@ module _ (sheet : Sheet) (writers : List Writer) (reports : List (List ℕ)) whe
   says_sent numbers sent base is = subst (λ (c : Contents). Says (text_chosen writers sent c.body) numbers) (sym is) (by_writer (get_or writers sent present))
     where
       by_writer : (w : Writer) → Says (text_by w (says numbers).body) numbers
-      by_writer present = texts_give_bodies sheet (body (named sheet reports numbers)) (reports_fit sheet (map (report reports) numbers))
+      by_writer present = texts_give_bodies sheet (body (documents_named sheet reports numbers)) (reports_fit sheet (map (report reports) numbers))
 
   agree_receives : (sets : World Numbers Numbers) (bases : World Contents (List ℕ)) → Agreeing sets bases → (i : ℕ) (bytes : Option (List ℕ)) (message : Option Numbers) →
       AtBoth Says bytes message → Agreeing (receives sets_machine sets i message) (receives bytes_machine bases i bytes)

@@ -18,14 +18,14 @@ use Rattle.fact_base.proofs.Bodies.{accepted_fits, body_ignores_order, body_of_b
 use Rattle.fact_base.proofs.Members.{each_by_there, first_or_later, in_flat_map, none_there, some_in_other}
 use Rattle.fact_base.proofs.Sets.{set_of_is_set}
 use Rattle.xbrlmerge.specs.Reports.{accepted, document_in}
-use Rattle.xbrlmerge.specs.Replicas.{Numbers, base_named, both, joined_with, named, report}
+use Rattle.xbrlmerge.specs.Replicas.{Numbers, base_named, both, documents_named, joined_with, report}
 
 module _ (sheet : Sheet) (reports : List (List ℕ)) where
   -- the document of an accepted report
   abbrev documents_at : ℕ → List Document
   documents_at r = document_in (outcome sheet (report reports r))
 
-  named_is : (numbers : Numbers) → named sheet reports numbers ≡ flat_map documents_at numbers
+  named_is : (numbers : Numbers) → documents_named sheet reports numbers ≡ flat_map documents_at numbers
   named_is numbers = flat_map-map (λ bytes. document_in (outcome sheet bytes)) (report reports) numbers
 
   same_named : (a b : Numbers) → SameMembers (flat_map documents_at (both a b)) (flat_map documents_at (a ++ b))
@@ -37,7 +37,7 @@ module _ (sheet : Sheet) (reports : List (List ℕ)) where
         λ h. first.1 (some_in_other (λ r. Contains (documents_at r) d) (a ++ b) (both a b) (λ r. (set.members r).1) (second.0 h)),
       )
 
-  body_both : (a b : Numbers) → body (named sheet reports (both a b)) ≡ union (body (named sheet reports a)) (body (named sheet reports b))
+  body_both : (a b : Numbers) → body (documents_named sheet reports (both a b)) ≡ union (body (documents_named sheet reports a)) (body (documents_named sheet reports b))
   body_both a b =
       ap body (named_is (both a b))
       ∙ body_ignores_order (flat_map documents_at (both a b)) (flat_map documents_at (a ++ b)) (same_named a b)

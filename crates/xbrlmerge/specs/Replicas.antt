@@ -50,8 +50,8 @@ reached sheet reports = record {
 }
 
 -- the documents that a set names
-abbrev pub named : Sheet → List (List ℕ) → Numbers → List Document
-named sheet reports numbers = accepted sheet (map (report reports) numbers)
+abbrev pub documents_named : Sheet → List (List ℕ) → Numbers → List Document
+documents_named sheet reports numbers = accepted sheet (map (report reports) numbers)
 
 -- ---- replicas that know bytes alone
 
@@ -89,12 +89,12 @@ wire sheet writers reports = record {
 
 -- the base of the documents that a set names
 abbrev pub base_named : Sheet → List (List ℕ) → Numbers → Contents
-base_named sheet reports numbers = base_of sheet (named sheet reports numbers)
+base_named sheet reports numbers = base_of sheet (documents_named sheet reports numbers)
 
 -- each replica has the base of the documents that reached it, and each sent text is accepted and says what its sender had
 pub record Agree (sheet : Sheet) (reports : List (List ℕ)) (sets : World Numbers Numbers) (bases : World Contents (List ℕ)) : Type 0 where
   pub replicas : bases.replicas ≡ map (base_named sheet reports) sets.replicas
-  pub sent : AllZip (λ bytes numbers. IsReadAsBody sheet bytes (body (named sheet reports numbers))) bases.sent sets.sent
+  pub sent : AllZip (λ bytes numbers. IsReadAsBody sheet bytes (body (documents_named sheet reports numbers))) bases.sent sets.sent
 
 -- whatever the schedule is, and whoever writes each text
 abbrev pub WireAgrees : Type 0
@@ -123,7 +123,7 @@ ReplicasSayAsAfresh =
     (i : ℕ) (numbers : Numbers) (base : Contents) →
     numbered (world_after (reached sheet reports) n events).replicas i ≡ Some numbers →
     numbered (world_after (wire sheet writers reports) n events).replicas i ≡ Some base →
-    SaysAsAfresh (named sheet reports numbers) base
+    SaysAsAfresh (documents_named sheet reports numbers) base
 
 -- replicas that the same reports reached write the same bytes
 abbrev pub EqualSetsWriteTheSame : Type 0
