@@ -33,7 +33,7 @@ pub(crate) fn entries_of(
     requires { IsOrderOf facts.now order.now }
     ensures { IfOk result (AreEntriesOf facts.now) }
 {
-    let mut entries = Vec::new(alloc);
+    let mut entries = Vec::with_capacity(alloc, order.len())?;
     for place in order {
         push(alloc, &mut entries, &facts[*place])?;
     }
@@ -68,15 +68,15 @@ fn add(
     kept.1.merge(alloc, &Summary::of(value))
 }
 
-// The entry of a dimension set with one value.
+// The entry of a dimension set with one value. Most have no more, so there is room for it alone.
 fn entry_of(alloc: Global, fact: &Fact) -> Result<Entry, AllocError>
     ensures { IfOk result (λ entry. entry ≡ entry_of fact.now) }
 {
-    let mut values = SortedSet::new(alloc);
-    values.insert(&fact.value)?;
+    let mut values = Vec::with_capacity(alloc, 1)?;
+    values.push_reserved(fact.value.copied(alloc)?);
     Ok((
         fact.dimensions.copied(alloc)?,
-        (values, Summary::of(&fact.value)),
+        (SortedSet::of_rising(values), Summary::of(&fact.value)),
     ))
 }
 

@@ -10,8 +10,8 @@ use Rattle.fact_base.proofs.entries.entries_of.Goals as goal
 
 pub loop-place-init : goal.loop-place-init
 loop-place-init c = (
-  subst (AreEntriesOf []) (sym c.new-entries.ensures.items) none_of_none,
-  subst (Reached c.args.facts.now c.args.order.now 0) (sym c.new-entries.ensures.items) (none_reached c.args.facts.now c.args.order.now),
+  subst (AreEntriesOf []) (sym c.in_ok-entries.ensures.items) none_of_none,
+  subst (Reached c.args.facts.now c.args.order.now 0) (sym c.in_ok-entries.ensures.items) (none_reached c.args.facts.now c.args.order.now),
 )
 
 pub offset_bounds-facts-place : goal.offset_bounds-facts-place
