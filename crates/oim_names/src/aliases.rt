@@ -10,6 +10,7 @@ use crate::copied::Copied;
 use crate::form::{is_part, split};
 use crate::name::Name;
 use crate::reason::Reason;
+use crate::recent::Recent;
 use crate::text::Text;
 use std::alloc::{AllocError, Global};
 use std::marker::Model;
@@ -21,6 +22,7 @@ const RESERVED: &str = "https://xbrl.org/2021";
 #[derive(Debug, Drop)]
 pub struct Aliases {
     bindings: Vec<Binding>,
+    recent: Recent,
 }
 
 impl Model for Aliases {
@@ -41,6 +43,7 @@ impl Aliases {
     {
         Aliases {
             bindings: Vec::new(alloc),
+            recent: Recent::new(),
         }
     }
 
@@ -74,7 +77,9 @@ impl Aliases {
         ensures err { OnErr result (self.new ≡ self.old) }
     {
         let binding = Binding::new(*self.bindings.allocator(), prefix, uri)?;
+        let place = self.bindings.len();
         self.bindings.push(binding)?;
+        self.recent.set(prefix, place);
         Ok(())
     }
 
@@ -86,8 +91,18 @@ impl Aliases {
         self.uri_text(prefix).map(|uri| uri.as_str())
     }
 
-    /// The same as a text, which a name can share.
+    /// The same as a text, which a name can share. Most are where the prefix of their class is.
     fn uri_text(&self, prefix: &str) -> Option<&Text>
+        ensures found { option_copied result ≡ uri_of self.now prefix.now }
+        ensures filled { IfSome result (λ uri. uri.now ≢ []) }
+    {
+        match self.bindings.get(self.recent.place(prefix)) {
+            Some(known) if known.prefix() == prefix => Some(known.uri_text()),
+            _ => self.searched(prefix),
+        }
+    }
+
+    fn searched(&self, prefix: &str) -> Option<&Text>
         ensures found { option_copied result ≡ uri_of self.now prefix.now }
         ensures filled { IfSome result (λ uri. uri.now ≢ []) }
     {

@@ -1,10 +1,9 @@
 -- The URIs of facts that fit a sheet are namespaces.
-use Rattle.std.proofs.Common.{◌≡◌, ℕ, List, [], ◌∷◌, ◌++◌, Option, Some, None, ⊎_elim, subst, sym}
+use Rattle.std.proofs.Common.{[], ◌∷◌, ◌++◌, Option, Some, None, ⊎_elim, subst}
 use Rattle.std.specs.Prelude.{All, Contains, flat_map}
 use Rattle.oim_names.specs.QName.{QName}
 use Rattle.oim_value.specs.declared.value.Value.{Value}
 use Rattle.oim_value.specs.declared.value.Value.TheVariants.{Nil, Number, Text as AText, Name as AName}
-use Rattle.oim_dims.specs.DimensionSet.{DimensionSet}
 use Rattle.oim_dims.specs.Unit.{Measures}
 use Rattle.oim_dims.specs.declared.fact.Fact.{Fact}
 use Rattle.oim_dims.specs.declared.member.Member.{Member}

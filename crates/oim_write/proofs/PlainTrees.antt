@@ -1,32 +1,24 @@
 -- The tree of a body that fits a sheet is plain: its texts are UTF-8, the keys of its objects rise, and it nests four deep.
-use Rattle.std.proofs.Common.{◌≡◌, ◌≢◌, ℕ, zero, suc, ◌+◌, ◌%◌, ◌/◌, ◌^◌, ◌≤◌, ◌<◌, List, [], ◌∷◌, ◌++◌, length, get_or, map, true, refl, sym, ap, subst, ◌∙◌, codes, arith}
-use Rattle.std.specs.Prelude.{All, Contains, IsUtf8}
-use Rattle.std.specs.Cmp.{IsTotalOrder, nat_cmp_total}
+use Rattle.std.proofs.Common.{◌≡◌, ℕ, suc, ◌≤◌, ◌<◌, List, [], ◌∷◌, length, get_or, refl, codes, arith}
+use Rattle.std.specs.Prelude.{All, IsUtf8}
 use Rattle.std.specs.Cmp.Lexicographic.{slice_cmp}
 use Rattle.std.specs.Ordering.{nat_cmp}
-use Rattle.std.specs.List.Sorted.{IsStrictlySortedBy}
-use Rattle.std.specs.Str.{IsAscii}
-use Rattle.std.specs.declared.cmp.Ordering.{Ordering}
 use Rattle.std.specs.declared.cmp.Ordering.TheVariants.{Less}
 use Rattle.std.proofs.lemmas.Cmp.{nat_list_cmp_total}
 use Rattle.std.proofs.lemmas.List.Elements.{All-head, All-tail}
-use Rattle.std.proofs.lemmas.Str.{IsUtf8-from_is_utf8, IsUtf8-from_ascii, IsUtf8-append, IsUtf8-nil}
-use Rattle.std.proofs.lemmas.Str.Ascii.{IsAscii-nil, IsAscii-cons}
+use Rattle.std.proofs.lemmas.Str.{IsUtf8-from_is_utf8}
 use Rattle.json.proofs.Printed.Utf8.{IsUtf8-are_ascii}
-use Rattle.serde_json.specs.Data.{Data, string, array, object, Items, no_items, item, Members, no_members, member, depth, items_depth, members_depth}
-use Rattle.oim_names.specs.QName.{QName}
+use Rattle.serde_json.specs.Data.{Data, string, array, object, Items, Members, no_members, member, depth, items_depth, members_depth}
 use Rattle.oim_dims.specs.FactOrder.{fact_cmp}
 use Rattle.oim_dims.specs.declared.fact.Fact.{Fact}
 use Rattle.oim_dims.proofs.Orders.{fact_cmp_total}
-use Rattle.fact_base.specs.Body.{Body, text_cmp}
-use Rattle.fact_base.specs.Fits.{Fits}
-use Rattle.fact_base.specs.Passed.{FactFits, HasUtf8, IsBefore, IsKeptReference, IsNamespace, IsPlain, IsPlainJson, IsSet, ItemsArePlain, ItemsHaveUtf8, MembersArePlain, MembersHaveUtf8, Sheet, fact_object}
+use Rattle.fact_base.specs.Body.{text_cmp}
+use Rattle.fact_base.specs.Passed.{FactFits, HasUtf8, IsBefore, IsKeptReference, IsNamespace, IsPlain, IsSet, ItemsArePlain, ItemsHaveUtf8, MembersArePlain, MembersHaveUtf8, Sheet, fact_object}
 use Rattle.fact_base.proofs.Members.{each_by_there, each_there}
 use Rattle.fact_base.proofs.Passed.{fact_plain}
 use Rattle.oim_write.specs.Bytes.{TreesArePlain}
 use Rattle.oim_write.specs.Prefixes.{bindings_of}
-use Rattle.oim_write.specs.Rank.{numbered, padded, rank, width}
-use Rattle.oim_write.specs.Tree.{facts_object, identifier, info_object, members_by, name_text, namespaces_object, prefix, text_items, tree}
+use Rattle.oim_write.specs.Tree.{facts_object, identifier, info_object, members_by, name_text, namespaces_object, prefix, text_items}
 use Rattle.oim_write.specs.Uris.{uris}
 use Rattle.oim_write.proofs.Namespaces.{uris_are_namespaces}
 use Rattle.oim_write.proofs.Labels.{numbered_rise, numbered_utf8}

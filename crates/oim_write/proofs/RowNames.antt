@@ -1,6 +1,6 @@
 -- The names of rows are those of their facts.
-use Rattle.std.proofs.Common.{◌≡◌, ℕ, true, false, cond, List, [], ◌∷◌, ◌++◌, map, append_assoc, append-nil, inl, inr, ⊎_elim, refl, sym, ap, subst, ◌∙◌}
-use Rattle.std.specs.Prelude.{◌⊎◌, Contains, flat_map}
+use Rattle.std.proofs.Common.{◌≡◌, ℕ, true, false, cond, List, [], ◌∷◌, ◌++◌, append-nil, inl, inr, ⊎_elim, refl, sym, ap, subst}
+use Rattle.std.specs.Prelude.{Contains, flat_map}
 use Rattle.std.specs.Cmp.{Equal-is}
 use Rattle.std.specs.Ordering.{is_eq}
 use Rattle.oim_names.specs.QName.{QName}

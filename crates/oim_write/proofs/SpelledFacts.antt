@@ -1,20 +1,11 @@
 -- Each name of a body's facts is spelled by a prefix that is bound to its URI.
-use Rattle.std.proofs.Common.{◌≡◌, ◌≢◌, ℕ, zero, suc, ◌+◌, ◌%◌, ◌/◌, ◌<◌, List, [], ◌∷◌, ◌++◌, append-nil, length, map, Bool, true, false, cond, not, ◌==◌, bytes_eq, Option, Some, None, ⊎_elim, refl, sym, ap, subst, ◌∙◌, arith}
-use Rattle.std.specs.Prelude.{All, Contains, IfSome, flat_map}
-use Rattle.std.specs.Char.{is_ascii_alphanumeric}
-use Rattle.std.specs.Cmp.{tied_itself}
+use Rattle.std.proofs.Common.{◌≡◌, ℕ, zero, suc, ◌+◌, ◌%◌, ◌/◌, ◌<◌, List, [], ◌∷◌, ◌++◌, length, Bool, true, not, ◌==◌, Option, Some, None, refl, arith}
+use Rattle.std.specs.Prelude.{Contains, IfSome, flat_map}
 use Rattle.std.specs.List.{list_all}
-use Rattle.std.specs.Ordering.{ordering_reverse}
-use Rattle.std.specs.declared.cmp.Ordering.{Ordering}
-use Rattle.std.specs.declared.cmp.Ordering.TheVariants.{Less, Equal, Greater}
 use Rattle.std.proofs.lemmas.Bool.{and_from, and_parts}
 use Rattle.std.proofs.lemmas.Bool.Decides.{nat_tests}
-use Rattle.std.proofs.lemmas.Cmp.{nat_list_cmp_total}
-use Rattle.std.proofs.lemmas.Map.Lookups.{exact_bytes}
 use Rattle.std.proofs.lemmas.List.Elements.{Contains-append_left, Contains-append_right}
-use Rattle.oim_names.specs.Bindings.{Binding, uri_of}
 use Rattle.oim_names.specs.QName.{QName, is_name_byte, is_part}
-use Rattle.oim_names.proofs.Bytes.{bytes_eq-refl, same_bytes}
 use Rattle.oim_value.specs.declared.value.Value.{Value}
 use Rattle.oim_value.specs.declared.value.Value.TheVariants.{Nil, Number, Text as AText, Name as AName}
 use Rattle.oim_dims.specs.Unit.{Measures}
@@ -22,8 +13,8 @@ use Rattle.oim_dims.specs.declared.fact.Fact.{Fact}
 use Rattle.oim_dims.specs.declared.member.Member.{Member}
 use Rattle.oim_dims.specs.declared.member.Member.TheVariants.{Nil as NoMember, Text as MemberText, Name as MemberName}
 use Rattle.fact_base.specs.Body.{text_cmp}
-use Rattle.fact_base.specs.Passed.{IsSet, SpellsDimension, SpellsFact, SpellsMeasures, SpellsMember, SpellsName, SpellsValue}
-use Rattle.fact_base.proofs.Members.{each_by_there, first_there, first_or_later, in_flat_map, later_there, none_there, some_there}
+use Rattle.fact_base.specs.Passed.{IsSet, SpellsDimension, SpellsMeasures, SpellsName, SpellsValue}
+use Rattle.fact_base.proofs.Members.{each_by_there, first_there, in_flat_map, later_there, some_there}
 use Rattle.oim_write.specs.Prefixes.{bindings_of, FactsAreSpelled}
 use Rattle.oim_write.specs.Rank.{padded, rank, width}
 use Rattle.oim_write.specs.Tree.{name_text, prefix}

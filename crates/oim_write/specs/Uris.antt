@@ -1,5 +1,5 @@
 -- The namespaces of the names of facts, each of which a prefix stands for (OIM Common 1.0: names are expanded, so that prefixes carry no meaning).
-use Rattle.std.specs.Prelude.{◌≡◌, ◌↔◌, ◌⊎◌, Contains, ℕ, List, [], ◌∷◌, ◌++◌, map, flat_map, Option, Some, None}
+use Rattle.std.specs.Prelude.{◌↔◌, ◌⊎◌, Contains, ℕ, List, [], ◌∷◌, ◌++◌, map, flat_map, Option, Some, None}
 use Rattle.oim_names.specs.QName.{QName}
 use Rattle.oim_value.specs.declared.value.Value.{Value}
 use Rattle.oim_value.specs.declared.value.Value.TheVariants.{Nil, Number, Text as AText, Name as AName}

@@ -1,6 +1,5 @@
 ghost use Rattle.std.specs.Prelude.{◌≡◌, OnOk, codes};
 ghost use Rattle.std.specs.Option.{option_copied};
-ghost use Rattle.oim_dims.specs.Period.{period_text};
 ghost use Rattle.serde_json.specs.Data.{object, no_members, string};
 ghost use Rattle.fact_base.specs.Passed.{member_data, option_spelled, option_unit_text, value_data};
 ghost use Rattle.oim_write.specs.Ordered.{decimals_member, defined_members, ordered_dimensions, ordered_fact, text_member};
@@ -8,19 +7,20 @@ ghost use Rattle.oim_write.specs.Parts.{AddsMembers, AddsValue};
 ghost use Rattle.oim_write.specs.Tree.{name_text};
 
 use crate::prefix_table::PrefixTable;
+use crate::room::Room;
 use crate::unit_text::spell_unit;
 use json::Writer;
-use oim_dims::{Dimensions, Member, Period, Unit, write_period};
+use oim_dims::{Dimensions, Member, Unit};
 use oim_names::{Name, Text};
 use oim_value::{Value, write_fixed};
 use std::alloc::{AllocError, Global};
 
-/// Writes a fact as an object (xBRL-JSON 1.0, section 3). `room` is room for a name or a unit.
+/// Writes a fact as an object (xBRL-JSON 1.0, section 3).
 pub(crate) fn write_fact(
     alloc: Global,
     json: &mut Writer,
     table: &PrefixTable,
-    room: &mut String,
+    room: &mut Room,
     dimensions: &Dimensions,
     value: &Value,
 ) -> Result<(), AllocError>
@@ -31,7 +31,7 @@ pub(crate) fn write_fact(
     json.key("dimensions")?;
     write_dimensions(alloc, json, table, room, dimensions)?;
     json.key("value")?;
-    write_value(alloc, json, table, room, value)?;
+    write_value(alloc, json, table, &mut room.spelled, value)?;
     json.end_object()
 }
 
@@ -53,20 +53,22 @@ fn write_dimensions(
     alloc: Global,
     json: &mut Writer,
     table: &PrefixTable,
-    room: &mut String,
+    room: &mut Room,
     dimensions: &Dimensions,
 ) -> Result<(), AllocError>
     ensures { OnOk result (AddsValue json.old json.new (object (ordered_dimensions (name_text table.now) dimensions.now))) }
 {
+    let Room { spelled, periods } = room;
     json.begin_object()?;
     json.key("concept")?;
-    table.spell(room, dimensions.concept())?;
-    json.string(room.as_str())?;
-    write_entity(json, table, room, dimensions.entity())?;
-    write_language(json, dimensions.language())?;
-    write_defined(json, table, room, dimensions.members())?;
-    write_period_member(alloc, json, dimensions.period())?;
-    write_unit_member(json, table, room, dimensions.unit())?;
+    table.spell(spelled, dimensions.concept())?;
+    json.string(spelled.as_str())?;
+    write_entity(json, table, spelled, dimensions.entity())?;
+    write_text(json, "language", dimensions.language())?;
+    write_defined(json, table, spelled, dimensions.members())?;
+    let place = periods.spell(alloc, dimensions.period())?;
+    write_text(json, "period", periods.text(place))?;
+    write_unit_member(json, table, spelled, dimensions.unit())?;
     json.end_object()
 }
 
@@ -86,14 +88,14 @@ fn write_entity(
     json.string(room.as_str())
 }
 
-fn write_language(json: &mut Writer, language: Option<&Text>) -> Result<(), AllocError>
-    ensures { OnOk result (AddsMembers json.old json.new (text_member (codes "language") (option_copied language.entry) no_members)) }
+fn write_text(json: &mut Writer, key: &str, text: Option<&Text>) -> Result<(), AllocError>
+    ensures { OnOk result (AddsMembers json.old json.new (text_member key.now (option_copied text.entry) no_members)) }
 {
-    let Some(language) = language else {
+    let Some(text) = text else {
         return Ok(());
     };
-    json.key("language")?;
-    json.string(language.as_str())
+    json.key(key)?;
+    json.string(text.as_str())
 }
 
 fn write_defined(
@@ -137,16 +139,6 @@ fn write_name(
 {
     table.spell(room, name)?;
     json.string(room.as_str())
-}
-
-fn write_period_member(alloc: Global, json: &mut Writer, period: Period) -> Result<(), AllocError>
-    ensures { OnOk result (AddsMembers json.old json.new (text_member (codes "period") (period_text period) no_members)) }
-{
-    let Some(text) = write_period(alloc, &period)? else {
-        return Ok(());
-    };
-    json.key("period")?;
-    json.string(text.as_str())
 }
 
 fn write_unit_member(

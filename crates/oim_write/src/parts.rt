@@ -10,6 +10,7 @@ ghost use Rattle.oim_write.specs.Tree.{name_text, prefix};
 use crate::fact_text::write_fact;
 use crate::prefix_table::PrefixTable;
 use crate::ranked::push_label;
+use crate::room::Room;
 use json::Writer;
 use oim_dims::Dimensions;
 use oim_names::Text;
@@ -114,11 +115,11 @@ fn append_reference(
     Ok(())
 }
 
-/// One member of `facts`, where so many facts stand before it. `room` is room for a name.
+/// One member of `facts`, where so many facts stand before it.
 pub(crate) fn append_fact(
     alloc: Global,
     text: &mut Vec<u8>,
-    room: &mut String,
+    room: &mut Room,
     labels: &Labels<'_>,
     before: u128,
     dimensions: &Dimensions,
@@ -131,9 +132,9 @@ pub(crate) fn append_fact(
 {
     append_comma(text, before > 0)?;
     let mut json = Writer::new(mem::replace(text, Vec::new(alloc)));
-    room.clear();
-    push_label(room, "f", labels.digits, before + 1)?;
-    json.key(room.as_str())?;
+    room.spelled.clear();
+    push_label(&mut room.spelled, "f", labels.digits, before + 1)?;
+    json.key(room.spelled.as_str())?;
     write_fact(alloc, &mut json, labels.table, room, dimensions, value)?;
     *text = json.into_inner();
     Ok(())

@@ -5,10 +5,9 @@ ghost use Rattle.oim_write.specs.Tree.{name_text, prefix};
 ghost use Rattle.oim_write.specs.Uris.{uris};
 
 use crate::ranked::{label, push_label, width_of};
-use crate::recent::Recent;
 use crate::uri_set::UriSet;
 use fact_base::Base;
-use oim_names::{Name, Text};
+use oim_names::{Name, Recent, Text};
 use std::alloc::{AllocError, Global};
 use std::marker::Model;
 

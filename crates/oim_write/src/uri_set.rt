@@ -5,10 +5,9 @@ ghost use Rattle.fact_base.specs.Passed.{IsSet};
 ghost use Rattle.fact_base.specs.Shown.{shown};
 ghost use Rattle.oim_write.specs.Uris.{Gains, defined_names, dimension_names, entity_names, row_names, unit_names, value_names};
 
-use crate::recent::Recent;
 use fact_base::Row;
 use oim_dims::{Dimensions, Member};
-use oim_names::{Name, Text};
+use oim_names::{Name, Recent, Text};
 use oim_value::Value;
 use std::alloc::{AllocError, Global};
 use std::marker::Model;

@@ -11,6 +11,7 @@ use crate::memory_sink::MemorySink;
 use crate::parts::{Labels, append_fact, head};
 use crate::prefix_table::PrefixTable;
 use crate::ranked::width_of;
+use crate::room::Room;
 use crate::sink::Sink;
 use crate::sink_buffer::SinkBuffer;
 use crate::write_fault::WriteFault;
@@ -92,7 +93,7 @@ fn write_facts<S: Sink>(
     let digits = width_of(base.fact_count());
     let labels = Labels { table, digits };
     let mut part = Vec::new(alloc);
-    let mut room = String::new(alloc);
+    let mut room = Room::new(alloc);
     let mut before = 0;
     for row in base.rows() {
         write_row(
@@ -103,8 +104,7 @@ fn write_facts<S: Sink>(
     Ok(())
 }
 
-/// Writes the facts of a row, where so many stand before them. `part` is room for one, and `room` for
-/// a name.
+/// Writes the facts of a row, where so many stand before them. `part` is room for one.
 fn write_row<S: Sink>(
     alloc: Global,
     buffer: &mut SinkBuffer,
@@ -113,7 +113,7 @@ fn write_row<S: Sink>(
     before: u128,
     row: Row<'_>,
     part: &mut Vec<u8>,
-    room: &mut String,
+    room: &mut Room,
 ) -> Result<(), WriteFault>
     requires failures { S.failures out.old < 2 ^ 64 - 1 }
     requires room { before + length row.values.now < 2 ^ 128 }

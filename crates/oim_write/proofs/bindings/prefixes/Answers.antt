@@ -1,4 +1,4 @@
-use Rattle.std.proofs.Common.{◌≡◌, ◌≤◌, List, ℕ, map, take, length, sym, ap, subst, ◌∙◌, arith}
+use Rattle.std.proofs.Common.{map, sym, ap, subst, ◌∙◌, arith}
 use Rattle.oim_names.specs.Bindings.{bound}
 use Rattle.fact_base.specs.Body.{text_cmp}
 use Rattle.fact_base.specs.Passed.{IsSet}

@@ -1,5 +1,4 @@
 use Rattle.std.proofs.Common.{◌≡◌, map, take}
-use Rattle.oim_names.specs.Bindings.{Binding}
 use Rattle.oim_write.specs.Tree.{prefix}
 use Rattle.oim_write.proofs.bindings.prefixes.Given as goal
 

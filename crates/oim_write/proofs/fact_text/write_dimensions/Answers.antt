@@ -12,11 +12,12 @@ pub returns : goal.returns
 returns c =
     let spelled = name_text c.args.table.now in
     let concept = Adds-is (ap (λ t. Token.string t ∷ []) (c.as_str.ensures.value ∙ c.in_ok-spell.ensures ∙ ap spelled c.concept.ensures)) (Adds-one c.in_ok-string.ensures) in
+    let period = c.text.ensures c.period.result ∙ ap period_text (c.in_ok-place.ensures.is c.period.result ∙ c.period.ensures) in
     closed_object c.end_object.result (ordered_dimensions spelled c.args.dimensions.now) (Adds-one c.in_ok-begin_object.ensures)
     (then_member (codes "concept") (string (spelled c.args.dimensions.now.concept)) _ (Adds-one c.in_ok-key.ensures) concept
     (then_text (codes "entity") _ (ap (option_spelled spelled) c.entity.ensures) c.in_ok-write_entity.ensures
-    (then_text (codes "language") _ c.language.ensures c.in_ok-write_language.ensures
+    (then_text (codes "language") _ c.language.ensures c.in_ok-write_text.ensures
     (then_defined spelled _ c.members.ensures.members c.in_ok-write_defined.ensures
-    (then_text (codes "period") _ (ap period_text c.period.ensures) c.in_ok-write_period_member.ensures
+    (then_text (codes "period") _ period c.in_ok-write_text-2.ensures
     (then_text (codes "unit") no_members (ap (option_unit_text spelled) c.unit.ensures) c.in_ok-write_unit_member.ensures Adds-none))))))
     c.end_object.ensures

@@ -1,12 +1,9 @@
-use Rattle.std.proofs.Common.{◌≡◌, [], inr, sym, ap, subst, ◌∙◌}
+use Rattle.std.proofs.Common.{[], sym, ap, subst, ◌∙◌}
 use Rattle.std.specs.Prelude.{flat_map}
 use Rattle.fact_base.specs.Body.{text_cmp}
 use Rattle.fact_base.specs.Passed.{IsSet}
-use Rattle.fact_base.specs.Rows.{rows_of}
 use Rattle.fact_base.specs.Shown.{rows_left}
-use Rattle.fact_base.proofs.Sets.{is_set_of}
-use Rattle.fact_base.proofs.TextOrder.{text_cmp_exact, text_cmp_total}
-use Rattle.oim_write.specs.Uris.{Gains, fact_names, row_names, uris_of_names}
+use Rattle.oim_write.specs.Uris.{Gains, row_names}
 use Rattle.oim_write.proofs.RowNames.{uris_gained}
 use Rattle.oim_write.proofs.UriSets.{gains_both, gains_none}
 use Rattle.oim_write.proofs.prefix_table.PrefixTable.of.Goals as goal

@@ -1,0 +1,124 @@
+ghost use Rattle.std.specs.Prelude.{◌≡◌, ◌<◌, length, get_or, IfOk, OnOk};
+ghost use Rattle.std.specs.Option.{option_copied};
+ghost use Rattle.oim_dims.specs.Period.{period_text};
+ghost use Rattle.oim_dims.specs.declared.period.Period.{Period as APeriod};
+
+use oim_dims::{Period, write_period};
+use oim_names::Text;
+use std::alloc::{AllocError, Global};
+use std::marker::Model;
+
+/// How many classes of periods there are: a prime, so that days are spread.
+const CLASSES: u64 = 251;
+
+/// A period with its text, which one that always holds has not.
+#[derive(Drop)]
+struct PeriodText {
+    period: Period,
+    text: Option<Text>,
+}
+
+impl Model for PeriodText {
+    ghost use Rattle.std.specs.Prelude.{◌≡◌};
+    ghost use Rattle.oim_dims.specs.Period.{period_text};
+    ghost use Rattle.oim_dims.specs.declared.period.Period.{Period as APeriod};
+
+    ghost Value = { APeriod };
+
+    ghost view = { λ p. p.period };
+
+    ghost invariant = { λ p. p.text ≡ period_text p.period };
+}
+
+impl PeriodText {
+    fn forever() -> PeriodText {
+        PeriodText {
+            period: Period::Forever,
+            text: None,
+        }
+    }
+
+    fn text(&self) -> Option<&Text>
+        ensures { option_copied result ≡ period_text self.now }
+    {
+        self.text.as_ref()
+    }
+
+    fn turn_to(&mut self, alloc: Global, period: Period) -> Result<(), AllocError>
+        ensures { OnOk result (self.new ≡ period) }
+    {
+        if self.period != period {
+            let text = write_period(alloc, &period)?;
+            *self = PeriodText { period, text };
+        }
+        Ok(())
+    }
+}
+
+/// The texts of the periods that were spelled last, one of each class, since a report has few.
+/// Contracts see the periods, at the places of their classes.
+#[derive(Drop)]
+pub(crate) struct PeriodTexts {
+    texts: Vec<PeriodText>,
+}
+
+impl Model for PeriodTexts {
+    ghost use Rattle.std.specs.Prelude.{List};
+    ghost use Rattle.oim_dims.specs.declared.period.Period.{Period as APeriod};
+
+    ghost Value = { List APeriod };
+
+    ghost view = { λ p. p.texts.items };
+}
+
+impl PeriodTexts {
+    /// No texts. Later calls take their memory from `alloc`.
+    pub(crate) fn new(alloc: Global) -> PeriodTexts {
+        PeriodTexts {
+            texts: Vec::new(alloc),
+        }
+    }
+
+    /// Spells a period, unless it was the last of its class, and answers its place.
+    pub(crate) fn spell(&mut self, alloc: Global, period: Period) -> Result<usize, AllocError>
+        ensures there { IfOk result (λ place. place < length self.new) }
+        ensures is { IfOk result (λ place. (d : APeriod) → get_or self.new place d ≡ period) }
+    {
+        let class = class_of(&period);
+        reach(&mut self.texts, class)?;
+        self.texts[class].turn_to(alloc, period)?;
+        Ok(class)
+    }
+
+    /// The text of the period at a place, or None for one that always holds.
+    pub(crate) fn text(&self, place: usize) -> Option<&Text>
+        requires { place < length self.now }
+        ensures { (d : APeriod) → option_copied result ≡ period_text (get_or self.now place d) }
+    {
+        self.texts[place].text()
+    }
+}
+
+// Makes a place for the class.
+fn reach(texts: &mut Vec<PeriodText>, class: usize) -> Result<(), AllocError>
+    ensures { OnOk result (class < length texts.new.items) }
+{
+    while texts.len() <= class {
+        texts.push(PeriodText::forever())?;
+    }
+    Ok(())
+}
+
+fn class_of(period: &Period) -> usize
+    ensures { result < CLASSES }
+{
+    let mixed = match period {
+        Period::Forever => 0,
+        Period::Instant(moment) => moment.seconds(),
+        Period::Duration(start, end) => {
+            let shifted = start.seconds().wrapping_mul(31);
+            shifted.wrapping_add(end.seconds())
+        }
+    };
+    (mixed.unsigned_abs() % CLASSES) as usize
+}
