@@ -1,12 +1,11 @@
 -- Entries whose keys rise: what stands at a key, and where a new one goes.
-use Rattle.std.proofs.Common.{◌≡◌, ℕ, zero, suc, ◌+◌, ◌-◌, ◌<◌, ◌≤◌, Bool, true, false, cond, List, [], ◌∷◌, length, get_or, Option, Some, None, refl, sym, ap, subst, ◌∙◌, arith, inl, inr}
+use Rattle.std.proofs.Common.{◌≡◌, ℕ, zero, suc, ◌+◌, ◌<◌, ◌≤◌, Bool, true, false, cond, List, [], ◌∷◌, length, get_or, Option, Some, None, refl, sym, ap, subst, ◌∙◌, arith, inl, inr}
 use Rattle.std.specs.Prelude.{T, is_some, option_map, slice_get, if◌then◌else◌}
 use mathlib.Core.Bool.{true≢false}
 use Rattle.std.specs.declared.cmp.Ordering.{Ordering}
 use Rattle.std.specs.declared.cmp.Ordering.TheVariants.{Less, Equal, Greater}
 use Rattle.std.specs.Ordering.{is_lt, is_eq, ordering_reverse}
 use Rattle.std.specs.Cmp.{IsTotalOrder, tied_itself}
-use Rattle.std.specs.List.{insert}
 use Rattle.std.specs.List.Sorted.{IsPartitionPoint}
 use Rattle.std.specs.FinMap as map
 use Rattle.std.specs.FinMap.{FinMap, get-insert, get-from_sorted, entries, entries-from_sorted, entries-insert, same_entries_map, empty_of_len, len-entries}
@@ -15,6 +14,9 @@ use Rattle.std.proofs.lemmas.Bool.{and_parts, cases_lt}
 use Rattle.std.proofs.lemmas.Cmp.{nat_list_cmp_total, then_total, on_total}
 use Rattle.std.proofs.lemmas.List.{get_or_default}
 use Rattle.std.proofs.lemmas.Option.{same_Some, slice_get_read}
+use Rattle.std.specs.BTreeMap.{insert_entry}
+use Rattle.std.specs.Map.{lookup}
+use Rattle.std.specs.Ordering.{match_ordering}
 use Rattle.oim_names.specs.QName.{QName, name_cmp}
 
 pub name_total : IsTotalOrder name_cmp
@@ -65,15 +67,6 @@ module _ {K X : Type 0} {R : K → K → Ordering} (o : IsTotalOrder R) where
     | inr over ↦ ap is_eq (turned_greater o _ _ (gap.1 j d over lt))
   ])
 
-  -- an entry is put between those below it and those above it
-  pub put_in_gap : (es : List (K × X)) (q : K) (v : X) (i : ℕ) → i ≤ length es → IsPartitionPoint (λ e. R e.0 q ≡ Less) (λ e. R e.0 q ≡ Greater) es i → put R q v es ≡ insert es i (q, v)
-  put_in_gap [] q v zero le gap = refl
-  put_in_gap [] q v (suc i) le gap = absurd (omega (arith, le))
-  put_in_gap (e ∷ es) q v zero le gap = ap (λ r. by_order r ((q, v) ∷ e ∷ es) ((e.0, v) ∷ es) (e ∷ put R q v es)) (turned_greater o e.0 q (gap.1 0 e (omega arith) (omega arith)))
-  put_in_gap (e ∷ es) q v (suc i) le gap =
-      ap (λ r. by_order r ((q, v) ∷ e ∷ es) ((e.0, v) ∷ es) (e ∷ put R q v es)) (turned_less o e.0 q (gap.0 0 e (omega arith) (omega arith)))
-      ∙ ap (λ fs. e ∷ fs) (put_in_gap es q v i (omega (arith, le)) (λ j d ge lt. gap.0 (suc j) d (omega arith) (omega (arith, lt)), λ j d ge lt. gap.1 (suc j) d (omega (arith, ge)) (omega (arith, lt))))
-
   -- what is below a key at one place is so at each before, and what is above it at each after
   pub less_before : (es : List (K × X)) (q : K) (i : ℕ) (x : K × X) → is_sorted R es ≡ true → i < length es → R (get_or es i x).0 q ≡ Less → (j : ℕ) (d : K × X) → j < i + 1 → R (get_or es j d).0 q ≡ Less
   less_before es q i x h within p j d lt =
@@ -90,12 +83,6 @@ module _ {K X : Type 0} {R : K → K → Ordering} (o : IsTotalOrder R) where
         | inl under ↦ turned_less o _ _ (o.trans _ _ _ (turned_greater o _ _ read) (rising_at es i j d h under within))
         | inr over ↦ let same : j ≡ i = omega (arith, over, ge) in ap (λ n. R (get_or es n d).0 q) same ∙ read
       ]
-
-  -- a key above the last is above all
-  pub behind_last : (es : List (K × X)) (q : K) (last : K × X) → is_sorted R es ≡ true → 0 < length es → ((d : K × X) → last ≡ get_or es (length es - 1) d) → R last.0 q ≡ Less → IsPartitionPoint (λ e. R e.0 q ≡ Less) (λ e. R e.0 q ≡ Greater) es (length es)
-  behind_last es q last h some is p =
-      let at_end : R (get_or es (length es - 1) last).0 q ≡ Less = sym (ap (λ e. R e.0 q) (is last)) ∙ p in
-      (λ j d _ lt. less_before es q (length es - 1) last h (omega (arith, some)) at_end j d (omega (arith, lt, some)), λ j d ge lt. absurd (omega (arith, ge, lt)))
 
 -- ---- the same as a map
 
@@ -122,19 +109,6 @@ module _ {X : Type 0} where
   sorted_after : (es : List (QName × X)) (q : QName) (v : X) → is_sorted name_cmp es ≡ true → is_sorted name_cmp (put name_cmp q v es) ≡ true
   sorted_after es q v h = to_true _ (is_sorted-put name_cmp name_total q v es (from_true _ h))
 
-  -- an entry put into the gap of its key
-  pub put_here : (es : List (QName × X)) (q : QName) (v : X) (i : ℕ) → is_sorted name_cmp es ≡ true → i ≤ length es → IsPartitionPoint (λ e. name_cmp e.0 q ≡ Less) (λ e. name_cmp e.0 q ≡ Greater) es i → (is_sorted name_cmp (insert es i (q, v)) ≡ true) × (map.from_sorted {R = name_cmp} (insert es i (q, v)) ≡ map.insert (map.from_sorted es) q v)
-  put_here es q v i h le gap =
-      let placed = put_in_gap name_total es q v i le gap in
-      let sorted = ap (is_sorted name_cmp) (sym placed) ∙ sorted_after es q v h in (
-        sorted,
-        same_entries_map _ _ (
-            entries-from_sorted name_cmp (insert es i (q, v)) (from_true _ sorted)
-            ∙ sym placed
-            ∙ ap (put name_cmp q v) (sym (entries-from_sorted name_cmp es (from_true _ h)))
-            ∙ sym (entries-insert name_total (map.from_sorted es) q v)),
-      )
-
   -- and lists that make one map are one
   pub same_list : (es fs : List (QName × X)) → is_sorted name_cmp es ≡ true → is_sorted name_cmp fs ≡ true → map.from_sorted {R = name_cmp} es ≡ map.from_sorted fs → es ≡ fs
   same_list es fs h k same = sym (entries-from_sorted name_cmp es (from_true _ h)) ∙ ap entries same ∙ entries-from_sorted name_cmp fs (from_true _ k)
@@ -151,3 +125,29 @@ module _ {X : Type 0} where
 
   pub get-put : (m : FinMap name_cmp X) (q : QName) (v : X) → map.get (map.insert m q v) q ≡ Some v
   get-put m q v = get-insert name_total m q v q ∙ ap (λ r. cond (is_eq r) (Some v) (map.get m q)) (tied_itself name_total q)
+
+-- ---- and as an ordered map of the library
+
+module _ {K X : Type 0} (R : K → K → Ordering) where
+  pub lookup_is_find : (q : K) (es : List (K × X)) → lookup (λ k. is_eq (R q k)) es ≡ find R q es
+  lookup_is_find q [] = refl
+  lookup_is_find q (e ∷ es) = ap (λ o. cond (is_eq (R q e.0)) (Some e.1) o) (lookup_is_find q es)
+
+  pub insert_is_put : (q : K) (v : X) (es : List (K × X)) → insert_entry R es q v ≡ put R q v es
+  insert_is_put q v [] = refl
+  insert_is_put q v (e ∷ es) = elim (R q e.0) as (λ r. match_ordering r ((q, v) ∷ e ∷ es) ((e.0, v) ∷ es) (e ∷ insert_entry R es q v) ≡ by_order r ((q, v) ∷ e ∷ es) ((e.0, v) ∷ es) (e ∷ put R q v es)) [
+    | Less ↦ refl
+    | Equal ↦ refl
+    | Greater ↦ ap (λ fs. e ∷ fs) (insert_is_put q v es)
+  ]
+
+module _ {X : Type 0} where
+  -- an entry put among those of a map
+  pub put_among : (es : List (QName × X)) (q : QName) (v : X) → is_sorted name_cmp es ≡ true → (is_sorted name_cmp (put name_cmp q v es) ≡ true) × (map.from_sorted {R = name_cmp} (put name_cmp q v es) ≡ map.insert (map.from_sorted es) q v)
+  put_among es q v h = (
+    sorted_after es q v h,
+    same_entries_map _ _ (
+        entries-from_sorted name_cmp (put name_cmp q v es) (from_true _ (sorted_after es q v h))
+        ∙ ap (put name_cmp q v) (sym (entries-from_sorted name_cmp es (from_true _ h)))
+        ∙ sym (entries-insert name_total (map.from_sorted es) q v)),
+  )

@@ -15,6 +15,7 @@ mod fact_reader;
 mod fact_value;
 mod facts_reader;
 mod features;
+mod gathered;
 mod given;
 mod glossaries;
 mod glossary;

@@ -1,4 +1,4 @@
-ghost use Rattle.std.specs.Prelude.{◌≡◌, ◌<◌, ◌≤◌, ◌↔◌, true, length, if◌then◌else◌, Some, IsTrue, IfOk, IfErr, IfSome, OnOk, OnErr, option_map, slice_get};
+ghost use Rattle.std.specs.Prelude.{◌≡◌, ◌<◌, ◌≤◌, ◌↔◌, true, length, Some, IsTrue, IfOk, IfErr, IfSome, option_map, slice_get};
 ghost use Rattle.std.specs.FinMap as map;
 ghost use Rattle.std.specs.FinMap.{is_sorted};
 ghost use Rattle.std.specs.List.Sorted.{IsPartitionPoint};
@@ -7,7 +7,7 @@ ghost use Rattle.oim_value.specs.ValueOrder.{name_cmp};
 
 use crate::kind::Kind;
 use oim_names::Name;
-use std::alloc::{AllocError, Global};
+use std::alloc::Global;
 use std::cmp::Ordering;
 use std::marker::Model;
 
@@ -44,6 +44,14 @@ impl<K: Kind> Listing<K> {
         }
     }
 
+    /// The listing of names that stand in their order already, each once.
+    pub(crate) fn of_rising(entries: Vec<(Name, K)>) -> Self
+        requires { is_sorted name_cmp entries.items ≡ true }
+        ensures { result ≡ map.from_sorted entries.items }
+    {
+        Listing { entries }
+    }
+
     /// The name of this URI and local part, and what is said of it. It takes no memory.
     pub(crate) fn find(&self, uri: &str, local: &str) -> Option<(&Name, K)>
         ensures kind { option_map (λ e. e.1) result
@@ -57,24 +65,6 @@ impl<K: Kind> Listing<K> {
                 Some((name, *kind))
             }
             Err(_) => None,
-        }
-    }
-
-    /// Lists the name with the kind, unless it is listed; and what is then said of it.
-    ///
-    /// Errors: want of memory; all is then as before.
-    pub(crate) fn put(&mut self, name: Name, kind: K) -> Result<K, AllocError>
-        ensures ok { OnOk result (self.new
-            ≡ (if map.contains_key self.old name then self.old else map.insert self.old name kind)) }
-        ensures kind { IfOk result (λ k. map.get self.new name ≡ Some k) }
-        ensures err { OnErr result (self.new ≡ self.old) }
-    {
-        match place_of(self.entries.as_slice(), name.uri(), name.local()) {
-            Ok(place) => Ok(self.entries[place].1),
-            Err(place) => {
-                self.entries.insert(place, (name, kind))?;
-                Ok(kind)
-            }
         }
     }
 
@@ -106,25 +96,7 @@ fn is_same_entry<K: Kind>(one: &(Name, K), other: &(Name, K)) -> bool
     one.0 == other.0 && one.1.is(other.1)
 }
 
-/// Where a name is, or where it would go. What goes behind the last costs one comparison, so that
-/// names that come in order cost no search.
-fn place_of<K: Kind>(entries: &[(Name, K)], uri: &str, local: &str) -> Result<usize, usize>
-    requires { is_sorted name_cmp entries.now ≡ true }
-    ensures found { IfOk result (λ i. i < length entries.now) }
-    ensures here { IfOk result (λ i. option_map (λ e. e.0) (slice_get entries.now i)
-        ≡ Some (record { uri = uri.now; local_part = local.now })) }
-    ensures within { IfErr result (λ i. i ≤ length entries.now) }
-    ensures gap { IfErr result (IsPartitionPoint
-        (λ e. name_cmp e.0 (record { uri = uri.now; local_part = local.now }) ≡ Below)
-        (λ e. name_cmp e.0 (record { uri = uri.now; local_part = local.now }) ≡ Above)
-        entries.now) }
-{
-    match entries.last() {
-        Some(last) if compare(&last.0, uri, local).is_lt() => Err(entries.len()),
-        _ => halve(entries, uri, local),
-    }
-}
-
+/// Where a name is, or where it would go.
 fn halve<K: Kind>(entries: &[(Name, K)], uri: &str, local: &str) -> Result<usize, usize>
     requires { is_sorted name_cmp entries.now ≡ true }
     ensures found { IfOk result (λ i. i < length entries.now) }
@@ -153,5 +125,8 @@ fn halve<K: Kind>(entries: &[(Name, K)], uri: &str, local: &str) -> Result<usize
 fn compare(name: &Name, uri: &str, local: &str) -> Ordering
     ensures { result ≡ name_cmp name.now (record { uri = uri.now; local_part = local.now }) }
 {
-    name.uri().cmp(uri).then(name.local().cmp(local))
+    match name.uri().cmp(uri) {
+        Ordering::Equal => name.local().cmp(local),
+        apart => apart,
+    }
 }

@@ -4,6 +4,7 @@ ghost use Rattle.oim_report.specs.Json.{members};
 ghost use Rattle.oim_report.specs.Names.{names_refusal};
 ghost use Rattle.oim_report.specs.Sheet.{has_bad_kind, key_names, kind_in, listed};
 
+use crate::gathered::Gathered;
 use crate::given::Given;
 use crate::kind::Kind;
 use crate::listing::Listing;
@@ -50,18 +51,18 @@ fn list_all<K: Kind>(
         IfErr result (λ r. (r ≡ Reason.OutOfMemory) ⊎ ((r ≡ Reason.SheetKind)
         × (has_bad_kind K.kind_named K.same_kind aliases.now ms ≡ true))) }
 {
-    let mut listing = Listing::new(alloc);
+    let mut gathered = Gathered::new(alloc);
     for (key, value) in members.iter() {
         let Some(kind) = kind_in::<K>(value) else {
             return Err(Reason::SheetKind);
         };
         let name = aliases.expand(key.as_str())?;
-        let known = listing.put(name, kind)?;
+        let known = gathered.put(name, kind)?;
         if !kind.is(known) {
             return Err(Reason::SheetKind);
         }
     }
-    Ok(listing)
+    Ok(gathered.into_listing(alloc)?)
 }
 
 /// The kind that a value names.
