@@ -86,19 +86,54 @@ fn no_report_gives_the_empty_text(rt: HostRuntime) -> Result<(), Fail> {
     Ok(())
 }
 
+/// The text of the one fact.
+const HUNDRED_TEXT: &[&str] = &[HEAD, ONE_URI, MIDDLE, WRITTEN_HUNDRED, END];
+
+/// Bundles with that fact alone, by one prefix, by two, and thrice.
+const HUNDREDS: [&[&str]; 3] = [
+    &[SHEET, "\n", INFO, HUNDRED, END, "\n"],
+    &[
+        SHEET,
+        "\n",
+        OTHER_INFO,
+        OTHER_HUNDRED,
+        END,
+        "\n",
+        INFO,
+        HUNDRED,
+        END,
+    ],
+    &[
+        SHEET,
+        "\n",
+        INFO,
+        HUNDRED,
+        END,
+        "\n",
+        OTHER_INFO,
+        OTHER_HUNDRED,
+        END,
+        "\n",
+        INFO,
+        HUNDRED,
+        END,
+        "\n",
+    ],
+];
+
+/// Whether each bundle is merged to this text.
+fn all_give(rt: &HostRuntime, bundles: &[&[&str]], text: &[&str]) -> Result<bool, Fail> {
+    let mut all = true;
+    for bundle in bundles {
+        all = gives(rt, bundle, 0, text, "")? && all;
+    }
+    Ok(all)
+}
+
 #[test]
 fn reports_in_either_order_give_one_text(rt: HostRuntime) -> Result<(), Fail> {
-    let text = [HEAD, ONE_URI, MIDDLE, WRITTEN_HUNDRED, END];
-    assert_eq!(rt; joined(&rt, &text)?.len(), 200);
-    let [a, b, c, d, e] = [INFO, OTHER_INFO, HUNDRED, OTHER_HUNDRED, END];
-    let bundles = [
-        [SHEET, "\n", a, c, e, "\n", "", "", "", "", "", "", "", ""],
-        [SHEET, "\n", b, d, e, "\n", a, c, e, "", "", "", "", ""],
-        [SHEET, "\n", a, c, e, "\n", b, d, e, "\n", a, c, e, "\n"],
-    ];
-    for bundle in bundles {
-        assert!(rt; gives(&rt, &bundle, 0, &text, "")?);
-    }
+    assert_eq!(rt; joined(&rt, HUNDRED_TEXT)?.len(), 200);
+    assert!(rt; all_give(&rt, HUNDREDS.as_slice(), HUNDRED_TEXT)?);
     Ok(())
 }
 
@@ -123,25 +158,31 @@ fn whole_reports_are_merged(rt: HostRuntime) -> Result<(), Fail> {
     Ok(())
 }
 
+/// Three facts, the second one with a prefix that is not bound.
+const SECOND_UNBOUND: &str =
+    r#""a":{"value":"1","dimensions":{"concept":"eg:A"}},"b":{"value":"1","dimensions":{"concept":"q:A"}},"c":{"value":"2","dimensions":{"concept":"eg:A"}}"#;
+
+/// A report with these facts before one that is accepted, and one behind it that is refused.
+const BETWEEN_REFUSED: &[&str] = &[
+    SHEET,
+    "\n\n",
+    INFO,
+    SECOND_UNBOUND,
+    END,
+    "\n\n",
+    INFO,
+    HUNDRED,
+    END,
+    "\n{}",
+];
+
 #[test]
 fn a_refused_report_changes_nothing(rt: HostRuntime) -> Result<(), Fail> {
-    let refused = [
-        INFO,
-        r#""a":{"value":"1","dimensions":{"concept":"eg:A"}},"#,
-        r#""b":{"value":"1","dimensions":{"concept":"q:A"}},"#,
-        r#""c":{"value":"2","dimensions":{"concept":"eg:A"}}"#,
-        END,
-    ];
-    let [a, b, c, d, e] = refused;
+    let refused = [SHEET, "\n", INFO, SECOND_UNBOUND, END];
     let line = "report 1: 13 UnboundPrefix at fact 2\n";
-    let nothing = [HEAD, MIDDLE, END];
-    assert!(rt; gives(&rt, &[SHEET, "\n", a, b, c, d, e], 1, &nothing, line)?);
-    let hundred = [HEAD, ONE_URI, MIDDLE, WRITTEN_HUNDRED, END];
-    let bundle = [
-        SHEET, "\n\n", a, b, c, d, e, "\n\n", INFO, HUNDRED, END, "\n{}",
-    ];
+    assert!(rt; gives(&rt, &refused, 1, &[HEAD, MIDDLE, END], line)?);
     let lines = "report 1: 13 UnboundPrefix at fact 2\nreport 3: 2 MemberForm at document\n";
-    assert!(rt; gives(&rt, &bundle, 1, &hundred, lines)?);
+    assert!(rt; gives(&rt, BETWEEN_REFUSED, 1, HUNDRED_TEXT, lines)?);
     Ok(())
 }
 
@@ -166,45 +207,66 @@ fn prefixes_follow_the_bytes_of_uris(rt: HostRuntime) -> Result<(), Fail> {
     Ok(())
 }
 
+/// Bundles whose sheet is refused, with the line that tells it.
+const REFUSED_SHEETS: [(&str, &str); 5] = [
+    ("", "sheet: 1 NotJson\n"),
+    ("\n{}", "sheet: 1 NotJson\n"),
+    ("[]", "sheet: 2 MemberForm\n"),
+    (
+        r#"{"concepts":{"eg:A":"numeric"}}"#,
+        "sheet: 13 UnboundPrefix\n",
+    ),
+    (
+        r#"{"namespaces":{"eg":"http://example.org/t"},"concepts":{"eg:A":"number"}}"#,
+        "sheet: 32 SheetKind\n",
+    ),
+];
+
+/// Whether each bundle ends the run with its line.
+fn all_end(rt: &HostRuntime, rows: &[(&str, &str)]) -> Result<bool, Fail> {
+    let mut all = true;
+    for (bundle, line) in rows {
+        all = gives(rt, &[bundle], 3, &[], line)? && all;
+    }
+    Ok(all)
+}
+
 #[test]
 fn a_refused_sheet_ends_the_run(rt: HostRuntime) -> Result<(), Fail> {
-    let rows = [
-        ("", "sheet: 1 NotJson\n"),
-        ("\n{}", "sheet: 1 NotJson\n"),
-        ("[]", "sheet: 2 MemberForm\n"),
-        (
-            r#"{"concepts":{"eg:A":"numeric"}}"#,
-            "sheet: 13 UnboundPrefix\n",
-        ),
-        (
-            r#"{"namespaces":{"eg":"http://example.org/t"},"concepts":{"eg:A":"number"}}"#,
-            "sheet: 32 SheetKind\n",
-        ),
-    ];
-    for (bundle, line) in rows {
-        assert!(rt; gives(&rt, &[bundle], 3, &[], line)?);
-    }
+    assert!(rt; all_end(&rt, REFUSED_SHEETS.as_slice())?);
     assert!(rt; gives(&rt, &["{}"], 0, &[HEAD, MIDDLE, END], "")?);
     Ok(())
 }
 
+/// Whether the run stops with this line, where standard output has room for so many bytes and then
+/// holds these of the text.
+fn stops(
+    rt: &HostRuntime,
+    input: TestReader<'_>,
+    room: usize,
+    text: &[u8],
+    line: &str,
+) -> Result<bool, Fail> {
+    let ran = run_in(rt, input, room)?;
+    Ok(ran.status == 3 && ran.err.held() == line.as_bytes() && ran.out.held() == text)
+}
+
 #[test]
-fn a_failing_device_ends_the_run(rt: HostRuntime) -> Result<(), Fail> {
+fn a_full_device_ends_the_run(rt: HostRuntime) -> Result<(), Fail> {
     let bundle = joined(&rt, &[SHEET, "\n", INFO, HUNDRED, END])?;
-    let text = joined(&rt, &[HEAD, ONE_URI, MIDDLE, WRITTEN_HUNDRED, END])?;
-    for (room, line) in [
-        (0, "device: 0 bytes written\n"),
-        (199, "device: 199 bytes written\n"),
-    ] {
-        let ran = run_in(&rt, TestReader::new(&bundle, 1, Then::Ends), room)?;
-        assert_eq!(rt; ran.status, 3);
-        assert_eq!(rt; ran.err.held(), line.as_bytes());
-        assert_eq!(rt; Some(ran.out.held()), text.get(..room));
-    }
-    let ran = run_in(&rt, TestReader::new(&bundle, ROOM, Then::Fails), ROOM)?;
-    assert_eq!(rt; ran.status, 3);
-    assert_eq!(rt; ran.err.held(), b"file -: cannot be read\n".as_slice());
-    assert!(rt; ran.out.held().is_empty());
+    let text = joined(&rt, HUNDRED_TEXT)?;
+    let input = TestReader::new(&bundle, 1, Then::Ends);
+    assert!(rt; stops(&rt, input, 0, b"", "device: 0 bytes written\n")?);
+    let front = text.get(..199).unwrap_or_default();
+    assert!(rt; stops(&rt, input, 199, front, "device: 199 bytes written\n")?);
+    Ok(())
+}
+
+#[test]
+fn a_failing_input_ends_the_run(rt: HostRuntime) -> Result<(), Fail> {
+    let bundle = joined(&rt, &[SHEET, "\n", INFO, HUNDRED, END])?;
+    let input = TestReader::new(&bundle, ROOM, Then::Fails);
+    assert!(rt; stops(&rt, input, ROOM, b"", "file -: cannot be read\n")?);
     Ok(())
 }
 

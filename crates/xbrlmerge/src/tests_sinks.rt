@@ -16,11 +16,16 @@ pub(crate) const TOUCHING: &str =
 pub(crate) const EVERY_DIMENSION: &str =
     r#"{"documentInfo":{"documentType":"https://xbrl.org/2021/xbrl-json","namespaces":{"eg":"http://example.org/t","x":"http://example.org/u"}},"facts":{"a":{"value":"Blue","dimensions":{"concept":"eg:T","entity":"x:529900:A1","period":"2020-01-01T00:00:00/2020-12-31T24:00:00","language":"en-GB","eg:Reg":"eg:North","eg:Sku":"a b"}}}}"#;
 
-pub(crate) fn sheet(alloc: Global) -> Result<Sheet, AllocError> {
-    match Sheet::read(alloc, SHEET.as_bytes()) {
+/// The sheet of a text that is accepted.
+fn sheet_of(alloc: Global, text: &str) -> Result<Sheet, AllocError> {
+    match Sheet::read(alloc, text.as_bytes()) {
         Ok(sheet) => Ok(sheet),
         Err(_) => Err(AllocError),
     }
+}
+
+pub(crate) fn sheet(alloc: Global) -> Result<Sheet, AllocError> {
+    sheet_of(alloc, SHEET)
 }
 
 /// The base of one report, which is accepted.

@@ -68,16 +68,26 @@ fn asked<'w>(alloc: Global, matches: &ArgMatches<'w>) -> Result<Option<Task<'w>>
     })
 }
 
-/// The words of the program, with its help.
-fn program<'w>(alloc: Global) -> Result<Command<'w>, AllocError> {
-    Command::new(alloc, PROGRAM)
+/// The program with its help, and no command yet.
+fn described<'w>(alloc: Global) -> Result<Command<'w>, AllocError> {
+    let program = Command::new(alloc, PROGRAM)
         .no_binary_name(true)
-        .bin_name(PROGRAM)?
         .version(VERSION)
         .about(ABOUT)
-        .after_help(MORE)
+        .after_help(MORE);
+    program.bin_name(PROGRAM)
+}
+
+/// The program with the commands that consolidate reports.
+fn consolidating<'w>(alloc: Global) -> Result<Command<'w>, AllocError> {
+    described(alloc)?
         .subcommand(Merge::words(alloc)?)?
-        .subcommand(Verdicts::words(alloc)?)?
+        .subcommand(Verdicts::words(alloc)?)
+}
+
+/// The words of the program, with its help.
+fn program<'w>(alloc: Global) -> Result<Command<'w>, AllocError> {
+    consolidating(alloc)?
         .subcommand(Check::words(alloc)?)?
         .subcommand(Replay::words(alloc)?)
 }

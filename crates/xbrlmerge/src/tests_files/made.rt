@@ -80,13 +80,22 @@ const FILES: [(&str, &str, &str); 19] = [
     ),
 ];
 
+fn make(rt: &HostRuntime, name: &str, parts: &[&str]) -> Result<(), Fail> {
+    let bytes = joined(rt, parts)?;
+    fs::write(rt, name, bytes.as_slice())?;
+    Ok(())
+}
+
+fn make_all(rt: &HostRuntime, files: &[(&str, &str, &str)]) -> Result<(), Fail> {
+    for (name, front, rest) in files {
+        make(rt, name, &[front, rest])?;
+    }
+    Ok(())
+}
+
 /// Makes the folder and the files, and goes there.
 pub(super) fn made(rt: &HostRuntime) -> Result<(), Fail> {
     fs::create_dir_all(rt, FOLDER)?;
     env::set_current_dir(rt, FOLDER)?;
-    for (name, front, rest) in FILES {
-        let bytes = joined(rt, &[front, rest])?;
-        fs::write(rt, name, bytes.as_slice())?;
-    }
-    Ok(())
+    make_all(rt, FILES.as_slice())
 }

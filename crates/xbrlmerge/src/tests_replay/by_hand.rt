@@ -16,57 +16,24 @@ use std::test::Fail;
 
 const THREE: &[&str] = &[HUNDRED, HUNDRED_ONE, ABOVE];
 
-/// Three bases, and the texts that were sent.
-#[derive(Drop)]
-struct Driven<'s> {
-    first: Base<'s>,
-    second: Base<'s>,
-    third: Base<'s>,
-    one: Encoded,
-    two: Encoded,
-}
+/// One replica takes two reports, the second one first.
+const NEWER_FIRST: &str = "take 1 2\ntake 1 1\n";
 
 /// The base takes a report that is accepted.
-fn take(
-    alloc: Global,
-    sheet: &Sheet,
-    base: &mut Base<'_>,
-    report: &Encoded,
-) -> Result<(), AllocError> {
-    match read_report(alloc, sheet, report.as_bytes()) {
-        Ok(report) if base.same_sheet(sheet) => base.take(&report),
-        _ => Err(AllocError),
-    }
+fn take(alloc: Global, base: &mut Base<'_>, report: &[u8]) -> Result<(), AllocError> {
+    let Ok(report) = read_report(alloc, base.sheet(), report) else {
+        return Err(AllocError);
+    };
+    base.take(&report)
 }
 
-fn drive<'s>(
-    alloc: Global,
-    sheet: &'s Sheet,
-    reports: [&Encoded; 3],
-) -> Result<Driven<'s>, AllocError> {
-    let [report, other, last] = reports;
-    let mut first = Base::new(alloc, sheet);
-    let mut second = Base::new(alloc, sheet);
-    let mut third = Base::new(alloc, sheet);
-    take(alloc, sheet, &mut first, report)?;
-    let one = text(alloc, &first)?;
-    take(alloc, sheet, &mut second, other)?;
-    take(alloc, sheet, &mut second, &one)?;
-    let two = text(alloc, &second)?;
-    take(alloc, sheet, &mut third, last)?;
-    take(alloc, sheet, &mut third, &two)?;
-    take(alloc, sheet, &mut third, &one)?;
-    if !first.same_sheet(second.sheet()) {
-        return Err(AllocError);
+/// What took these reports.
+fn base_of<'s>(alloc: Global, sheet: &'s Sheet, reports: &[&[u8]]) -> Result<Base<'s>, AllocError> {
+    let mut base = Base::new(alloc, sheet);
+    for report in reports {
+        take(alloc, &mut base, report)?;
     }
-    first.join(&second)?;
-    Ok(Driven {
-        first,
-        second,
-        third,
-        one,
-        two,
-    })
+    Ok(base)
 }
 
 /// Whether the replica of this number has what the base has, and writes its text.
@@ -83,67 +50,128 @@ fn is_alike(
     Ok(ours.as_bytes() == theirs.as_bytes() && replica.same_as(base))
 }
 
-fn was_sent(replayed: &Replayed<'_>, number: usize, text: &Encoded) -> bool {
-    match replayed.sent(number) {
-        Some(sent) => sent.as_bytes() == text.as_bytes(),
-        None => false,
-    }
-}
-
-fn are_alike(
+/// Whether the replica of this number is as one that took these reports.
+fn took(
     alloc: Global,
     replayed: &Replayed<'_>,
-    driven: &Driven<'_>,
+    number: usize,
+    reports: &[&[u8]],
 ) -> Result<bool, AllocError> {
+    let Some(replica) = replayed.replica(number) else {
+        return Ok(false);
+    };
+    let base = base_of(alloc, replica.sheet(), reports)?;
+    is_alike(alloc, replayed, number, &base)
+}
+
+/// Whether the replica of this number is as one that took a report and joined one that took others.
+fn joined(
+    alloc: Global,
+    replayed: &Replayed<'_>,
+    number: usize,
+    report: &[u8],
+    others: &[&[u8]],
+) -> Result<bool, AllocError> {
+    let Some(replica) = replayed.replica(number) else {
+        return Ok(false);
+    };
+    let mut base = base_of(alloc, replica.sheet(), &[report])?;
+    let other = base_of(alloc, replica.sheet(), others)?;
+    if !base.same_sheet(other.sheet()) {
+        return Ok(false);
+    }
+    base.join(&other)?;
+    is_alike(alloc, replayed, number, &base)
+}
+
+/// Whether this sent text is that of a base which took these reports.
+fn was_sent(
+    alloc: Global,
+    sheet: &Sheet,
+    sent: &[u8],
+    reports: &[&[u8]],
+) -> Result<bool, AllocError> {
+    let base = base_of(alloc, sheet, reports)?;
+    Ok(text(alloc, &base)?.as_bytes() == sent)
+}
+
+/// Whether the nine events left what the calls leave.
+fn are_driven(
+    alloc: Global,
+    sheet: &Sheet,
+    replayed: &Replayed<'_>,
+    reports: &[Encoded],
+) -> Result<bool, AllocError> {
+    let [report, other, last] = reports else {
+        return Ok(false);
+    };
+    let (Some(one), Some(two)) = (replayed.sent(1), replayed.sent(2)) else {
+        return Ok(false);
+    };
+    let (report, other, last) = (report.as_bytes(), other.as_bytes(), last.as_bytes());
+    let (one, two) = (one.as_bytes(), two.as_bytes());
     Ok(
-        is_alike(alloc, replayed, 1, &driven.first)?
-            && is_alike(alloc, replayed, 2, &driven.second)?
-            && is_alike(alloc, replayed, 3, &driven.third)?
-            && was_sent(replayed, 1, &driven.one)
-            && was_sent(replayed, 2, &driven.two),
+        was_sent(alloc, sheet, one, &[report])?
+            && was_sent(alloc, sheet, two, &[other, one])?
+            && joined(alloc, replayed, 1, report, &[other, one])?
+            && took(alloc, replayed, 2, &[other, one])?
+            && took(alloc, replayed, 3, &[last, two, one])?,
     )
 }
 
 fn calls_leave_the_same(alloc: Global) -> Result<bool, AllocError> {
     let sheet = sheet(alloc)?;
     let reports = reports(alloc, THREE)?;
-    let [report, other, last] = reports.as_slice() else {
-        return Ok(false);
-    };
-    let driven = drive(alloc, &sheet, [report, other, last])?;
     match with_memory(played(alloc, &sheet, 3, THREE, NINE_EVENTS))? {
-        Ok(replayed) => are_alike(alloc, &replayed, &driven),
+        Ok(replayed) => are_driven(alloc, &sheet, &replayed, &reports),
         Err(_) => Ok(false),
     }
 }
 
-/// What one replica has that takes the two sent texts, the newer one first.
-fn taken_as_reports<'s>(
+fn encoded(alloc: Global, texts: &[&[u8]]) -> Result<Vec<Encoded>, AllocError> {
+    let mut all = Vec::with_capacity(alloc, texts.len())?;
+    for text in texts {
+        all.push(Encoded::new(alloc, text)?)?;
+    }
+    Ok(all)
+}
+
+/// What one replica has that takes reports by these lines.
+fn taken_by<'s>(
     alloc: Global,
     sheet: &'s Sheet,
-    texts: &[Encoded],
+    reports: &[Encoded],
+    lines: &str,
 ) -> Result<Replayed<'s>, ReplayFault> {
-    let events = read_events(alloc, b"take 1 2\ntake 1 1\n")?;
-    replay(alloc, sheet, 1, texts, &events)
+    let events = read_events(alloc, lines.as_bytes())?;
+    replay(alloc, sheet, 1, reports, &events)
+}
+
+/// Whether a replica that takes the two sent texts as reports writes the second one.
+fn are_taken(alloc: Global, sheet: &Sheet, replayed: &Replayed<'_>) -> Result<bool, AllocError> {
+    let (Some(one), Some(two)) = (replayed.sent(1), replayed.sent(2)) else {
+        return Ok(false);
+    };
+    let texts = encoded(alloc, &[one.as_bytes(), two.as_bytes()])?;
+    match with_memory(taken_by(alloc, sheet, &texts, NEWER_FIRST))? {
+        Ok(after) => writes_text(alloc, &after, two.as_bytes()),
+        Err(_) => Ok(false),
+    }
+}
+
+/// Whether the one replica writes this text.
+fn writes_text(alloc: Global, replayed: &Replayed<'_>, sent: &[u8]) -> Result<bool, AllocError> {
+    match replayed.replica(1) {
+        Some(base) => Ok(text(alloc, base)?.as_bytes() == sent),
+        None => Ok(false),
+    }
 }
 
 fn sent_texts_are_reports(alloc: Global) -> Result<bool, AllocError> {
     let sheet = sheet(alloc)?;
-    let Ok(before) = with_memory(played(alloc, &sheet, 3, THREE, NINE_EVENTS))? else {
-        return Ok(false);
-    };
-    let (Some(one), Some(two)) = (before.sent(1), before.sent(2)) else {
-        return Ok(false);
-    };
-    let mut texts = Vec::new(alloc);
-    texts.push(Encoded::new(alloc, one.as_bytes())?)?;
-    texts.push(Encoded::new(alloc, two.as_bytes())?)?;
-    let Ok(after) = with_memory(taken_as_reports(alloc, &sheet, &texts))? else {
-        return Ok(false);
-    };
-    match after.replica(1) {
-        Some(base) => Ok(text(alloc, base)?.as_bytes() == two.as_bytes()),
-        None => Ok(false),
+    match with_memory(played(alloc, &sheet, 3, THREE, NINE_EVENTS))? {
+        Ok(before) => are_taken(alloc, &sheet, &before),
+        Err(_) => Ok(false),
     }
 }
 

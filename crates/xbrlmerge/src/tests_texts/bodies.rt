@@ -20,23 +20,33 @@ fn no_report_has_108_bytes(rt: HostRuntime) -> Result<(), Fail> {
     Ok(())
 }
 
+const ONE: &str = r#""a":{"value":"100","decimals":0,"dimensions":{"concept":"eg:A"}}}}"#;
+
+const OTHER: &str = r#""a":{"value":"100","decimals":0,"dimensions":{"concept":"zz:A"}}}}"#;
+
+/// What bundles with that fact alone say, by whatever prefix and how often.
+const SAME: [&[&str]; 5] = [
+    &[SHEET, LINE, INFO, ONE],
+    &[SHEET, LINE, OTHER_INFO, OTHER, LINE],
+    &[SHEET, LINE, INFO, ONE, LINE, OTHER_INFO, OTHER, LINE],
+    &[SHEET, LINE, OTHER_INFO, OTHER, LINE, INFO, ONE],
+    &[SHEET, LINE, INFO, ONE, LINE, INFO, ONE, LINE, INFO, ONE],
+];
+
+fn all_give(rt: &HostRuntime, bundles: &[&[&str]], text: &str) -> Result<bool, Fail> {
+    let mut all = true;
+    for bundle in bundles {
+        all = gives(rt, bundle, &[text])? && all;
+    }
+    Ok(all)
+}
+
 #[test]
 fn prefixes_and_repetition_leave_200_bytes(rt: HostRuntime) -> Result<(), Fail> {
     let text =
         r#"{"documentInfo":{"documentType":"https://xbrl.org/2021/xbrl-json","namespaces":{"n1":"http://example.org/t"},"taxonomy":[]},"facts":{"f1":{"decimals":0,"dimensions":{"concept":"n1:A"},"value":"100"}}}"#;
     assert_eq!(rt; text.len(), 200);
-    let [s, a, b] = [SHEET, INFO, OTHER_INFO];
-    let one = r#""a":{"value":"100","decimals":0,"dimensions":{"concept":"eg:A"}}}}"#;
-    let other = r#""a":{"value":"100","decimals":0,"dimensions":{"concept":"zz:A"}}}}"#;
-    for bundle in [
-        [s, LINE, a, one, "", "", "", "", "", ""],
-        [s, LINE, b, other, LINE, "", "", "", "", ""],
-        [s, LINE, a, one, LINE, b, other, LINE, "", ""],
-        [s, LINE, b, other, LINE, a, one, "", "", ""],
-        [s, LINE, a, one, LINE, a, one, LINE, a, one],
-    ] {
-        assert!(rt; gives(&rt, &bundle, &[text])?);
-    }
+    assert!(rt; all_give(&rt, SAME.as_slice(), text)?);
     Ok(())
 }
 

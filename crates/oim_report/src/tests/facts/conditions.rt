@@ -286,12 +286,19 @@ fn are_refused(
     true
 }
 
+fn all_are_refused(rt: &HostRuntime, rows: &[(Reason, &[&str])]) -> Result<bool, Reason> {
+    let sheet = read_sheet(rt, SHEET)?;
+    let aliases = aliases_of(rt, &PREFIXES)?;
+    let mut all = true;
+    for (reason, texts) in rows {
+        all = are_refused(rt, &sheet, &aliases, *reason, texts) && all;
+    }
+    Ok(all)
+}
+
 #[test]
 fn the_least_fault_of_a_fact_is_answered(rt: HostRuntime) -> Result<(), Fail> {
-    let sheet = read_sheet(&rt, SHEET)?;
-    let aliases = aliases_of(&rt, &PREFIXES)?;
-    for (reason, texts) in FAULTS.iter().chain(&LEAST_FAULTS) {
-        assert!(rt; are_refused(&rt, &sheet, &aliases, *reason, texts));
-    }
+    assert!(rt; all_are_refused(&rt, FAULTS.as_slice())?);
+    assert!(rt; all_are_refused(&rt, LEAST_FAULTS.as_slice())?);
     Ok(())
 }

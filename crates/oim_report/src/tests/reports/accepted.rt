@@ -2,7 +2,7 @@ use super::{BOUND, Declares, FACTS, HasLevel, Keeps, NO_FACTS, SHEET, Sorts, Tab
 use oim_value::Level::{All, Complete, Consistent, Unique};
 use std::test::Fail;
 
-const LEVELS: [Table; 6] = [
+const LEVELS: &[Table] = &[
     // the level of a report keeps repeats
     Table {
         start: FACTS,
@@ -114,7 +114,7 @@ const LEVELS: [Table; 6] = [
     },
 ];
 
-const KEPT: [Table; 3] = [
+const KEPT: &[Table] = &[
     // the declared level is not that of the facts
     Table {
         start: r#"{"documentInfo":{"documentType":"https://xbrl.org/2021/xbrl-json","namespaces":{"y":"https://xbrl.org/2021"},"features":{"y:allowedDuplicates":""#,
@@ -162,7 +162,7 @@ const KEPT: [Table; 3] = [
 
 #[test]
 fn reports_say_what_is_written(rt: HostRuntime) -> Result<(), Fail> {
-    assert!(rt; hold(&rt, SHEET, &LEVELS)?);
-    assert!(rt; hold(&rt, SHEET, &KEPT)?);
+    assert!(rt; hold(&rt, SHEET, LEVELS)?);
+    assert!(rt; hold(&rt, SHEET, KEPT)?);
     Ok(())
 }
