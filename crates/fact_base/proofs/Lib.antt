@@ -7,6 +7,7 @@ pub mod Unions
 pub mod RowLists
 pub mod Summaries
 pub mod Levels
+pub mod NeverComplete
 pub mod Verdicts
 pub mod RowsOf
 pub mod Fitting

@@ -4,6 +4,7 @@ pub mod Contents
 pub mod Entries
 pub mod Fits
 pub mod Judged
+pub mod Level
 pub mod Rows
 pub mod Sets
 pub mod Shown

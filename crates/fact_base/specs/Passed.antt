@@ -2,6 +2,7 @@
 pub use Rattle.merge_laws.specs.Members.{SameMembers}
 pub use Rattle.merge_laws.specs.Sorted.{IsSet}
 pub use Rattle.oim_report.specs.Document.{Document}
+pub use Rattle.oim_report.specs.Duplicates.{level_of}
 pub use Rattle.oim_report.specs.FactFits.{DimensionFits, EntityFits, FactFits, FitsName, IsNamespace, MemberFits, UnitFits, ValueFits}
 pub use Rattle.oim_report.specs.FactObject.{fact_object, member_data, option_spelled, option_unit_text, put_text, value_data, with_decimals, with_defined, dimension_members, fact_members}
 pub use Rattle.oim_report.specs.Kept.{IsKeptReference}

@@ -1,4 +1,4 @@
-ghost use Rattle.std.specs.Prelude.{◌≡◌, ◌↔◌, [], ◌∷◌, length, is_some, IsTrue, IfSome, OnOk, OnErr};
+ghost use Rattle.std.specs.Prelude.{◌≡◌, ◌≢◌, ◌↔◌, [], ◌∷◌, length, is_some, IsTrue, IfSome, OnOk, OnErr};
 ghost use Rattle.fact_base.specs.Body.{body, union};
 ghost use Rattle.fact_base.specs.Fits.{Fits};
 ghost use Rattle.fact_base.specs.Rows.{rows_of, values_at};
@@ -175,7 +175,8 @@ impl<'s> Base<'s> {
     /// The strictest level of duplicates that allows the facts. It is never `Complete`, since each
     /// fact stands there once.
     pub fn level(&self) -> Level
-        ensures { result ≡ level_of self.now.body.facts }
+        ensures level { result ≡ level_of self.now.body.facts }
+        ensures never_complete { result ≢ Level.Complete }
     {
         level_of(&self.entries)
     }

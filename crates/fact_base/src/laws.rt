@@ -1,6 +1,7 @@
 //! Laws of the definitions, each the contract of a function that does nothing.
 ghost use Rattle.fact_base.specs.BodyLaws.{BodyHasWhatDocumentsHave, BodyIgnoresOrder, BodyOfBoth, UnionHasBoth};
 ghost use Rattle.fact_base.specs.Fits.{AcceptedFits, UnionFits};
+ghost use Rattle.fact_base.specs.Level.{SetsAreNeverComplete};
 ghost use Rattle.fact_base.specs.Rows.{RowsTellFacts};
 ghost use Rattle.fact_base.specs.Verdict.{InconsistentIsApart};
 
@@ -35,6 +36,11 @@ pub fn accepted_fits()
 /// order.
 pub fn rows_tell_facts()
     ensures { RowsTellFacts }
+{}
+
+/// The level of facts that stand once each is never `complete`, since equal facts are one.
+pub fn sets_are_never_complete()
+    ensures { SetsAreNeverComplete }
 {}
 
 /// A dimension set is called inconsistent exactly where two of its facts do not meet.

@@ -12,6 +12,7 @@ use Rattle.oim_names.specs.QName.{QName}
 use Rattle.oim_names.specs.Bindings.{Binding}
 use Rattle.oim_value.specs.Decimals.{is_finite_decimals}
 use Rattle.oim_value.specs.Plain.{plain}
+use Rattle.oim_value.specs.declared.limits.TheConstants.{MOST_DECIMALS}
 use Rattle.oim_value.specs.declared.value.Value.{Value}
 use Rattle.oim_value.specs.declared.value.Value.TheVariants.{Nil, Number, Text as AText, Name as AName}
 use Rattle.oim_dims.specs.DimensionSet.{DimensionSet}
@@ -129,8 +130,8 @@ value_kept bs spelled Text (AName n) fits s = absurd fits
 value_kept bs spelled Name (AName n) fits s = text_kept (spelled n) 1 (spelled_utf8 bs spelled n s fits.utf8)
 
 few_whole : (d : ℤ) → is_finite_decimals d ≡ true → IsWhole (of_integer d)
-few_whole (pos n) h = omega (arith, leb-true n 12 h)
-few_whole (negsuc n) h = omega (arith, leb-true (unsigned_abs (negsuc n)) 12 h)
+few_whole (pos n) h = omega (arith, leb-true n (unsigned_abs MOST_DECIMALS) h)
+few_whole (negsuc n) h = omega (arith, leb-true (unsigned_abs (negsuc n)) (unsigned_abs MOST_DECIMALS) h)
 
 decimals_kept : (d : ℤ) → is_finite_decimals d ≡ true → IsKept (number (of_integer d)) 1
 decimals_kept d h = record { plain = few_whole d h; utf8 = tt; shallow = omega arith }

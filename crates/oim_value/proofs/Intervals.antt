@@ -37,11 +37,11 @@ half_before_point d =
 
 -- ---- the interval of a number
 
-near_is : (x : ℤ) (h : ℕ) → unsigned_abs x ≤ h → (neg_ℤ (pos h) ≤ℤ x) × (x ≤ℤ pos h)
+pub near_is : (x : ℤ) (h : ℕ) → unsigned_abs x ≤ h → (neg_ℤ (pos h) ≤ℤ x) × (x ≤ℤ pos h)
 near_is (pos n) h near = (omega (arith, ints), omega (arith, ints))
 near_is (negsuc n) h near = (omega (arith, ints), omega (arith, ints))
 
-near_from : (x : ℤ) (h : ℕ) → neg_ℤ (pos h) ≤ℤ x → x ≤ℤ pos h → unsigned_abs x ≤ h
+pub near_from : (x : ℤ) (h : ℕ) → neg_ℤ (pos h) ≤ℤ x → x ≤ℤ pos h → unsigned_abs x ≤ h
 near_from (pos n) h low high = omega (arith, ints)
 near_from (negsuc n) h low high = omega (arith, ints)
 

@@ -13,3 +13,4 @@ pub mod Units
 pub mod Denoted
 pub mod Written
 pub mod ValueOrders
+pub mod Bounds

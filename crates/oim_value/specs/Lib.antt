@@ -1,3 +1,4 @@
+pub mod Bounds
 pub mod Decimals
 pub mod Ends
 pub mod Interval

@@ -1,5 +1,6 @@
 ghost use Rattle.std.specs.Prelude.{◌≡◌, None};
 ghost use Rattle.oim_value.specs.declared.value.Value.{Value as Seen};
+ghost use Rattle.oim_value.specs.Bounds.{IntervalEndsAreBounded};
 ghost use Rattle.oim_value.specs.Ends.{AllMeetIffEndsMeet, EndsAreCommonInterval, EndsAreOne, EndsExist, WithinEndsIsWithinEach};
 ghost use Rattle.oim_value.specs.Interval.{CommonIsAssociative, CommonIsBoth, CommonIsCommutative, CommonIsIdempotent, HalfAfterPoint, HalfBeforePoint, IntervalHasNumber, IntervalHasPoints, MeetsByCommonPart, MeetsByCommonPoint, WithinIsNear};
 ghost use Rattle.oim_value.specs.declared.level.Level.{Level as SeenLevel};
@@ -71,7 +72,8 @@ pub fn infinite_is_no_number() -> Decimals
     Decimals::INFINITE
 }
 
-/// Half the width of an interval is half of 10 to the power of minus the decimals.
+/// Twice half the width of an interval is 10 to the power of minus the decimals, so that it is a
+/// whole number of units.
 pub fn interval_is_half_a_place()
     ensures after_point { HalfAfterPoint }
     ensures before_point { HalfBeforePoint }
@@ -82,6 +84,13 @@ pub fn interval_has_what_is_near()
     ensures near { WithinIsNear }
     ensures number { IntervalHasNumber }
     ensures points { IntervalHasPoints }
+{}
+
+/// Both ends of the interval of a number that is kept are less in size than 10 to the power of
+/// `MOST_DIGITS` + `UNIT_PLACES` and the half width of `-MOST_DECIMALS` together: 15 * 10^36 units,
+/// which fits an `i128`.
+pub fn interval_ends_are_bounded()
+    ensures { IntervalEndsAreBounded }
 {}
 
 /// Common parts are one whatever the grouping, the order and the repetition.

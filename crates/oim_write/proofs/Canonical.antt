@@ -1,21 +1,24 @@
 -- The canonical text is its parts, one after another.
-use Rattle.std.proofs.Common.{◌≡◌, ℕ, ◌+◌, ◌<◌, List, [], ◌∷◌, ◌++◌, length, get_or, codes, false, refl, sym, ap, subst, ◌∙◌, append_assoc, arith, length-append}
+use Rattle.std.proofs.Common.{◌≡◌, ℕ, ◌+◌, ◌<◌, Bool, true, false, ◌||◌, List, [], ◌∷◌, ◌++◌, length, get_or, codes, Some, refl, sym, ap, subst, ◌∙◌, append_assoc, arith, length-append}
 use Rattle.std.proofs.lemmas.List.{get_or_at}
 use Rattle.std.specs.Prelude.{Contains}
-use Rattle.json.specs.Print.{escape_byte}
-use Rattle.serde_json.specs.Data.{Members, member}
-use Rattle.serde_json.specs.Written.{members_text}
+use Rattle.json.specs.Print.{escape_byte, quoted}
+use Rattle.serde_json.specs.Data.{Members, member, string}
+use Rattle.serde_json.specs.Written.{comma_if, members_text}
+use Rattle.oim_value.specs.Level.{level_entry}
+use Rattle.oim_value.specs.declared.level.Level.{Level}
+use Rattle.oim_value.specs.declared.level.Level.TheVariants.{Unique, Complete, Consistent, All as AllLevel}
 use Rattle.oim_dims.specs.DimensionSet.{IsDimensionSet}
 use Rattle.oim_dims.specs.FactOrder.{fact_cmp}
 use Rattle.oim_dims.specs.declared.fact.Fact.{Fact}
 use Rattle.oim_dims.proofs.Orders.{fact_cmp_total}
 use Rattle.fact_base.specs.Body.{Body}
 use Rattle.fact_base.specs.Fits.{Fits}
-use Rattle.fact_base.specs.Passed.{IsSet, Sheet, fact_object}
+use Rattle.fact_base.specs.Passed.{IsSet, Sheet, fact_object, level_of}
 use Rattle.oim_write.specs.Bytes.{canonical}
-use Rattle.oim_write.specs.Parts.{facts_text, head_text, namespace_members, numbered_members, parts, text_parts}
+use Rattle.oim_write.specs.Parts.{facts_text, has_some, head_text, namespace_members, numbered_members, part, parts, text_parts}
 use Rattle.oim_write.specs.Rank.{padded, rank, width}
-use Rattle.oim_write.specs.Tree.{identifier, members_by, name_text}
+use Rattle.oim_write.specs.Tree.{identifier, members_before, members_by, name_text, prefix, xbrl_member}
 use Rattle.oim_write.specs.Uris.{uris}
 use Rattle.oim_write.proofs.PartTexts.{items_text-parts, members_text-parts}
 use Rattle.oim_write.proofs.Ranks.{rank_at}
@@ -42,30 +45,57 @@ module _ (facts : List Fact) (rises : IsSet fact_cmp facts) where
         λ i. member (identifier_at (length done) f within is i) (facts_are_written_in_order facts f there (sets f there) i)
         ((rest ∙ ap (λ n. numbered_members (uris facts) (width (length facts)) n left) count) i)
 
+-- ---- the namespaces
+
+-- the member that binds `xbrl`
+abbrev bound_text : List ℕ
+bound_text = codes "\"xbrl\":\"https://xbrl.org/2021\""
+
+-- it stands behind the others, and behind a comma where there is one
+names-parts : (later : Bool) (level : Level) (us vs : List (List ℕ)) → parts later (members_before (prefix us) string vs (xbrl_member (Some level))) ≡ parts later (namespace_members us vs) ++ (comma_if (later || has_some vs) ++ bound_text)
+unfolding escape_byte
+names-parts true level us [] = refl
+names-parts false level us [] = refl
+names-parts true level us (v ∷ vs) =
+    ap (λ t. part true (prefix us v) (string v) ++ t) (names-parts true level us vs)
+    ∙ sym (append_assoc (part true (prefix us v) (string v)) (parts true (namespace_members us vs)) (comma_if true ++ bound_text))
+names-parts false level us (v ∷ vs) =
+    ap (λ t. part false (prefix us v) (string v) ++ t) (names-parts true level us vs)
+    ∙ sym (append_assoc (part false (prefix us v) (string v)) (parts true (namespace_members us vs)) (comma_if true ++ bound_text))
+
 -- ---- the whole
 
-rejoin : (names references facts : List ℕ) →
-    ((names ++ 125 ∷ []) ++ (codes ",\"taxonomy\":[" ++ ((references ++ 93 ∷ []) ++ 125 ∷ []))) ++ (codes ",\"facts\":{" ++ ((facts ++ 125 ∷ []) ++ 125 ∷ []))
-    ≡ (names ++ (codes "},\"taxonomy\":[" ++ (references ++ codes "]},\"facts\":{"))) ++ (facts ++ codes "}}")
-rejoin names references facts = simp append_assoc
+quoted_level : (l : Level) → quoted (level_entry l).text ≡ 34 ∷ ((level_entry l).text ++ 34 ∷ [])
+unfolding escape_byte
+quoted_level Unique = refl
+quoted_level Complete = refl
+quoted_level Consistent = refl
+quoted_level AllLevel = refl
+
+rejoin : (level names comma bound references facts : List ℕ) →
+    (((34 ∷ (level ++ 34 ∷ [])) ++ 125 ∷ []) ++ (codes ",\"namespaces\":{" ++ (((names ++ (comma ++ bound)) ++ 125 ∷ []) ++ (codes ",\"taxonomy\":[" ++ ((references ++ 93 ∷ []) ++ 125 ∷ []))))) ++ (codes ",\"facts\":{" ++ ((facts ++ 125 ∷ []) ++ 125 ∷ []))
+    ≡ (34 ∷ (level ++ (codes "\"},\"namespaces\":{" ++ (names ++ (comma ++ (bound ++ (codes "},\"taxonomy\":[" ++ (references ++ codes "]},\"facts\":{")))))))) ++ (facts ++ codes "}}")
+rejoin level names comma bound references facts = simp append_assoc
 
 -- the text is the head, the facts, and two braces
-pub canonical_is : (sheet : Sheet) (b : Body) → Fits sheet b → canonical b ≡ head_text (uris b.facts) b.references ++ (facts_text (uris b.facts) b.facts ++ codes "}}")
+pub canonical_is : (sheet : Sheet) (b : Body) → Fits sheet b → canonical b ≡ head_text (level_of b.facts) (uris b.facts) b.references ++ (facts_text (uris b.facts) b.facts ++ codes "}}")
 unfolding canonical escape_byte
 canonical_is sheet b fits =
-    let names : Members = namespace_members (uris b.facts) (uris b.facts) in
-    let facts : Members = numbered_members (uris b.facts) (width (length b.facts)) 0 b.facts in
+    let us : List (List ℕ) = uris b.facts in
+    let level : Level = level_of b.facts in
+    let names : Members = members_before (prefix us) string us (xbrl_member (Some level)) in
+    let facts : Members = numbered_members us (width (length b.facts)) 0 b.facts in
     let sets : (f : Fact) → Contains b.facts f → IsDimensionSet f.dimensions = λ f at. subst (λ (g : Fact). IsDimensionSet g.dimensions) at.2 (fits.facts at.0 f at.1).set in
     let numbered = numbered_behind b.facts fits.rises.facts sets [] b.facts refl in
-    ap (λ t. codes "{\"documentInfo\":{\"documentType\":\"https://xbrl.org/2021/xbrl-json\",\"namespaces\":{" ++ t) (
-    (λ i. (members_text-parts false names i ++ (codes ",\"taxonomy\":[" ++ (items_text-parts false b.references i ++ 125 ∷ [])))
+    ap (λ t. codes "{\"documentInfo\":{\"documentType\":\"https://xbrl.org/2021/xbrl-json\",\"features\":{\"xbrl:allowedDuplicates\":" ++ t) (
+    (λ i. ((quoted_level level i ++ 125 ∷ []) ++ (codes ",\"namespaces\":{" ++ ((members_text-parts false names ∙ ap (λ t. t ++ 125 ∷ []) (names-parts false level us us)) i ++ (codes ",\"taxonomy\":[" ++ (items_text-parts false b.references i ++ 125 ∷ [])))))
     ++ (codes ",\"facts\":{" ++ ((ap (members_text false) numbered ∙ members_text-parts false facts) i ++ 125 ∷ [])))
-    ∙ rejoin (parts false names) (text_parts false b.references) (parts false facts))
+    ∙ rejoin (level_entry level).text (parts false (namespace_members us us)) (comma_if (has_some us)) bound_text (text_parts false b.references) (parts false facts))
 
 -- the head, the facts and the end of a base
-pub canonical_of : (sheet : Sheet) (b : Body) (us references : List (List ℕ)) (head : List ℕ) → Fits sheet b → head ≡ head_text us references → us ≡ uris b.facts → references ≡ b.references
+pub canonical_of : (sheet : Sheet) (b : Body) (level : Level) (us references : List (List ℕ)) (head : List ℕ) → Fits sheet b → head ≡ head_text level us references → level ≡ level_of b.facts → us ≡ uris b.facts → references ≡ b.references
     → head ++ (facts_text us b.facts ++ codes "}}") ≡ canonical b
-canonical_of sheet b us references head fits first table taxonomy =
+canonical_of sheet b level us references head fits first declared table taxonomy =
     ap (λ t. t ++ (facts_text us b.facts ++ codes "}}")) first
-    ∙ (λ i. head_text (table i) (taxonomy i) ++ (facts_text (table i) b.facts ++ codes "}}"))
+    ∙ (λ i. head_text (declared i) (table i) (taxonomy i) ++ (facts_text (table i) b.facts ++ codes "}}"))
     ∙ sym (canonical_is sheet b fits)

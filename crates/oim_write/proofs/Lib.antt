@@ -15,3 +15,4 @@ pub mod SpelledFacts
 pub mod Namespaces
 pub mod PlainTrees
 pub mod Canonical
+pub mod FirstKeys

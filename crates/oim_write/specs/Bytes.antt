@@ -1,23 +1,28 @@
 -- The bytes by which a body is written (own).
-use Rattle.std.specs.Prelude.{◌≡◌, ℕ, List}
+use Rattle.std.specs.Prelude.{◌≡◌, ℕ, List, Option}
 use Rattle.fact_base.specs.Passed.{SameMembers}
 use Rattle.serde_json.specs.Written.{compact_text}
+use Rattle.oim_value.specs.declared.level.Level.{Level}
 use Rattle.fact_base.specs.Passed.{Document}
 use Rattle.fact_base.specs.Passed.{IsPlainJson}
 use Rattle.fact_base.specs.Passed.{Sheet}
 use Rattle.fact_base.specs.Body.{Body, body}
 use Rattle.fact_base.specs.Fits.{Fits}
-use Rattle.oim_write.specs.Tree.{tree}
+use Rattle.oim_write.specs.Tree.{earlier_tree, tree, tree_declaring}
 
 -- the JSON text with no space
 unfoldable pub canonical : Body → List ℕ
 canonical b = compact_text (tree b)
 
+-- that of before levels were declared
+unfoldable pub earlier : Body → List ℕ
+earlier b = compact_text (earlier_tree b)
+
 -- neither the order of documents nor how often each comes matters
 abbrev pub BytesIgnoreOrder : Type 0
 BytesIgnoreOrder = (ds es : List Document) → SameMembers ds es → canonical (body ds) ≡ canonical (body es)
 
--- the value of a body that fits a sheet has no float, its texts are UTF-8, the keys of each of its objects rise in byte order, each
+-- whatever level is declared, the value of a body that fits a sheet has no float, its texts are UTF-8, the keys of each of its objects rise in byte order, each
 -- once, and it nests four deep
 abbrev pub TreesArePlain : Type 0
-TreesArePlain = (sheet : Sheet) (b : Body) → Fits sheet b → IsPlainJson (tree b) 4
+TreesArePlain = (sheet : Sheet) (b : Body) (declared : Option Level) → Fits sheet b → IsPlainJson (tree_declaring declared b) 4

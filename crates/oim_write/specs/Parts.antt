@@ -6,6 +6,8 @@ use Rattle.json.specs.Tree.{json_tokens}
 use Rattle.json.specs.Written.{Written}
 use Rattle.serde_json.specs.Data.{Data, string, Members, no_members, member}
 use Rattle.serde_json.specs.Written.{comma_if, compact_text, outline}
+use Rattle.oim_value.specs.Level.{level_entry}
+use Rattle.oim_value.specs.declared.level.Level.{Level}
 use Rattle.oim_dims.specs.declared.fact.Fact.{Fact}
 use Rattle.oim_write.specs.Ordered.{ordered_fact}
 use Rattle.oim_write.specs.Rank.{padded, width}
@@ -38,6 +40,11 @@ abbrev pub parts : Bool → Members → List ℕ
 parts later no_members = []
 parts later (member name d ms) = part later name d ++ parts true ms
 
+-- whether there is one
+abbrev pub has_some : List (List ℕ) → Bool
+has_some [] = false
+has_some (u ∷ us) = true
+
 abbrev pub namespace_members : List (List ℕ) → List (List ℕ) → Members
 namespace_members us some = members_by (prefix us) string some
 
@@ -47,13 +54,16 @@ text_parts later [] = []
 text_parts later (t ∷ ts) = (comma_if later ++ quoted t) ++ text_parts true ts
 
 -- all that stands before the first fact
-abbrev pub head_text : List (List ℕ) → List (List ℕ) → List ℕ
-head_text us references =
-    codes "{\"documentInfo\":{\"documentType\":\"https://xbrl.org/2021/xbrl-json\",\"namespaces\":{"
+abbrev pub head_text : Level → List (List ℕ) → List (List ℕ) → List ℕ
+head_text level us references =
+    codes "{\"documentInfo\":{\"documentType\":\"https://xbrl.org/2021/xbrl-json\",\"features\":{\"xbrl:allowedDuplicates\":\""
+    ++ ((level_entry level).text
+    ++ (codes "\"},\"namespaces\":{"
     ++ (parts false (namespace_members us us)
-    ++ (codes "},\"taxonomy\":["
+    ++ (comma_if (has_some us)
+    ++ (codes "\"xbrl\":\"https://xbrl.org/2021\"},\"taxonomy\":["
     ++ (text_parts false references
-    ++ codes "]},\"facts\":{")))
+    ++ codes "]},\"facts\":{"))))))
 
 -- facts that are numbered with so many digits, where so many stand before them
 abbrev pub numbered_members : List (List ℕ) → ℕ → ℕ → List Fact → Members

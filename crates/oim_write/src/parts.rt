@@ -3,7 +3,7 @@ ghost use Rattle.serde_json.specs.Data.{string};
 ghost use Rattle.serde_json.specs.Written.{comma_if};
 ghost use Rattle.json.specs.Print.{quoted};
 ghost use Rattle.oim_write.specs.Ordered.{ordered_fact};
-ghost use Rattle.oim_write.specs.Parts.{head_text, namespace_members, part, parts, text_parts};
+ghost use Rattle.oim_write.specs.Parts.{has_some, head_text, namespace_members, part, parts, text_parts};
 ghost use Rattle.oim_write.specs.Rank.{padded};
 ghost use Rattle.oim_write.specs.Tree.{name_text, prefix};
 
@@ -14,11 +14,15 @@ use crate::room::Room;
 use json::Writer;
 use oim_dims::Dimensions;
 use oim_names::Text;
-use oim_value::Value;
+use oim_value::{Level, Value};
 use std::alloc::{AllocError, Global};
 use std::mem;
 
 // The parts of the canonical text. Where memory is refused, the text so far is given up.
+
+/// What stands before the level.
+const TYPE_AND_FEATURE: &[u8] =
+    b"{\"documentInfo\":{\"documentType\":\"https://xbrl.org/2021/xbrl-json\",\"features\":{\"xbrl:allowedDuplicates\":\"";
 
 /// What the facts of a text are labelled with: the prefixes of their names, and how many digits an
 /// identifier has.
@@ -31,21 +35,31 @@ pub(crate) struct Labels<'t> {
 /// All that stands before the first fact.
 pub(crate) fn head(
     alloc: Global,
+    level: Level,
     table: &PrefixTable,
     references: &[Text],
 ) -> Result<Vec<u8>, AllocError>
-    ensures { IfOk result (λ text. text.items ≡ head_text table.now references.now) }
+    ensures { IfOk result (λ text. text.items ≡ head_text level table.now references.now) }
 {
     let mut text = Vec::new(alloc);
-    text.extend_from_slice(
-        b"{\"documentInfo\":{\"documentType\":\"https://xbrl.org/2021/xbrl-json\",",
-    )?;
-    text.extend_from_slice(b"\"namespaces\":{")?;
+    text.extend_from_slice(TYPE_AND_FEATURE)?;
+    text.extend_from_slice(level.text().as_bytes())?;
+    text.extend_from_slice(b"\"},\"namespaces\":{")?;
     append_namespaces(alloc, &mut text, table)?;
-    text.extend_from_slice(b"},\"taxonomy\":[")?;
+    append_comma(&mut text, has_uris(table))?;
+    text.extend_from_slice(b"\"xbrl\":\"https://xbrl.org/2021\"},\"taxonomy\":[")?;
     append_references(alloc, &mut text, references)?;
     text.extend_from_slice(b"]},\"facts\":{")?;
     Ok(text)
+}
+
+fn has_uris(table: &PrefixTable) -> bool
+    ensures { result ≡ has_some table.now }
+{
+    match table.uris() {
+        [] => false,
+        [_, ..] => true,
+    }
 }
 
 fn append_namespaces(

@@ -18,7 +18,9 @@ use crate::write_fault::WriteFault;
 use fact_base::{Base, Row};
 use std::alloc::{AllocError, Global};
 
-/// The canonical text of a base (xBRL-JSON 1.0; the choice of prefixes and identifiers is own).
+/// The canonical text of a base (xBRL-JSON 1.0; the choice of prefixes and identifiers is own). It
+/// declares the strictest level of duplicates that allows the facts (OIM Common 1.0,
+/// `xbrl:allowedDuplicates`).
 ///
 /// Errors: want of memory.
 pub fn text(alloc: Global, base: &Base<'_>) -> Result<Encoded, AllocError>
@@ -46,7 +48,7 @@ pub fn write_to<S: Sink>(alloc: Global, base: &Base<'_>, out: &mut S) -> Result<
     let Ok(table) = PrefixTable::of(alloc, base) else {
         return Err(WriteFault::OutOfMemory(0));
     };
-    let Ok(head) = head(alloc, &table, base.taxonomy()) else {
+    let Ok(head) = head(alloc, base.level(), &table, base.taxonomy()) else {
         return Err(WriteFault::OutOfMemory(0));
     };
     let Ok(mut buffer) = SinkBuffer::new(alloc) else {

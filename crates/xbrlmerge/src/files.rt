@@ -1,8 +1,5 @@
-use crate::fault::Fault;
-use crate::read_all::read_all;
-use crate::read_fault::ReadFault;
-use crate::std_source::StdSource;
 use crate::stop::Stop;
+use oim_merge::{Fault, ReadFault, StdSource, read_all};
 use oim_names::Reason;
 use oim_report::Sheet;
 use oim_write::Encoded;

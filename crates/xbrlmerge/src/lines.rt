@@ -1,10 +1,7 @@
 ghost use Rattle.std.specs.Prelude.{◌≡◌, ◌-◌, ◌^◌, ◌<◌, OnOk};
 
-use crate::checked::Checked;
-use crate::fault::Fault;
-use crate::read_fault::ReadFault;
-use crate::refusals::Refusals;
 use crate::stop::Stop;
+use oim_merge::{Checked, Fault, ReadFault, Refusals};
 use oim_report::{Place, Refusal};
 use oim_write::{Sink, put_all};
 use std::alloc::Global;

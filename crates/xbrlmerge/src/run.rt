@@ -2,12 +2,11 @@ ghost use Rattle.std.specs.Prelude.{◌-◌, ◌^◌, ◌<◌};
 
 use crate::commands::bundle::merge_bundle;
 use crate::commands::show::show;
-use crate::fault::Fault;
 use crate::lines::{print_refusals, print_stop};
-use crate::refusals::Refusals;
 use crate::stop::Stop;
 use crate::task::Task;
 use crate::words::read_words;
+use oim_merge::{Fault, Refusals};
 use oim_write::{Sink, StdSink};
 use std::alloc::Global;
 use std::convert::AsStr;

@@ -1,7 +1,5 @@
-use crate::fault::Fault;
-use crate::read_fault::ReadFault;
-use crate::replay_fault::ReplayFault;
 use clap::Error;
+use oim_merge::{Fault, ReadFault, ReplayFault};
 use std::alloc::{AllocError, AllocFailed};
 
 /// Why the program stopped before its work was done.

@@ -3,8 +3,8 @@ use crate::canonical_parts::{END, HEAD, MIDDLE, ONE_URI, WRITTEN_HUNDRED};
 use crate::devices::{NeverFlushed, TestReader, TestWriter, Then};
 use crate::lines::print_read_fault;
 use crate::ran::NO_WORDS;
-use crate::read_fault::ReadFault;
 use crate::run::run;
+use oim_merge::ReadFault;
 use std::alloc::AllocError;
 use std::test::Fail;
 

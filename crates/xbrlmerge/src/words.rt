@@ -3,11 +3,11 @@ use crate::commands::merge::Merge;
 use crate::commands::replay::Replay;
 use crate::commands::verdicts::Verdicts;
 use crate::commands::{check, merge, replay, verdicts};
-use crate::fault::Fault;
 use crate::stop::Stop;
 use crate::task::Task;
 use clap::error::ErrorKind;
 use clap::{ArgMatches, Command, Error};
+use oim_merge::Fault;
 use std::alloc::{AllocError, Global};
 use std::convert::AsStr;
 

@@ -1,9 +1,8 @@
 ghost use Rattle.std.specs.Prelude.{◌-◌, ◌^◌, ◌<◌};
 
-use crate::bundle::consolidate_bundle;
 use crate::files::read_bytes;
-use crate::refusals::Refusals;
 use crate::stop::Stop;
+use oim_merge::{Refusals, consolidate_bundle};
 use oim_write::Sink;
 use std::alloc::Global;
 use std::io::Read;

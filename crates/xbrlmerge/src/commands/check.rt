@@ -1,13 +1,11 @@
 ghost use Rattle.std.specs.Prelude.{◌-◌, ◌^◌, ◌<◌};
 
 use crate::arguments::{REPORT, SHEET, report_argument, sheet_argument};
-use crate::checked::check_report;
-use crate::fault::Fault;
 use crate::files::{read_file, read_sheet};
 use crate::lines::put_checked;
-use crate::refusals::Refusals;
 use crate::stop::Stop;
 use clap::{ArgMatches, Command};
+use oim_merge::{Fault, Refusals, check_report};
 use oim_names::Reason;
 use oim_write::Sink;
 use std::alloc::{AllocError, Global};

@@ -1,12 +1,11 @@
 ghost use Rattle.std.specs.Prelude.{◌-◌, ◌^◌, ◌<◌};
 
 use crate::arguments::{REPORT, SHEET, reports_argument, sheet_argument, values_of};
-use crate::consolidation::consolidate;
 use crate::files::{read_files, read_sheet};
-use crate::refusals::Refusals;
 use crate::stop::Stop;
 use clap::builder::ValueParser;
 use clap::{Arg, ArgMatches, Command};
+use oim_merge::{Refusals, consolidate};
 use oim_value::Level;
 use oim_write::Sink;
 use std::alloc::{AllocError, Global};

@@ -1,16 +1,13 @@
 ghost use Rattle.std.specs.Prelude.{◌≡◌, ◌-◌, ◌^◌, ◌<◌, OnOk};
 
 use crate::arguments::{REPORT, SHEET, reports_argument, sheet_argument, values_of};
-use crate::fault::Fault;
 use crate::files::{read_file, read_files, read_sheet};
 use crate::lines::put_text;
-use crate::read_events::read_events;
-use crate::refusals::Refusals;
-use crate::replaying::replay;
 use crate::stop::Stop;
 use clap::builder::ValueParser;
 use clap::{Arg, ArgMatches, Command};
 use fact_base::Base;
+use oim_merge::{Fault, Refusals, read_events, replay};
 use oim_write::{Sink, write_to};
 use std::alloc::{AllocError, Global};
 use std::rt::Files;

@@ -1,9 +1,9 @@
 ghost use Rattle.std.specs.Prelude.{◌-◌, ◌^◌, ◌<◌};
 
 use crate::lines::put_text;
-use crate::refusals::Refusals;
 use crate::stop::Stop;
 use clap::Error;
+use oim_merge::Refusals;
 use oim_write::Sink;
 use std::alloc::Global;
 

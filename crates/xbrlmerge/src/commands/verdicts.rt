@@ -2,10 +2,9 @@ ghost use Rattle.std.specs.Prelude.{◌-◌, ◌^◌, ◌<◌};
 
 use crate::arguments::{REPORT, SHEET, reports_argument, sheet_argument, values_of};
 use crate::files::{read_files, read_sheet};
-use crate::listing::verdict_lines;
-use crate::refusals::Refusals;
 use crate::stop::Stop;
 use clap::{ArgMatches, Command};
+use oim_merge::{Refusals, verdict_lines};
 use oim_write::Sink;
 use std::alloc::{AllocError, Global};
 use std::rt::Files;

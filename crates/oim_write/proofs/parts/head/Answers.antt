@@ -1,19 +1,29 @@
 use Rattle.std.proofs.Common.{◌≡◌, ℕ, List, ◌++◌, codes, append_assoc, ap, ◌∙◌, false}
-use Rattle.oim_write.specs.Parts.{namespace_members, parts, text_parts}
+use Rattle.serde_json.specs.Written.{comma_if}
+use Rattle.oim_value.specs.Level.{level_entry}
+use Rattle.oim_write.specs.Parts.{has_some, namespace_members, parts, text_parts}
 use Rattle.oim_write.proofs.parts.head.Goals as goal
 
-rejoin : (first names middle references last : List ℕ) → (((first ++ names) ++ middle) ++ references) ++ last ≡ first ++ (names ++ (middle ++ (references ++ last)))
-rejoin first names middle references last = simp append_assoc
+rejoin : (first level middle names comma bound references last : List ℕ) →
+    ((((((first ++ level) ++ middle) ++ names) ++ comma) ++ bound) ++ references) ++ last
+    ≡ first ++ (level ++ (middle ++ (names ++ (comma ++ (bound ++ (references ++ last))))))
+rejoin first level middle names comma bound references last = simp append_assoc
 
 pub returns : goal.returns
 returns c =
+    let first = codes "{\"documentInfo\":{\"documentType\":\"https://xbrl.org/2021/xbrl-json\",\"features\":{\"xbrl:allowedDuplicates\":\"" in
+    let level = (level_entry c.args.level).text in
+    let middle = codes "\"},\"namespaces\":{" in
     let names = parts false (namespace_members c.args.table.now c.args.table.now) in
+    let bound = codes "\"xbrl\":\"https://xbrl.org/2021\"},\"taxonomy\":[" in
     let references = text_parts false c.args.references.now in
-    c.in_ok-extend_from_slice-4.ensures.items
-    ∙ ap (λ t. t ++ codes "]},\"facts\":{") (c.in_ok-append_references.ensures
-    ∙ ap (λ t. t ++ references) (c.in_ok-extend_from_slice-3.ensures.items
-    ∙ ap (λ t. t ++ codes "},\"taxonomy\":[") (c.in_ok-append_namespaces.ensures
-    ∙ ap (λ t. t ++ names) (c.in_ok-extend_from_slice-2.ensures.items
-    ∙ ap (λ t. t ++ codes "\"namespaces\":{") (c.in_ok-extend_from_slice.ensures.items
-    ∙ ap (λ t. t ++ codes "{\"documentInfo\":{\"documentType\":\"https://xbrl.org/2021/xbrl-json\",") c.new-text.ensures.items)))))
-    ∙ rejoin (codes "{\"documentInfo\":{\"documentType\":\"https://xbrl.org/2021/xbrl-json\",\"namespaces\":{") names (codes "},\"taxonomy\":[") references (codes "]},\"facts\":{")
+    let last = codes "]},\"facts\":{" in
+    c.in_ok-extend_from_slice-5.ensures.items
+    ∙ ap (λ t. t ++ last) (c.in_ok-append_references.ensures
+    ∙ ap (λ t. t ++ references) (c.in_ok-extend_from_slice-4.ensures.items
+    ∙ ap (λ t. t ++ bound) (c.in_ok-append_comma.ensures
+    ∙ (λ i. (c.in_ok-append_namespaces.ensures
+    ∙ ap (λ t. t ++ names) (c.in_ok-extend_from_slice-3.ensures.items
+    ∙ ap (λ t. t ++ middle) (c.in_ok-extend_from_slice-2.ensures.items
+    ∙ (λ j. (c.in_ok-extend_from_slice.ensures.items ∙ ap (λ t. t ++ first) c.new-text.ensures.items) j ++ (c.as_bytes.ensures.value ∙ c.text.ensures) j)))) i ++ comma_if (c.has_uris.ensures i)))))
+    ∙ rejoin first level middle names (comma_if (has_some c.args.table.now)) bound references last

@@ -1,0 +1,11 @@
+-- The level of duplicates of a body's facts (OIM Common 1.0, `xbrl:allowedDuplicates`).
+use Rattle.std.specs.Prelude.{◌≢◌, List}
+use Rattle.merge_laws.specs.Sorted.{IsSet}
+use Rattle.oim_dims.specs.FactOrder.{fact_cmp}
+use Rattle.oim_dims.specs.declared.fact.Fact.{Fact}
+use Rattle.oim_report.specs.Duplicates.{level_of}
+use Rattle.oim_value.specs.declared.level.Level.TheVariants.{Complete}
+
+-- facts that stand once each are never at the level `complete`, since equal facts are one
+abbrev pub SetsAreNeverComplete : Type 0
+SetsAreNeverComplete = (facts : List Fact) → IsSet fact_cmp facts → level_of facts ≢ Complete

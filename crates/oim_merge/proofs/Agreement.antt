@@ -1,0 +1,136 @@
+-- Replicas that know bytes alone agree with the sets of reports that reached them.
+use Rattle.std.proofs.Common.{◌≡◌, ℕ, zero, suc, ◌-◌, List, [], ◌∷◌, ◌++◌, map, length, get_or, set, replicate, Result, Ok, Err, Option, Some, None, refl, sym, ap, subst, ◌∙◌}
+use Rattle.std.proofs.lemmas.List.{map-set, length-set}
+use Rattle.std.proofs.Math.ListN.{get_or-map}
+use Rattle.oim_report.specs.Document.{Document}
+use Rattle.oim_report.specs.Outcome.{outcome}
+use Rattle.oim_report.specs.Sheet.{Sheet}
+use Rattle.oim_report.specs.declared.refusal.Refusal.{Refusal}
+use Rattle.fact_base.specs.Body.{body, union}
+use Rattle.fact_base.specs.Contents.{Contents}
+use Rattle.oim_merge.specs.Gathered.{base_of}
+use Rattle.oim_merge.specs.History.{IsReadAsBody}
+use Rattle.oim_merge.specs.Reports.{document_in}
+use Rattle.oim_merge.specs.Replicas.{Agree, Numbers, ReplicasStay, WireAgrees, Writer, base_named, both, documents_named, earlier, joined_with, present, reached, report, text_by, text_chosen, wire, with_accepted, with_outcome}
+use Rattle.oim_merge.specs.Schedule.{Machine, World, happens, keeps, kept_by, numbered, receives, run, start, world_after}
+use Rattle.oim_merge.specs.declared.event.Event.{Event}
+use Rattle.oim_merge.specs.declared.event.Event.TheVariants.{Take, Join, Send, Receive, Restart}
+use Rattle.oim_merge.proofs.Histories.{earlier_texts_give_bodies, texts_give_bodies}
+use Rattle.oim_merge.proofs.NamedReports.{base_both, reports_fit}
+use Rattle.oim_merge.proofs.Zips.{AtBoth, zip_numbered, zip_push}
+
+-- ---- lists of one thing
+
+map-replicate : {A B : Type 0} (f : A → B) (n : ℕ) (x : A) → replicate n (f x) ≡ map f (replicate n x)
+map-replicate f zero x = refl
+map-replicate f (suc n) x = ap (λ ys. f x ∷ ys) (map-replicate f n x)
+
+length-replicate : {A : Type 0} (n : ℕ) (x : A) → length (replicate n x) ≡ n
+length-replicate zero x = refl
+length-replicate (suc n) x = ap suc (length-replicate n x)
+
+-- ---- no event makes replicas or takes them away
+
+module _ {S M : Type 0} (machine : Machine S M) where
+  count-receives : (world : World S M) (i : ℕ) (message : Option M) → length (receives machine world i message).replicas ≡ length world.replicas
+  count-receives world i None = refl
+  count-receives world i (Some message) = length-set world.replicas (i - 1) _
+
+  count-happens : (world : World S M) (event : Event) → length (happens machine world event).replicas ≡ length world.replicas
+  count-happens world (Take i r) = length-set world.replicas (i - 1) _
+  count-happens world (Join i j) = length-set world.replicas (i - 1) _
+  count-happens world (Send i) = refl
+  count-happens world (Receive i k) = count-receives world i (numbered world.sent k)
+  count-happens world (Restart i) = length-set world.replicas (i - 1) _
+
+  count-run : (events : List Event) (world : World S M) → length (run machine events world).replicas ≡ length world.replicas
+  count-run [] world = refl
+  count-run (event ∷ events) world = count-run events (happens machine world event) ∙ count-happens world event
+
+  pub count : (n : ℕ) (events : List Event) → length (world_after machine n events).replicas ≡ n
+  count n events = count-run events (start machine n) ∙ length-replicate n machine.fresh
+
+pub replicas_stay : ReplicasStay
+replicas_stay sheet writers reports n events = count (wire sheet writers reports) n events
+
+-- ---- every event keeps the agreement
+
+module _ (sheet : Sheet) (writers : List Writer) (reports : List (List ℕ)) where
+  abbrev says : Numbers → Contents
+  says numbers = base_named sheet reports numbers
+
+  abbrev Says : List ℕ → Numbers → Type 0
+  Says bytes numbers = IsReadAsBody sheet bytes (body (documents_named sheet reports numbers))
+
+  abbrev sets_machine : Machine Numbers Numbers
+  sets_machine = reached sheet reports
+
+  abbrev bytes_machine : Machine Contents (List ℕ)
+  bytes_machine = wire sheet writers reports
+
+  abbrev Agreeing : World Numbers Numbers → World Contents (List ℕ) → Type 0
+  Agreeing sets bases = Agree sheet reports sets bases
+
+  says_kept : (sets : World Numbers Numbers) (bases : World Contents (List ℕ)) → Agreeing sets bases → (i : ℕ) → kept_by bytes_machine bases i ≡ says (kept_by sets_machine sets i)
+  says_kept sets bases agree i = ap (λ xs. get_or xs (i - 1) (base_of sheet [])) agree.replicas ∙ get_or-map says sets.replicas (i - 1) []
+
+  agree_keeps : (sets : World Numbers Numbers) (bases : World Contents (List ℕ)) → Agreeing sets bases → (i : ℕ) (numbers : Numbers) (base : Contents) → base ≡ says numbers → Agreeing (keeps sets_machine sets i numbers) (keeps bytes_machine bases i base)
+  agree_keeps sets bases agree i numbers base is = record {
+    replicas = (λ t. set (agree.replicas t) (i - 1) (is t)) ∙ sym (map-set says sets.replicas (i - 1) numbers);
+    sent = agree.sent;
+  }
+
+  -- a report that is taken
+  says_taken : (r : ℕ) (numbers : Numbers) (base : Contents) → base ≡ says numbers →
+      with_outcome (outcome sheet (report reports r)) base ≡ says (with_accepted (outcome sheet (report reports r)) r numbers)
+  says_taken r numbers base is = by_outcome (outcome sheet (report reports r)) refl
+    where
+      by_outcome : (o : Result Document Refusal) → outcome sheet (report reports r) ≡ o → with_outcome o base ≡ says (with_accepted o r numbers)
+      by_outcome (Ok d) e =
+          let one : says (r ∷ []) ≡ base_of sheet (d ∷ []) = ap (λ o. base_of sheet (document_in o ++ [])) e in
+          (λ t. joined_with (is t) (sym one t)) ∙ sym (base_both sheet reports numbers (r ∷ []))
+      by_outcome (Err f) e = is
+
+  -- a text that is received
+  says_received : (bytes : List ℕ) (message : Numbers) → Says bytes message → (numbers : Numbers) (base : Contents) → base ≡ says numbers →
+      with_outcome (outcome sheet bytes) base ≡ says (both numbers message)
+  says_received bytes message said numbers base is =
+      ap (λ o. with_outcome o base) said.read
+      ∙ (λ t. record { sheet = (is t).sheet; body = union (is t).body (said.same t) })
+      ∙ sym (base_both sheet reports numbers message)
+
+  -- a text that is sent, whoever writes it
+  says_sent : (numbers : Numbers) (sent : ℕ) (base : Contents) → base ≡ says numbers → Says (text_chosen writers sent base.body) numbers
+  says_sent numbers sent base is = subst (λ (c : Contents). Says (text_chosen writers sent c.body) numbers) (sym is) (by_writer (get_or writers sent present))
+    where
+      by_writer : (w : Writer) → Says (text_by w (says numbers).body) numbers
+      by_writer present = texts_give_bodies sheet (body (documents_named sheet reports numbers)) (reports_fit sheet (map (report reports) numbers))
+      by_writer earlier = earlier_texts_give_bodies sheet (body (documents_named sheet reports numbers)) (reports_fit sheet (map (report reports) numbers))
+
+  agree_receives : (sets : World Numbers Numbers) (bases : World Contents (List ℕ)) → Agreeing sets bases → (i : ℕ) (bytes : Option (List ℕ)) (message : Option Numbers) →
+      AtBoth Says bytes message → Agreeing (receives sets_machine sets i message) (receives bytes_machine bases i bytes)
+  agree_receives sets bases agree i None None h = agree
+  agree_receives sets bases agree i None (Some message) h = absurd h
+  agree_receives sets bases agree i (Some bytes) None h = absurd h
+  agree_receives sets bases agree i (Some bytes) (Some message) h = agree_keeps sets bases agree i _ _ (says_received bytes message h _ _ (says_kept sets bases agree i))
+
+  agree_happens : (sets : World Numbers Numbers) (bases : World Contents (List ℕ)) → Agreeing sets bases → (event : Event) → Agreeing (happens sets_machine sets event) (happens bytes_machine bases event)
+  agree_happens sets bases agree (Take i r) = agree_keeps sets bases agree i _ _ (says_taken r _ _ (says_kept sets bases agree i))
+  agree_happens sets bases agree (Join i j) = agree_keeps sets bases agree i _ _ ((λ t. joined_with (says_kept sets bases agree i t) (says_kept sets bases agree j t)) ∙ sym (base_both sheet reports _ _))
+  agree_happens sets bases agree (Send i) = record {
+    replicas = agree.replicas;
+    sent = zip_push Says bases.sent sets.sent _ _ agree.sent (says_sent (kept_by sets_machine sets i) (length bases.sent) (kept_by bytes_machine bases i) (says_kept sets bases agree i));
+  }
+  agree_happens sets bases agree (Receive i k) = agree_receives sets bases agree i _ _ (zip_numbered Says bases.sent sets.sent agree.sent k)
+  agree_happens sets bases agree (Restart i) = agree_keeps sets bases agree i [] (base_of sheet []) refl
+
+  agree_run : (events : List Event) (sets : World Numbers Numbers) (bases : World Contents (List ℕ)) → Agreeing sets bases → Agreeing (run sets_machine events sets) (run bytes_machine events bases)
+  agree_run [] sets bases agree = agree
+  agree_run (event ∷ events) sets bases agree = agree_run events _ _ (agree_happens sets bases agree event)
+
+  -- whether an event is bad does not matter to it
+  pub agree : (n : ℕ) (events : List Event) → Agreeing (world_after sets_machine n events) (world_after bytes_machine n events)
+  agree n events = agree_run events (start sets_machine n) (start bytes_machine n) (record { replicas = map-replicate says n []; sent = tt })
+
+pub wire_agrees : WireAgrees
+wire_agrees sheet writers reports n events good = agree sheet writers reports n events

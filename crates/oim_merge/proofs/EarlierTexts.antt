@@ -1,0 +1,9 @@
+-- A text of before is nobody's text of today.
+use Rattle.std.proofs.Common.{◌≡◌, get_or, sym, ap, ◌∙◌, arith}
+use Rattle.oim_write.proofs.FirstKeys.{behind_type, earlier_letter, present_letter}
+use Rattle.oim_merge.specs.ReadBack.{EarlierIsNotCanonical}
+
+pub earlier_is_not_canonical : EarlierIsNotCanonical
+earlier_is_not_canonical b c same =
+    let letters : 110 ≡ 102 = sym (earlier_letter b) ∙ ap (λ t. get_or t behind_type 0) same ∙ present_letter c in
+    absurd (omega (arith, letters))

@@ -1,0 +1,6 @@
+use Rattle.std.proofs.Common.{◌≡◌, [], replicate}
+use Rattle.oim_merge.specs.Gathered.{base_of}
+use Rattle.oim_merge.proofs.replicas.Replicas.new.Given as goal
+
+abbrev pub invariant-loop-made : goal.invariant-loop-made
+invariant-loop-made l = l.bases.items ≡ replicate l._made (base_of l.sheet [])

@@ -1,0 +1,28 @@
+use Rattle.std.proofs.Common.{take, ap, ◌∙◌, rules, length-take-le}
+use Rattle.std.proofs.lemmas.List.{with_items_is, places}
+use Rattle.std.proofs.KnownBytes.{Consumes-kept}
+use Rattle.oim_merge.proofs.Filling.{Consumes-more}
+use Rattle.oim_merge.proofs.source_reader.read_all.Goals as goal
+
+pub loop-filled-preserved : goal.loop-filled-preserved
+loop-filled-preserved g c =
+    let told = g.S.Source.told in
+    let before = c.loop-filled.invariant in
+    let now = c.get_behind.new.bytes in
+    let kept = c.in-Ok.ensures.front ∙ ap (take c.loop-filled.filled) c.as_mut_slice.ensures.value ∙ c.make_room.ensures.front in
+    let items = with_items_is c.make_room.new.bytes now (search (rules, places)) in
+    record {
+      given = rw items (Consumes-more (told c.args.source.now) (told c.loop-filled.source) (told c.get_behind.new.source) c.loop-filled.bytes.items now c.loop-filled.filled c.in-Ok.n kept before.given c.in-Ok.ensures.ok);
+      filled = search rules;
+      within = search rules;
+      failures = c.in-Ok.ensures.failures ∙ before.failures;
+    }
+
+pub returns-in-Err-clause-err : goal.returns-in-Err-clause-err
+returns-in-Err-clause-err g c =
+    let told = g.S.Source.told in
+    let given = take c.loop-filled.filled c.loop-filled.bytes.items in (
+      given,
+      Consumes-kept (told c.args.source.now) (told c.loop-filled.source) (told c.get_behind.new.source) given c.loop-filled.invariant.given c.in-Err.ensures.err,
+      length-take-le c.loop-filled.filled c.loop-filled.bytes.items (search (rules, places)),
+    )

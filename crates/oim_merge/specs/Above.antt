@@ -1,0 +1,49 @@
+-- Which dimension sets have duplicates above a level (OIM Common 1.0, `xbrl:allowedDuplicates`; own).
+use Rattle.std.specs.Prelude.{◌≡◌, ◌↔◌, IsTrue, ℕ, ◌+◌, Bool, true, false, List, ◌∷◌, ◌++◌, length, Option, Some, None}
+use Rattle.std.specs.List.{All}
+use Rattle.std.specs.Ordering.{is_le}
+use Rattle.oim_value.specs.Level.{level_cmp}
+use Rattle.oim_value.specs.declared.level.Level.{Level}
+use Rattle.oim_value.specs.declared.level.Level.TheVariants.{Consistent as ConsistentLevel, All as AllLevel}
+use Rattle.oim_report.specs.Duplicates.{level_of}
+use Rattle.oim_report.specs.Sheet.{Sheet}
+use Rattle.fact_base.specs.Body.{Body}
+use Rattle.fact_base.specs.Fits.{Fits}
+use Rattle.fact_base.specs.Rows.{Row, rows_of}
+use Rattle.fact_base.specs.Verdict.{verdict_of}
+use Rattle.fact_base.specs.declared.verdict.Verdict.{Verdict}
+use Rattle.fact_base.specs.declared.verdict.Verdict.TheVariants.{Complete, Inconsistent}
+
+-- an inconsistent dimension set is above `consistent`, and one of several facts is above `complete` and `none`
+abbrev pub is_above : Level → Verdict → Bool
+is_above AllLevel v = false
+is_above ConsistentLevel Inconsistent = true
+is_above ConsistentLevel v = false
+is_above level Complete = false
+is_above level v = true
+
+abbrev pub some_above : Level → Option Verdict → Bool
+some_above level None = false
+some_above level (Some v) = is_above level v
+
+-- whether a dimension set with its values is
+abbrev pub row_is_above : Level → Row → Bool
+row_is_above level r = some_above level (verdict_of r.1)
+
+-- no dimension set is above the level
+abbrev pub StaysWithin : Level → Body → Type 0
+StaysWithin level b = All (λ r. row_is_above level r ≡ false) (rows_of b.facts)
+
+-- the dimension set of this number, from 1, is above the level, and none before it is
+pub record IsFirstAbove (level : Level) (b : Body) (number : ℕ) : Type 0 where
+  pub before : List Row
+  pub row : Row
+  pub behind : List Row
+  pub rows : rows_of b.facts ≡ before ++ row ∷ behind
+  pub number_is : number ≡ length before + 1
+  pub above : row_is_above level row ≡ true
+  pub earlier : All (λ r. row_is_above level r ≡ false) before
+
+-- that is so exactly where the level of all facts, which their text declares, is no higher
+abbrev pub AllowedIsDeclared : Type 0
+AllowedIsDeclared = (sheet : Sheet) (b : Body) (level : Level) → Fits sheet b → StaysWithin level b ↔ IsTrue (is_le (level_cmp (level_of b.facts) level))

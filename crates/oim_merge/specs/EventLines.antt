@@ -1,0 +1,68 @@
+-- Lines of events (own). In bytes, a space is 32.
+use Rattle.std.specs.Prelude.{◌≡◌, ℕ, ◌+◌, ◌^◌, ◌<◌, ◌≤◌, ◌==◌, cond, List, [], ◌∷◌, ◌++◌, length, codes}
+use Rattle.std.specs.Fmt.{decimal}
+use Rattle.std.specs.List.{AllZip}
+use Rattle.oim_merge.specs.Bundle.{line_pieces}
+use Rattle.oim_merge.specs.declared.event.Event.{Event}
+use Rattle.oim_merge.specs.declared.event.Event.TheVariants.{Take, Join, Send, Receive, Restart}
+use Rattle.oim_merge.specs.declared.replay_fault.ReplayFault.{ReplayFault}
+use Rattle.oim_merge.specs.declared.replay_fault.ReplayFault.TheVariants.{OutOfMemory, BadEvent}
+
+-- a number as it may stand in a line
+abbrev pub IsNumber : ℕ → Type 0
+IsNumber n = (1 ≤ n) × (n < 2 ^ 32)
+
+-- a word and a number, and a word and two numbers, with single spaces and without leading zeros
+abbrev pub word_and_one : List ℕ → ℕ → List ℕ
+word_and_one word n = word ++ 32 ∷ decimal n
+
+abbrev pub word_and_two : List ℕ → ℕ → ℕ → List ℕ
+word_and_two word m n = word ++ 32 ∷ (decimal m ++ 32 ∷ decimal n)
+
+-- the line says the event
+abbrev pub IsEventLine : List ℕ → Event → Type 0
+IsEventLine line (Take i r) = (line ≡ word_and_two (codes "take") i r) × (IsNumber i × IsNumber r)
+IsEventLine line (Join i j) = (line ≡ word_and_two (codes "join") i j) × (IsNumber i × IsNumber j)
+IsEventLine line (Send i) = (line ≡ word_and_one (codes "send") i) × IsNumber i
+IsEventLine line (Receive i k) = (line ≡ word_and_two (codes "receive") i k) × (IsNumber i × IsNumber k)
+IsEventLine line (Restart i) = (line ≡ word_and_one (codes "restart") i) × IsNumber i
+
+-- it says none
+abbrev pub IsBadLine : List ℕ → Type 0
+IsBadLine line = (event : Event) → ¬ (IsEventLine line event)
+
+-- it says one at most
+abbrev pub LinesSayOneEvent : Type 0
+LinesSayOneEvent = (line : List ℕ) (e f : Event) → IsEventLine line e → IsEventLine line f → e ≡ f
+
+-- ---- whole files
+
+-- pieces without the last one, where that is empty
+abbrev pub without_empty_last : List (List ℕ) → List (List ℕ)
+without_empty_last [] = []
+without_empty_last (line ∷ []) = cond (length line == 0) [] (line ∷ [])
+without_empty_last (line ∷ next ∷ lines) = line ∷ without_empty_last (next ∷ lines)
+
+-- the lines of a file: what stands behind the last line end is one where it has a byte
+abbrev pub lines_of : List ℕ → List (List ℕ)
+lines_of bytes = without_empty_last (line_pieces bytes)
+
+-- each line says the event at its place
+abbrev pub SaysEvents : List ℕ → List Event → Type 0
+SaysEvents bytes events = AllZip IsEventLine (lines_of bytes) events
+
+-- the line of this number, from 1, says no event, and each before it says one
+pub record IsFirstBadLine (bytes : List ℕ) (number : ℕ) : Type 0 where
+  pub before : List (List ℕ)
+  pub line : List ℕ
+  pub behind : List (List ℕ)
+  pub lines : lines_of bytes ≡ before ++ line ∷ behind
+  pub number_is : number ≡ length before + 1
+  pub bad : IsBadLine line
+  pub events : List Event
+  pub earlier : AllZip IsEventLine before events
+
+-- what a fault tells
+abbrev pub ReadingEventsStops : List ℕ → ReplayFault → Type 0
+ReadingEventsStops bytes OutOfMemory = Unit {0}
+ReadingEventsStops bytes (BadEvent number) = IsFirstBadLine bytes number

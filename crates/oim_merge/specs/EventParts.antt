@@ -1,0 +1,15 @@
+-- Parts of a line of an event (own).
+use Rattle.std.specs.Prelude.{◌≡◌, ℕ, Bool, ◌==◌, List, ◌∷◌, ◌++◌}
+use Rattle.std.specs.Fmt.{decimal}
+use Rattle.oim_merge.specs.EventLines.{IsNumber}
+
+abbrev pub is_space : ℕ → Bool
+is_space c = c == 32
+
+-- the text of a number
+abbrev pub IsNumberText : List ℕ → ℕ → Type 0
+IsNumberText text n = (text ≡ decimal n) × IsNumber n
+
+-- the text of two numbers with a space between
+abbrev pub AreNumbersText : List ℕ → ℕ → ℕ → Type 0
+AreNumbersText text m n = (text ≡ decimal m ++ 32 ∷ decimal n) × (IsNumber m × IsNumber n)

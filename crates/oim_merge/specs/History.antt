@@ -1,0 +1,54 @@
+-- Bases by what they took and joined, and what their texts say (own).
+use Rattle.std.specs.Prelude.{◌≡◌, ℕ, List, [], ◌∷◌, ◌++◌, Contains, Ok}
+use Rattle.std.specs.List.{All}
+use Rattle.merge_laws.specs.Members.{SameMembers}
+use Rattle.oim_report.specs.Document.{Document}
+use Rattle.oim_report.specs.Outcome.{outcome}
+use Rattle.oim_report.specs.Sheet.{Sheet}
+use Rattle.fact_base.specs.Body.{Body, body, union}
+use Rattle.fact_base.specs.Fits.{Fits, IsAccepted}
+use Rattle.oim_write.specs.Bytes.{canonical, earlier}
+
+-- how a base came to be: a new one, one that took a document, one that joined another
+pub data History : Type 0 where
+  fresh : History
+  took : History → Document → History
+  joined : History → History → History
+
+-- its body, as `Base::new`, `take` and `join` tell
+abbrev pub body_of : History → Body
+body_of fresh = body []
+body_of (took h d) = union (body_of h) (body (d ∷ []))
+body_of (joined h k) = union (body_of h) (body_of k)
+
+-- the documents that reached it, by itself or through a base that it joined
+abbrev pub documents_of : History → List Document
+documents_of fresh = []
+documents_of (took h d) = documents_of h ++ d ∷ []
+documents_of (joined h k) = documents_of h ++ documents_of k
+
+-- only these matter: neither their order, nor their grouping, nor how often each came
+abbrev pub HistoriesAreForgotten : Type 0
+HistoriesAreForgotten = (h k : History) → SameMembers (documents_of h) (documents_of k) → canonical (body_of h) ≡ canonical (body_of k)
+
+-- ---- round trips
+
+-- bytes are read as a document that has just this body
+pub record IsReadAsBody (sheet : Sheet) (bytes : List ℕ) (b : Body) : Type 0 where
+  pub document : Document
+  pub read : outcome sheet bytes ≡ Ok document
+  pub same : body (document ∷ []) ≡ b
+
+-- the text of a body that fits a sheet gives it again
+abbrev pub TextsGiveBodies : Type 0
+TextsGiveBodies = (sheet : Sheet) (b : Body) → Fits sheet b → IsReadAsBody sheet (canonical b) b
+
+-- and so does its text of before
+abbrev pub EarlierTextsGiveBodies : Type 0
+EarlierTextsGiveBodies = (sheet : Sheet) (b : Body) → Fits sheet b → IsReadAsBody sheet (earlier b) b
+
+-- a text that documents were merged to, merged with itself and with any of them, is that text again
+abbrev pub MergedTextsMerge : Type 0
+MergedTextsMerge =
+    (sheet : Sheet) (docs some : List Document) (merged : Document) → All (IsAccepted sheet) docs → ((d : Document) → Contains some d → Contains docs d) →
+    outcome sheet (canonical (body docs)) ≡ Ok merged → canonical (body (merged ∷ merged ∷ some)) ≡ canonical (body docs)

@@ -1,0 +1,48 @@
+-- What listing verdicts leaves behind (own).
+use Rattle.std.specs.Prelude.{◌≡◌, ◌⊎◌, ℕ, Option, List}
+use Rattle.std.specs.Io.KnownBytes.{Appends}
+use Rattle.oim_report.specs.Sheet.{Sheet}
+use Rattle.oim_report.specs.declared.refusal.Refusal.{Refusal}
+use Rattle.fact_base.specs.Body.{Body}
+use Rattle.oim_write.specs.Sink.{AppendsFront}
+use Rattle.oim_write.specs.SinkBuffer.{Breaks, Passes, Pending}
+use Rattle.oim_merge.specs.Lines.{AreLines}
+use Rattle.oim_merge.specs.Reports.{merged, refused}
+use Rattle.oim_merge.specs.Run.{StopsBefore}
+use Rattle.oim_merge.specs.declared.fault.Fault.{Fault}
+use Rattle.oim_merge.specs.declared.fault.Fault.TheVariants.{OutOfMemory, Device, TooLoose, Sheet as SheetFault}
+
+-- the lines of a body were appended
+pub record AppendsLines (b : Body) (old new : Option (List ℕ)) : Type 0 where
+  pub text : List ℕ
+  pub lines : AreLines b text
+  pub appended : Appends old new text
+
+-- a front of them was, and so many bytes were counted
+pub record AppendsFrontOfLines (b : Body) (old new : Option (List ℕ)) (written : ℕ) : Type 0 where
+  pub text : List ℕ
+  pub lines : AreLines b text
+  pub front : AppendsFront old new text written
+
+-- on their way through a buffer
+pub record PassesLines (b : Body) (old new : Option (List ℕ)) (before after : Pending) : Type 0 where
+  pub text : List ℕ
+  pub lines : AreLines b text
+  pub passed : Passes old new before after text
+
+pub record BreaksLines (b : Body) (old new : Option (List ℕ)) (before : Pending) (written : ℕ) : Type 0 where
+  pub text : List ℕ
+  pub lines : AreLines b text
+  pub broken : Breaks old new before text written
+
+-- the lines of what the accepted reports say were appended, and the refused ones were told
+pub record ListsVerdicts (sheet : Sheet) (reports : List (List ℕ)) (old new : Option (List ℕ)) (told : List (ℕ × Refusal)) : Type 0 where
+  pub refusals_are : told ≡ refused sheet reports
+  pub lines : AppendsLines (merged sheet reports) old new
+
+-- what a fault leaves behind
+abbrev pub ListingStops : Sheet → List (List ℕ) → Option (List ℕ) → Option (List ℕ) → Fault → Type 0
+ListingStops sheet reports old new (OutOfMemory written) = StopsBefore old new written ⊎ AppendsFrontOfLines (merged sheet reports) old new written
+ListingStops sheet reports old new (Device written) = AppendsFrontOfLines (merged sheet reports) old new written
+ListingStops sheet reports old new (TooLoose row told) = ⊥
+ListingStops sheet reports old new (SheetFault reason) = ⊥

@@ -1,0 +1,57 @@
+-- What is written is read as it was (own; the levels are those of OIM Common 1.0, `xbrl:allowedDuplicates`).
+use Rattle.std.specs.Prelude.{◌≡◌, ◌≢◌, ◌↔◌, ℕ, List, [], ◌∷◌, IsTrue, Option, Some, None, Result, Ok, Err}
+use Rattle.std.specs.Ordering.{is_le, is_lt}
+use Rattle.serde_json.specs.Written.{compact_text}
+use Rattle.oim_names.specs.declared.reason.Reason.TheVariants.{DisallowedDuplicates}
+use Rattle.oim_value.specs.Level.{level_cmp}
+use Rattle.oim_value.specs.declared.level.Level.{Level}
+use Rattle.oim_value.specs.declared.level.Level.TheVariants.{All}
+use Rattle.oim_report.specs.Document.{Document}
+use Rattle.oim_report.specs.Duplicates.{level_of}
+use Rattle.oim_report.specs.Outcome.{at, outcome}
+use Rattle.oim_report.specs.Sheet.{Sheet}
+use Rattle.oim_report.specs.declared.place.Place.TheVariants.{Document as AtDocument}
+use Rattle.oim_report.specs.declared.refusal.Refusal.{Refusal}
+use Rattle.fact_base.specs.Body.{Body, body}
+use Rattle.fact_base.specs.Fits.{Fits}
+use Rattle.oim_write.specs.Bytes.{canonical, earlier}
+use Rattle.oim_write.specs.Tree.{tree_declaring}
+
+-- the document of a body's facts and references, both in order
+abbrev pub document_at : Level → Body → Document
+document_at level b = record { facts = b.facts; references = b.references; level = level }
+
+-- the text of a body that fits a sheet is read as that document, at the level of its facts,
+abbrev pub CanonicalReadsBack : Type 0
+CanonicalReadsBack = (sheet : Sheet) (b : Body) → Fits sheet b → outcome sheet (canonical b) ≡ Ok (document_at (level_of b.facts) b)
+
+-- and its text of before, which declares no level, with all duplicates allowed
+abbrev pub EarlierReadsBack : Type 0
+EarlierReadsBack = (sheet : Sheet) (b : Body) → Fits sheet b → outcome sheet (earlier b) ≡ Ok (document_at All b)
+
+-- ---- what is declared is the least level
+
+-- the text of a body with this level declared
+abbrev pub declaring : Level → Body → List ℕ
+declaring level b = compact_text (tree_declaring (Some level) b)
+
+-- an outcome is the refusal exactly where the declared level is below what is found, and else the document
+pub record IsHeldTo (declared found : Level) (d : Document) (said : Result Document Refusal) : Type 0 where
+  pub refused : (said ≡ Err (at AtDocument DisallowedDuplicates)) ↔ IsTrue (is_lt (level_cmp declared found))
+  pub read : (said ≡ Ok d) ↔ IsTrue (is_le (level_cmp found declared))
+
+-- whatever level its text declares, it is held to it: no level below that of its facts is accepted
+abbrev pub LeastLevelIsDeclared : Type 0
+LeastLevelIsDeclared =
+    (sheet : Sheet) (b : Body) (level : Level) → Fits sheet b →
+    IsHeldTo level (level_of b.facts) (document_at level b) (outcome sheet (declaring level b))
+
+-- ---- what is canonical
+
+-- the text of a body is that of the document which it is read as
+abbrev pub MergedTextsAreCanonical : Type 0
+MergedTextsAreCanonical = (sheet : Sheet) (b : Body) (d : Document) → Fits sheet b → outcome sheet (canonical b) ≡ Ok d → canonical b ≡ canonical (body (d ∷ []))
+
+-- a text of before is nobody's text of today
+abbrev pub EarlierIsNotCanonical : Type 0
+EarlierIsNotCanonical = (b c : Body) → earlier b ≢ canonical c

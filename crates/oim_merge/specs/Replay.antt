@@ -1,0 +1,44 @@
+-- What running a schedule leaves behind (own).
+use Rattle.std.specs.Prelude.{◌≡◌, ℕ, List, [], map, length, flat_map}
+use Rattle.oim_report.specs.Outcome.{outcome}
+use Rattle.oim_report.specs.Sheet.{Sheet}
+use Rattle.oim_report.specs.declared.refusal.Refusal.{Refusal}
+use Rattle.fact_base.specs.Contents.{Contents}
+use Rattle.oim_merge.specs.Replicas.{base_named, reached, report, wire}
+use Rattle.oim_merge.specs.Reports.{refusal_in}
+use Rattle.oim_merge.specs.Schedule.{IsFirstBad, NoneIsBad, World, world_after}
+use Rattle.oim_merge.specs.declared.event.Event.{Event}
+use Rattle.oim_merge.specs.declared.event.Event.TheVariants.{Take}
+use Rattle.oim_merge.specs.declared.replay_fault.ReplayFault.{ReplayFault}
+use Rattle.oim_merge.specs.declared.replay_fault.ReplayFault.TheVariants.{OutOfMemory, BadEvent}
+
+-- the replicas with what they sent, and the refused takes
+pub record Replay : Type 0 where
+  pub world : World Contents (List ℕ)
+  pub refused : List (ℕ × Refusal)
+
+abbrev pub world_of : List Contents → List (List ℕ) → World Contents (List ℕ)
+world_of bases sent = record { replicas = bases; sent = sent }
+
+-- the refusal of the report that an event takes
+abbrev pub refused_by : Sheet → List (List ℕ) → Event → List (ℕ × Refusal)
+refused_by sheet reports (Take i r) = refusal_in r (outcome sheet (report reports r))
+refused_by sheet reports event = []
+
+-- the refused takes, in the order of the events
+abbrev pub refused_takes : Sheet → List (List ℕ) → List Event → List (ℕ × Refusal)
+refused_takes sheet reports events = flat_map (refused_by sheet reports) events
+
+-- no event is bad; the replicas and the sent texts are those of the wire, with the present writer; so each replica has the base of the
+-- documents that reached it, and there are n of them; the refused takes are told
+pub record IsReplayOf (sheet : Sheet) (n : ℕ) (reports : List (List ℕ)) (events : List Event) (replay : Replay) : Type 0 where
+  pub good : NoneIsBad n (length reports) events
+  pub world : replay.world ≡ world_after (wire sheet [] reports) n events
+  pub bases : replay.world.replicas ≡ map (base_named sheet reports) (world_after (reached sheet reports) n events).replicas
+  pub count : length replay.world.replicas ≡ n
+  pub refusals : replay.refused ≡ refused_takes sheet reports events
+
+-- what a fault tells
+abbrev pub ReplayStops : ℕ → List (List ℕ) → List Event → ReplayFault → Type 0
+ReplayStops n reports events OutOfMemory = Unit {0}
+ReplayStops n reports events (BadEvent line) = IsFirstBad n (length reports) events line

@@ -1,0 +1,139 @@
+-- Replicas that keep bases and exchange their texts, and which reports reached each of them (own).
+use Rattle.std.specs.Prelude.{◌≡◌, ℕ, ◌-◌, List, [], ◌∷◌, ◌++◌, map, length, Some, Result, Ok, Err}
+use Rattle.std.specs.List.{AllZip, slice_index_or}
+use Rattle.std.specs.Ordering.{nat_cmp}
+use Rattle.oim_dims.specs.DimensionSet.{DimensionSet}
+use Rattle.oim_report.specs.Document.{Document}
+use Rattle.oim_report.specs.Duplicates.{level_of}
+use Rattle.oim_report.specs.Outcome.{outcome}
+use Rattle.oim_report.specs.Sheet.{Sheet}
+use Rattle.oim_report.specs.declared.refusal.Refusal.{Refusal}
+use Rattle.fact_base.specs.Body.{Body, body, union}
+use Rattle.fact_base.specs.Contents.{Contents}
+use Rattle.fact_base.specs.Rows.{values_at}
+use Rattle.fact_base.specs.Sets.{set_of}
+use Rattle.fact_base.specs.Verdict.{verdict}
+use Rattle.oim_write.specs.Bytes.{canonical, earlier as earlier_text}
+use Rattle.oim_merge.specs.Gathered.{base_of}
+use Rattle.oim_merge.specs.History.{IsReadAsBody}
+use Rattle.oim_merge.specs.Reports.{accepted}
+use Rattle.oim_merge.specs.Schedule.{Machine, NoneIsBad, World, numbered, world_after}
+use Rattle.oim_merge.specs.declared.event.Event.{Event}
+
+-- the bytes of the report of a number
+abbrev pub report : List (List ℕ) → ℕ → List ℕ
+report reports r = slice_index_or reports (r - 1) []
+
+-- ---- which reports reached each replica
+
+-- a finite set of report numbers: the rising list of its members
+abbrev pub Numbers : Type 0
+Numbers = List ℕ
+
+-- what two sets have
+abbrev pub both : Numbers → Numbers → Numbers
+both a b = set_of nat_cmp (a ++ b)
+
+-- the set with the number, where its report says a document
+abbrev pub with_accepted : Result Document Refusal → ℕ → Numbers → Numbers
+with_accepted (Ok d) r numbers = both numbers (r ∷ [])
+with_accepted (Err refusal) r numbers = numbers
+
+-- replicas that keep the numbers of the reports that reached them, and send these sets
+abbrev pub reached : Sheet → List (List ℕ) → Machine Numbers Numbers
+reached sheet reports = record {
+  fresh = [];
+  taken = λ r numbers. with_accepted (outcome sheet (report reports r)) r numbers;
+  joined = both;
+  message = λ sent numbers. numbers;
+  received = λ message numbers. both numbers message;
+}
+
+-- the documents that a set names
+abbrev pub documents_named : Sheet → List (List ℕ) → Numbers → List Document
+documents_named sheet reports numbers = accepted sheet (map (report reports) numbers)
+
+-- ---- replicas that know bytes alone
+
+-- a base that takes what an outcome says; a refusal adds nothing
+abbrev pub with_outcome : Result Document Refusal → Contents → Contents
+with_outcome (Ok d) base = record { sheet = base.sheet; body = union base.body (body (d ∷ [])) }
+with_outcome (Err refusal) base = base
+
+-- a base that joins another
+abbrev pub joined_with : Contents → Contents → Contents
+joined_with base other = record { sheet = base.sheet; body = union base.body other.body }
+
+-- who writes a text that is sent: a program of today, or one of before levels were declared
+pub data Writer : Type 0 where
+  present : Writer
+  earlier : Writer
+
+abbrev pub text_by : Writer → Body → List ℕ
+text_by present b = canonical b
+text_by earlier b = earlier_text b
+
+-- each text by the writer that is chosen for it, and by the present one after the last choice
+abbrev pub text_chosen : List Writer → ℕ → Body → List ℕ
+text_chosen writers sent b = text_by (slice_index_or writers sent present) b
+
+-- replicas that keep bases, and send texts
+abbrev pub wire : Sheet → List Writer → List (List ℕ) → Machine Contents (List ℕ)
+wire sheet writers reports = record {
+  fresh = base_of sheet [];
+  taken = λ r base. with_outcome (outcome sheet (report reports r)) base;
+  joined = joined_with;
+  message = λ sent base. text_chosen writers sent base.body;
+  received = λ bytes base. with_outcome (outcome sheet bytes) base;
+}
+
+-- ---- they agree
+
+-- the base of the documents that a set names
+abbrev pub base_named : Sheet → List (List ℕ) → Numbers → Contents
+base_named sheet reports numbers = base_of sheet (documents_named sheet reports numbers)
+
+-- each replica has the base of the documents that reached it, and each sent text is accepted and says what its sender had
+pub record Agree (sheet : Sheet) (reports : List (List ℕ)) (sets : World Numbers Numbers) (bases : World Contents (List ℕ)) : Type 0 where
+  pub replicas : bases.replicas ≡ map (base_named sheet reports) sets.replicas
+  pub sent : AllZip (λ bytes numbers. IsReadAsBody sheet bytes (body (documents_named sheet reports numbers))) bases.sent sets.sent
+
+-- whatever the schedule is, and whoever writes each text
+abbrev pub WireAgrees : Type 0
+WireAgrees =
+    (sheet : Sheet) (writers : List Writer) (reports : List (List ℕ)) (n : ℕ) (events : List Event) → NoneIsBad n (length reports) events →
+    Agree sheet reports (world_after (reached sheet reports) n events) (world_after (wire sheet writers reports) n events)
+
+-- there are so many replicas all along
+abbrev pub ReplicasStay : Type 0
+ReplicasStay =
+    (sheet : Sheet) (writers : List Writer) (reports : List (List ℕ)) (n : ℕ) (events : List Event) →
+    length (world_after (wire sheet writers reports) n events).replicas ≡ n
+
+-- ---- so what a replica says depends on the set that reached it alone
+
+-- a base says what documents say that are merged afresh
+pub record SaysAsAfresh (docs : List Document) (base : Contents) : Type 0 where
+  pub bytes : canonical base.body ≡ canonical (body docs)
+  pub verdicts : (d : DimensionSet) → verdict base.body.facts d ≡ verdict (body docs).facts d
+  pub values : (d : DimensionSet) → values_at d base.body.facts ≡ values_at d (body docs).facts
+  pub level : level_of base.body.facts ≡ level_of (body docs).facts
+
+abbrev pub ReplicasSayAsAfresh : Type 0
+ReplicasSayAsAfresh =
+    (sheet : Sheet) (writers : List Writer) (reports : List (List ℕ)) (n : ℕ) (events : List Event) → NoneIsBad n (length reports) events →
+    (i : ℕ) (numbers : Numbers) (base : Contents) →
+    numbered (world_after (reached sheet reports) n events).replicas i ≡ Some numbers →
+    numbered (world_after (wire sheet writers reports) n events).replicas i ≡ Some base →
+    SaysAsAfresh (documents_named sheet reports numbers) base
+
+-- replicas that the same reports reached write the same bytes
+abbrev pub EqualSetsWriteTheSame : Type 0
+EqualSetsWriteTheSame =
+    (sheet : Sheet) (writers : List Writer) (reports : List (List ℕ)) (n : ℕ) (events : List Event) → NoneIsBad n (length reports) events →
+    (i j : ℕ) (numbers : Numbers) (base other : Contents) →
+    numbered (world_after (reached sheet reports) n events).replicas i ≡ Some numbers →
+    numbered (world_after (reached sheet reports) n events).replicas j ≡ Some numbers →
+    numbered (world_after (wire sheet writers reports) n events).replicas i ≡ Some base →
+    numbered (world_after (wire sheet writers reports) n events).replicas j ≡ Some other →
+    canonical base.body ≡ canonical other.body

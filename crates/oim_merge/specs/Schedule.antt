@@ -1,0 +1,99 @@
+-- Schedules of events, and what they leave whatever a replica keeps (own). Replicas, reports and sent messages have numbers from 1.
+use Rattle.std.specs.Prelude.{◌≡◌, ℕ, zero, suc, ◌+◌, ◌-◌, ◌<◌, Bool, true, false, ◌||◌, Option, Some, None, List, [], ◌∷◌, ◌++◌, length, filter, take, nat_lt, ◌==◌, slice_get, slice_set, replicate}
+use Rattle.std.specs.List.{slice_index_or}
+use Rattle.oim_merge.specs.declared.event.Event.{Event}
+use Rattle.oim_merge.specs.declared.event.Event.TheVariants.{Take, Join, Send, Receive, Restart}
+
+-- what has this number, from 1
+abbrev pub numbered : {A : Type 0} → List A → ℕ → Option A
+numbered xs zero = None
+numbered xs (suc place) = slice_get xs place
+
+-- ---- bad events, told by events alone
+
+-- a number that is not one from 1 to the greatest
+abbrev pub is_outside : ℕ → ℕ → Bool
+is_outside greatest number = number == 0 || nat_lt greatest number
+
+-- an event that names a replica, a report or a sent message that is not there
+abbrev pub names_none : ℕ → ℕ → ℕ → Event → Bool
+names_none replicas reports sent (Take i r) = is_outside replicas i || is_outside reports r
+names_none replicas reports sent (Join i j) = is_outside replicas i || is_outside replicas j
+names_none replicas reports sent (Send i) = is_outside replicas i
+names_none replicas reports sent (Receive i k) = is_outside replicas i || is_outside sent k
+names_none replicas reports sent (Restart i) = is_outside replicas i
+
+abbrev pub is_send : Event → Bool
+is_send (Send i) = true
+is_send event = false
+
+-- how many messages these events send
+abbrev pub sent_by : List Event → ℕ
+sent_by events = length (filter is_send events)
+
+-- the event at a place, from 0, is bad, where those before it sent what can be received
+pub record IsBadAt (replicas reports : ℕ) (events : List Event) (place : ℕ) : Type 0 where
+  pub event : Event
+  pub there : slice_get events place ≡ Some event
+  pub bad : names_none replicas reports (sent_by (take place events)) event ≡ true
+
+abbrev pub NoneIsBad : ℕ → ℕ → List Event → Type 0
+NoneIsBad replicas reports events = (place : ℕ) → ¬ (IsBadAt replicas reports events place)
+
+-- the event of this line, from 1, is the first bad one
+pub record IsFirstBad (replicas reports : ℕ) (events : List Event) (line : ℕ) : Type 0 where
+  pub place : ℕ
+  pub line_is : line ≡ place + 1
+  pub bad : IsBadAt replicas reports events place
+  pub earlier : (before : ℕ) → before < place → ¬ (IsBadAt replicas reports events before)
+
+-- ---- a machine that runs schedules
+
+-- what replicas keep (S), and what they send (M)
+pub record Machine (S M : Type 0) : Type 0 where
+  -- of a replica that is new or restarted
+  pub fresh : S
+  -- after it took the report of this number
+  pub taken : ℕ → S → S
+  -- after it joined what another keeps
+  pub joined : S → S → S
+  -- what it sends, where so many messages were sent before
+  pub message : ℕ → S → M
+  -- after it received this message
+  pub received : M → S → S
+
+pub record World (S M : Type 0) : Type 0 where
+  pub replicas : List S
+  pub sent : List M
+
+module _ {S M : Type 0} (machine : Machine S M) where
+  -- what the replica of a number keeps
+  abbrev pub kept_by : World S M → ℕ → S
+  kept_by world i = slice_index_or world.replicas (i - 1) machine.fresh
+
+  -- the replica of a number keeps this from now on
+  abbrev pub keeps : World S M → ℕ → S → World S M
+  keeps world i state = record { replicas = slice_set world.replicas (i - 1) state; sent = world.sent }
+
+  abbrev pub receives : World S M → ℕ → Option M → World S M
+  receives world i None = world
+  receives world i (Some message) = keeps world i (machine.received message (kept_by world i))
+
+  abbrev pub happens : World S M → Event → World S M
+  happens world (Take i r) = keeps world i (machine.taken r (kept_by world i))
+  happens world (Join i j) = keeps world i (machine.joined (kept_by world i) (kept_by world j))
+  happens world (Send i) = record { replicas = world.replicas; sent = world.sent ++ machine.message (length world.sent) (kept_by world i) ∷ [] }
+  happens world (Receive i k) = receives world i (numbered world.sent k)
+  happens world (Restart i) = keeps world i machine.fresh
+
+  -- the world after a whole schedule
+  abbrev pub run : List Event → World S M → World S M
+  run [] world = world
+  run (event ∷ events) world = run events (happens world event)
+
+  -- so many new replicas, and nothing sent
+  abbrev pub start : ℕ → World S M
+  start n = record { replicas = replicate n machine.fresh; sent = [] }
+
+  abbrev pub world_after : ℕ → List Event → World S M
+  world_after n events = run events (start n)

@@ -1,0 +1,36 @@
+use std::alloc::AllocError;
+
+// Where a request for memory is refused, the next one is not: what asked for it is asked again. The
+// line on standard error tells of it.
+
+const ROOM: usize = 1 << 12;
+
+/// A sheet of every kind of concept and dimension.
+pub(crate) const SHEET: &str =
+    r#"{"namespaces":{"eg":"http://example.org/t"},"concepts":{"eg:A":"numeric","eg:B":"numeric","eg:T":"text","eg:Q":"name"},"dimensions":{"eg:Reg":"explicit","eg:Sku":"typed"}}"#;
+
+pub(crate) const INFO: &str =
+    r#"{"documentInfo":{"documentType":"https://xbrl.org/2021/xbrl-json","namespaces":{"eg":"http://example.org/t","x":"http://example.org/u","xbrli":"http://www.xbrl.org/2003/instance","xbrl":"https://xbrl.org/2021"}},"facts":{"#;
+
+/// The same up to what else stands in `documentInfo`.
+pub(crate) const OPEN_INFO: &str =
+    r#"{"documentInfo":{"documentType":"https://xbrl.org/2021/xbrl-json""#;
+
+pub(crate) fn tell_refused(rt: &HostRuntime) {
+    let _ = eprintln!(rt; "refused");
+}
+
+/// The parts, one after another.
+pub(crate) fn joined(rt: &HostRuntime, parts: &[&str]) -> Result<Vec<u8>, AllocError> {
+    let mut all = match Vec::with_capacity(rt.alloc(), ROOM) {
+        Ok(made) => made,
+        Err(_) => {
+            tell_refused(rt);
+            Vec::with_capacity(rt.alloc(), ROOM)?
+        }
+    };
+    for part in parts {
+        all.extend_from_slice(part.as_bytes())?;
+    }
+    Ok(all)
+}

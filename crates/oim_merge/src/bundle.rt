@@ -1,0 +1,64 @@
+ghost use Rattle.std.specs.Prelude.{◌≡◌, ◌-◌, ◌^◌, ◌<◌, IfOk, IfErr};
+ghost use Rattle.oim_merge.specs.Bundle.{filled_pieces};
+ghost use Rattle.oim_merge.specs.Gathered.{base_of};
+ghost use Rattle.oim_merge.specs.Reports.{accepted, refused};
+ghost use Rattle.oim_merge.specs.Run.{BundleStops, ConsolidatesBundle, failures_after_run};
+
+use crate::consolidation::write_within;
+use crate::fault::Fault;
+use crate::line_cut::cut_line;
+use crate::merged::Merged;
+use crate::merging::Merging;
+use crate::refusals::Refusals;
+use oim_names::Reason;
+use oim_report::Sheet;
+use oim_value::Level;
+use oim_write::Sink;
+use std::alloc::{AllocError, Global};
+
+/// Merges a bundle: its first line is a concept sheet, and each further line that is not empty is
+/// a report. The reports that are accepted are merged, and the canonical text of what they say goes
+/// to the sink, with whatever duplicates it has; the others are answered, by their numbers from 1.
+///
+/// Errors: `Sheet` where the sheet is refused, and then nothing is written; `Device` where the sink
+/// failed; `OutOfMemory`.
+pub fn consolidate_bundle<S: Sink>(
+    alloc: Global,
+    bytes: &[u8],
+    out: &mut S,
+) -> Result<Refusals, Fault>
+    requires { S.failures out.old < 2 ^ 64 - 1 }
+    ensures ok { IfOk result (ConsolidatesBundle bytes.now (S.told out.old) (S.told out.new)) }
+    ensures err { IfErr result (BundleStops bytes.now (S.told out.old) (S.told out.new)) }
+    ensures failures { S.failures out.new ≡ failures_after_run result (S.failures out.old) }
+{
+    let (first, rest) = cut_line(bytes);
+    let sheet = match Sheet::read(alloc, first) {
+        Ok(sheet) => sheet,
+        Err(Reason::OutOfMemory) => return Err(Fault::OutOfMemory(0)),
+        Err(reason) => return Err(Fault::Sheet(reason)),
+    };
+    let Ok(merged) = merge_lines(alloc, &sheet, rest) else {
+        return Err(Fault::OutOfMemory(0));
+    };
+    write_within(alloc, merged, Level::All, out)
+}
+
+/// Reads each line that is not empty.
+fn merge_lines<'s>(alloc: Global, sheet: &'s Sheet, lines: &[u8]) -> Result<Merged<'s>, AllocError>
+    ensures base { IfOk result (λ merged.
+        merged.base ≡ base_of sheet.now (accepted sheet.now (filled_pieces lines.now))) }
+    ensures refusals { IfOk result
+        (λ merged. merged.refusals ≡ refused sheet.now (filled_pieces lines.now)) }
+{
+    let mut merging = Merging::new(alloc, sheet);
+    let mut rest = lines;
+    while !rest.is_empty() {
+        let (line, behind) = cut_line(rest);
+        if !line.is_empty() {
+            merging.read(alloc, line)?;
+        }
+        rest = behind;
+    }
+    Merged::from_merging(alloc, merging)
+}

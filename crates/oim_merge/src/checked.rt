@@ -1,0 +1,83 @@
+ghost use Rattle.std.specs.Prelude.{◌≡◌, ◌⊎◌, ◌↔◌, Err, Ok, IfOk, IfErr, IsTrue};
+ghost use Rattle.std.specs.Ordering.{is_lt};
+ghost use Rattle.merge_laws.specs.Sorted.{IsSet};
+ghost use Rattle.oim_dims.specs.FactOrder.{fact_cmp};
+ghost use Rattle.oim_report.specs.Outcome.{at, outcome};
+ghost use Rattle.oim_merge.specs.Checked.{IsCanonicalOf, IsChecked};
+
+use fact_base::Base;
+use oim_dims::Fact;
+use oim_names::Reason;
+use oim_report::{Place, Refusal, Report, Sheet, read_report};
+use oim_value::Level;
+use oim_write::text;
+use std::alloc::{AllocError, Global};
+
+/// What a report that is accepted comes to.
+#[derive(Clone, Copy, Debug, PartialEq, Eq)]
+pub struct Checked {
+    /// How many facts it has, repeats counted.
+    pub facts: u64,
+    /// The duplicates that it has: the strictest level that allows its facts.
+    pub level: Level,
+    /// Whether its bytes are the canonical text of what it says.
+    pub canonical: bool,
+}
+
+/// Reads a report under a sheet, counts its facts, and tells whether its bytes are the canonical
+/// text of what it says (xBRL-JSON 1.0; the levels are those of OIM Common 1.0; what is canonical is
+/// own). For that it may hold the whole text beside the report.
+///
+/// Errors: the report's first refusal, with its place; `OutOfMemory`, at the document.
+pub fn check_report(alloc: Global, sheet: &Sheet, bytes: &[u8]) -> Result<Checked, Refusal>
+    ensures ok { IfOk result (IsChecked sheet.now bytes.now) }
+    ensures err { IfErr result
+        (λ r. (r ≡ at Place.Document Reason.OutOfMemory) ⊎ (outcome sheet.now bytes.now ≡ Err r)) }
+{
+    let report = read_report(alloc, sheet, bytes)?;
+    let Ok(canonical) = is_canonical(alloc, sheet, &report, bytes) else {
+        return Err(Refusal {
+            reason: Reason::OutOfMemory,
+            place: Place::Document,
+        });
+    };
+    Ok(Checked {
+        facts: report.facts().len() as u64,
+        level: report.level(),
+        canonical,
+    })
+}
+
+/// Whether the bytes are the canonical text of the report that was read of them. Facts that do not
+/// rise are never written, so nothing is written of these.
+fn is_canonical(
+    alloc: Global,
+    sheet: &Sheet,
+    report: &Report<'_>,
+    bytes: &[u8],
+) -> Result<bool, AllocError>
+    requires sheet { report.now.sheet ≡ sheet.now }
+    requires read { outcome sheet.now bytes.now ≡ Ok report.now.document }
+    ensures { IfOk result (λ canonical. IsTrue canonical ↔ IsCanonicalOf report.now.document bytes.now) }
+{
+    if !rise(report.facts()) {
+        return Ok(false);
+    }
+    let mut base = Base::new(alloc, sheet);
+    base.take(report)?;
+    let text = text(alloc, &base)?;
+    Ok(text.as_bytes() == bytes)
+}
+
+/// Whether each fact is below the next one.
+fn rise(facts: &[Fact]) -> bool
+    ensures { IsTrue result ↔ IsSet fact_cmp facts.now }
+{
+    facts.is_sorted_by(is_below)
+}
+
+fn is_below(fact: &Fact, next: &Fact) -> bool
+    ensures { result ≡ is_lt (fact_cmp fact.now next.now) }
+{
+    fact.cmp(next).is_lt()
+}

@@ -1,0 +1,91 @@
+ghost use Rattle.std.specs.Prelude.{◌≡◌, ◌-◌, ◌^◌, ◌<◌, IfOk, IfErr, MatchOption};
+ghost use Rattle.oim_merge.specs.Above.{IsFirstAbove, StaysWithin, some_above};
+ghost use Rattle.oim_merge.specs.Run.{Consolidates, ConsolidationStops, Stops, Writes, failures_after_run};
+
+use crate::fault::Fault;
+use crate::merged::Merged;
+use crate::refusals::Refusals;
+use fact_base::{Base, Verdict};
+use oim_report::Sheet;
+use oim_value::Level;
+use oim_write::{Encoded, Sink, write_to};
+use std::alloc::Global;
+
+/// Merges reports that are read under a sheet: the canonical text of what the accepted ones say goes
+/// to the sink (xBRL-JSON 1.0; the choice of prefixes and identifiers is own). The refused ones are
+/// answered, by their numbers from 1.
+///
+/// Errors: `TooLoose` where a dimension set has duplicates above `allow`, and then nothing is
+/// written; `Device` where the sink failed; `OutOfMemory`.
+pub fn consolidate<S: Sink>(
+    alloc: Global,
+    sheet: &Sheet,
+    reports: &[Encoded],
+    allow: Level,
+    out: &mut S,
+) -> Result<Refusals, Fault>
+    requires { S.failures out.old < 2 ^ 64 - 1 }
+    ensures ok { IfOk result (Consolidates sheet.now reports.now allow (S.told out.old) (S.told out.new)) }
+    ensures err { IfErr result (ConsolidationStops sheet.now reports.now allow (S.told out.old) (S.told out.new)) }
+    ensures failures { S.failures out.new ≡ failures_after_run result (S.failures out.old) }
+{
+    let Ok(merged) = Merged::of(alloc, sheet, reports) else {
+        return Err(Fault::OutOfMemory(0));
+    };
+    write_within(alloc, merged, allow, out)
+}
+
+/// Writes the base, where no dimension set is above the level.
+pub(crate) fn write_within<S: Sink>(
+    alloc: Global,
+    merged: Merged<'_>,
+    allow: Level,
+    out: &mut S,
+) -> Result<Refusals, Fault>
+    requires { S.failures out.old < 2 ^ 64 - 1 }
+    ensures ok { IfOk result (Writes allow merged.entry.base.body merged.entry.refusals (S.told out.old) (S.told out.new)) }
+    ensures err { IfErr result (Stops allow merged.entry.base.body merged.entry.refusals (S.told out.old) (S.told out.new)) }
+    ensures failures { S.failures out.new ≡ failures_after_run result (S.failures out.old) }
+{
+    let Merged { base, refusals } = merged;
+    if let Some(row) = first_above(&base, allow) {
+        return Err(Fault::TooLoose {
+            row,
+            refused: refusals,
+        });
+    }
+    match write_to(alloc, &base, out) {
+        Ok(()) => Ok(refusals),
+        Err(fault) => Err(Fault::from(fault)),
+    }
+}
+
+/// The number, from 1, of the first dimension set that is above the level.
+fn first_above(base: &Base<'_>, allow: Level) -> Option<u64>
+    ensures { MatchOption result (StaysWithin allow base.now.body) (IsFirstAbove allow base.now.body) }
+{
+    base.known();
+    if allow == Level::All {
+        return None;
+    }
+    // no more rows than fit this number
+    let _most = base.row_count();
+    let mut number = 0;
+    for row in base.rows() {
+        number += 1;
+        if is_above(allow, base.verdict(row.dimensions)) {
+            return Some(number);
+        }
+    }
+    None
+}
+
+fn is_above(allow: Level, verdict: Option<Verdict>) -> bool
+    ensures { result ≡ some_above allow verdict }
+{
+    match (allow, verdict) {
+        (_, None) | (_, Some(Verdict::Complete)) | (Level::All, _) => false,
+        (Level::Consistent, Some(verdict)) => verdict == Verdict::Inconsistent,
+        (Level::Complete | Level::Unique, Some(_)) => true,
+    }
+}

@@ -1,0 +1,37 @@
+ghost use Rattle.std.specs.Prelude.{◌≡◌};
+
+use crate::refusals::Refusals;
+use oim_names::Reason;
+use oim_write::WriteFault;
+
+/// Why reports were not consolidated. A length is that of the text that was written so far; one
+/// that has reached the greatest u64 stays there.
+#[derive(Debug, Drop)]
+pub enum Fault {
+    /// There was no memory.
+    OutOfMemory(u64),
+    /// The sink failed.
+    Device(u64),
+    /// A dimension set has duplicates above the level that is allowed, so nothing is written.
+    TooLoose {
+        /// The number, from 1, of the first such dimension set in their order.
+        row: u64,
+        /// The refused reports.
+        refused: Refusals,
+    },
+    /// The sheet is refused.
+    Sheet(Reason),
+}
+
+impl From<WriteFault> for Fault {
+    ghost use Rattle.oim_merge.specs.Run.{fault_of};
+
+    ghost from_gives = { λ fault made. made ≡ fault_of fault };
+
+    fn from(fault: WriteFault) -> Fault {
+        match fault {
+            WriteFault::OutOfMemory(written) => Fault::OutOfMemory(written),
+            WriteFault::Device(written) => Fault::Device(written),
+        }
+    }
+}

@@ -1,0 +1,97 @@
+//! Laws of the definitions, each the contract of a function that does nothing.
+ghost use Rattle.oim_merge.specs.Above.{AllowedIsDeclared};
+ghost use Rattle.oim_merge.specs.EventLines.{LinesSayOneEvent};
+ghost use Rattle.oim_merge.specs.History.{EarlierTextsGiveBodies, HistoriesAreForgotten, MergedTextsMerge, TextsGiveBodies};
+ghost use Rattle.oim_merge.specs.Lines.{LinesAreOne, LinesTellVerdicts};
+ghost use Rattle.oim_merge.specs.ReadBack.{CanonicalReadsBack, EarlierIsNotCanonical, EarlierReadsBack, LeastLevelIsDeclared, MergedTextsAreCanonical};
+ghost use Rattle.oim_merge.specs.Replicas.{EqualSetsWriteTheSame, ReplicasSayAsAfresh, ReplicasStay, WireAgrees};
+ghost use Rattle.oim_merge.specs.Run.{ReportsIgnoreOrder};
+
+/// Reports under one sheet of which the accepted ones say the same documents, in any order and each
+/// as often as one likes, are written by the same bytes.
+pub fn reports_ignore_order()
+    ensures { ReportsIgnoreOrder }
+{}
+
+/// The text of a body that fits a sheet is read as its facts and its references, both in order, at
+/// the level of its facts.
+pub fn canonical_reads_back()
+    ensures { CanonicalReadsBack }
+{}
+
+/// So is its text of before levels were declared, with all duplicates allowed.
+pub fn earlier_reads_back()
+    ensures { EarlierReadsBack }
+{}
+
+/// The level that a text declares is the least: with a lower one in its place it is refused, and with
+/// a higher one accepted.
+pub fn least_level_is_declared()
+    ensures { LeastLevelIsDeclared }
+{}
+
+/// No dimension set is above a level exactly where the level that the text declares is not.
+pub fn allowed_is_declared()
+    ensures { AllowedIsDeclared }
+{}
+
+/// A new base that takes the report which a text is read as, of today or of before, has the body
+/// again.
+pub fn texts_give_bodies()
+    ensures present { TextsGiveBodies }
+    ensures earlier { EarlierTextsGiveBodies }
+{}
+
+/// Each text is the canonical text of the document which it is read as.
+pub fn merged_texts_are_canonical()
+    ensures { MergedTextsAreCanonical }
+{}
+
+/// No text of before is a canonical text of today.
+pub fn earlier_is_not_canonical()
+    ensures { EarlierIsNotCanonical }
+{}
+
+/// Bases that took the same accepted reports, in any order, grouping and repetition, by themselves
+/// or through bases that they joined, write the same bytes.
+pub fn histories_are_forgotten()
+    ensures { HistoriesAreForgotten }
+{}
+
+/// A merged text that is merged with itself, and with any of the reports that went into it, is
+/// written again.
+pub fn merged_texts_merge()
+    ensures { MergedTextsMerge }
+{}
+
+/// A body that fits a sheet has lines of verdicts, and has no others.
+pub fn lines_are_one()
+    ensures { LinesAreOne }
+{}
+
+/// The word in a line is that of the verdict on its dimension set.
+pub fn lines_tell_verdicts()
+    ensures { LinesTellVerdicts }
+{}
+
+/// Replicas that exchange their texts have, after every schedule without a bad event, the bases of
+/// the documents that reached them, and every text that they sent is accepted, whoever wrote it.
+pub fn wire_agrees()
+    ensures agrees { WireAgrees }
+    ensures stay { ReplicasStay }
+{}
+
+/// So what such a replica says is what is said by the reports that reached it, merged afresh.
+pub fn replicas_say_as_afresh()
+    ensures { ReplicasSayAsAfresh }
+{}
+
+/// So two that the same reports reached write the same bytes.
+pub fn equal_sets_write_the_same()
+    ensures { EqualSetsWriteTheSame }
+{}
+
+/// A line of a schedule says one event at most.
+pub fn lines_say_one_event()
+    ensures { LinesSayOneEvent }
+{}

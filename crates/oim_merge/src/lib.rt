@@ -1,0 +1,75 @@
+//! Merges xBRL-JSON reports: bytes in to bytes out. Reports that are read under a sheet become one
+//! canonical text, the verdicts on their duplicates, or the texts of replicas that exchange them.
+#![tactic(auto)]
+
+#[cfg(test)]
+mod asked_again;
+mod bundle;
+#[cfg(test)]
+mod canonical_parts;
+mod checked;
+mod consolidation;
+#[cfg(test)]
+mod devices;
+#[cfg(test)]
+mod drawn;
+mod event;
+mod event_line;
+mod events;
+mod events_reader;
+#[cfg(test)]
+mod expecting;
+mod fault;
+mod gathering;
+pub mod laws;
+mod line_cut;
+mod listing;
+mod merged;
+mod merging;
+mod read_fault;
+mod reading;
+mod refusals;
+mod replay_fault;
+mod replayed;
+mod replaying;
+mod replicas;
+mod round_trip;
+mod source;
+mod source_reader;
+mod std_source;
+#[cfg(test)]
+mod tests_calls;
+#[cfg(test)]
+mod tests_io;
+#[cfg(test)]
+mod tests_replay;
+#[cfg(test)]
+mod tests_round_trip;
+#[cfg(test)]
+mod tests_sinks;
+#[cfg(test)]
+mod tests_texts;
+mod verdict_line;
+
+// merging
+pub use consolidation::consolidate;
+pub use fault::Fault;
+pub use refusals::Refusals;
+pub use bundle::consolidate_bundle;
+// judging and checking
+pub use listing::verdict_lines;
+pub use checked::{Checked, check_report};
+// replicas
+pub use event::Event;
+pub use events::Events;
+pub use events_reader::read_events;
+pub use replay_fault::ReplayFault;
+pub use replayed::Replayed;
+pub use replaying::replay;
+// sources
+pub use source::{Source, SourceError};
+pub use std_source::StdSource;
+pub use read_fault::ReadFault;
+pub use source_reader::read_all;
+// what the project promises of a text
+pub use round_trip::read_back;

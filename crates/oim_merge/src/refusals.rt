@@ -1,0 +1,49 @@
+ghost use Rattle.std.specs.Prelude.{◌≡◌, [], ◌++◌, ◌∷◌, OnOk, OnErr};
+
+use oim_report::Refusal;
+use std::alloc::{AllocError, Global};
+use std::marker::Model;
+
+/// The refused reports, each by its number from 1, in the order of the reports.
+#[derive(Debug, Drop)]
+pub struct Refusals {
+    entries: Vec<(u64, Refusal)>,
+}
+
+impl Model for Refusals {
+    ghost use Rattle.std.specs.Prelude.{List, ℕ};
+    ghost use Rattle.oim_report.specs.declared.refusal.Refusal.{Refusal as Refused};
+
+    ghost Value = { List (ℕ × Refused) };
+
+    ghost view = { λ r. r.entries.items };
+}
+
+impl Refusals {
+    /// No refused report. It takes no memory.
+    pub fn new(alloc: Global) -> Refusals
+        ensures { result ≡ [] }
+    {
+        Refusals {
+            entries: Vec::new(alloc),
+        }
+    }
+
+    /// Appends the refusal of a report, by its number from 1.
+    ///
+    /// Errors: want of memory, and then the list is as it was.
+    pub fn push(&mut self, report: u64, refusal: Refusal) -> Result<(), AllocError>
+        ensures ok { OnOk result (self.new ≡ self.old ++ (report, refusal) ∷ []) }
+        ensures err { OnErr result (self.new ≡ self.old) }
+    {
+        self.entries.push((report, refusal))?;
+        Ok(())
+    }
+
+    /// The numbers and refusals.
+    pub fn as_slice(&self) -> &[(u64, Refusal)]
+        ensures { result.now ≡ self.now }
+    {
+        self.entries.as_slice()
+    }
+}

@@ -1,0 +1,25 @@
+ghost use Rattle.std.specs.Prelude.{◌≡◌};
+ghost use Rattle.oim_merge.specs.declared.replay_fault.ReplayFault.TheVariants.{OutOfMemory};
+
+use std::alloc::AllocError;
+use thiserror::Error;
+
+/// Why a schedule was not read, or not run to its end.
+#[derive(Clone, Copy, Debug, PartialEq, Eq, Error)]
+pub enum ReplayFault {
+    /// There was no memory.
+    #[error("out of memory")]
+    OutOfMemory,
+    /// The line of this number, from 1, is the first that is no event, or the first whose event
+    /// names what is not there.
+    #[error("line {0} is refused")]
+    BadEvent(u64),
+}
+
+impl From<AllocError> for ReplayFault {
+    ghost from_gives = { λ _ made. made ≡ OutOfMemory };
+
+    fn from(_error: AllocError) -> ReplayFault {
+        ReplayFault::OutOfMemory
+    }
+}

@@ -1,0 +1,91 @@
+ghost use Rattle.std.specs.Prelude.{◌≡◌, MatchOption, None, Some};
+ghost use Rattle.oim_merge.specs.Replay.{world_of};
+ghost use Rattle.oim_merge.specs.Schedule.{numbered};
+
+use crate::refusals::Refusals;
+use crate::replicas::Replicas;
+use fact_base::Base;
+use oim_write::Encoded;
+use std::marker::Model;
+
+/// Replicas after a schedule, with the texts that they sent and the takes that were refused.
+#[derive(Drop)]
+pub struct Replayed<'s> {
+    bases: Vec<Base<'s>>,
+    sent: Vec<Encoded>,
+    refused: Refusals,
+}
+
+impl<'s> Model for Replayed<'s> {
+    ghost use Rattle.std.specs.Prelude.{◌≡◌};
+    ghost use Rattle.std.specs.Coded.{codes};
+    ghost use Rattle.oim_report.specs.SheetCode.{sheet_code};
+    ghost use Rattle.oim_merge.specs.Replay.{Replay, world_of};
+
+    ghost Value = { Replay };
+
+    ghost coded = { Prim.hlevel (codes, sheet_code) };
+
+    ghost view = { λ r. record { world = world_of r.bases.items r.sent.items; refused = r.refused } };
+}
+
+impl<'s> Replayed<'s> {
+    pub(crate) fn new(replicas: Replicas<'s>) -> Replayed<'s>
+        ensures world { result.world ≡ world_of replicas.entry.bases.items replicas.entry.sent.items }
+        ensures refused { result.refused ≡ replicas.entry.refused }
+    {
+        let Replicas {
+            bases,
+            sent,
+            refused,
+        } = replicas;
+        Replayed {
+            bases,
+            sent,
+            refused,
+        }
+    }
+
+    /// The replicas, from the first to the last.
+    pub fn replicas(&self) -> &[Base<'s>]
+        ensures { result.now ≡ self.now.world.replicas }
+    {
+        self.bases.as_slice()
+    }
+
+    /// The replica of this number, from 1; None where there is none.
+    pub fn replica(&self, number: usize) -> Option<&Base<'s>>
+        ensures { MatchOption result (numbered self.now.world.replicas number ≡ None)
+            (λ base. numbered self.now.world.replicas number ≡ Some base.now) }
+    {
+        match number.checked_sub(1) {
+            Some(place) => self.bases.get(place),
+            None => None,
+        }
+    }
+
+    /// The text that was sent as this number, from 1; None where so many were not sent.
+    pub fn sent(&self, number: usize) -> Option<&Encoded>
+        ensures { MatchOption result (numbered self.now.world.sent number ≡ None)
+            (λ text. numbered self.now.world.sent number ≡ Some text.now) }
+    {
+        match number.checked_sub(1) {
+            Some(place) => self.sent.get(place),
+            None => None,
+        }
+    }
+
+    /// The refused takes in the order of the events, each by the number of its report.
+    pub fn refused(&self) -> &Refusals
+        ensures { result.now ≡ self.now.refused }
+    {
+        &self.refused
+    }
+
+    /// The same, where the replicas are given up.
+    pub fn into_refused(self) -> Refusals
+        ensures { result ≡ self.entry.refused }
+    {
+        self.refused
+    }
+}

@@ -1,0 +1,40 @@
+ghost use Rattle.std.specs.Prelude.{IfOk, IfErr};
+ghost use Rattle.oim_merge.specs.Replay.{IsReplayOf, ReplayStops};
+
+use crate::events::Events;
+use crate::replay_fault::ReplayFault;
+use crate::replayed::Replayed;
+use crate::replicas::Replicas;
+use oim_report::Sheet;
+use oim_write::Encoded;
+use std::alloc::Global;
+
+/// Runs a schedule on so many replicas, which begin with nothing. Replicas, reports and sent texts
+/// have numbers from 1; the line of an event is its place among the events, from 1. A replica that
+/// takes a report or receives a sent text reads it under the sheet, and one that is refused changes
+/// nothing; a refused take is told. So each replica has what the reports say that reached it since
+/// its last restart, by itself or through others.
+///
+/// Errors: `BadEvent` with the line of the first event that names a replica, a report or a sent text
+/// that is not there; `OutOfMemory`.
+pub fn replay<'s>(
+    alloc: Global,
+    sheet: &'s Sheet,
+    n: usize,
+    reports: &[Encoded],
+    events: &Events,
+) -> Result<Replayed<'s>, ReplayFault>
+    ensures ok { IfOk result (IsReplayOf sheet.now n reports.now events.now) }
+    ensures err { IfErr result (ReplayStops n reports.now events.now) }
+{
+    let mut replicas = Replicas::new(alloc, sheet, n)?;
+    let mut line = 0u64;
+    for event in events.as_slice() {
+        line += 1;
+        if !replicas.has_named(*event, reports.len()) {
+            return Err(ReplayFault::BadEvent(line));
+        }
+        replicas.step(alloc, sheet, reports, *event)?;
+    }
+    Ok(Replayed::new(replicas))
+}

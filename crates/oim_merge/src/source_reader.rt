@@ -1,0 +1,81 @@
+ghost use Rattle.std.specs.Prelude.{◌≡◌, ◌+◌, ◌-◌, ◌^◌, ◌<◌, ◌≤◌, length, take, drop, vec_len, IfOk, IfErr, OnErr, OnOk, is_ok, if◌then◌else◌};
+ghost use Rattle.std.specs.Io.KnownBytes.{Consumes, IsAtEnd, Keeps};
+ghost use Rattle.oim_merge.specs.Source.{GivesBefore, failures_after_read};
+
+use crate::read_fault::ReadFault;
+use crate::source::{Source, SourceError};
+use oim_write::Encoded;
+use std::alloc::{AllocError, Global};
+
+/// How many bytes a source is asked for at once: first the fewest, then as many as it has given, up to
+/// the most, so that what a small file leaves empty is small.
+const FEWEST: usize = 1 << 12;
+
+const MOST: usize = 1 << 16;
+
+/// Reads a source to its end, as long as it gives at most `limit` bytes. It asks the source at
+/// most `limit` + 1 times, since each answer but the last has at least one byte.
+pub fn read_all<S: Source>(alloc: Global, source: &mut S, limit: u32) -> Result<Encoded, ReadFault>
+    requires { S.failures source.old < 2 ^ 64 - 1 }
+    ensures ok { IfOk result (λ bytes. Consumes (S.told source.old) (S.told source.new) bytes
+        × IsAtEnd (S.told source.new)) }
+    ensures limit { IfOk result (λ bytes. length bytes ≤ limit) }
+    ensures err { IfErr result (GivesBefore (S.told source.old) (S.told source.new) limit) }
+    ensures failures { S.failures source.new ≡ failures_after_read result (S.failures source.old) }
+{
+    let too_many = limit as usize + 1;
+    let mut bytes = Vec::new(alloc);
+    let mut filled = 0;
+    while filled < too_many {
+        if make_room(&mut bytes, filled, too_many).is_err() {
+            return Err(ReadFault::OutOfMemory);
+        }
+        match get_behind(source, bytes.as_mut_slice(), filled) {
+            Ok(0) => {
+                bytes.truncate(filled);
+                return Ok(Encoded::from_vec(bytes));
+            }
+            Ok(n) => filled += n,
+            Err(SourceError) => return Err(ReadFault::Device(filled as u64)),
+        }
+    }
+    Err(ReadFault::TooLong)
+}
+
+/// Makes the bytes longer than those that are filled, by zeros, and keeps these.
+fn make_room(bytes: &mut Vec<u8>, filled: usize, most: usize) -> Result<(), AllocError>
+    requires filled { filled ≤ vec_len bytes.old }
+    requires room { filled < most }
+    requires within { vec_len bytes.old ≤ most }
+    ensures front { take filled bytes.new.items ≡ take filled bytes.old.items }
+    ensures room { OnOk result (filled < vec_len bytes.new) }
+    ensures within { vec_len bytes.new ≤ most }
+{
+    if filled == bytes.len() {
+        bytes.resize(
+            most.min(filled.saturating_add(filled.max(FEWEST).min(MOST))),
+            0,
+        )?;
+    }
+    Ok(())
+}
+
+/// Asks the source for bytes, to stand behind those that are filled.
+fn get_behind<S: Source>(
+    source: &mut S,
+    bytes: &mut [u8],
+    filled: usize,
+) -> Result<usize, SourceError>
+    requires filled { filled < length bytes.old }
+    requires failures { S.failures source.old < 2 ^ 64 - 1 }
+    ensures front { take filled bytes.new ≡ take filled bytes.old }
+    ensures within { IfOk result (λ n. filled + n ≤ length bytes.new) }
+    ensures ok { IfOk result (λ n. Consumes (S.told source.old) (S.told source.new)
+        (take n (drop filled bytes.new))) }
+    ensures end { IfOk result (λ n. n ≡ 0 → IsAtEnd (S.told source.new)) }
+    ensures err { OnErr result (Keeps (S.told source.old) (S.told source.new)) }
+    ensures failures { S.failures source.new ≡
+        (if is_ok result then S.failures source.old else S.failures source.old + 1) }
+{
+    source.get(&mut bytes[filled..])
+}

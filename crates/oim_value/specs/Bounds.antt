@@ -1,0 +1,20 @@
+-- How large the ends of intervals get (own).
+use Rattle.std.specs.Prelude.{ℕ, ◌+◌, ◌^◌, ◌<◌, ℤ, neg_ℤ, unsigned_abs, Option, Some}
+use Rattle.oim_value.specs.declared.interval.Interval.{Interval}
+use Rattle.oim_value.specs.declared.limits.TheConstants.{MOST_DECIMALS, MOST_DIGITS, UNIT_PLACES}
+use Rattle.oim_value.specs.Decimals.{AreDecimals}
+use Rattle.oim_value.specs.Interval.{half_width, interval}
+use Rattle.oim_value.specs.Number.{IsShort}
+
+-- what no number that is kept reaches, and the greatest half width
+abbrev pub end_bound : ℕ
+end_bound = 10 ^ (MOST_DIGITS + UNIT_PLACES) + half_width (Some (neg_ℤ MOST_DECIMALS))
+
+-- both ends of an interval are less than that in size
+pub record EndsAreBounded (i : Interval) : Type 0 where
+  pub low : unsigned_abs i.low < end_bound
+  pub high : unsigned_abs i.high < end_bound
+
+-- those of a number that is kept are, whatever its decimals
+abbrev pub IntervalEndsAreBounded : Type 0
+IntervalEndsAreBounded = (units : ℤ) (decimals : Option ℤ) → IsShort units → AreDecimals decimals → EndsAreBounded (interval units decimals)

@@ -1,0 +1,17 @@
+-- The key behind the type of a text: `namespaces` in one of before, `features` in one of today.
+use Rattle.std.proofs.Common.{◌≡◌, ℕ, get_or, refl}
+use Rattle.json.specs.Print.{escape_byte}
+use Rattle.fact_base.specs.Body.{Body}
+use Rattle.oim_write.specs.Bytes.{canonical, earlier}
+
+-- where it begins
+abbrev pub behind_type : ℕ
+behind_type = 67
+
+pub earlier_letter : (b : Body) → get_or (earlier b) behind_type 0 ≡ 110
+unfolding earlier escape_byte
+earlier_letter b = refl
+
+pub present_letter : (c : Body) → get_or (canonical c) behind_type 0 ≡ 102
+unfolding canonical escape_byte
+present_letter c = refl

@@ -1,5 +1,0 @@
-use Rattle.xbrlmerge.proofs.Histories.{histories_are_forgotten}
-use Rattle.xbrlmerge.proofs.laws.histories_are_forgotten.Goals as goal
-
-pub returns : goal.returns
-returns c = histories_are_forgotten

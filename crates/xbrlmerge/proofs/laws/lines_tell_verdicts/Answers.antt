@@ -1,5 +1,0 @@
-use Rattle.xbrlmerge.proofs.Evidenced.{lines_tell_verdicts}
-use Rattle.xbrlmerge.proofs.laws.lines_tell_verdicts.Goals as goal
-
-pub returns : goal.returns
-returns c = lines_tell_verdicts

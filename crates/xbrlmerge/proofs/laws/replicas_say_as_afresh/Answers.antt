@@ -1,5 +1,0 @@
-use Rattle.xbrlmerge.proofs.Afresh.{replicas_say_as_afresh}
-use Rattle.xbrlmerge.proofs.laws.replicas_say_as_afresh.Goals as goal
-
-pub returns : goal.returns
-returns c = replicas_say_as_afresh

@@ -1,9 +1,0 @@
-use Rattle.std.proofs.Common.{◌≡◌}
-use Rattle.xbrlmerge.proofs.Replays.{HasRun}
-use Rattle.xbrlmerge.proofs.replaying.replay.Given as goal
-
-abbrev pub invariant-loop-event : goal.invariant-loop-event
-invariant-loop-event l = record {
-  line : l.line ≡ l.event-index;
-  run : HasRun l.sheet l.n l.reports l.event-items l.event-index l.replicas.bases.items l.replicas.sent.items l.replicas.refused;
-}
