@@ -16,16 +16,22 @@ pub(crate) const NAME: &str = "check";
 
 const ABOUT: &str = "Tells of one report how many facts it has and which duplicates are among them";
 
-const MORE: &str = "Of a report that is accepted the line is
+const MORE: &str = "The line of an accepted report is one of
 
-  accepted FACTS LEVEL
+  accepted FACTS LEVEL canonical
+  accepted FACTS LEVEL other
 
   FACTS       how many facts it has, repeats counted
-  LEVEL       what its facts of the same dimensions are:
+  LEVEL       the duplicates among them (facts with the same dimensions):
   none        there are none
-  complete    equal
-  consistent  equal, or numbers whose rounding intervals meet
-  all         some contradict each other
+  complete    duplicates are equal
+  consistent  duplicates are equal, or numbers that agree within rounding
+  all         some duplicates contradict each other
+  canonical   the file is, byte for byte, what `merge` writes of it
+  other       it is not: it was written otherwise, or before levels were declared
+
+To tell whether a report is canonical, `check` holds the report and the text that `merge` would
+write in memory.
 
 Example:
   xbrlmerge check --sheet examples/sheet.json examples/ledgerline.json
