@@ -12,7 +12,7 @@ use oim_value::{Decimals, Interval, Value, read_fixed};
 use std::alloc::AllocError;
 use std::test::Fail;
 
-const UNIT: i128 = 1_000_000_000_000_000_000;
+const UNIT: i128 = 10_000_000_000_000_000_000;
 
 // Takes in the set of some items; answers whether there are then just these.
 fn merges_to(rt: &HostRuntime, first: &mut Items, items: &[&str], all: &[&str]) -> bool {

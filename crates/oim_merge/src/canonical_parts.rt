@@ -1,11 +1,22 @@
 // Parts of canonical texts that tests compare with.
 
-/// What stands before the namespaces.
+/// What stands before the namespaces where no two facts have the same dimensions.
 pub(crate) const HEAD: &str =
-    r#"{"documentInfo":{"documentType":"https://xbrl.org/2021/xbrl-json","namespaces":{"#;
+    r#"{"documentInfo":{"documentType":"https://xbrl.org/2021/xbrl-json","features":{"xbrl:allowedDuplicates":"none"},"namespaces":{"#;
+
+/// The same where some do, and each two of them meet.
+pub(crate) const CONSISTENT_HEAD: &str =
+    r#"{"documentInfo":{"documentType":"https://xbrl.org/2021/xbrl-json","features":{"xbrl:allowedDuplicates":"consistent"},"namespaces":{"#;
+
+/// The same where some do not meet.
+pub(crate) const CONTRADICTING_HEAD: &str =
+    r#"{"documentInfo":{"documentType":"https://xbrl.org/2021/xbrl-json","features":{"xbrl:allowedDuplicates":"all"},"namespaces":{"#;
 
 /// What stands between the namespaces and the facts.
-pub(crate) const MIDDLE: &str = r#"},"taxonomy":[]},"facts":{"#;
+pub(crate) const MIDDLE: &str = r#","xbrl":"https://xbrl.org/2021"},"taxonomy":[]},"facts":{"#;
+
+/// The same behind no namespace.
+pub(crate) const MIDDLE_ALONE: &str = r#""xbrl":"https://xbrl.org/2021"},"taxonomy":[]},"facts":{"#;
 
 /// What stands behind the facts; it ends a report too.
 pub(crate) const END: &str = "}}";
@@ -16,3 +27,14 @@ pub(crate) const ONE_URI: &str = r#""n1":"http://example.org/t""#;
 /// Its fact, 100 with no decimals.
 pub(crate) const WRITTEN_HUNDRED: &str =
     r#""f1":{"decimals":0,"dimensions":{"concept":"n1:A"},"value":"100"}"#;
+
+/// The facts 100 and 101.
+pub(crate) const WRITTEN_BOTH: &str =
+    r#""f1":{"decimals":0,"dimensions":{"concept":"n1:A"},"value":"100"},"f2":{"decimals":0,"dimensions":{"concept":"n1:A"},"value":"101"}"#;
+
+/// What stood before the namespaces, before levels were declared.
+pub(crate) const EARLIER_HEAD: &str =
+    r#"{"documentInfo":{"documentType":"https://xbrl.org/2021/xbrl-json","namespaces":{"#;
+
+/// What stood between the namespaces and the facts then.
+pub(crate) const EARLIER_MIDDLE: &str = r#"},"taxonomy":[]},"facts":{"#;

@@ -28,6 +28,8 @@ const NUMERIC: Kind = Kind {
         r#""decimals":0,"#,
         r#""decimals":-3,"#,
         r#""decimals":12,"#,
+        r#""decimals":18,"#,
+        r#""decimals":-18,"#,
     ],
     others: &[
         "",

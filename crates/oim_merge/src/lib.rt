@@ -40,6 +40,8 @@ mod std_source;
 #[cfg(test)]
 mod tests_calls;
 #[cfg(test)]
+mod tests_checked;
+#[cfg(test)]
 mod tests_io;
 #[cfg(test)]
 mod tests_replay;
@@ -52,13 +54,13 @@ mod tests_texts;
 mod verdict_line;
 
 // merging
+pub use bundle::consolidate_bundle;
 pub use consolidation::consolidate;
 pub use fault::Fault;
 pub use refusals::Refusals;
-pub use bundle::consolidate_bundle;
 // judging and checking
-pub use listing::verdict_lines;
 pub use checked::{Checked, check_report};
+pub use listing::verdict_lines;
 // replicas
 pub use event::Event;
 pub use events::Events;
@@ -67,9 +69,9 @@ pub use replay_fault::ReplayFault;
 pub use replayed::Replayed;
 pub use replaying::replay;
 // sources
-pub use source::{Source, SourceError};
-pub use std_source::StdSource;
 pub use read_fault::ReadFault;
+pub use source::{Source, SourceError};
 pub use source_reader::read_all;
+pub use std_source::StdSource;
 // what the project promises of a text
 pub use round_trip::read_back;

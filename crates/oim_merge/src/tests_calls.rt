@@ -99,6 +99,63 @@ fn tells_ends(alloc: Global) -> Result<bool, AllocError> {
     }
 }
 
+/// Two facts with the greatest or the least decimals, and the line on them.
+const FARTHEST: [([&str; 2], &[u8]); 4] = [
+    (
+        [
+            r#""a":{"value":"0.000000000000000001","decimals":18,"dimensions":{"concept":"eg:A"}}"#,
+            r#""a":{"value":"0.000000000000000002","decimals":18,"dimensions":{"concept":"eg:A"}}"#,
+        ],
+        b"1 f1 f2 consistent common 0.0000000000000000015 0.0000000000000000015\n",
+    ),
+    (
+        [
+            r#""a":{"value":"0.000000000000000001","decimals":18,"dimensions":{"concept":"eg:A"}}"#,
+            r#""a":{"value":"0.000000000000000003","decimals":18,"dimensions":{"concept":"eg:A"}}"#,
+        ],
+        b"1 f1 f2 inconsistent apart f1 f2\n",
+    ),
+    (
+        [
+            r#""a":{"value":"-500000000000000000","decimals":-18,"dimensions":{"concept":"eg:A"}}"#,
+            r#""a":{"value":"500000000000000000","decimals":-18,"dimensions":{"concept":"eg:A"}}"#,
+        ],
+        b"1 f1 f2 consistent common 0 0\n",
+    ),
+    (
+        [
+            r#""a":{"value":"-500000000000000000","decimals":-18,"dimensions":{"concept":"eg:A"}}"#,
+            r#""a":{"value":"500000000000000001","decimals":-18,"dimensions":{"concept":"eg:A"}}"#,
+        ],
+        b"1 f1 f2 inconsistent apart f1 f2\n",
+    ),
+];
+
+/// Whether the verdict on these facts has this line.
+fn has_line(alloc: Global, facts: &[&str], line: &[u8]) -> Result<bool, AllocError> {
+    let sheet = sheet(alloc)?;
+    let reports = reports(alloc, facts)?;
+    let mut sink = StdSink::new(Expecting::just(line));
+    match verdict_lines(alloc, &sheet, reports.as_slice(), &mut sink) {
+        Err(Fault::OutOfMemory(_)) => Err(AllocError),
+        Ok(refused) => Ok(refused.as_slice().is_empty() && sink.into_inner().is_met()),
+        Err(_) => Ok(false),
+    }
+}
+
+#[test]
+fn verdicts_are_exact_at_either_end_of_the_decimals(rt: HostRuntime) -> Result<(), Fail> {
+    for (facts, line) in &FARTHEST {
+        let mut answer = has_line(rt.alloc(), facts.as_slice(), line);
+        if answer.is_err() {
+            tell_refused(&rt);
+            answer = has_line(rt.alloc(), facts.as_slice(), line);
+        }
+        assert!(rt; answer == Ok(true));
+    }
+    Ok(())
+}
+
 /// Whether both facts are counted.
 fn counts_repeats(alloc: Global) -> Result<bool, AllocError> {
     let sheet = sheet(alloc)?;
@@ -110,6 +167,7 @@ fn counts_repeats(alloc: Global) -> Result<bool, AllocError> {
                 == Ok(Checked {
                     facts: 2,
                     level: Level::Complete,
+                    canonical: false,
                 }),
         ),
     }

@@ -1,8 +1,8 @@
 use crate::asked_again::tell_refused;
 use crate::devices::{TestReader, Then};
-use crate::source_reader::read_all;
 use crate::read_fault::ReadFault;
 use crate::source::Source;
+use crate::source_reader::read_all;
 use crate::std_source::StdSource;
 use oim_write::Encoded;
 use std::io::{self, Read};

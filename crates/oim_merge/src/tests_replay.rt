@@ -18,10 +18,6 @@ use std::alloc::{AllocError, Global};
 /// The fact of a report beside those that `tests_calls` has.
 const HUNDRED_ONE: &str = r#""a":{"value":"101","decimals":0,"dimensions":{"concept":"eg:A"}}"#;
 
-/// The first two facts of a text that has several.
-const WRITTEN_BOTH: &str =
-    r#""f1":{"decimals":0,"dimensions":{"concept":"n1:A"},"value":"100"},"f2":{"decimals":0,"dimensions":{"concept":"n1:A"},"value":"101"}"#;
-
 /// A schedule of three replicas, which take a report each, exchange texts and join.
 const NINE_EVENTS: &str =
     "take 1 1\nsend 1\ntake 2 2\nreceive 2 1\nsend 2\ntake 3 3\nreceive 3 2\nreceive 3 1\njoin 1 2\n";

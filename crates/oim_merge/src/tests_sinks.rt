@@ -17,7 +17,7 @@ pub(crate) const EVERY_DIMENSION: &str =
     r#"{"documentInfo":{"documentType":"https://xbrl.org/2021/xbrl-json","namespaces":{"eg":"http://example.org/t","x":"http://example.org/u"}},"facts":{"a":{"value":"Blue","dimensions":{"concept":"eg:T","entity":"x:529900:A1","period":"2020-01-01T00:00:00/2020-12-31T24:00:00","language":"en-GB","eg:Reg":"eg:North","eg:Sku":"a b"}}}}"#;
 
 /// The sheet of a text that is accepted.
-fn sheet_of(alloc: Global, text: &str) -> Result<Sheet, AllocError> {
+pub(crate) fn sheet_of(alloc: Global, text: &str) -> Result<Sheet, AllocError> {
     match Sheet::read(alloc, text.as_bytes()) {
         Ok(sheet) => Ok(sheet),
         Err(_) => Err(AllocError),
@@ -73,7 +73,7 @@ fn holds_each_front(alloc: Global, base: &Base<'_>) -> Result<bool, AllocError> 
             return Ok(false);
         }
     }
-    Ok(length == 266)
+    Ok(length == 348)
 }
 
 fn fails_after_each(alloc: Global) -> Result<bool, AllocError> {
@@ -86,7 +86,7 @@ fn takes_byte_by_byte(alloc: Global) -> Result<bool, AllocError> {
     let sheet = sheet(alloc)?;
     let base = Base::new(alloc, &sheet);
     let text = text(alloc, &base)?;
-    Ok(text.as_bytes().len() == 108 && holds_the_front(alloc, &base, text.as_bytes(), 1, 108)?)
+    Ok(text.as_bytes().len() == 183 && holds_the_front(alloc, &base, text.as_bytes(), 1, 183)?)
 }
 
 /// Whether a sink that takes seven bytes holds the first seven, and the fault tells so.

@@ -1,4 +1,5 @@
 mod bodies;
+mod levels;
 mod orders;
 mod parts;
 mod prefixes;

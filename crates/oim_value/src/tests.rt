@@ -3,7 +3,10 @@ use oim_names::{Aliases, Copied, Name, Reason, Text};
 use std::alloc::AllocError;
 use std::test::Fail;
 
-pub(crate) const UNIT: i128 = 1_000_000_000_000_000_000;
+pub(crate) const UNIT: i128 = 10_000_000_000_000_000_000;
+
+/// Eighteen nines.
+const GREATEST: i128 = 999_999_999_999_999_999 * UNIT;
 
 // Where a request for memory is refused, the next one is not, so the call is made again. The line
 // on standard error tells `tests/refused_memory` of it.
@@ -77,11 +80,12 @@ fn numbers_are_read(rt: HostRuntime) {
         ("+12.50", 12 * UNIT + UNIT / 2),
         ("0.1", UNIT / 10),
         ("0.10000000000000000000", UNIT / 10),
-        ("-0.000000000000000001", -1),
-        ("0.999999999999999999", UNIT - 1),
-        ("999999999999999999", (UNIT - 1) * UNIT),
-        ("000999999999999999999", (UNIT - 1) * UNIT),
-        ("-999999999999999999.000", -(UNIT - 1) * UNIT),
+        ("-0.000000000000000001", -10),
+        ("0.000000000000000001", 10),
+        ("0.999999999999999999", UNIT - 10),
+        ("999999999999999999", GREATEST),
+        ("000999999999999999999", GREATEST),
+        ("-999999999999999999.000", -GREATEST),
         (
             "123456789.012345678",
             123456789012345678 * (UNIT / 1_000_000_000),
@@ -143,12 +147,13 @@ fn numbers_are_written_plain(rt: HostRuntime) -> Result<(), Fail> {
 fn any_units_are_written_plain(rt: HostRuntime) -> Result<(), Fail> {
     let rows = [
         (0, "0"),
-        (1, "0.000000000000000001"),
-        (-1, "-0.000000000000000001"),
+        (1, "0.0000000000000000001"),
+        (-1, "-0.0000000000000000001"),
+        (10, "0.000000000000000001"),
         (-UNIT, "-1"),
         (10 * UNIT + UNIT / 10, "10.1"),
-        (i128::MAX, "170141183460469231731.687303715884105727"),
-        (i128::MIN, "-170141183460469231731.687303715884105728"),
+        (i128::MAX, "17014118346046923173.1687303715884105727"),
+        (i128::MIN, "-17014118346046923173.1687303715884105728"),
     ];
     for (units, plain) in rows {
         assert_eq!(rt; units_written(&rt, units)?.as_str(), plain);
@@ -158,13 +163,20 @@ fn any_units_are_written_plain(rt: HostRuntime) -> Result<(), Fail> {
 
 #[test]
 fn decimals_have_a_range(rt: HostRuntime) {
-    for number in [i64::MIN, -256, -129, -13, 13, 128, 244, 256, i64::MAX] {
+    for number in [i64::MIN, -256, -129, -19, 19, 128, 244, 256, i64::MAX] {
         assert!(rt;
             Decimals::finite(number) == Err(Reason::DecimalsRange),
             "{number}"
         );
     }
-    for (number, places) in [(-12, -12i8), (-1, -1), (0, 0), (12, 12)] {
+    for (number, places) in [
+        (-18, -18i8),
+        (-13, -13),
+        (-1, -1),
+        (0, 0),
+        (13, 13),
+        (18, 18),
+    ] {
         match Decimals::finite(number) {
             Ok(decimals) => assert!(rt; decimals.get() == Some(places)),
             Err(_) => panic!(rt; "{number} is refused"),

@@ -33,7 +33,11 @@ pub(crate) fn put_checked<S: Sink>(
     requires { S.failures out.old < 2 ^ 64 - 1 }
 {
     let (facts, level) = (checked.facts, checked.level.text());
-    let canonical = if checked.canonical { "canonical" } else { "other" };
+    let canonical = if checked.canonical {
+        "canonical"
+    } else {
+        "other"
+    };
     match format!(in alloc; "accepted {facts} {level} {canonical}\n") {
         Ok(line) => put_text(out, line.as_str()),
         Err(_) => Err(Fault::OutOfMemory(0)),

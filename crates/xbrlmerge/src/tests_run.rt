@@ -1,5 +1,5 @@
 use crate::asked_again::{INFO, SHEET, joined, tell_refused};
-use crate::canonical_parts::{END, HEAD, MIDDLE, ONE_URI, WRITTEN_HUNDRED};
+use crate::canonical_parts::{END, HEAD, MIDDLE, MIDDLE_ALONE, ONE_URI, WRITTEN_HUNDRED};
 use crate::devices::{NeverFlushed, TestReader, TestWriter, Then};
 use crate::lines::print_read_fault;
 use crate::ran::NO_WORDS;
@@ -13,13 +13,7 @@ use std::test::Fail;
 
 const ROOM: usize = 1 << 16;
 
-/// `INFO` with `zz` in place of `eg`.
-const OTHER_INFO: &str =
-    r#"{"documentInfo":{"documentType":"https://xbrl.org/2021/xbrl-json","namespaces":{"zz":"http://example.org/t","x":"http://example.org/u","xbrli":"http://www.xbrl.org/2003/instance","xbrl":"https://xbrl.org/2021"}},"facts":{"#;
-
 const HUNDRED: &str = r#""a":{"value":"100","decimals":0,"dimensions":{"concept":"eg:A"}}"#;
-
-const OTHER_HUNDRED: &str = r#""a":{"value":"100","decimals":0,"dimensions":{"concept":"zz:A"}}"#;
 
 fn writer(rt: &HostRuntime, room: usize) -> Result<TestWriter, AllocError> {
     match TestWriter::new(rt.alloc(), room, room, Then::Fails) {
@@ -78,8 +72,8 @@ fn gives(
 
 #[test]
 fn no_report_gives_the_empty_text(rt: HostRuntime) -> Result<(), Fail> {
-    let text = [HEAD, MIDDLE, END];
-    assert_eq!(rt; joined(&rt, &text)?.len(), 108);
+    let text = [HEAD, MIDDLE_ALONE, END];
+    assert_eq!(rt; joined(&rt, &text)?.len(), 183);
     for ends in ["", "\n", "\n\n\n"] {
         assert!(rt; gives(&rt, &[SHEET, ends], 0, &text, "")?);
     }
@@ -88,75 +82,6 @@ fn no_report_gives_the_empty_text(rt: HostRuntime) -> Result<(), Fail> {
 
 /// The text of the one fact.
 const HUNDRED_TEXT: &[&str] = &[HEAD, ONE_URI, MIDDLE, WRITTEN_HUNDRED, END];
-
-/// Bundles with that fact alone, by one prefix, by two, and thrice.
-const HUNDREDS: [&[&str]; 3] = [
-    &[SHEET, "\n", INFO, HUNDRED, END, "\n"],
-    &[
-        SHEET,
-        "\n",
-        OTHER_INFO,
-        OTHER_HUNDRED,
-        END,
-        "\n",
-        INFO,
-        HUNDRED,
-        END,
-    ],
-    &[
-        SHEET,
-        "\n",
-        INFO,
-        HUNDRED,
-        END,
-        "\n",
-        OTHER_INFO,
-        OTHER_HUNDRED,
-        END,
-        "\n",
-        INFO,
-        HUNDRED,
-        END,
-        "\n",
-    ],
-];
-
-/// Whether each bundle is merged to this text.
-fn all_give(rt: &HostRuntime, bundles: &[&[&str]], text: &[&str]) -> Result<bool, Fail> {
-    let mut all = true;
-    for bundle in bundles {
-        all = gives(rt, bundle, 0, text, "")? && all;
-    }
-    Ok(all)
-}
-
-#[test]
-fn reports_in_either_order_give_one_text(rt: HostRuntime) -> Result<(), Fail> {
-    assert_eq!(rt; joined(&rt, HUNDRED_TEXT)?.len(), 200);
-    assert!(rt; all_give(&rt, HUNDREDS.as_slice(), HUNDRED_TEXT)?);
-    Ok(())
-}
-
-#[test]
-fn whole_reports_are_merged(rt: HostRuntime) -> Result<(), Fail> {
-    let bundle = [
-        SHEET,
-        "\n",
-        INFO,
-        r#""a":{"value":"Blue","dimensions":{"concept":"eg:T","entity":"x:529900:A1","period":"2020-01-01T00:00:00/2020-12-31T24:00:00","language":"en-GB","eg:Reg":"eg:North","eg:Sku":"a b"}}"#,
-        END,
-    ];
-    let text = [
-        HEAD,
-        ONE_URI,
-        r#","n2":"http://example.org/u""#,
-        MIDDLE,
-        r#""f1":{"dimensions":{"concept":"n1:T","entity":"n2:529900:A1","language":"en-gb","n1:Reg":"n1:North","n1:Sku":"a b","period":"2020-01-01T00:00:00/2021-01-01T00:00:00"},"value":"Blue"}"#,
-        END,
-    ];
-    assert!(rt; gives(&rt, &bundle, 0, &text, "")?);
-    Ok(())
-}
 
 /// Three facts, the second one with a prefix that is not bound.
 const SECOND_UNBOUND: &str =
@@ -180,30 +105,9 @@ const BETWEEN_REFUSED: &[&str] = &[
 fn a_refused_report_changes_nothing(rt: HostRuntime) -> Result<(), Fail> {
     let refused = [SHEET, "\n", INFO, SECOND_UNBOUND, END];
     let line = "report 1: 13 UnboundPrefix at fact 2\n";
-    assert!(rt; gives(&rt, &refused, 1, &[HEAD, MIDDLE, END], line)?);
+    assert!(rt; gives(&rt, &refused, 1, &[HEAD, MIDDLE_ALONE, END], line)?);
     let lines = "report 1: 13 UnboundPrefix at fact 2\nreport 3: 2 MemberForm at document\n";
     assert!(rt; gives(&rt, BETWEEN_REFUSED, 1, HUNDRED_TEXT, lines)?);
-    Ok(())
-}
-
-#[test]
-fn prefixes_follow_the_bytes_of_uris(rt: HostRuntime) -> Result<(), Fail> {
-    let bundle = [
-        r#"{"namespaces":{"p":"http://b.org","q":"http://a.org"},"concepts":{"p:A":"numeric","q:A":"numeric"}}"#,
-        "\n",
-        r#"{"documentInfo":{"documentType":"https://xbrl.org/2021/xbrl-json","namespaces":{"p":"http://b.org","q":"http://a.org"}},"facts":{"#,
-        r#""a":{"value":"1","dimensions":{"concept":"p:A"}},"b":{"value":"2","dimensions":{"concept":"q:A"}}"#,
-        END,
-    ];
-    let text = [
-        HEAD,
-        r#""n1":"http://a.org","n2":"http://b.org""#,
-        MIDDLE,
-        r#""f1":{"dimensions":{"concept":"n1:A"},"value":"2"},"#,
-        r#""f2":{"dimensions":{"concept":"n2:A"},"value":"1"}"#,
-        END,
-    ];
-    assert!(rt; gives(&rt, &bundle, 0, &text, "")?);
     Ok(())
 }
 
@@ -234,7 +138,7 @@ fn all_end(rt: &HostRuntime, rows: &[(&str, &str)]) -> Result<bool, Fail> {
 #[test]
 fn a_refused_sheet_ends_the_run(rt: HostRuntime) -> Result<(), Fail> {
     assert!(rt; all_end(&rt, REFUSED_SHEETS.as_slice())?);
-    assert!(rt; gives(&rt, &["{}"], 0, &[HEAD, MIDDLE, END], "")?);
+    assert!(rt; gives(&rt, &["{}"], 0, &[HEAD, MIDDLE_ALONE, END], "")?);
     Ok(())
 }
 
@@ -257,8 +161,8 @@ fn a_full_device_ends_the_run(rt: HostRuntime) -> Result<(), Fail> {
     let text = joined(&rt, HUNDRED_TEXT)?;
     let input = TestReader::new(&bundle, 1, Then::Ends);
     assert!(rt; stops(&rt, input, 0, b"", "device: 0 bytes written\n")?);
-    let front = text.get(..199).unwrap_or_default();
-    assert!(rt; stops(&rt, input, 199, front, "device: 199 bytes written\n")?);
+    let front = text.get(..275).unwrap_or_default();
+    assert!(rt; stops(&rt, input, 275, front, "device: 275 bytes written\n")?);
     Ok(())
 }
 
@@ -283,7 +187,7 @@ fn a_text_that_is_not_flushed_is_a_fault(rt: HostRuntime) -> Result<(), Fail> {
         status = run(rt.alloc(), &rt, NO_WORDS, input, NeverFlushed, &mut err);
     }
     assert_eq!(rt; status, 3);
-    assert_eq!(rt; err.held(), b"device: 200 bytes written\n".as_slice());
+    assert_eq!(rt; err.held(), b"device: 276 bytes written\n".as_slice());
     Ok(())
 }
 
@@ -300,7 +204,7 @@ fn a_failing_standard_error_is_passed_over(rt: HostRuntime) -> Result<(), Fail> 
     }
     assert_eq!(rt; status, 1);
     assert_eq!(rt; err.held(), b"rep".as_slice());
-    assert_eq!(rt; out.held().len(), 108);
+    assert_eq!(rt; out.held().len(), 183);
     Ok(())
 }
 

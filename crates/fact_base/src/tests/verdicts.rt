@@ -41,7 +41,28 @@ fn first_other(rt: &HostRuntime, end: &str, rows: &[Row<'_>]) -> Option<usize> {
 
 const ALIKE: Said = (Verdict::Complete, Evidence::Alike);
 
-const MEETING: [Row<'static>; 4] = [
+const MEETING: [Row<'static>; 6] = [
+    // half of the eighteenth place is five units
+    (
+        &[
+            r#""value":"0.000000000000000001","decimals":18"#,
+            r#""value":"0.000000000000000002","decimals":18"#,
+        ],
+        (
+            Verdict::Consistent,
+            Evidence::Common(Interval { low: 15, high: 15 }),
+        ),
+    ),
+    (
+        &[
+            r#""value":"-500000000000000000","decimals":-18"#,
+            r#""value":"500000000000000000","decimals":-18"#,
+        ],
+        (
+            Verdict::Consistent,
+            Evidence::Common(Interval { low: 0, high: 0 }),
+        ),
+    ),
     (
         &[
             r#""value":"101","decimals":0"#,
@@ -50,8 +71,8 @@ const MEETING: [Row<'static>; 4] = [
         (
             Verdict::Consistent,
             Evidence::Common(Interval {
-                low: 100_500_000_000_000_000_000,
-                high: 100_500_000_000_000_000_000,
+                low: 1_005_000_000_000_000_000_000,
+                high: 1_005_000_000_000_000_000_000,
             }),
         ),
     ),
@@ -60,8 +81,8 @@ const MEETING: [Row<'static>; 4] = [
         (
             Verdict::Consistent,
             Evidence::Common(Interval {
-                low: 1_234_067_000_000_000_000_000_000,
-                high: 1_234_067_000_000_000_000_000_000,
+                low: 12_340_670_000_000_000_000_000_000,
+                high: 12_340_670_000_000_000_000_000_000,
             }),
         ),
     ),
@@ -70,8 +91,8 @@ const MEETING: [Row<'static>; 4] = [
         (
             Verdict::Consistent,
             Evidence::Common(Interval {
-                low: 1_000_000_000_000_000_000,
-                high: 1_000_000_000_000_000_000,
+                low: 10_000_000_000_000_000_000,
+                high: 10_000_000_000_000_000_000,
             }),
         ),
     ),
@@ -84,8 +105,8 @@ const MEETING: [Row<'static>; 4] = [
         (
             Verdict::Consistent,
             Evidence::Common(Interval {
-                low: 99_500_000_000_000_000_000,
-                high: 100_500_000_000_000_000_000,
+                low: 995_000_000_000_000_000_000,
+                high: 1_005_000_000_000_000_000_000,
             }),
         ),
     ),
@@ -96,7 +117,21 @@ fn values_that_meet_are_consistent(rt: HostRuntime) {
     assert_eq!(rt; first_other(&rt, OF_A, &MEETING), None);
 }
 
-const CROSSED: [Row<'static>; 4] = [
+const CROSSED: [Row<'static>; 6] = [
+    (
+        &[
+            r#""value":"0.000000000000000001","decimals":18"#,
+            r#""value":"0.000000000000000003","decimals":18"#,
+        ],
+        (Verdict::Inconsistent, Evidence::Apart(0, 1)),
+    ),
+    (
+        &[
+            r#""value":"-500000000000000000","decimals":-18"#,
+            r#""value":"500000000000000001","decimals":-18"#,
+        ],
+        (Verdict::Inconsistent, Evidence::Apart(0, 1)),
+    ),
     (
         &[
             r#""value":"102","decimals":0"#,

@@ -1,6 +1,9 @@
-use super::{HUNDRED_ONE, NINE_EVENTS, WRITTEN_BOTH, are_parts, played, with_memory, writes};
+use super::{HUNDRED_ONE, NINE_EVENTS, are_parts, played, with_memory, writes};
 use crate::asked_again::tell_refused;
-use crate::canonical_parts::{END, HEAD, MIDDLE, ONE_URI, WRITTEN_HUNDRED};
+use crate::canonical_parts::{
+    CONSISTENT_HEAD, CONTRADICTING_HEAD, END, HEAD, MIDDLE, MIDDLE_ALONE, ONE_URI, WRITTEN_BOTH,
+    WRITTEN_HUNDRED,
+};
 use crate::replay_fault::ReplayFault;
 use crate::replayed::Replayed;
 use crate::tests_calls::{ABOVE, AT_FIRST_FACT, HUNDRED, UNBOUND};
@@ -13,14 +16,14 @@ use std::test::Fail;
 /// A text in parts.
 type Parts = &'static [&'static str];
 
-const NOTHING: Parts = &[HEAD, MIDDLE, END];
+const NOTHING: Parts = &[HEAD, MIDDLE_ALONE, END];
 
 const ONE: Parts = &[HEAD, ONE_URI, MIDDLE, WRITTEN_HUNDRED, END];
 
-const BOTH: Parts = &[HEAD, ONE_URI, MIDDLE, WRITTEN_BOTH, END];
+const BOTH: Parts = &[CONSISTENT_HEAD, ONE_URI, MIDDLE, WRITTEN_BOTH, END];
 
 const ALL_THREE: Parts = &[
-    HEAD,
+    CONTRADICTING_HEAD,
     ONE_URI,
     MIDDLE,
     WRITTEN_BOTH,

@@ -10,10 +10,10 @@ const OTHER_INFO: &str =
     r#"{"documentInfo":{"documentType":"https://xbrl.org/2021/xbrl-json","namespaces":{"zz":"http://example.org/t","x":"http://example.org/u","xbrli":"http://www.xbrl.org/2003/instance","xbrl":"https://xbrl.org/2021"}},"facts":{"#;
 
 #[test]
-fn no_report_has_108_bytes(rt: HostRuntime) -> Result<(), Fail> {
+fn no_report_has_183_bytes(rt: HostRuntime) -> Result<(), Fail> {
     let text =
-        r#"{"documentInfo":{"documentType":"https://xbrl.org/2021/xbrl-json","namespaces":{},"taxonomy":[]},"facts":{}}"#;
-    assert_eq!(rt; text.len(), 108);
+        r#"{"documentInfo":{"documentType":"https://xbrl.org/2021/xbrl-json","features":{"xbrl:allowedDuplicates":"none"},"namespaces":{"xbrl":"https://xbrl.org/2021"},"taxonomy":[]},"facts":{}}"#;
+    assert_eq!(rt; text.len(), 183);
     assert!(rt; gives(&rt, &[SHEET], &[text])?);
     assert!(rt; gives(&rt, &[SHEET, LINE, LINE], &[text])?);
     assert!(rt; gives(&rt, &[SHEET, LINE, INFO, END], &[text])?);
@@ -42,10 +42,10 @@ fn all_give(rt: &HostRuntime, bundles: &[&[&str]], text: &str) -> Result<bool, F
 }
 
 #[test]
-fn prefixes_and_repetition_leave_200_bytes(rt: HostRuntime) -> Result<(), Fail> {
+fn prefixes_and_repetition_leave_276_bytes(rt: HostRuntime) -> Result<(), Fail> {
     let text =
-        r#"{"documentInfo":{"documentType":"https://xbrl.org/2021/xbrl-json","namespaces":{"n1":"http://example.org/t"},"taxonomy":[]},"facts":{"f1":{"decimals":0,"dimensions":{"concept":"n1:A"},"value":"100"}}}"#;
-    assert_eq!(rt; text.len(), 200);
+        r#"{"documentInfo":{"documentType":"https://xbrl.org/2021/xbrl-json","features":{"xbrl:allowedDuplicates":"none"},"namespaces":{"n1":"http://example.org/t","xbrl":"https://xbrl.org/2021"},"taxonomy":[]},"facts":{"f1":{"decimals":0,"dimensions":{"concept":"n1:A"},"value":"100"}}}"#;
+    assert_eq!(rt; text.len(), 276);
     assert!(rt; all_give(&rt, SAME.as_slice(), text)?);
     Ok(())
 }
@@ -53,8 +53,8 @@ fn prefixes_and_repetition_leave_200_bytes(rt: HostRuntime) -> Result<(), Fail> 
 #[test]
 fn consistent_facts_stay_two(rt: HostRuntime) -> Result<(), Fail> {
     let text =
-        r#"{"documentInfo":{"documentType":"https://xbrl.org/2021/xbrl-json","namespaces":{"n1":"http://example.org/t"},"taxonomy":[]},"facts":{"f1":{"decimals":0,"dimensions":{"concept":"n1:A"},"value":"100"},"f2":{"decimals":0,"dimensions":{"concept":"n1:A"},"value":"101"}}}"#;
-    assert_eq!(rt; text.len(), 266);
+        r#"{"documentInfo":{"documentType":"https://xbrl.org/2021/xbrl-json","features":{"xbrl:allowedDuplicates":"consistent"},"namespaces":{"n1":"http://example.org/t","xbrl":"https://xbrl.org/2021"},"taxonomy":[]},"facts":{"f1":{"decimals":0,"dimensions":{"concept":"n1:A"},"value":"100"},"f2":{"decimals":0,"dimensions":{"concept":"n1:A"},"value":"101"}}}"#;
+    assert_eq!(rt; text.len(), 348);
     let more = r#""a":{"value":"101","decimals":0,"dimensions":{"concept":"eg:A"}}"#;
     let less = r#""a":{"value":"100","decimals":0,"dimensions":{"concept":"eg:A"}}"#;
     let bundle = [SHEET, LINE, INFO, more, END, LINE, INFO, less, END];
@@ -83,7 +83,13 @@ fn keeps(rt: &HostRuntime, members: &str, references: &str) -> Result<bool, Fail
     gives(
         rt,
         &[SHEET, LINE, OPEN_INFO, members, NO_FACTS],
-        &[HEAD, r#"},"taxonomy":["#, references, "]", NO_FACTS],
+        &[
+            HEAD,
+            r#""xbrl":"https://xbrl.org/2021"},"taxonomy":["#,
+            references,
+            "]",
+            NO_FACTS,
+        ],
     )
 }
 
@@ -117,7 +123,7 @@ fn references_are_kept(rt: HostRuntime) -> Result<(), Fail> {
 #[test]
 fn a_written_reference_is_kept_again(rt: HostRuntime) -> Result<(), Fail> {
     let text =
-        r#"{"documentInfo":{"documentType":"https://xbrl.org/2021/xbrl-json","namespaces":{},"taxonomy":["a.xsd"]},"facts":{}}"#;
+        r#"{"documentInfo":{"documentType":"https://xbrl.org/2021/xbrl-json","features":{"xbrl:allowedDuplicates":"none"},"namespaces":{"xbrl":"https://xbrl.org/2021"},"taxonomy":["a.xsd"]},"facts":{}}"#;
     assert!(rt; gives(&rt, &[SHEET, LINE, text], &[text])?);
     Ok(())
 }
@@ -140,7 +146,7 @@ fn a_body_has_every_kind_of_part(rt: HostRuntime) -> Result<(), Fail> {
     ];
     let text = [
         HEAD,
-        r#""n1":"http://example.org/t","n2":"http://standards.iso.org/iso/17442","n3":"urn:measures","n4":"urn:members","n5":"urn:values"},"#,
+        r#""n1":"http://example.org/t","n2":"http://standards.iso.org/iso/17442","n3":"urn:measures","n4":"urn:members","n5":"urn:values","xbrl":"https://xbrl.org/2021"},"#,
         r#""taxonomy":["http://x.org/b.xsd","http://x.org/d/a.xsd","urn:x:Y"]},"facts":{"#,
         r#""f1":{"dimensions":{"concept":"n1:A","period":"2020-01-01T00:00:00/2021-01-01T00:00:00","unit":"n3:shares"},"value":"7"},"#,
         r#""f2":{"decimals":1,"dimensions":{"concept":"n1:A","entity":"n2:529900:A1","n1:Reg":"n4:South","n1:Sku":null,"period":"2021-01-01T00:00:00","unit":"n3:c/(n3:a*n3:b)"},"value":"-12.5"},"#,

@@ -1,6 +1,6 @@
-use super::{LINE, SHEET, TWO_URIS, gives, writes};
+use super::{LINE, SHEET, TWO_URIS, gives};
 use crate::asked_again::INFO;
-use crate::canonical_parts::{END, HEAD, MIDDLE, ONE_URI};
+use crate::canonical_parts::{CONTRADICTING_HEAD, END, HEAD, MIDDLE, ONE_URI};
 use std::test::Fail;
 
 // The order of facts, and the numbers that they get by it. Reports list them the other way round.
@@ -21,7 +21,7 @@ fn values_are_in_order(rt: HostRuntime) -> Result<(), Fail> {
         END,
     ];
     let text = [
-        HEAD,
+        CONTRADICTING_HEAD,
         ONE_URI,
         MIDDLE,
         r#""f1":{"dimensions":{"concept":"n1:A"},"value":null},"#,
@@ -43,7 +43,14 @@ fn texts_are_in_order_of_bytes(rt: HostRuntime) -> Result<(), Fail> {
         r#""a":{"value":"\uDBFF\uDFFF","dimensions":{"concept":"eg:T"}},"b":{"value":"\uFFFF","dimensions":{"concept":"eg:T"}},"c":{"value":"\u00e9","dimensions":{"concept":"eg:T"}},"d":{"value":"z","dimensions":{"concept":"eg:T"}}"#;
     let text =
         "\"f1\":{\"dimensions\":{\"concept\":\"n1:T\"},\"value\":\"z\"},\"f2\":{\"dimensions\":{\"concept\":\"n1:T\"},\"value\":\"\u{e9}\"},\"f3\":{\"dimensions\":{\"concept\":\"n1:T\"},\"value\":\"\u{ffff}\"},\"f4\":{\"dimensions\":{\"concept\":\"n1:T\"},\"value\":\"\u{10ffff}\"}";
-    assert!(rt; writes(&rt, facts, ONE_URI, text)?);
+    let bundle = [SHEET, LINE, INFO, facts, END];
+    assert!(rt;
+        gives(
+            &rt,
+            &bundle,
+            &[CONTRADICTING_HEAD, ONE_URI, MIDDLE, text, END]
+        )?
+    );
     Ok(())
 }
 
@@ -128,7 +135,7 @@ const NINE: &str =
 #[test]
 fn nine_facts_have_one_digit(rt: HostRuntime) -> Result<(), Fail> {
     let text = [
-        HEAD,
+        CONTRADICTING_HEAD,
         ONE_URI,
         MIDDLE,
         r#""f1":{"decimals":0,"dimensions":{"concept":"n1:A"},"value":"1"},"#,
@@ -150,7 +157,7 @@ fn nine_facts_have_one_digit(rt: HostRuntime) -> Result<(), Fail> {
 fn a_tenth_fact_renumbers_the_nine(rt: HostRuntime) -> Result<(), Fail> {
     let tenth = r#""a":{"value":"10","decimals":0,"dimensions":{"concept":"eg:A"}}"#;
     let text = [
-        HEAD,
+        CONTRADICTING_HEAD,
         ONE_URI,
         MIDDLE,
         r#""f01":{"decimals":0,"dimensions":{"concept":"n1:A"},"value":"1"},"#,

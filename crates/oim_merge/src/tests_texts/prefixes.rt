@@ -10,7 +10,8 @@ const BOUND: &str = r#","namespaces":{"eg":"http://example.org/t","#;
 
 const FACT: &str = r#"}},"facts":{"a":{"value":"1","dimensions":{"concept":"eg:A","unit":""#;
 
-const WRITTEN: &str = r#"},"taxonomy":[]},"facts":{"f1":{"dimensions":{"concept":""#;
+const WRITTEN: &str =
+    r#","xbrl":"https://xbrl.org/2021"},"taxonomy":[]},"facts":{"f1":{"dimensions":{"concept":""#;
 
 #[test]
 fn nine_prefixes_have_one_digit(rt: HostRuntime) -> Result<(), Fail> {

@@ -1,21 +1,32 @@
 use super::rows::{FIRST, Full, NOT_READ, Row, SECOND};
-use crate::canonical_parts::{END, HEAD, MIDDLE, ONE_URI, WRITTEN_HUNDRED};
+use crate::canonical_parts::{
+    CONSISTENT_HEAD, END, HEAD, MIDDLE, MIDDLE_ALONE, ONE_URI, WRITTEN_HUNDRED,
+};
 
 const LINE_END: &str = "\n";
 
 /// The texts of two replicas with no fact.
-const NOTHING_TWICE: &[&str] = &[HEAD, MIDDLE, END, LINE_END, HEAD, MIDDLE, END, LINE_END];
+const NOTHING_TWICE: &[&str] = &[
+    HEAD,
+    MIDDLE_ALONE,
+    END,
+    LINE_END,
+    HEAD,
+    MIDDLE_ALONE,
+    END,
+    LINE_END,
+];
 
 /// The texts of two replicas with 100 and 101.
 const BOTH_TWICE: &[&str] = &[
-    HEAD,
+    CONSISTENT_HEAD,
     ONE_URI,
     MIDDLE,
     FIRST,
     r#""101"}"#,
     END,
     LINE_END,
-    HEAD,
+    CONSISTENT_HEAD,
     ONE_URI,
     MIDDLE,
     FIRST,
@@ -33,7 +44,7 @@ const ONE_AND_NOTHING: &[&str] = &[
     END,
     LINE_END,
     HEAD,
-    MIDDLE,
+    MIDDLE_ALONE,
     END,
     LINE_END,
 ];
@@ -72,7 +83,7 @@ pub(super) const REPLAYED: [Row; 10] = [
     (
         "replay --sheet sheet --replicas 1 --events empty",
         0,
-        &[HEAD, MIDDLE, END, LINE_END],
+        &[HEAD, MIDDLE_ALONE, END, LINE_END],
         "",
     ),
     // a report that no event takes is read as a file alone
@@ -227,23 +238,23 @@ pub(super) const FULL: [Full; 6] = [
     ),
     (
         "replay --sheet sheet --replicas 2 --events empty",
-        108,
-        "device: 108 bytes written\n",
+        183,
+        "device: 183 bytes written\n",
     ),
     (
         "replay --sheet sheet --replicas 2 --events empty",
-        109,
-        "device: 109 bytes written\n",
+        184,
+        "device: 184 bytes written\n",
     ),
     (
         "replay --sheet sheet --replicas 2 --events once unbound",
-        150,
-        "device: 150 bytes written\n",
+        225,
+        "device: 225 bytes written\n",
     ),
     (
         "replay --sheet sheet --replicas 2 --events empty",
-        217,
-        "device: 217 bytes written\n",
+        367,
+        "device: 367 bytes written\n",
     ),
     (
         "replay --sheet sheet --replicas 2 --events mail 100 101",
@@ -256,7 +267,7 @@ pub(super) const FULL: [Full; 6] = [
 pub(super) const UNFLUSHED: [(&str, &str); 2] = [
     (
         "replay --sheet sheet --replicas 2 --events once unbound",
-        "device: 218 bytes written\n",
+        "device: 368 bytes written\n",
     ),
     (
         "replay --sheet sheet --replicas 2 --events late 100",

@@ -1,4 +1,6 @@
-use crate::canonical_parts::{END, HEAD, MIDDLE, ONE_URI, WRITTEN_HUNDRED};
+use crate::canonical_parts::{
+    CONSISTENT_HEAD, CONTRADICTING_HEAD, END, HEAD, MIDDLE, MIDDLE_ALONE, ONE_URI, WRITTEN_HUNDRED,
+};
 
 /// Words, and what the program leaves: the status, the text on standard output in parts, the lines
 /// on standard error.
@@ -18,7 +20,7 @@ pub(super) const NOT_READ: &str = "file none: cannot be read\n";
 const A_FOLDER: &str = "file .: cannot be read\n";
 
 /// The text of no fact.
-const EMPTY: &[&str] = &[HEAD, MIDDLE, END];
+const EMPTY: &[&str] = &[HEAD, MIDDLE_ALONE, END];
 
 /// The text of 100.
 const ONE: &[&str] = &[HEAD, ONE_URI, MIDDLE, WRITTEN_HUNDRED, END];
@@ -27,10 +29,10 @@ pub(super) const FIRST: &str =
     r#""f1":{"decimals":0,"dimensions":{"concept":"n1:A"},"value":"100"},"f2":{"decimals":0,"dimensions":{"concept":"n1:A"},"value":"#;
 
 /// The text of 100 and 101.
-const BOTH: &[&str] = &[HEAD, ONE_URI, MIDDLE, FIRST, r#""101"}"#, END];
+const BOTH: &[&str] = &[CONSISTENT_HEAD, ONE_URI, MIDDLE, FIRST, r#""101"}"#, END];
 
 /// The text of 100 and 102.
-const WIDE: &[&str] = &[HEAD, ONE_URI, MIDDLE, FIRST, r#""102"}"#, END];
+const WIDE: &[&str] = &[CONTRADICTING_HEAD, ONE_URI, MIDDLE, FIRST, r#""102"}"#, END];
 
 pub(super) const MERGED: [Row; 17] = [
     ("merge --sheet sheet", 0, EMPTY, ""),
@@ -135,21 +137,31 @@ pub(super) const CHECKED: [Row; 7] = [
     (
         "check --sheet sheet twice",
         0,
-        &["accepted 2 complete\n"],
+        &["accepted 2 complete other\n"],
         "",
     ),
-    ("check 100 --sheet sheet", 0, &["accepted 1 none\n"], ""),
+    (
+        "check 100 --sheet sheet",
+        0,
+        &["accepted 1 none other\n"],
+        "",
+    ),
     (
         "check --sheet sheet thousands",
         0,
-        &["accepted 2 consistent\n"],
+        &["accepted 2 consistent other\n"],
         "",
     ),
-    ("check --sheet sheet -- three", 0, &["accepted 3 all\n"], ""),
+    (
+        "check --sheet sheet -- three",
+        0,
+        &["accepted 3 all other\n"],
+        "",
+    ),
     (
         "check --sheet sheet zeros",
         0,
-        &["accepted 4 complete\n"],
+        &["accepted 4 complete other\n"],
         "",
     ),
     (
@@ -201,8 +213,8 @@ pub(super) const FULL: [Full; 4] = [
     ("merge --sheet sheet 100", 0, "device: 0 bytes written\n"),
     (
         "merge --sheet sheet 100",
-        199,
-        "device: 199 bytes written\n",
+        275,
+        "device: 275 bytes written\n",
     ),
     (
         "verdicts --sheet sheet 100 unbound",
@@ -211,19 +223,19 @@ pub(super) const FULL: [Full; 4] = [
     ),
     (
         "check --sheet sheet twice",
-        19,
-        "device: 19 bytes written\n",
+        25,
+        "device: 25 bytes written\n",
     ),
 ];
 
 /// Standard output takes all and is not flushed. A run that stops before does not flush it.
 pub(super) const UNFLUSHED: [(&str, &str); 7] = [
-    ("merge --sheet sheet 100", "device: 200 bytes written\n"),
+    ("merge --sheet sheet 100", "device: 276 bytes written\n"),
     (
         "verdicts --sheet sheet 100 unbound",
         "device: 17 bytes written\n",
     ),
-    ("check --sheet sheet twice", "device: 20 bytes written\n"),
+    ("check --sheet sheet twice", "device: 26 bytes written\n"),
     ("check --sheet sheet unbound", "device: 0 bytes written\n"),
     (
         "merge --sheet sheet --allow none 100 101",

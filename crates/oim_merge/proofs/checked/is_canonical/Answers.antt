@@ -27,8 +27,7 @@ returns c =
     let taken : union base.body (body (d ∷ [])) ≡ body (d ∷ []) =
     ap (λ (x : Contents). union x.body (body (d ∷ []))) c.new-base.ensures ∙ sym (body_of_both [] (d ∷ [])) in
     let text : c.as_bytes.result.now ≡ canonical (body (d ∷ [])) =
-    c.as_bytes.ensures ∙ c.in_ok-text.ensures ∙ ap canonical (ap (λ (x : Contents). x.body) c.in_ok-take.ensures.ok ∙ taken) in
-    (
+    c.as_bytes.ensures ∙ c.in_ok-text.ensures ∙ ap canonical (ap (λ (x : Contents). x.body) c.in_ok-take.ensures.ok ∙ taken) in (
       λ h. sym (same_bytes c.as_bytes.result.now c.args.bytes.now (sym c.eq.ensures ∙ h)) ∙ text,
       λ is. c.eq.ensures ∙ ap (λ t. bytes_eq t c.args.bytes.now) (text ∙ sym is) ∙ bytes_eq-refl c.args.bytes.now,
     )

@@ -158,7 +158,7 @@ const FAULTS: [(Reason, &[&str]); 24] = [
         DecimalsRange,
         &[
             r#"{"value":"1","decimals":18446744073709551615,"dimensions":{"concept":"eg:A"}}"#,
-            r#"{"value":"1","decimals":13,"dimensions":{"concept":"eg:A"}}"#,
+            r#"{"value":"1","decimals":19,"dimensions":{"concept":"eg:A"}}"#,
         ],
     ),
     (
@@ -263,7 +263,7 @@ const LEAST_FAULTS: [(Reason, &[&str]); 22] = [
     ),
     (
         DecimalsRange,
-        &[r#"{"value":"1","decimals":13,"dimensions":{"concept":"eg:T"}}"#],
+        &[r#"{"value":"1","decimals":19,"dimensions":{"concept":"eg:T"}}"#],
     ),
 ];
 

@@ -96,11 +96,11 @@ const READ: [(&str, Said); 7] = [
     // numbers are exact without decimals
     (
         r#"{"value":"1","dimensions":{"concept":"eg:A"}}"#,
-        Said::Number(1_000_000_000_000_000_000, None),
+        Said::Number(10_000_000_000_000_000_000, None),
     ),
     (
         r#"{"value":"1.","decimals":0,"dimensions":{"concept":"eg:A"},"links":{}}"#,
-        Said::Number(1_000_000_000_000_000_000, Some(0)),
+        Said::Number(10_000_000_000_000_000_000, Some(0)),
     ),
     // values of a name concept are expanded
     (

@@ -126,10 +126,18 @@ const PARTS: [Table; 5] = [
     Table {
         start: r#"{"documentInfo":{"documentType":"https://xbrl.org/2021/xbrl-json","namespaces":{"eg":"http://example.org/t"}},"facts":{"a":{"dimensions":{"concept":"eg:A"},"value":"1","decimals":"#,
         rows: &[
-            (Read, &["12", "-12"]),
+            (Read, &["12", "-12", "13", "-13", "18", "-18"]),
             (
                 InFact(29, 1),
-                &["13", "-13", "18446744073709551615", "-9223372036854775808"],
+                &[
+                    "19",
+                    "-19",
+                    "256",
+                    "-129",
+                    "9223372036854775807",
+                    "18446744073709551615",
+                    "-9223372036854775808",
+                ],
             ),
             (
                 InFact(28, 1),
