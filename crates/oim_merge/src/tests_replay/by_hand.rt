@@ -1,5 +1,8 @@
 use super::{HUNDRED_ONE, NINE_EVENTS, played, with_memory};
-use crate::asked_again::tell_refused;
+use crate::asked_again::{joined as put_together, tell_refused};
+use crate::canonical_parts::{
+    EARLIER_HEAD, EARLIER_MIDDLE, END, ONE_URI, WRITTEN_BOTH, WRITTEN_HUNDRED,
+};
 use crate::events_reader::read_events;
 use crate::replay_fault::ReplayFault;
 use crate::replayed::Replayed;
@@ -119,6 +122,40 @@ fn are_driven(
     )
 }
 
+/// The two sent texts as a program of before would have written them.
+const EARLIER_ONE: &[&str] = &[EARLIER_HEAD, ONE_URI, EARLIER_MIDDLE, WRITTEN_HUNDRED, END];
+
+const EARLIER_BOTH: &[&str] = &[EARLIER_HEAD, ONE_URI, EARLIER_MIDDLE, WRITTEN_BOTH, END];
+
+/// Whether the replicas have what they would have if an earlier program had sent these two texts.
+fn have_the_same(
+    alloc: Global,
+    replayed: &Replayed<'_>,
+    reports: &[Encoded],
+    one: &[u8],
+    two: &[u8],
+) -> Result<bool, AllocError> {
+    let [report, other, last] = reports else {
+        return Ok(false);
+    };
+    let (report, other, last) = (report.as_bytes(), other.as_bytes(), last.as_bytes());
+    Ok(
+        joined(alloc, replayed, 1, report, &[other, one])?
+            && took(alloc, replayed, 2, &[other, one])?
+            && took(alloc, replayed, 3, &[last, two, one])?
+            && took(alloc, replayed, 3, &[last, two])?,
+    )
+}
+
+fn earlier_texts_serve(alloc: Global, one: &[u8], two: &[u8]) -> Result<bool, AllocError> {
+    let sheet = sheet(alloc)?;
+    let reports = reports(alloc, THREE)?;
+    match with_memory(played(alloc, &sheet, 3, THREE, NINE_EVENTS))? {
+        Ok(replayed) => have_the_same(alloc, &replayed, &reports, one, two),
+        Err(_) => Ok(false),
+    }
+}
+
 fn calls_leave_the_same(alloc: Global) -> Result<bool, AllocError> {
     let sheet = sheet(alloc)?;
     let reports = reports(alloc, THREE)?;
@@ -181,6 +218,19 @@ fn the_calls_leave_what_a_replay_leaves(rt: HostRuntime) -> Result<(), Fail> {
     if answer.is_err() {
         tell_refused(&rt);
         answer = calls_leave_the_same(rt.alloc());
+    }
+    assert!(rt; answer == Ok(true));
+    Ok(())
+}
+
+#[test]
+fn an_earlier_writer_leaves_the_same(rt: HostRuntime) -> Result<(), Fail> {
+    let one = put_together(&rt, EARLIER_ONE)?;
+    let two = put_together(&rt, EARLIER_BOTH)?;
+    let mut answer = earlier_texts_serve(rt.alloc(), &one, &two);
+    if answer.is_err() {
+        tell_refused(&rt);
+        answer = earlier_texts_serve(rt.alloc(), &one, &two);
     }
     assert!(rt; answer == Ok(true));
     Ok(())

@@ -1,10 +1,32 @@
 use super::{LINE, SHEET, gives};
 use crate::asked_again::OPEN_INFO;
-use crate::canonical_parts::{END, HEAD};
+use crate::canonical_parts::{END, HEAD, MIDDLE};
 use std::test::Fail;
 
-// Prefixes are numbered by the bytes of their URIs, whatever comes first. One fact uses them all: its
-// concept's URI and that of each measure.
+// Prefixes are numbered by the bytes of their URIs, whatever comes first.
+
+#[test]
+fn prefixes_follow_the_bytes_of_uris(rt: HostRuntime) -> Result<(), Fail> {
+    let bundle = [
+        r#"{"namespaces":{"p":"http://b.org","q":"http://a.org"},"concepts":{"p:A":"numeric","q:A":"numeric"}}"#,
+        LINE,
+        r#"{"documentInfo":{"documentType":"https://xbrl.org/2021/xbrl-json","namespaces":{"p":"http://b.org","q":"http://a.org"}},"facts":{"#,
+        r#""a":{"value":"1","dimensions":{"concept":"p:A"}},"b":{"value":"2","dimensions":{"concept":"q:A"}}"#,
+        END,
+    ];
+    let text = [
+        HEAD,
+        r#""n1":"http://a.org","n2":"http://b.org""#,
+        MIDDLE,
+        r#""f1":{"dimensions":{"concept":"n1:A"},"value":"2"},"#,
+        r#""f2":{"dimensions":{"concept":"n2:A"},"value":"1"}"#,
+        END,
+    ];
+    assert!(rt; gives(&rt, &bundle, &text)?);
+    Ok(())
+}
+
+// One fact uses them all: its concept's URI and that of each measure.
 
 const BOUND: &str = r#","namespaces":{"eg":"http://example.org/t","#;
 
