@@ -23,9 +23,9 @@ const TWO_URIS: &str = r#""n1":"http://example.org/t","n2":"http://example.org/u
 fn merges(rt: &HostRuntime, bundle: &[u8], text: &[u8]) -> Option<bool> {
     let mut sink = StdSink::new(Expecting::just(text));
     let accepted = match consolidate_bundle(rt.alloc(), bundle, &mut sink) {
-        Err(Fault::OutOfMemory(_)) => return None,
         Ok(refusals) => refusals.as_slice().is_empty(),
-        Err(_) => false,
+        Err(Fault::OutOfMemory(_written)) => return None,
+        Err(_fault) => false,
     };
     let out = sink.into_inner();
     let same = accepted && out.is_met();
