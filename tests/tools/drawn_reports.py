@@ -89,3 +89,37 @@ def untidy(chance):
 def report(facts, members, space):
     information = {"documentType": '"https://xbrl.org/2021/xbrl-json"', "namespaces": json.dumps(URIS), **members}
     return space + fact_text({"documentInfo": fact_text(information), "facts": fact_text(facts)}) + space
+
+
+def roughened(chance, text):
+    """Spells a tidy report as other tools might, by nothing that carries a meaning."""
+    tree = json.loads(text)
+    facts = {}
+    for name, fact in tree["facts"].items():
+        members = {key: json.dumps(value) for key, value in fact.items()}
+        members["dimensions"] = json.dumps(rough_dimensions(chance, fact["dimensions"]))
+        kind = SHEET["concepts"][fact["dimensions"]["concept"]]
+        if kind != "text" and fact["value"] is not None:
+            members["value"] = json.dumps(chance.choice(["{}", " {}\n"]).format(rough_number(chance, fact["value"])))
+        if "decimals" in fact:
+            members["decimals"] = chance.choice(["{}", '"{}"', '" {}"', "{}.0"]).format(fact["decimals"])
+        elif chance.random() < 0.3:
+            members["decimals"] = '"INF"'
+        facts[name] = fact_text(members | ({"id": '"7"'} if chance.random() < 0.3 else {}))
+    return report(facts, {"generator": '"x"'}, "\n")
+
+
+def rough_number(chance, value):
+    """Gives a number of the fixtures an exponent, now and then."""
+    return f"{value}E0" if value[-1].isdigit() and chance.random() < 0.4 else value
+
+
+def rough_dimensions(chance, dimensions):
+    made = {}
+    for key, member in dimensions.items():
+        if key == "period":
+            member = "/".join(moment + chance.choice(["", ".000"]) for moment in member.split("/"))
+        if key in ("concept", "period", "unit", "language", "eg:Reg") and chance.random() < 0.3:
+            member = f" {member}\t"
+        made[f"xbrl:{key}" if ":" not in key and chance.random() < 0.3 else key] = member
+    return made

@@ -11,6 +11,7 @@ import subprocess
 import sys
 import tempfile
 import unittest
+from decimal import Decimal
 from unittest import mock
 
 import drawn_reports
@@ -171,6 +172,23 @@ class Drawn(ToolTest):
                 status, told, out, changes = self.normalised(report, "--sheet", self.sheet, *drawn_reports.OPTIONS)
                 self.assertEqual((status, told, changes), (0, "", []))
                 self.assertEqual(out, text_of(read_json(report)) + "\n")
+
+    def test_rough_spellings_come_to_the_tidy_report(self):
+        for seed in range(100):
+            chance = random.Random(seed)
+            tidy = drawn_reports.tidy(chance)
+            rough = self.write("report.json", drawn_reports.roughened(chance, tidy))
+            with self.subTest(seed=seed):
+                status, told, out, _ = self.normalised(rough, "--sheet", self.sheet)
+                self.assertEqual((status, told), (0, ""))
+                self.assertEqual(*(self.numbers_read(self.tree_of(text)) for text in (out, tidy)))
+
+    def numbers_read(self, tree):
+        """Returns the facts of a report with what its numbers denote."""
+        for fact in tree["facts"].values():
+            if fact["value"] and fact["dimensions"]["concept"] in ("eg:A", "eg:B"):
+                fact["value"] = Decimal(fact["value"])
+        return tree["facts"]
 
     def test_without_a_sheet_no_kind_is_guessed(self):
         kinds = {"exponent", "set"}
