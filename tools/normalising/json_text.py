@@ -1,6 +1,5 @@
 """Reads and writes JSON letter by letter: a number stays the text that it is, and no member is lost."""
 import json
-import os
 
 
 class Fault(Exception):
@@ -74,24 +73,3 @@ def text_of(tree):
     if isinstance(tree, list):
         return "[" + ",".join(map(text_of, tree)) + "]"
     return WORDS[tree]
-
-
-def write_files(texts):
-    """Writes every file of a list of paths and lines, or none: each is written beside its place and then moved there."""
-    made = []
-    try:
-        for path, lines in texts:
-            place = os.path.realpath(path)
-            if os.path.exists(place) and not os.path.isfile(place):
-                raise Fault(f"{path}: it is there and is no file that can be replaced")
-            made.append((f"{place}.{os.getpid()}.new", place))
-            with open(made[-1][0], "x", encoding="utf-8", newline="\n") as file:
-                file.writelines(lines)
-        for written, place in made:
-            os.replace(written, place)
-    except OSError as fault:
-        raise Fault(f"{path}: {type(fault).__name__}: {fault}") from None
-    finally:
-        for written, _ in made:
-            if os.path.exists(written):
-                os.unlink(written)

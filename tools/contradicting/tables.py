@@ -1,0 +1,49 @@
+"""The table of what contradicts, with names as {URI}local and nothing that a spreadsheet would work out."""
+import csv
+import re
+from decimal import Decimal
+
+from contradicting.rows import plain
+from contradicting.texts import Name
+
+FORMULA_START = re.compile(r"(^|[\t\r\n;|])(?=[\s\x00-\x20\ufeff'\"]*[=+\-@\uff1d\uff0b\uff0d\uff20])")
+DIMENSIONS = "concept entity period unit language dimensions".split()
+COLUMNS = ["row", "fact", *DIMENSIONS, *"value decimals low high evidence providers label".split()]
+
+
+class Line(list):
+    """A file for csv that keeps one line."""
+
+    write = list.append
+
+
+def lines_of(table):
+    """Yields the lines of a table of values."""
+    made = Line()
+    writer = csv.writer(made)
+    yield "\ufeff"
+    for values in table:
+        writer.writerow(map(cell, values))
+        yield made.pop()
+
+
+def cell(value):
+    """Returns the text of a cell."""
+    if isinstance(value, (Decimal, int)):
+        return plain(value)
+    return FORMULA_START.sub(r"\1'", "nil" if value is None else "{%s}%s" % value if isinstance(value, Name) else value)
+
+
+def dimension_cells(fact):
+    unit = "/".join("*".join(map(cell, side)) for side in fact.unit)
+    members = "; ".join(f"{cell(axis)}={cell(member)}" for axis, member in fact.members)
+    return fact.concept, fact.entity or "", fact.period, unit, fact.language, members
+
+
+def table(rows, labels):
+    """Yields the lines of the table of contradictions."""
+    yield COLUMNS
+    for row, name, fact in ((row, *item) for row in rows for item in row.facts.items()):
+        pair, label = "pair" * (name in row.said.group("one", "two")), labels.get(fact.concept, "")
+        cells = (fact.value, *fact.precision(), pair, ", ".join(row.holders[name]), label)
+        yield (row.number, name, *dimension_cells(fact), *cells)
