@@ -77,8 +77,8 @@ class Reader:
         names = [*facts]
         said = said_of(line, f"{number} {names[0]} {names[-1]} ")
         holders = {name: self.holders(tree) for name, tree in facts.items()}
-        if self.near:
-            self.near.add(number, self.expanded({names[0]: facts[names[0]]})[names[0]], holders)
+        if self.near and self.near.wants(holders):
+            self.near.add(number, self.expanded(facts), holders)
         if said and said["one"]:
             row = Row(number, self.expanded(facts), said, holders)
             return row if {*said.group("one", "two")} <= {*names} and row.is_shown() else None
