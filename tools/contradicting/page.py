@@ -59,7 +59,7 @@ def by_concept(rows, labels):
     yield '<h2>By concept</h2><ul class="index">'
     for rank, concept in enumerate(ranked, 1):
         place = f"c{rank}" if concept in rest else f"row{concepts[concept][0].number}"
-        yield f'<li>{heading(concept, labels, "span")}<a href="#{place}"><b>{len(concepts[concept])}</b></a>'
+        yield f'<li><a href="#{place}"><b>{len(concepts[concept])}</b></a>{heading(concept, labels, "span")}'
     yield "</ul>\n" + "<h2>The others</h2>" * bool(rest)
     for rank, concept in enumerate(ranked, 1):
         for start in range(0, len(rest.get(concept, ())), CHUNK):
