@@ -1,5 +1,6 @@
 """The table of what contradicts, with names as {URI}local and nothing that a spreadsheet would work out."""
 import csv
+import functools
 import re
 from decimal import Decimal
 
@@ -31,7 +32,16 @@ def cell(value):
     """Returns the text of a cell."""
     if isinstance(value, (Decimal, int)):
         return plain(value)
-    return FORMULA_START.sub(r"\1'", "nil" if value is None else "{%s}%s" % value if isinstance(value, Name) else value)
+    text = "nil" if value is None else "{%s}%s" % value if isinstance(value, Name) else value
+    return safe(text) if len(text) > 200 else safe_again(text)
+
+
+def safe(text):
+    """Returns a text that no spreadsheet works out."""
+    return FORMULA_START.sub(r"\1'", text)
+
+
+safe_again = functools.lru_cache(10_000)(safe)  # short texts come again in many cells
 
 
 def dimension_cells(fact):
