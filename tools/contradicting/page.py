@@ -85,7 +85,7 @@ def heading(concept, labels, tag):
 
 def section(row, labels):
     """Yields the pieces of the page that show a row."""
-    last, gap = [*row.facts.values()][-1], row.gap()  # the last is no nil: that comes first
+    last, gap = [*row.facts.values()][-1], row.gap  # the last is no nil: that comes first
     terms, ends = dict(details(last)), [end for fact in row.facts.values() for end in (fact.interval() if gap else ())]
     kind = "number" if "Unit" in terms else "text"
     yield f'<section class="row {kind}" id="row{row.number}">{heading(last.concept, labels, "h3")}<dl>'

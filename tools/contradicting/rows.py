@@ -25,27 +25,26 @@ class Fact(collections.namedtuple("Fact", "concept entity period unit language m
         return (decimals, *self.interval()) if isinstance(self.value, Decimal) else [""] * 3
 
 
-class Row(collections.namedtuple("Row", "number facts said holders")):
-    """The facts of one dimension set by identifier, what a line says of them, and the providers of each."""
+class Row(collections.namedtuple("Row", "number facts said holders gap")):
+    """The facts of one dimension set by identifier, what a line says of them, and the providers of each.
 
-    def pair(self):
-        """Returns the two facts that do not meet."""
-        return [self.facts[name] for name in self.said.group("one", "two")]
-
-    def gap(self):
-        """Returns the ends of the gap between the two facts that don't meet, None where they are no numbers."""
-        one, two = self.pair()
-        return (one.interval()[1], two.interval()[0]) if {type(one.value), type(two.value)} == {Decimal} else None
+    The gap has the ends of what lies between the two facts that don't meet, and is None where they are no numbers.
+    """
 
     def share(self):
         """Returns the difference of the pair as a share of the larger value, None where they are no numbers."""
-        one, two = (fact.value for fact in self.pair())
-        return abs(one - two) / max(abs(one), abs(two)) if self.gap() else None
+        one, two = (self.facts[name].value for name in self.said.group("one", "two"))
+        return abs(one - two) / max(abs(one), abs(two)) if self.gap else None
 
-    def is_shown(self):
-        """Tells whether the facts show that they do not meet."""
-        low, high = self.gap() or (0, self.said["one"] != self.said["two"])
-        return low < high
+
+def contradiction(number, facts, said, holders):
+    """Returns a row that contradicts itself, None where its facts do not show it."""
+    one, two = (facts.get(name) for name in said.group("one", "two"))
+    if not one or not two or one is two:
+        return None
+    is_numeric = type(one.value) is type(two.value) is Decimal
+    gap = (one.interval()[1], two.interval()[0]) if is_numeric else None
+    return Row(number, facts, said, holders, gap) if not gap or gap[0] < gap[1] else None
 
 
 class Reader:
@@ -80,10 +79,9 @@ class Reader:
         if self.near and self.near.wants(holders):
             self.near.add(number, self.expanded(facts), holders)
         if said and said["one"]:
-            row = Row(number, self.expanded(facts), said, holders)
-            return row if {*said.group("one", "two")} <= {*names} and row.is_shown() else None
+            return contradiction(number, self.expanded(facts), said, holders)
         is_shown = said and (is_common(said, facts) if said["low"] and is_numeric else len(facts) == 1 and not said["low"])
-        return Row(number, {}, said, holders) if is_shown else None
+        return Row(number, {}, said, holders, None) if is_shown else None
 
     def kind(self, tree):
         """Returns the kind of a fact, whose value has to be of it."""

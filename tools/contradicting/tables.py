@@ -30,7 +30,7 @@ def lines_of(table):
 
 def cell(value):
     """Returns the text of a cell."""
-    if isinstance(value, (Decimal, int)):
+    if not isinstance(value, (str, tuple, type(None))):
         return plain(value)
     text = "nil" if value is None else "{%s}%s" % value if isinstance(value, Name) else value
     return safe(text) if len(text) > 200 else safe_again(text)
@@ -53,7 +53,9 @@ def dimension_cells(fact):
 def table(rows, labels):
     """Yields the lines of the table of contradictions."""
     yield COLUMNS
-    for row, name, fact in ((row, *item) for row in rows for item in row.facts.items()):
-        pair, label = "pair" * (name in row.said.group("one", "two")), labels.get(fact.concept, "")
-        cells = (fact.value, *fact.precision(), pair, ", ".join(row.holders[name]), label)
-        yield (row.number, name, *dimension_cells(fact), *cells)
+    for row in rows:
+        first = next(iter(row.facts.values()))
+        dimensions, label = dimension_cells(first), labels.get(first.concept, "")
+        for name, fact in row.facts.items():
+            pair = "pair" * (name in row.said.group("one", "two"))
+            yield row.number, name, *dimensions, fact.value, *fact.precision(), pair, ", ".join(row.holders[name]), label

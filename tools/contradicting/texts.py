@@ -144,7 +144,7 @@ class Provider:
     def __init__(self, name, path, merged, sheet):
         self.name, self.text, self.sheet, self.merged = name, Text(path), sheet, merged.path
         self.prefixes = {uri: prefix for prefix, uri in merged.uris.items()}
-        self.spellings, self.stream = {}, self.text.facts()
+        self.spellings, self.units, self.stream = {}, {}, self.text.facts()
         self.advance()
 
     def advance(self):
@@ -178,7 +178,7 @@ class Provider:
                 member = self.spelled(member) if self.is_explicit(key) else member
                 key = self.spelled(key)
             elif key == "unit":
-                member = re.sub(r"[^*/()]+", lambda piece: self.spelled(piece[0]), member)
+                member = self.spelled_unit(member)
             elif key in ("concept", "entity"):
                 member = self.spelled(member)
             dimensions[key] = member
@@ -196,3 +196,8 @@ class Provider:
         if prefix not in self.spellings:
             self.spellings[prefix] = self.prefixes[self.text.uris[prefix]]
         return f"{self.spellings[prefix]}:{local}"
+
+    def spelled_unit(self, text):
+        if text not in self.units:
+            self.units[text] = re.sub(r"[^*/()]+", lambda piece: self.spelled(piece[0]), text)
+        return self.units[text]
