@@ -241,6 +241,51 @@ class Numbers(ToolTest):
             self.assertEqual(self.value_of(token)[0], token)
 
 
+class Periods(ToolTest):
+    def period_of(self, period, *options):
+        """Returns what becomes of a period, and how often something of it is left."""
+        fact = '{"value":null,"dimensions":{"period":%s}}' % json.dumps(period)
+        _, told, out, _ = self.normalised(self.write("report.json", '{"facts":{"f":%s}}' % fact), *options)
+        return self.tree_of(out)["facts"]["f"]["dimensions"]["period"], len(told.splitlines())
+
+    def test_fractions(self):
+        for period, made in (
+            ("2023-12-31T00:00:00.0", ("2023-12-31T00:00:00", 0)),
+            ("2023-12-31T24:00:00.000/2024-12-31T24:00:00.00", ("2023-12-31T24:00:00/2024-12-31T24:00:00", 0)),
+            ("2023-12-31T00:00:00.50", ("2023-12-31T00:00:00.50", 1)),
+            ("2023-12-31T00:00:00.000Z", ("2023-12-31T00:00:00Z", 1)),
+            ("2023-12-31.0", ("2023-12-31.0", 2)),
+            ("2023", ("2023", 0)),
+        ):
+            self.assertEqual(self.period_of(period), made, period)
+
+    def test_dates(self):
+        for period, made in (
+            ("2023-12-31", ("2023-12-31T24:00:00", 0)),
+            ("2023-01-01/2023-12-31", ("2023-01-01T00:00:00/2023-12-31T24:00:00", 0)),
+            ("2023-01-01T00:00:00/2023-12-31", ("2023-01-01T00:00:00/2023-12-31T24:00:00", 0)),
+            ("2023-12-31+02:00", ("2023-12-31T24:00:00+02:00", 1)),
+            ("2023-02-30", ("2023-02-30", 1)),
+        ):
+            self.assertEqual(self.period_of(period, "--dates=xbrl21"), made, period)
+
+    def test_zones(self):
+        for period, made in (
+            ("2023-12-31T24:00:00Z", ("2023-12-31T24:00:00", 0)),
+            ("2023-12-31T24:00:00+01:00", ("2023-12-31T23:00:00", 0)),
+            ("2023-12-31T23:30:00-00:30", ("2024-01-01T00:00:00", 0)),
+            ("2023-12-31T00:00:00+05:45/2024-12-31T00:00:00", ("2023-12-30T18:15:00/2024-12-31T00:00:00", 0)),
+            ("0001-01-01T00:00:00+01:00", ("0001-01-01T00:00:00+01:00", 1)),
+            ("9999-12-31T24:00:00-01:00", ("9999-12-31T24:00:00-01:00", 1)),
+            ("2023-12-31T00:00:00+14:01", ("2023-12-31T00:00:00+14:01", 1)),
+            ("2023-12-31T00:00:00.5Z", ("2023-12-31T00:00:00.5Z", 2)),
+            ("2023-12-31T24:00:01+01:00", ("2023-12-31T24:00:01+01:00", 1)),
+            ("2023-12-31Z", ("2023-12-31Z", 2)),
+        ):
+            self.assertEqual(self.period_of(period, "--zones=utc"), made, period)
+        self.assertEqual(self.period_of("2023-12-31+02:00", "--zones=utc", "--dates=xbrl21"), ("2023-12-31T22:00:00", 0))
+
+
 class BadInputs(ToolTest):
     def check_refused(self, told, *words):
         """A line tells why, and nothing is written, not even in part."""
