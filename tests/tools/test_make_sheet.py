@@ -109,10 +109,11 @@ class Taxonomies(ToolTest):
     def test_what_is_in_doubt_is_left_out_with_a_line_each(self):
         done = run(DOUBTFUL)
         self.assertEqual(done.returncode, 1)
-        self.assertEqual(json.loads(done.stdout)["concepts"], {"n1:Sure": "numeric"})
+        self.assertEqual(json.loads(done.stdout)["concepts"], {"n1:Set": "text", "n1:Sure": "numeric"})
+        self.assertEqual(json.loads(done.stdout)["xbrlmerge:sets"], ["n1:Set"])
         left_out = [line.split("}")[1].split(" ")[0] for line in done.stderr.decode().splitlines()]
         names = "Fraction LostHead LostType NewInRegistry NoItemType NoType Prefixed RoundHead RoundHeadAgain"
-        self.assertEqual(left_out, [*names.split(), "RoundType", "Set", "Structure"])
+        self.assertEqual(left_out, [*names.split(), "RoundType", "Structure"])
 
     def test_a_registry_type_that_is_not_listed_is_followed(self):
         registry = self.write(
@@ -124,7 +125,7 @@ class Taxonomies(ToolTest):
             </xs:simpleContent></xs:complexType></xs:schema>""",
         )
         sheet = json.loads(run(DOUBTFUL, registry).stdout)
-        self.assertEqual(sheet["concepts"], {"n1:NewInRegistry": "numeric", "n1:Sure": "numeric"})
+        self.assertEqual(sheet["concepts"], {"n1:NewInRegistry": "numeric", "n1:Set": "text", "n1:Sure": "numeric"})
 
     def test_twenty_thousand_elements_take_seconds(self):
         place = self.write("large.xsd", SCHEMA % "".join(ITEM % (f"C{n}", "monetary") for n in range(20_000)))
@@ -210,6 +211,18 @@ class Unions(ToolTest):
         text = self.check_sheet(both, "--union", first, second, first)
         self.assertEqual(run("--union", second, first).stdout, text)
         self.assertEqual(run("--union", self.write("c.json", text)).stdout, text)
+
+    def test_sets_stay_sets(self):
+        concepts = {"namespaces": {"p": "http://a.example"}, "concepts": {"p:A": "text", "p:B": "text"}}
+        first = self.write("a.json", json.dumps({**concepts, "xbrlmerge:sets": ["p:A"]}))
+        second = self.write("b.json", json.dumps(concepts))
+        for words in ((first,), (first, second), (second, first)):
+            sheet = json.loads(run("--union", *words).stdout)
+            self.assertEqual(sheet["xbrlmerge:sets"], ["n1:A"])
+            self.assertEqual(sheet["concepts"], {"n1:A": "text", "n1:B": "text"})
+        self.assertNotIn("xbrlmerge:sets", json.loads(run("--union", second).stdout))
+        numeric = self.write("c.json", json.dumps({**concepts, "concepts": {"p:A": "numeric"}}))
+        self.check_refused(1, "{http://a.example}A is set, and numeric", "--union", numeric, first)
 
     def test_a_concept_of_two_kinds_is_named(self):
         first = self.sheet("a.json", "http://a.example", {"p:A": "numeric"}, {})

@@ -1,0 +1,207 @@
+"""Tests of tools/contradictions on a large text, and of its labels and its table of rows that look alike."""
+import csv
+import json
+import os
+import re
+import resource
+import subprocess
+import sys
+import zipfile
+
+import lines_of_verdicts
+import test_contradictions
+import workload
+
+SCHEMA = """<xs:schema xmlns:xs="http://www.w3.org/2001/XMLSchema" xmlns:xbrli="http://www.xbrl.org/2003/instance"
+    targetNamespace="https://norlake.example/2023">%s</xs:schema>"""
+ITEM = '<xs:element id="nor_{0}" name="{0}" type="xbrli:monetaryItemType" substitutionGroup="xbrli:item"/>'
+LINKBASE = """<link:linkbase xmlns:link="http://www.xbrl.org/2003/linkbase" xmlns:xlink="http://www.w3.org/1999/xlink">
+    <link:labelLink xlink:type="extended" xlink:role="http://www.xbrl.org/2003/role/link">%s</link:labelLink></link:linkbase>"""
+LABEL = """<link:loc xlink:type="locator" xlink:href="{href}#nor_{name}" xlink:label="{name}"/>
+    <link:labelArc xlink:type="arc" xlink:from="{name}" xlink:to="{name}_label"{use}/>
+    <link:label xlink:type="resource" xlink:label="{name}_label" xml:lang="en-GB">{text} (GB)</link:label>
+    <link:label xlink:type="resource" xlink:label="{name}_label" xml:lang="en">{text}</link:label>
+    <link:label xlink:type="resource" xlink:label="{name}_label" xml:lang="fi">Suomeksi</link:label>
+    <link:label xlink:type="resource" xlink:label="{name}_label" xml:lang="en"
+        xlink:role="http://www.xbrl.org/2003/role/terseLabel">Terse</link:label>"""
+CATALOG = """<catalog xmlns="urn:oasis:names:tc:entity:xmlns:xml:catalog">
+    <rewriteURI uriStartString="http://norlake.example/xbrl/" rewritePrefix="../"/></catalog>"""
+
+
+class Labels(test_contradictions.ToolTest):
+    def package(self):
+        path = os.path.join(self.room, "taxonomy.zip")
+        labels = LABEL.format(href="core.xsd", name="Revenue", text="Revenue from\n <contracts>".replace("<", "&lt;"), use="")
+        labels += LABEL.format(href="http://norlake.example/xbrl/t/core.xsd", name="Dividend", text="Dividend a share", use="")
+        labels += LABEL.format(href="core.xsd", name="Goodwill", text="No label", use=' use="prohibited"')
+        with zipfile.ZipFile(path, "w") as made:
+            made.writestr("t/core.xsd", SCHEMA % "".join(map(ITEM.format, ("Revenue", "Dividend", "Goodwill"))))
+            made.writestr("t/labels/../labels.xml", LINKBASE % labels)
+            made.writestr("META-INF/catalog.xml", CATALOG)
+            made.writestr("META-INF/taxonomyPackage.xml", "<a/>")
+        return path
+
+    def labelled(self, *options):
+        page, cells = self.written_with(options)
+        return page, {cell["concept"].split("}")[1]: cell["label"] for cell in cells}
+
+    def written_with(self, options):
+        words = [*options, *INPUTS, self.page, self.table]
+        done = subprocess.run([sys.executable, test_contradictions.TOOL, *words], capture_output=True)
+        self.assertEqual((done.returncode, done.stderr), (0, b""))
+        with open(self.table, encoding="utf-8-sig", newline="") as file:
+            return test_contradictions.content(self.page), list(csv.DictReader(file))
+
+    def test_standard_labels_of_a_language(self):
+        page, labels = self.labelled("--labels", self.package())
+        self.assertEqual(labels["Revenue"], "Revenue from <contracts>")
+        self.assertEqual((labels["Dividend"], labels["Goodwill"]), ("Dividend a share", ""))
+        self.assertIn("<h3><bdi>Revenue from &lt;contracts&gt;</bdi></h3></summary><p>https://norlake.example/2023 Revenue", page)
+        self.assertIn("<h3><bdi>Goodwill</bdi></h3>", page)
+        labels = self.labelled("--labels", self.package(), "--language", "fi")[1]
+        self.assertEqual(labels["Revenue"], "Suomeksi")
+        labels = self.labelled("--labels", self.package(), "--language", "en-GB")[1]
+        self.assertEqual(labels["Dividend"], "Dividend a share (GB)")
+
+    def test_a_taxonomy_that_cannot_be_read(self):
+        words = ["--labels", self.write("a.zip", "no zip"), *INPUTS, self.page, self.table]
+        done = subprocess.run([sys.executable, test_contradictions.TOOL, *words], capture_output=True)
+        self.assertEqual((done.returncode, len(done.stderr.splitlines())), (1, 1), done.stderr)
+        self.assertFalse(os.path.exists(self.page))
+
+
+INPUTS = (test_contradictions.MERGED, test_contradictions.SHEET, test_contradictions.VERDICTS)
+
+
+class Nearby(test_contradictions.ToolTest):
+    """Texts of providers A and B; the dimensions of each fact tell rows apart."""
+
+    URIS = {"n1": "http://a.example", "n2": "https://a.example", "n3": "http://b.example/t"}
+    SHEET = {
+        "namespaces": {"p": "http://b.example/t", "q": "https://a.example"},
+        "concepts": {"p:A": "numeric", "q:A": "numeric", "p:T": "text"},
+        "dimensions": {"p:Reg": "explicit", "p:Sku": "typed"},
+    }
+    CORE = {"concept": "n3:A", "entity": "n1:X", "period": "2024-01-01T00:00:00", "unit": "n1:EUR"}
+
+    def text(self, name, facts):
+        width = len(str(len(facts)))
+        named = {f"f{rank:0{width}}": fact for rank, fact in enumerate(facts, 1)}
+        return self.write(name, json.dumps({"documentInfo": {"namespaces": self.URIS}, "facts": named}))
+
+    def near(self, one, other, others=()):
+        """Returns the lines of the table, of A's row, B's and those of both, which stand in the order of the text."""
+        rows = sorted([(one, "A"), (other, "B"), *((each, "AB") for each in others)], key=lambda row: self.order(row[0]))
+        facts = [({"dimensions": dimensions, "value": "1"}, who) for dimensions, who in rows]
+        merged = self.text("merged.json", [fact for fact, _ in facts])
+        own = [f"{who}=" + self.text(f"{who}.json", [fact for fact, has in facts if who in has]) for who in "AB"]
+        lines = self.write("lines", "".join(f"{n} f{n} f{n} complete\n" for n in range(1, len(facts) + 1)))
+        place = os.path.join(self.room, "near.csv")
+        words = ["--near", place, merged, self.write("sheet.json", json.dumps(self.SHEET)), lines, self.page, self.table, *own]
+        done = subprocess.run([sys.executable, test_contradictions.TOOL, *words], capture_output=True)
+        self.assertEqual((done.returncode, done.stderr), (0, b""))
+        with open(place, encoding="utf-8-sig", newline="") as file:
+            return list(csv.DictReader(file))
+
+    @staticmethod
+    def order(dimensions):
+        return [dimensions.get(key) or "" for key in ("concept", "entity", "period", "unit", "n3:Reg", "n3:Sku")]
+
+    def test_slips_in_one_dimension(self):
+        for axis, one, other in (
+            ("entity", "n1:X", "n2:X"),
+            ("entity", "n1:x1", "n1:X1"),
+            ("period", "2023-12-31T00:00:00", "2024-01-01T00:00:00"),
+            ("period", "2023-01-01T00:00:00/2023-12-31T00:00:00", "2023-01-01T00:00:00/2024-01-01T00:00:00"),
+            ("unit", "n1:EUR", "n1:USD"),
+            ("unit", "n1:EUR", None),
+            ("concept", "n2:A", "n3:A"),
+            ("n3:Reg", "n1:North", "n3:North"),
+            ("n3:Reg", "n1:North", None),
+            ("n3:Sku", "Mill 7", "mill  7"),
+        ):
+            rows = [{key: each for key, each in {**self.CORE, axis: value}.items() if each} for value in (one, other)]
+            lines = self.near(*rows)
+            with self.subTest(axis=axis, one=one):
+                self.assertEqual([line["pair"] for line in lines], ["1", "1"])
+                self.assertEqual({line["providers"] for line in lines}, {"A", "B"})
+                uri, _, local = axis.rpartition(":")
+                self.assertEqual(lines[0]["differs"], f"{{{self.URIS[uri]}}}{local}" if uri else axis)
+
+    def test_what_is_no_slip(self):
+        for axis, one, other in (
+            ("period", "2023-12-30T00:00:00", "2024-01-01T00:00:00"),
+            ("period", "2023-12-31T00:00:00/2024-01-01T00:00:00", "2024-01-01T00:00:00"),
+            ("entity", "n1:X", "n1:Y"),
+            ("n3:Reg", "n3:South", "n3:North"),
+            ("concept", "n3:A", "n3:T"),
+        ):
+            self.assertEqual(self.near({**self.CORE, axis: one}, {**self.CORE, axis: other}), [], (axis, one))
+        self.assertEqual(self.near(self.CORE, {**self.CORE, "entity": "n2:X", "unit": "n1:USD"}), [])
+
+    def test_a_provider_that_has_both_means_both(self):
+        other = {**self.CORE, "entity": "n2:X"}
+        self.assertEqual(self.near({**self.CORE, "unit": "n2:V"}, {**self.CORE, "period": "1999-01-01T00:00:00"}, [self.CORE, other]), [])
+
+
+class Large(test_contradictions.ToolTest):
+    COUNT = 2_000
+
+    def test_a_large_text(self):
+        workload.make(self.room, self.COUNT)
+        inputs = [os.path.join(self.room, name) for name in ("merged.json", "sheet.json", "verdicts.txt")]
+        own = [f"{name}=" + os.path.join(self.room, f"{name}.json") for name in workload.PROVIDERS]
+        page, cells = self.written(*inputs, *own)
+        self.assertEqual(len({cell["row"] for cell in cells}), self.COUNT)
+        self.assertTrue(all(cell["providers"] for cell in cells))
+        self.assertLess(resource.getrusage(resource.RUSAGE_CHILDREN).ru_maxrss, 300_000)
+        self.check_order(page, cells)
+
+    def check_order(self, page, cells):
+        """First 200 rows by size, then the index, then each other row once, by concept."""
+        first, index, rest = re.split(r'<h2>By concept</h2>|<h2>The others</h2>', page)
+        rows = [re.findall(r'<section class="row \w+" id="row(\d+)">', each) for each in (first, index, rest)]
+        self.assertEqual([len(each) for each in rows], [200, 0, self.COUNT - 200])
+        self.assertEqual({*rows[0], *rows[2]}, {cell["row"] for cell in cells})
+        sizes = {}
+        for cell in (cell for cell in cells if cell["evidence"]):
+            sizes.setdefault(cell["row"], []).append(cell)
+        shares = [self.share(sizes[row]) for row in rows[0]]
+        self.assertEqual(shares, sorted(shares, reverse=True))
+        self.assertGreaterEqual(shares[-1], max(self.share(sizes[row]) for row in rows[2]))
+        counted = [int(count) for count in re.findall(r"<b>(\d+)</b></a>", index)]
+        self.assertEqual((sum(counted), counted), (self.COUNT, sorted(counted, reverse=True)))
+        self.assertEqual({*re.findall(r'href="#(\w+)"', index)} - {*re.findall(r' id="(\w+)"', page)}, set())
+
+    @staticmethod
+    def share(pair):
+        if not all(cell["low"] for cell in pair):
+            return float("inf")
+        one, other = (float(cell["value"]) for cell in pair)
+        return abs(one - other) / max(abs(one), abs(other))
+
+    def test_pieces_of_a_text_may_end_anywhere(self):
+        sys.path.insert(0, os.path.join(os.path.dirname(test_contradictions.TOOL)))
+        from contradicting import texts
+
+        tree = json.loads(test_contradictions.content(test_contradictions.MERGED))
+        size, texts.PIECE = texts.PIECE, 1
+        try:
+            for indent in (None, 1):
+                text = texts.Text(self.write("merged.json", json.dumps(tree, indent=indent)))
+                self.assertEqual(dict(text.facts()), tree["facts"])
+        finally:
+            texts.PIECE = size
+
+    def test_a_text_with_features(self):
+        tree = json.loads(test_contradictions.content(test_contradictions.MERGED))
+        tree["documentInfo"]["namespaces"]["xbrl"] = "https://xbrl.org/2021"
+        tree["documentInfo"]["features"] = {"xbrl:allowedDuplicates": "all"}
+        merged = self.write("merged.json", json.dumps(tree))
+        _, cells = self.written(merged, *INPUTS[1:], f"A={merged}", f"B={INPUTS[0]}")
+        self.assertEqual({cell["providers"] for cell in cells}, {"A, B"})
+        self.assertEqual(lines_of_verdicts.lines(test_contradictions.content(merged)), test_contradictions.content(INPUTS[2]))
+
+
+if __name__ == "__main__":
+    test_contradictions.unittest.main()

@@ -1,0 +1,351 @@
+"""Tests of tools/normalise: the reports of tests/normalise, the examples of its docs, drawn reports and bad inputs."""
+import contextlib
+import importlib.machinery
+import importlib.util
+import io
+import json
+import os
+import random
+import re
+import subprocess
+import sys
+import tempfile
+import unittest
+from decimal import Decimal
+from unittest import mock
+
+import drawn_reports
+
+HERE = os.path.dirname(os.path.abspath(__file__))
+ROOT = os.path.join(HERE, "..", "..")
+TOOL = os.path.join(ROOT, "tools", "normalise")
+REPORTS = os.path.join(ROOT, "tests", "normalise")
+sys.path.insert(0, os.path.join(ROOT, "tools"))
+LOADER = importlib.machinery.SourceFileLoader("normalise", TOOL)
+normalise = importlib.util.module_from_spec(importlib.util.spec_from_loader("normalise", LOADER))
+LOADER.exec_module(normalise)
+
+from normalising import profile  # noqa: E402
+from normalising.json_text import pointed, read_json, text_of  # noqa: E402
+from normalising.names import Sheet  # noqa: E402
+
+
+def content(path):
+    with open(path, encoding="utf-8") as file:
+        return file.read()
+
+
+def part_at(tree, pointer):
+    """Returns the object that has what a pointer points at, and its key there."""
+    *path, key = (step.replace("~1", "/").replace("~0", "~") for step in pointer.split("/")[1:])
+    for step in path:
+        tree = tree[step]
+    return tree, key
+
+
+def undo(tree, changes):
+    """Takes changes back, the last one first."""
+    for change in reversed(changes):
+        part, key = part_at(tree, change["pointer"])
+        if "moved" in change:
+            del part[part_at(tree, change["moved"])[1]]
+        part[key] = change["was"]
+
+
+class ToolTest(unittest.TestCase):
+    def setUp(self):
+        room = tempfile.TemporaryDirectory()
+        self.addCleanup(room.cleanup)
+        self.room = room.name
+        self.out, self.changes = self.place("out.json"), self.place("changes.jsonl")
+
+    def place(self, name):
+        return os.path.join(self.room, name)
+
+    def write(self, name, text):
+        with open(self.place(name), "wb" if isinstance(text, bytes) else "w") as file:
+            file.write(text)
+        return self.place(name)
+
+    def run_tool(self, *words):
+        """Runs the command in this process, and returns its status and what it tells on standard error."""
+        with mock.patch.object(sys, "argv", ["normalise", *words]), contextlib.redirect_stderr(io.StringIO()) as told:
+            try:
+                return normalise.main(), told.getvalue()
+            except SystemExit as end:
+                return end.code, told.getvalue()
+
+    def normalised(self, report, *options):
+        """Returns the status, what is told, the output and the changes, and looks at what holds of every run."""
+        status, told = self.run_tool(report, self.out, self.changes, *options)
+        self.assertIn(status, (0, 1), told)
+        out, lines = content(self.out), content(self.changes)
+        changes = [self.tree_of(line) for line in lines.splitlines()]
+        self.assertEqual(status, int(any(change["loss"] for change in changes)))
+        tree = self.tree_of(out)
+        undo(tree, changes)
+        self.assertEqual(tree, read_json(report), "the changes, taken back, do not give the report")
+        again = self.run_tool(self.write("again.json", out), self.place("out2"), self.place("changes2"), *options)
+        self.assertEqual((again, content(self.place("out2")), content(self.place("changes2"))), ((0, told), out, ""))
+        return status, told, out, changes
+
+    def tree_of(self, text):
+        return read_json(self.write("tree.json", text))
+
+
+class Reports(ToolTest):
+    """Reports of several shapes, each with what comes out of it."""
+
+    def test_each_report_comes_out_as_it_stands_beside_it(self):
+        for case in map(json.loads, content(os.path.join(REPORTS, "cases.jsonl")).splitlines()):
+            with self.subTest(case["report"]):
+                stem = os.path.join(REPORTS, case["report"])
+                sheet = os.path.join(os.path.dirname(stem), "sheet.json")
+                status, _, out, _ = self.normalised(f"{stem}.json", "--sheet", sheet, *case["options"])
+                self.assertEqual(out, content(f"{stem}.out.json"))
+                self.assertEqual(content(self.changes), content(f"{stem}.changes.jsonl"))
+                self.assertEqual(status, case["status"])
+
+    def test_there_are_enough_of_them(self):
+        cases = [json.loads(line) for line in content(os.path.join(REPORTS, "cases.jsonl")).splitlines()]
+        self.assertGreaterEqual(len({case["report"] for case in cases}), 60)
+        self.assertGreaterEqual(len({os.path.dirname(case["report"]) for case in cases}), 12)
+
+
+class Docs(ToolTest):
+    """Each rule stands in docs/NORMALISE.md with an example: options, a fact before, and after or the word dropped."""
+
+    SHEET = {
+        "namespaces": {"eg": "http://example.org/t"},
+        "concepts": {"eg:A": "numeric", "eg:Q": "name", "eg:S": "text", "eg:T": "text"},
+        "dimensions": {"eg:Reg": "explicit", "eg:Sku": "typed"},
+        "xbrlmerge:sets": ["eg:S"],
+    }
+    URIS = {"eg": "http://example.org/t", "x": "http://example.org/u", "xbrl": "https://xbrl.org/2021"}
+    TYPE = "https://xbrl.org/2021/xbrl-json"
+
+    def test_the_examples(self):
+        text = content(os.path.join(ROOT, "docs", "NORMALISE.md"))
+        sheet, seen = self.write("sheet.json", json.dumps(self.SHEET)), set()
+        for rule, example in re.findall(r"^### `([a-z-]+)`$.*?^```\n(.*?)^```$", text, re.MULTILINE | re.DOTALL):
+            options, before, after = example.splitlines()
+            information = json.dumps({"documentType": self.TYPE, "namespaces": self.URIS})
+            report = self.write("report.json", '{"documentInfo":%s,"facts":{"f":%s}}' % (information, before))
+            with self.subTest(rule):
+                _, _, out, changes = self.normalised(report, "--sheet", sheet, *options.split()[1:])
+                self.assertEqual({change["rule"] for change in changes} - {"value-text"} or {"value-text"}, {rule})
+                facts = self.tree_of(out)["facts"]
+                self.assertEqual(text_of(facts["f"]) if facts else "dropped", after)
+                seen.add(rule)
+        self.assertEqual(seen, set(RULES))
+
+
+RULES = """decimals decimals-infinite value-text exponent period-fraction core-prefix white-space unknown-member set
+drop-links drop-notes drop-unknown dates zones drop-null drop-unreadable""".split()
+
+
+class Drawn(ToolTest):
+    """Properties of drawn reports. `normalised` looks at idempotence, and that the changes tell all."""
+
+    def setUp(self):
+        super().setUp()
+        self.sheet = self.write("sheet.json", json.dumps(drawn_reports.SHEET))
+
+    def test_untidy_reports_with_drawn_options(self):
+        for seed in range(300):
+            chance = random.Random(seed)
+            report = self.write("report.json", drawn_reports.untidy(chance))
+            with self.subTest(seed=seed):
+                lossy = [word for word in drawn_reports.OPTIONS if chance.random() < 0.3]
+                _, _, out, changes = self.normalised(report, "--sheet", self.sheet, *lossy)
+                self.assertTrue(lossy or not any(change["loss"] for change in changes))
+                if "--drop-unreadable" in lossy:
+                    self.assertEqual(self.faults(out), [])
+
+    def test_a_report_within_the_profile_is_the_same(self):
+        for seed in range(100):
+            chance = random.Random(seed)
+            text = drawn_reports.tidy(chance)
+            report = self.write("report.json", text)
+            self.assertEqual(self.faults(text), [])
+            with self.subTest(seed=seed):
+                status, told, out, changes = self.normalised(report, "--sheet", self.sheet, *drawn_reports.OPTIONS)
+                self.assertEqual((status, told, changes), (0, "", []))
+                self.assertEqual(out, text_of(read_json(report)) + "\n")
+
+    def test_rough_spellings_come_to_the_tidy_report(self):
+        for seed in range(100):
+            chance = random.Random(seed)
+            tidy = drawn_reports.tidy(chance)
+            rough = self.write("report.json", drawn_reports.roughened(chance, tidy))
+            with self.subTest(seed=seed):
+                status, told, out, _ = self.normalised(rough, "--sheet", self.sheet)
+                self.assertEqual((status, told), (0, ""))
+                self.assertEqual(*(self.numbers_read(self.tree_of(text)) for text in (out, tidy)))
+
+    def numbers_read(self, tree):
+        """Returns the facts of a report with what its numbers denote."""
+        for fact in tree["facts"].values():
+            if fact["value"] and fact["dimensions"]["concept"] in ("eg:A", "eg:B"):
+                fact["value"] = Decimal(fact["value"])
+        return tree["facts"]
+
+    def test_without_a_sheet_no_kind_is_guessed(self):
+        kinds = {"exponent", "set"}
+        for seed in range(60):
+            report = self.write("report.json", drawn_reports.untidy(random.Random(seed)))
+            for change in self.normalised(report)[3]:
+                self.assertNotIn(change["rule"], kinds)
+                self.assertTrue(change["rule"] != "white-space" or "/dimensions/" in change["pointer"])
+
+    def faults(self, text):
+        tree, sheet = self.tree_of(text), Sheet(self.sheet)
+        uris = tree["documentInfo"]["namespaces"]
+        faults = (profile.fault_of(fact, uris, sheet) for fact in tree["facts"].values())
+        return [fault for fault in faults if fault]
+
+
+class Numbers(ToolTest):
+    def value_of(self, token):
+        """Returns what becomes of the value of a numeric fact, as JSON."""
+        sheet = self.write("sheet.json", json.dumps(Docs.SHEET))
+        fact = '{"value":%s,"dimensions":{"concept":"eg:A"}}' % token
+        text = '{"documentInfo":{"namespaces":{"eg":"http://example.org/t"}},"facts":{"f":%s}}' % fact
+        _, told, out, _ = self.normalised(self.write("report.json", text), "--sheet", sheet)
+        return text_of(self.tree_of(out)["facts"]["f"]["value"]), told
+
+    def test_letters_stay_and_no_float_is_made(self):
+        for token in ("0.1", "100.50", "-0", "12345678901234567890.123", "1.000000000000000001"):
+            self.assertEqual(self.value_of(token), (f'"{token}"', ""))
+
+    def test_exponents_within_eighteen_digits(self):
+        for token, plain in (
+            ("1E-7", "0.0000001"),
+            ("1.25e6", "1250000"),
+            ("1E17", "100000000000000000"),
+            ("1e-18", "0.000000000000000001"),
+            ("-2.50E+1", "-25.0"),
+            ("0E99", "0"),
+            ("9.99999999999999999e17", "999999999999999999"),
+        ):
+            self.assertEqual(self.value_of(token), (f'"{plain}"', ""), token)
+
+    def test_exponents_beyond_are_left_and_told(self):
+        for token in ("1E18", "1E-19", "1.0000000000000000001e0", "1e999999999", "1e99999999999999999999", "1e-999999999"):
+            value, told = self.value_of(token)
+            self.assertEqual(value, f'"{token}"')
+            self.assertIn("/facts/f/value is left: without its exponent more than 18 digits count", told)
+
+    def test_what_is_no_number_is_left(self):
+        for token in ('"INF"', '"NaN"', '"1,000"', '"e5"', '"0x1E2"', '"\u0661E1"', "null", "{}", "[1]"):
+            self.assertEqual(self.value_of(token)[0], token)
+
+
+class Periods(ToolTest):
+    def period_of(self, period, *options):
+        """Returns what becomes of a period, and how often something of it is left."""
+        fact = '{"value":null,"dimensions":{"period":%s}}' % json.dumps(period)
+        _, told, out, _ = self.normalised(self.write("report.json", '{"facts":{"f":%s}}' % fact), *options)
+        return self.tree_of(out)["facts"]["f"]["dimensions"]["period"], len(told.splitlines())
+
+    def test_fractions(self):
+        for period, made in (
+            ("2023-12-31T00:00:00.0", ("2023-12-31T00:00:00", 0)),
+            ("2023-12-31T24:00:00.000/2024-12-31T24:00:00.00", ("2023-12-31T24:00:00/2024-12-31T24:00:00", 0)),
+            ("2023-12-31T00:00:00.50", ("2023-12-31T00:00:00.50", 1)),
+            ("2023-12-31T00:00:00.000Z", ("2023-12-31T00:00:00Z", 1)),
+            ("2023-12-31.0", ("2023-12-31.0", 2)),
+            ("2023", ("2023", 0)),
+        ):
+            self.assertEqual(self.period_of(period), made, period)
+
+    def test_dates(self):
+        for period, made in (
+            ("2023-12-31", ("2023-12-31T24:00:00", 0)),
+            ("2023-01-01/2023-12-31", ("2023-01-01T00:00:00/2023-12-31T24:00:00", 0)),
+            ("2023-01-01T00:00:00/2023-12-31", ("2023-01-01T00:00:00/2023-12-31T24:00:00", 0)),
+            ("2023-12-31+02:00", ("2023-12-31T24:00:00+02:00", 1)),
+            ("2023-02-30", ("2023-02-30", 1)),
+        ):
+            self.assertEqual(self.period_of(period, "--dates=xbrl21"), made, period)
+
+    def test_zones(self):
+        for period, made in (
+            ("2023-12-31T24:00:00Z", ("2023-12-31T24:00:00", 0)),
+            ("2023-12-31T24:00:00+01:00", ("2023-12-31T23:00:00", 0)),
+            ("2023-12-31T23:30:00-00:30", ("2024-01-01T00:00:00", 0)),
+            ("2023-12-31T00:00:00+05:45/2024-12-31T00:00:00", ("2023-12-30T18:15:00/2024-12-31T00:00:00", 0)),
+            ("0001-01-01T00:00:00+01:00", ("0001-01-01T00:00:00+01:00", 1)),
+            ("9999-12-31T24:00:00-01:00", ("9999-12-31T24:00:00-01:00", 1)),
+            ("2023-12-31T00:00:00+14:01", ("2023-12-31T00:00:00+14:01", 1)),
+            ("2023-12-31T00:00:00.5Z", ("2023-12-31T00:00:00.5Z", 2)),
+            ("2023-12-31T24:00:01+01:00", ("2023-12-31T24:00:01+01:00", 1)),
+            ("2023-12-31Z", ("2023-12-31Z", 2)),
+        ):
+            self.assertEqual(self.period_of(period, "--zones=utc"), made, period)
+        self.assertEqual(self.period_of("2023-12-31+02:00", "--zones=utc", "--dates=xbrl21"), ("2023-12-31T22:00:00", 0))
+
+
+class BadInputs(ToolTest):
+    def check_refused(self, told, *words):
+        """A line tells why, and nothing is written, not even in part."""
+        before = set(os.listdir(self.room))
+        status, lines = self.run_tool(*words)
+        self.assertEqual((status, len(lines.splitlines())), (2, 1), lines)
+        self.assertIn(told, lines)
+        self.assertEqual(set(os.listdir(self.room)), before)
+
+    def check_report(self, told, text):
+        self.check_refused(told, self.write("bad.json", text), self.out, self.changes)
+
+    def test_members_that_stand_twice(self):
+        self.check_report('the member "a" stands twice in the root: 1 and 2.50', '{"a":1,"a":2.50}')
+        self.check_report('"k" stands twice in /facts/~1~0/0: null and null', '{"facts":{"/~":[{"k":null,"k":null}]}}')
+        both = '{"facts":{"f":{"dimensions":{"concept":"a:A","xbrl:concept":"a:B"}}}}'
+        self.check_report('/facts/f/dimensions/xbrl:concept and concept are one member, which stands twice: "a:A" and "a:B"', both)
+
+    def test_what_is_no_json(self):
+        for text in ("", "{", '{"a":NaN}', '{"a":01}', '{"a":"\\ud800"}', b'{"a":"\xff"}', "[" * 100_000, '{"a":"\n"}'):
+            self.check_report("bad.json", text)
+        self.check_report("no report", "[]")
+
+    def test_files_that_are_missing_or_that_cannot_be_written(self):
+        report = self.write("good.json", "{}")
+        self.check_refused("nowhere", self.place("nowhere"), self.out, self.changes)
+        self.check_refused("nowhere", report, self.out, self.changes, "--sheet", self.place("nowhere"))
+        self.check_refused("no/x", report, self.out, os.path.join(self.room, "no", "x"))
+        self.check_refused("no file", report, self.out, self.room)
+
+    def test_files_that_were_there_stay_where_it_fails(self):
+        self.write("out.json", "of a run before")
+        self.check_report("bad.json", "{")
+        self.assertEqual(content(self.out), "of a run before")
+
+    def test_what_is_no_sheet(self):
+        report = self.write("good.json", "{}")
+        name = '{"namespaces":{"p":"u"},"concepts":{"p:A":"numeric"},"xbrlmerge:sets":["p:A"]}'
+        for text in ("", "[]", '{"concepts":[]}', '{"concepts":{"p:A":"text"}}', '{"namespaces":{"p":"u"},"concepts":{"p:A":"x"}}', name):
+            self.check_refused("bad.json", report, self.out, self.changes, "--sheet", self.write("bad.json", text))
+
+    def test_usage(self):
+        report = self.write("good.json", "{}")
+        for words in ([], [report, self.out], [report, self.out, self.out], [report, self.out, report]):
+            self.assertEqual(self.run_tool(*words)[0], 2)
+        for option in ("--drop-unknown", "--drop-unreadable", "--dates=iso", "--zones=cet"):
+            self.assertEqual(self.run_tool(report, self.out, self.changes, option)[0], 2)
+
+    def test_the_command(self):
+        run = [sys.executable, TOOL]
+        self.assertEqual(subprocess.run([*run, "--help"], capture_output=True).returncode, 0)
+        done = subprocess.run([*run, self.write("good.json", '{"id":1}'), self.out, self.changes], capture_output=True)
+        self.assertEqual((done.returncode, done.stdout, done.stderr, content(self.out)), (0, b"", b"", "{}\n"))
+
+    def test_ten_thousand_facts_take_seconds(self):
+        fact = '"f%d":{"value":%d.50,"decimals":"2","dimensions":{"concept":"eg:A","period":"2023-12-31T00:00:00.000Z"}}'
+        text = '{"facts":{%s}}' % ",".join(fact % (n, n) for n in range(10_000))
+        status, _ = self.run_tool(self.write("large.json", text), self.out, self.changes, "--zones=utc")
+        self.assertEqual((status, content(self.changes).count("\n")), (1, 40_000))
+
+
+if __name__ == "__main__":
+    unittest.main()

@@ -1,0 +1,65 @@
+"""Rewrites the moments of a period: fractions of zero, dates alone and time zones."""
+import datetime
+import re
+
+MOMENT = re.compile(r"(?P<day>\d{4}-\d\d-\d\d)(?P<time>T\d\d:\d\d:\d\d)?(?P<part>\.\d+)?(?P<zone>Z|[+-]\d\d:\d\d)?", re.ASCII)
+
+
+def each_moment(period, rewritten):
+    """Returns a period with each moment rewritten by a function of its match and of whether it is a start."""
+    texts = period.split("/")
+    if len(texts) > 2:
+        return period
+    matches = [MOMENT.fullmatch(text) for text in texts]
+    made = (rewritten(match, place + 1 < len(texts)) if match else None for place, match in enumerate(matches))
+    return "/".join(text if new is None else new for text, new in zip(texts, made))
+
+
+def without_zero_fraction(moment, _):
+    day, time, part, zone = moment.groups(default="")
+    return day + time + zone if time and part and not part.strip(".0") else None
+
+
+def with_time(moment, is_start):
+    """Gives a date alone the end of its day, or its beginning where it is a start."""
+    day, time, part, zone = moment.groups(default="")
+    if time or part or not is_date(day):
+        return None
+    return f"{day}T{'00' if is_start else '24'}:00:00{zone}"
+
+
+def in_utc(moment, _):
+    """Takes a moment with a zone to the one of UTC without a zone."""
+    day, time, part, zone = moment.groups(default="")
+    if not zone or not time or part or not is_date(day):
+        return None
+    if zone in ("Z", "+00:00", "-00:00"):
+        return day + time
+    try:
+        is_end = time == "T24:00:00"
+        local = datetime.datetime.fromisoformat(day + (time if not is_end else "T00:00:00"))
+        hours, minutes = int(zone[1:3]), int(zone[4:])
+        if hours * 60 + minutes > 14 * 60 or minutes > 59:
+            return None
+        ahead = datetime.timedelta(hours=hours, minutes=minutes) * (-1 if zone[0] == "-" else 1)
+        return (local + datetime.timedelta(days=is_end) - ahead).isoformat()
+    except (ValueError, OverflowError):
+        return None
+
+
+def is_date(day):
+    try:
+        return bool(datetime.date.fromisoformat(day))
+    except ValueError:
+        return False
+
+
+def doubts(period):
+    """Yields why the moments of a period stay without the profile."""
+    for moment in map(MOMENT.fullmatch, period.split("/")):
+        if moment and moment["part"]:
+            yield "it has a fraction of a second"
+        if moment and moment["zone"]:
+            yield "it has a time zone (--zones=utc)"
+        if moment and not moment["time"]:
+            yield "it is a date without a time (--dates=xbrl21)"
