@@ -1,5 +1,6 @@
 mod bases;
 mod many;
+mod many_refused;
 mod pairs;
 mod refused;
 mod verdicts;
@@ -10,7 +11,7 @@ use oim_report::{Report, Sheet, read_report};
 use std::alloc::AllocError;
 
 // Where a request for memory is refused, the next one is not: the callee is asked again. The line on
-// standard error tells `tests/refused_memory` of it.
+// standard error tells `tests/refused_memory` of it, and whether the request was the test's own.
 
 const SHEET: &str =
     r#"{"namespaces":{"eg":"http://example.org/t"},"concepts":{"eg:A":"numeric","eg:B":"numeric","eg:T":"text","eg:Q":"name"}}"#;
@@ -30,6 +31,10 @@ fn tell_refused(rt: &HostRuntime) {
     let _ = eprintln!(rt; "refused");
 }
 
+fn tell_refused_here(rt: &HostRuntime) {
+    let _ = eprintln!(rt; "refused here");
+}
+
 fn read_sheet(rt: &HostRuntime) -> Result<Sheet, Reason> {
     match Sheet::read(rt.alloc(), SHEET.as_bytes()) {
         Err(Reason::OutOfMemory) => {
@@ -43,7 +48,7 @@ fn read_sheet(rt: &HostRuntime) -> Result<Sheet, Reason> {
 fn joined(rt: &HostRuntime, start: &str, text: &str, end: &str) -> Result<String, AllocError> {
     match format!(in rt.alloc(); "{start}{text}{end}") {
         Err(_) => {
-            tell_refused(rt);
+            tell_refused_here(rt);
             format!(in rt.alloc(); "{start}{text}{end}")
         }
         made => made,

@@ -1,4 +1,5 @@
 mod periods;
+mod refused;
 mod sets;
 mod units;
 

@@ -1,7 +1,7 @@
 use std::alloc::AllocError;
 
 // Where a request for memory is refused, the next one is not: what asked for it is asked again. The
-// line on standard error tells of it.
+// line on standard error tells of it, and whether the request was the test's own.
 
 const ROOM: usize = 1 << 12;
 
@@ -20,12 +20,16 @@ pub(crate) fn tell_refused(rt: &HostRuntime) {
     let _ = eprintln!(rt; "refused");
 }
 
+pub(crate) fn tell_refused_here(rt: &HostRuntime) {
+    let _ = eprintln!(rt; "refused here");
+}
+
 /// The parts, one after another.
 pub(crate) fn joined(rt: &HostRuntime, parts: &[&str]) -> Result<Vec<u8>, AllocError> {
     let mut all = match Vec::with_capacity(rt.alloc(), ROOM) {
         Ok(made) => made,
         Err(_) => {
-            tell_refused(rt);
+            tell_refused_here(rt);
             Vec::with_capacity(rt.alloc(), ROOM)?
         }
     };

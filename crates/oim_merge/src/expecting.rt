@@ -32,6 +32,11 @@ impl<'a> Expecting<'a> {
         self.left.is_empty() && !self.differs
     }
 
+    /// Whether what was written so far is as expected.
+    pub(crate) fn is_front(&self) -> bool {
+        !self.differs
+    }
+
     /// How many bytes are still to come.
     pub(crate) fn left(&self) -> usize {
         self.left.len()

@@ -44,6 +44,8 @@ mod tests_checked;
 #[cfg(test)]
 mod tests_io;
 #[cfg(test)]
+mod tests_refused;
+#[cfg(test)]
 mod tests_replay;
 #[cfg(test)]
 mod tests_round_trip;

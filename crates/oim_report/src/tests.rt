@@ -10,13 +10,18 @@ use oim_names::{Aliases, Reason};
 use std::alloc::AllocError;
 
 // Where a request for memory is refused, the next one is not: the callee is asked again, and must
-// not have changed anything. The line on standard error tells `tests/refused_memory` of it.
+// not have changed anything. The line on standard error tells `tests/refused_memory` of it, and whether
+// the request was the test's own.
 
 const SHEET: &str =
     r#"{"namespaces":{"eg":"http://example.org/t"},"concepts":{"eg:A":"numeric","eg:B":"numeric","eg:T":"text","eg:Q":"name"},"dimensions":{"eg:Reg":"explicit","eg:Sku":"typed"}}"#;
 
 fn tell_refused(rt: &HostRuntime) {
     let _ = eprintln!(rt; "refused");
+}
+
+fn tell_refused_here(rt: &HostRuntime) {
+    let _ = eprintln!(rt; "refused here");
 }
 
 // Tells a text for which a test does not hold; answers whether it holds.
@@ -66,7 +71,7 @@ fn aliases_of(rt: &HostRuntime, prefixes: &[(&str, &str)]) -> Result<Aliases, Re
 fn joined(rt: &HostRuntime, start: &str, text: &str, end: &str) -> Result<String, AllocError> {
     match format!(in rt.alloc(); "{start}{text}{end}") {
         Err(_) => {
-            tell_refused(rt);
+            tell_refused_here(rt);
             format!(in rt.alloc(); "{start}{text}{end}")
         }
         made => made,
@@ -76,7 +81,7 @@ fn joined(rt: &HostRuntime, start: &str, text: &str, end: &str) -> Result<String
 fn repeated(rt: &HostRuntime, piece: &str, count: usize) -> Result<String, AllocError> {
     match piece.repeat(rt.alloc(), count) {
         Err(_) => {
-            tell_refused(rt);
+            tell_refused_here(rt);
             piece.repeat(rt.alloc(), count)
         }
         made => made,

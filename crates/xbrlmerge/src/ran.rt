@@ -1,4 +1,4 @@
-use crate::asked_again::tell_refused;
+use crate::asked_again::{tell_refused, tell_refused_here};
 use crate::devices::{TestReader, Then};
 use crate::expecting::{Either, Expecting};
 use crate::run::run;
@@ -19,7 +19,7 @@ pub(crate) fn words_of<'t>(rt: &HostRuntime, line: &'t str) -> Result<Vec<&'t st
     let mut words = match Vec::with_capacity(rt.alloc(), MOST_WORDS) {
         Ok(made) => made,
         Err(_) => {
-            tell_refused(rt);
+            tell_refused_here(rt);
             Vec::with_capacity(rt.alloc(), MOST_WORDS)?
         }
     };

@@ -1,12 +1,12 @@
-use super::{FACT, OF_A, judged, read_sheet};
+use super::{FACT, OF_A, judged, read_sheet, tell_refused};
 use crate::{Base, Evidence, Verdict};
 use oim_names::Reason;
 use oim_report::{Report, Sheet, read_report};
 use std::alloc::AllocError;
 use std::test::Fail;
 
-// These bases make many requests for memory, so none is made again: where one is refused, there is
-// no answer to compare.
+// These bases make many requests for memory, so no call is made again by itself: where one is refused,
+// all of it is.
 
 // A report of no fact, up to its facts.
 const FACTS: &str =
@@ -169,11 +169,13 @@ fn said_of_all(rt: &HostRuntime, sheet: &Sheet) -> Result<Option<Said>, Reason> 
     said_with_each(rt, &base)
 }
 
-// Whether this is said of it; where a request is refused, nothing is known of it.
 fn is_said_of_all(rt: &HostRuntime, sheet: &Sheet, said: Said) -> bool {
     match said_of_all(rt, sheet) {
-        Ok(found) => found == Some(said),
-        Err(reason) => reason == Reason::OutOfMemory,
+        Err(Reason::OutOfMemory) => {
+            tell_refused(rt);
+            said_of_all(rt, sheet) == Ok(Some(said))
+        }
+        found => found == Ok(Some(said)),
     }
 }
 

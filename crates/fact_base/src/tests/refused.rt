@@ -12,7 +12,12 @@ const ADDED: &str =
 
 // Takes a report. Where a request for memory is refused, the base is to be as another, and the next
 // request is not refused.
-fn take(rt: &HostRuntime, base: &mut Base<'_>, before: &Base<'_>, report: &Report<'_>) -> bool {
+pub(super) fn take(
+    rt: &HostRuntime,
+    base: &mut Base<'_>,
+    before: &Base<'_>,
+    report: &Report<'_>,
+) -> bool {
     if !base.same_sheet(report.sheet()) {
         return false;
     }
@@ -23,7 +28,12 @@ fn take(rt: &HostRuntime, base: &mut Base<'_>, before: &Base<'_>, report: &Repor
     base.same_as(before) && base.take(report).is_ok()
 }
 
-fn join(rt: &HostRuntime, base: &mut Base<'_>, before: &Base<'_>, other: &Base<'_>) -> bool {
+pub(super) fn join(
+    rt: &HostRuntime,
+    base: &mut Base<'_>,
+    before: &Base<'_>,
+    other: &Base<'_>,
+) -> bool {
     if !base.same_sheet(other.sheet()) {
         return false;
     }
@@ -59,7 +69,7 @@ fn take_first(rt: &HostRuntime, base: &mut Base<'_>, report: &Report<'_>) -> boo
 }
 
 // A base of one report.
-fn base_of<'s>(rt: &HostRuntime, report: &Report<'s>) -> Option<Base<'s>> {
+pub(super) fn base_of<'s>(rt: &HostRuntime, report: &Report<'s>) -> Option<Base<'s>> {
     let mut base = Base::new(rt.alloc(), report.sheet());
     if !take_first(rt, &mut base, report) {
         return None;

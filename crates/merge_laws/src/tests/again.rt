@@ -14,10 +14,14 @@ pub(super) type Pair = (Items, Items);
 
 // Where a request for memory is refused, the next one is not: the callee is asked again, unless it
 // has changed something; then the test fails. The line on standard error tells
-// `tests/refused_memory` of it.
+// `tests/refused_memory` of it, and whether the request was the test's own.
 
 fn tell_refused(rt: &HostRuntime) {
     let _ = eprintln!(rt; "refused");
+}
+
+fn tell_refused_here(rt: &HostRuntime) {
+    let _ = eprintln!(rt; "refused here");
 }
 
 pub(super) fn text(rt: &HostRuntime, bytes: &str) -> Result<Text, AllocError> {
@@ -295,7 +299,7 @@ pub(super) fn room<T: Drop>(rt: &HostRuntime) -> Result<Vec<T>, AllocError>
 {
     match Vec::with_capacity(rt.alloc(), 2) {
         Err(_) => {
-            tell_refused(rt);
+            tell_refused_here(rt);
             Vec::with_capacity(rt.alloc(), 2)
         }
         room => room,

@@ -176,7 +176,7 @@ fn a_dimension_stands_once(rt: HostRuntime) -> Result<(), Fail> {
     Ok(())
 }
 
-fn equals_its_copy<T: Copied + PartialEq>(rt: &HostRuntime, value: &T) -> bool {
+pub(super) fn equals_its_copy<T: Copied + PartialEq>(rt: &HostRuntime, value: &T) -> bool {
     match copied(rt, value) {
         Ok(copy) => copy == *value,
         Err(_) => false,
@@ -267,7 +267,12 @@ fn sets_are_ordered_part_by_part(rt: HostRuntime) -> Result<(), Fail> {
 }
 
 // The fact of a concept with a value.
-fn fact(rt: &HostRuntime, aliases: &Aliases, concept: &str, value: Value) -> Result<Fact, Reason> {
+pub(super) fn fact(
+    rt: &HostRuntime,
+    aliases: &Aliases,
+    concept: &str,
+    value: Value,
+) -> Result<Fact, Reason> {
     Ok(Fact {
         dimensions: dimensions(rt, aliases, concept)?,
         value,
