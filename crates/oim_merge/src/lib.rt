@@ -53,6 +53,8 @@ mod tests_round_trip;
 mod tests_sinks;
 #[cfg(test)]
 mod tests_texts;
+#[cfg(test)]
+mod tests_writers;
 mod verdict_line;
 
 // merging

@@ -1,9 +1,11 @@
-use crate::asked_again::tell_refused;
-use crate::devices::{TestReader, Then};
+use crate::asked_again::{INFO, SHEET, joined, tell_refused};
+use crate::canonical_parts::END;
+use crate::devices::{STEPS, Step, TestReader, Then};
 use crate::read_fault::ReadFault;
 use crate::source::Source;
 use crate::source_reader::read_all;
 use crate::std_source::StdSource;
+use crate::tests_calls::HUNDRED;
 use oim_write::Encoded;
 use std::io::{self, Read};
 use std::test::Fail;
@@ -28,34 +30,122 @@ fn read(
     (answer, source.into_inner().calls, failures)
 }
 
+/// Whether `read_all` answers so, after few calls, and a source that failed has failed once.
+fn answers(
+    rt: &HostRuntime,
+    reader: TestReader<'_>,
+    limit: u32,
+    want: Result<&[u8], ReadFault>,
+) -> bool {
+    let (answer, calls, failures) = read(rt, reader, limit);
+    let same = match (&answer, want) {
+        (Ok(encoded), Ok(bytes)) => encoded.as_bytes() == bytes,
+        (Err(fault), Err(other)) => *fault == other,
+        _ => false,
+    };
+    let is_device = matches!(want, Err(ReadFault::Device(_)));
+    same && calls <= u64::from(limit) + 2 && failures == u64::from(is_device)
+}
+
+/// Whether sources that stop behind these bytes tell so, at each step, and those that end there
+/// give them.
+fn stops_behind(rt: &HostRuntime, front: &[u8], limit: u32) -> bool {
+    let fault = ReadFault::Device(front.len() as u64);
+    for step in STEPS {
+        let told = answers(
+            rt,
+            TestReader::new(front, step, Then::Fails),
+            limit,
+            Err(fault),
+        ) && answers(
+            rt,
+            TestReader::new(front, step, Then::IsInterrupted),
+            limit,
+            Err(fault),
+        );
+        if !told
+            || !answers(
+                rt,
+                TestReader::new(front, step, Then::Ends),
+                limit,
+                Ok(front),
+            )
+        {
+            return false;
+        }
+    }
+    true
+}
+
+/// Whether sources that never end are too long, at each step.
+fn never_ends(rt: &HostRuntime, limit: u32) -> bool {
+    for step in STEPS {
+        let reader = TestReader::new(b"ab", step, Then::GoesOn);
+        if !answers(rt, reader, limit, Err(ReadFault::TooLong)) {
+            return false;
+        }
+    }
+    true
+}
+
+#[test]
+fn sources_stop_at_each_place_of_a_bundle(rt: HostRuntime) -> Result<(), Fail> {
+    let bundle = joined(&rt, &[SHEET, "\n", INFO, HUNDRED, END])?;
+    for length in 0..=bundle.len() {
+        let front = bundle.get(..length).unwrap_or_default();
+        assert!(rt; stops_behind(&rt, front, 1000), "at {length}");
+    }
+    Ok(())
+}
+
+#[test]
+fn endless_sources_are_too_long(rt: HostRuntime) -> Result<(), Fail> {
+    for limit in 0..=64 {
+        assert!(rt; never_ends(&rt, limit), "with the limit {limit}");
+    }
+    assert!(rt; never_ends(&rt, 200_000));
+    Ok(())
+}
+
 #[test]
 fn sources_are_read_to_their_end(rt: HostRuntime) -> Result<(), Fail> {
-    let rows: [(&[u8], usize, Then, u32, Result<&[u8], ReadFault>); 11] = [
-        (b"12345", 64, Then::Ends, 5, Ok(b"12345")),
-        (b"12345", 1, Then::Ends, 5, Ok(b"12345")),
-        (b"12345", 2, Then::Ends, 2_147_483_648, Ok(b"12345")),
-        (b"12345", 64, Then::Ends, 4, Err(ReadFault::TooLong)),
-        (b"12345", 1, Then::Ends, 4, Err(ReadFault::TooLong)),
-        (b"", 1, Then::Ends, 0, Ok(b"")),
-        (b"", 1, Then::GoesOn, 0, Err(ReadFault::TooLong)),
-        (b"", 1, Then::GoesOn, 4, Err(ReadFault::TooLong)),
-        (b"", 64, Then::GoesOn, 4, Err(ReadFault::TooLong)),
-        (b"12", 64, Then::Fails, 4, Err(ReadFault::Device(2))),
-        (b"12", 1, Then::IsInterrupted, 4, Err(ReadFault::Device(2))),
+    let rows: [(&[u8], Step, Then, u32, Result<&[u8], ReadFault>); 11] = [
+        (b"12345", Step::All, Then::Ends, 5, Ok(b"12345")),
+        (b"12345", Step::Few(1), Then::Ends, 5, Ok(b"12345")),
+        (
+            b"12345",
+            Step::Few(2),
+            Then::Ends,
+            2_147_483_648,
+            Ok(b"12345"),
+        ),
+        (b"12345", Step::All, Then::Ends, 4, Err(ReadFault::TooLong)),
+        (
+            b"12345",
+            Step::Few(1),
+            Then::Ends,
+            4,
+            Err(ReadFault::TooLong),
+        ),
+        (b"", Step::Few(1), Then::Ends, 0, Ok(b"")),
+        (b"", Step::Few(1), Then::GoesOn, 0, Err(ReadFault::TooLong)),
+        (b"", Step::Few(1), Then::GoesOn, 4, Err(ReadFault::TooLong)),
+        (b"", Step::All, Then::GoesOn, 4, Err(ReadFault::TooLong)),
+        (b"12", Step::All, Then::Fails, 4, Err(ReadFault::Device(2))),
+        (
+            b"12",
+            Step::Few(1),
+            Then::IsInterrupted,
+            4,
+            Err(ReadFault::Device(2)),
+        ),
     ];
     for (left, step, then, limit, want) in rows {
-        let (answer, calls, failures) = read(&rt, TestReader::new(left, step, then), limit);
-        match (&answer, want) {
-            (Ok(encoded), Ok(bytes)) => assert_eq!(rt; encoded.as_bytes(), bytes),
-            (Err(fault), Err(other)) => assert_eq!(rt; *fault, other),
-            _ => assert!(rt; false, "at {left:?} with the limit {limit}"),
-        }
+        let reader = TestReader::new(left, step, then);
         assert!(rt;
-            calls <= u64::from(limit) + 2,
-            "{calls} calls with the limit {limit}"
+            answers(&rt, reader, limit, want),
+            "at {left:?} with the limit {limit}"
         );
-        let is_device = matches!(answer, Err(ReadFault::Device(_)));
-        assert_eq!(rt; failures, u64::from(is_device));
     }
     Ok(())
 }
@@ -63,7 +153,11 @@ fn sources_are_read_to_their_end(rt: HostRuntime) -> Result<(), Fail> {
 #[test]
 fn long_sources_are_read_in_chunks(rt: HostRuntime) -> Result<(), Fail> {
     let limit = 200_000;
-    let (answer, calls, _) = read(&rt, TestReader::new(b"", 30_000, Then::GoesOn), limit);
+    let (answer, calls, _) = read(
+        &rt,
+        TestReader::new(b"", Step::Few(30_000), Then::GoesOn),
+        limit,
+    );
     assert!(rt; matches!(answer, Err(ReadFault::TooLong)));
     assert!(rt; calls < 20, "{calls} calls");
     let mut source = StdSource::new(io::repeat(7).take(200_000));

@@ -1,8 +1,8 @@
 use crate::asked_again::{SHEET, tell_refused};
-use crate::devices::{TestWriter, Then};
+use crate::devices::{Step, TestWriter, Then};
 use fact_base::Base;
 use oim_report::{Sheet, read_report};
-use oim_write::{StdSink, WriteFault, prefixes, text, write_to};
+use oim_write::{StdSink, WriteFault, prefixes, write_to};
 use std::alloc::{AllocError, Global};
 use std::test::Fail;
 
@@ -42,58 +42,12 @@ pub(crate) fn base_of<'s>(
     Ok(base)
 }
 
-/// Whether a sink that takes so many bytes, some at a time, holds just these of the text.
-fn holds_the_front(
-    alloc: Global,
-    base: &Base<'_>,
-    text: &[u8],
-    step: usize,
-    room: usize,
-) -> Result<bool, AllocError> {
-    let mut sink = StdSink::new(TestWriter::new(alloc, step, room, Then::Fails)?);
-    let ended = write_to(alloc, base, &mut sink);
-    let expected = if room < text.len() {
-        ended == Err(WriteFault::Device(room as u64))
-    } else {
-        ended == Ok(())
-    };
-    if matches!(ended, Err(WriteFault::OutOfMemory(_))) {
-        return Err(AllocError);
-    }
-    let writer = sink.into_inner();
-    let held = writer.held();
-    Ok(expected && text.starts_with(held) && held.len() == room.min(text.len()))
-}
-
-fn holds_each_front(alloc: Global, base: &Base<'_>) -> Result<bool, AllocError> {
-    let text = text(alloc, base)?;
-    let length = text.as_bytes().len();
-    for room in 0..=length {
-        if !holds_the_front(alloc, base, text.as_bytes(), length, room)? {
-            return Ok(false);
-        }
-    }
-    Ok(length == 348)
-}
-
-fn fails_after_each(alloc: Global) -> Result<bool, AllocError> {
-    let sheet = sheet(alloc)?;
-    let base = base_of(alloc, &sheet, TOUCHING)?;
-    holds_each_front(alloc, &base)
-}
-
-fn takes_byte_by_byte(alloc: Global) -> Result<bool, AllocError> {
+/// Whether a sink that takes seven bytes, and then does this, holds the first seven, and the fault
+/// tells so.
+fn takes_seven(alloc: Global, then: Then) -> Result<bool, AllocError> {
     let sheet = sheet(alloc)?;
     let base = Base::new(alloc, &sheet);
-    let text = text(alloc, &base)?;
-    Ok(text.as_bytes().len() == 183 && holds_the_front(alloc, &base, text.as_bytes(), 1, 183)?)
-}
-
-/// Whether a sink that takes seven bytes holds the first seven, and the fault tells so.
-fn takes_seven(alloc: Global) -> Result<bool, AllocError> {
-    let sheet = sheet(alloc)?;
-    let base = Base::new(alloc, &sheet);
-    let mut sink = StdSink::new(TestWriter::new(alloc, 7, 7, Then::Fails)?);
+    let mut sink = StdSink::new(TestWriter::new(alloc, Step::All, 7, then)?);
     let ended = write_to(alloc, &base, &mut sink);
     if matches!(ended, Err(WriteFault::OutOfMemory(_))) {
         return Err(AllocError);
@@ -113,35 +67,15 @@ fn has_two_prefixes(alloc: Global) -> Result<bool, AllocError> {
 }
 
 #[test]
-fn a_sink_that_fails_after_each_byte_holds_the_front(rt: HostRuntime) -> Result<(), Fail> {
-    let mut answer = fails_after_each(rt.alloc());
-    if answer.is_err() {
-        tell_refused(&rt);
-        answer = fails_after_each(rt.alloc());
-    }
-    assert!(rt; answer == Ok(true));
-    Ok(())
-}
-
-#[test]
-fn a_sink_that_takes_one_byte_at_a_time_holds_the_text(rt: HostRuntime) -> Result<(), Fail> {
-    let mut answer = takes_byte_by_byte(rt.alloc());
-    if answer.is_err() {
-        tell_refused(&rt);
-        answer = takes_byte_by_byte(rt.alloc());
-    }
-    assert!(rt; answer == Ok(true));
-    Ok(())
-}
-
-#[test]
 fn a_sink_that_takes_seven_bytes_holds_these(rt: HostRuntime) -> Result<(), Fail> {
-    let mut answer = takes_seven(rt.alloc());
-    if answer.is_err() {
-        tell_refused(&rt);
-        answer = takes_seven(rt.alloc());
+    for then in [Then::Ends, Then::Fails, Then::IsInterrupted] {
+        let mut answer = takes_seven(rt.alloc(), then);
+        if answer.is_err() {
+            tell_refused(&rt);
+            answer = takes_seven(rt.alloc(), then);
+        }
+        assert!(rt; answer == Ok(true));
     }
-    assert!(rt; answer == Ok(true));
     Ok(())
 }
 

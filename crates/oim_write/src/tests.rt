@@ -9,7 +9,7 @@ use std::test::Fail;
 // Where a request for memory is refused, the next one is not: what asked for it is asked again. What
 // needs a base is tested in the crate that reads reports.
 
-fn tell_refused(rt: &HostRuntime) {
+pub(crate) fn tell_refused(rt: &HostRuntime) {
     let _ = eprintln!(rt; "refused");
 }
 

@@ -3,6 +3,7 @@ mod documents;
 mod facts;
 mod features;
 mod limits;
+mod malformed;
 
 use super::{SHEET, joined, read_sheet, tell_refused, told};
 use crate::{Place, Refusal, Report, Sheet, read_report};

@@ -33,7 +33,7 @@ const TEXTS: [Table; 3] = [
     },
 ];
 
-fn no_prefix_is_read(rt: &HostRuntime, sheet: &Sheet, bytes: &[u8]) -> bool {
+pub(super) fn no_prefix_is_read(rt: &HostRuntime, sheet: &Sheet, bytes: &[u8]) -> bool {
     for (count, _) in bytes.iter().enumerate() {
         let prefix = bytes.get(..count).unwrap_or(bytes);
         if !is_answer(rt, sheet, prefix, &InDocument(1)) {
