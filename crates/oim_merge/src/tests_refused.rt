@@ -202,12 +202,16 @@ fn a_refused_base_comes_back(rt: HostRuntime) -> Result<(), Fail> {
 /// Fifty letters.
 const LETTERS: &str = "abcdefghijklmnopqrstuvwxyzabcdefghijklmnopqrstuvwx";
 
-const MANY_LETTERS: usize = 400;
+// The last text is longer, so that it asks for memory when the sink has been given the others.
+
+const MANY: usize = 400;
+
+const MORE: usize = 1_200;
 
 /// Before and behind the digit that tells a long text from another.
 const OPEN_TEXT: [&str; 2] = [r#"":{"value":""#, r#"","dimensions":{"concept":"eg:T"}}"#];
 
-const LONG_ROOM: usize = 1 << 17;
+const LONG_ROOM: usize = 1 << 18;
 
 fn long_room(rt: &HostRuntime) -> Result<String, AllocError> {
     match String::with_capacity(rt.alloc(), LONG_ROOM) {
@@ -219,11 +223,11 @@ fn long_room(rt: &HostRuntime) -> Result<String, AllocError> {
     }
 }
 
-fn push_long(text: &mut String, mark: &str, digit: &str) -> Result<(), AllocError> {
+fn push_long(text: &mut String, mark: &str, digit: &str, many: usize) -> Result<(), AllocError> {
     for part in [mark, "\"", digit, OPEN_TEXT[0], digit] {
         text.push_str(part)?;
     }
-    for _ in 0..MANY_LETTERS {
+    for _ in 0..many {
         text.push_str(LETTERS)?;
     }
     text.push_str(OPEN_TEXT[1])
@@ -231,14 +235,15 @@ fn push_long(text: &mut String, mark: &str, digit: &str) -> Result<(), AllocErro
 
 fn push_all_long(text: &mut String) -> Result<(), AllocError> {
     text.push_str(INFO)?;
-    push_long(text, "", "1")?;
-    for digit in ["2", "3", "4", "5"] {
-        push_long(text, ",", digit)?;
+    push_long(text, "", "1", MANY)?;
+    for digit in ["2", "3", "4"] {
+        push_long(text, ",", digit, MANY)?;
     }
+    push_long(text, ",", "5", MORE)?;
     text.push_str(END)
 }
 
-/// A report of five texts of 20,001 bytes.
+/// A report of four texts of 20,001 bytes and one of 60,001.
 fn long_report(rt: &HostRuntime) -> Result<String, AllocError> {
     let mut text = long_room(rt)?;
     push_all_long(&mut text)?;
