@@ -305,7 +305,7 @@ fn reports(rt: &HostRuntime) -> Result<Vec<Encoded>, AllocError> {
 /// Whether the first report alone is refused, since it is no JSON.
 fn tells_first(refused: &Refusals) -> bool {
     match refused.as_slice() {
-        [(1, refusal)] => refusal.reason == Reason::NotJson,
+        [(report, refusal)] => *report == 1 && refusal.reason == Reason::NotJson,
         _ => false,
     }
 }
@@ -320,7 +320,7 @@ fn came_to(
     match answer {
         Err(Fault::OutOfMemory(written)) => wanted_memory(rt, sink, text, written),
         Ok(refused) => Some(tells_first(&refused) && sink.into_inner().is_met()),
-        Err(_) => Some(false),
+        Err(_fault) => Some(false),
     }
 }
 
