@@ -15,6 +15,30 @@ pub enum Then {
     GoesOn,
 }
 
+/// How much a device gives or takes at once of what it is asked for.
+#[derive(Clone, Copy, Debug, PartialEq, Eq)]
+pub enum Step {
+    /// All of it.
+    All,
+    /// Half of it, and one byte at least.
+    Half,
+    /// So many bytes at most.
+    Few(usize),
+}
+
+impl Step {
+    fn most(self, asked: usize) -> usize {
+        match self {
+            Step::All => asked,
+            Step::Half => (asked / 2).max(1),
+            Step::Few(most) => most,
+        }
+    }
+}
+
+/// Each step that tables go by.
+pub const STEPS: [Step; 3] = [Step::All, Step::Half, Step::Few(1)];
+
 fn fault(then: Then) -> io::Error {
     let kind = match then {
         Then::IsInterrupted => ErrorKind::Interrupted,
@@ -23,17 +47,17 @@ fn fault(then: Then) -> io::Error {
     io::Error::from(kind)
 }
 
-/// Gives the bytes that are left, at most `step` at a time, and counts the calls.
+/// Gives the bytes that are left, a step at a time, and counts the calls.
 #[derive(Clone, Copy)]
 pub struct TestReader<'a> {
     left: &'a [u8],
-    step: usize,
+    step: Step,
     then: Then,
     pub calls: u64,
 }
 
 impl<'a> TestReader<'a> {
-    pub fn new(left: &'a [u8], step: usize, then: Then) -> TestReader<'a> {
+    pub fn new(left: &'a [u8], step: Step, then: Then) -> TestReader<'a> {
         TestReader {
             left,
             step,
@@ -46,7 +70,7 @@ impl<'a> TestReader<'a> {
 impl Read for TestReader<'_> {
     fn read(&mut self, buffer: &mut [u8]) -> io::Result<usize> {
         self.calls = self.calls.saturating_add(1);
-        let room = buffer.len().min(self.step);
+        let room = buffer.len().min(self.step.most(buffer.len()));
         if self.left.is_empty() {
             return match self.then {
                 Then::Ends => Ok(0),
@@ -64,11 +88,11 @@ impl Read for TestReader<'_> {
     }
 }
 
-/// Takes bytes, at most `step` at a time, until it holds `room` of them.
+/// Takes bytes, a step at a time, until it holds `room` of them.
 #[derive(Drop)]
 pub struct TestWriter {
     held: Vec<u8>,
-    step: usize,
+    step: Step,
     room: usize,
     then: Then,
 }
@@ -77,7 +101,7 @@ impl TestWriter {
     /// Memory for `room` bytes is had at once, so that a write asks for none.
     pub fn new(
         alloc: Global,
-        step: usize,
+        step: Step,
         room: usize,
         then: Then,
     ) -> Result<TestWriter, AllocError> {
@@ -103,8 +127,57 @@ impl Write for TestWriter {
                 then => Err(fault(then)),
             };
         }
-        let n = bytes.len().min(self.step).min(room);
+        let n = bytes.len().min(self.step.most(bytes.len())).min(room);
         self.held.extend_from_slice(&bytes[..n])?;
+        Ok(n)
+    }
+
+    fn flush(&mut self) -> io::Result<()> {
+        Ok(())
+    }
+}
+
+/// Takes bytes as the one above does, and in place of holding them compares them with a text.
+#[derive(Clone, Copy)]
+pub struct ComparingWriter<'a> {
+    left: &'a [u8],
+    differs: bool,
+    step: Step,
+    room: usize,
+    then: Then,
+}
+
+impl<'a> ComparingWriter<'a> {
+    pub fn new(text: &'a [u8], step: Step, room: usize, then: Then) -> ComparingWriter<'a> {
+        ComparingWriter {
+            left: text,
+            differs: false,
+            step,
+            room,
+            then,
+        }
+    }
+
+    /// Whether it took just the text.
+    pub fn is_met(&self) -> bool {
+        self.left.is_empty() && !self.differs
+    }
+}
+
+impl Write for ComparingWriter<'_> {
+    fn write(&mut self, bytes: &[u8]) -> io::Result<usize> {
+        if self.room == 0 {
+            return match self.then {
+                Then::Ends => Ok(0),
+                then => Err(fault(then)),
+            };
+        }
+        let n = bytes.len().min(self.step.most(bytes.len())).min(self.room);
+        self.room -= n;
+        match self.left.strip_prefix(&bytes[..n]) {
+            Some(rest) => self.left = rest,
+            None => self.differs = true,
+        }
         Ok(n)
     }
 

@@ -1,5 +1,5 @@
 use crate::asked_again::{tell_refused, tell_refused_here};
-use crate::devices::{TestReader, Then};
+use crate::devices::{Step, TestReader, Then};
 use crate::expecting::{Either, Expecting};
 use crate::run::run;
 use std::alloc::AllocError;
@@ -112,7 +112,7 @@ fn heard<'a, O: Write + Drop>(
     err: Expecting<'a>,
 ) -> (u8, Either<'a>) {
     let mut heard = Either(err, Expecting::just(b"out of memory\n"));
-    let input = TestReader::new(b"", 1, Then::Fails);
+    let input = TestReader::new(b"", Step::All, Then::Fails);
     let status = run(rt.alloc(), rt, words, input, out, &mut heard);
     (status, heard)
 }

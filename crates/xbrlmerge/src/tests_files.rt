@@ -3,7 +3,7 @@ mod replayed;
 mod rows;
 
 use crate::asked_again::{joined, tell_refused};
-use crate::devices::{FullAfter, NeverFlushed, TestReader, Then};
+use crate::devices::{FullAfter, NeverFlushed, Step, TestReader, Then};
 use crate::expecting::Expecting;
 use crate::ran::{ends, stops, words_of};
 use crate::run::run;
@@ -47,7 +47,7 @@ fn stop_unflushed(rt: &HostRuntime, rows: &[(&str, &str)]) -> Result<bool, Fail>
 
 /// Whether the program ends so where standard error takes three bytes.
 fn ends_unheard(rt: &HostRuntime, words: &[&str], status: u8, out: &[u8]) -> bool {
-    let input = TestReader::new(b"", 1, Then::Fails);
+    let input = TestReader::new(b"", Step::All, Then::Fails);
     let mut out = Expecting::just(out);
     let ended = run(rt.alloc(), rt, words, input, &mut out, FullAfter(3));
     ended == status && out.is_met()

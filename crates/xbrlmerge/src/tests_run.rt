@@ -1,6 +1,7 @@
 use crate::asked_again::{INFO, SHEET, joined, tell_refused};
 use crate::canonical_parts::{END, HEAD, MIDDLE, MIDDLE_ALONE, ONE_URI, WRITTEN_HUNDRED};
-use crate::devices::{NeverFlushed, TestReader, TestWriter, Then};
+use crate::devices::{NeverFlushed, STEPS, Step, TestReader, TestWriter, Then};
+use crate::expecting::{Either, Expecting};
 use crate::lines::print_read_fault;
 use crate::ran::NO_WORDS;
 use crate::run::run;
@@ -16,10 +17,10 @@ const ROOM: usize = 1 << 16;
 const HUNDRED: &str = r#""a":{"value":"100","decimals":0,"dimensions":{"concept":"eg:A"}}"#;
 
 fn writer(rt: &HostRuntime, room: usize) -> Result<TestWriter, AllocError> {
-    match TestWriter::new(rt.alloc(), room, room, Then::Fails) {
+    match TestWriter::new(rt.alloc(), Step::All, room, Then::Fails) {
         Err(_) => {
             tell_refused(rt);
-            TestWriter::new(rt.alloc(), room, room, Then::Fails)
+            TestWriter::new(rt.alloc(), Step::All, room, Then::Fails)
         }
         made => made,
     }
@@ -60,7 +61,7 @@ fn gives(
 ) -> Result<bool, Fail> {
     let bundle = joined(rt, parts)?;
     let text = joined(rt, out)?;
-    let ran = run_in(rt, TestReader::new(&bundle, ROOM, Then::Ends), ROOM)?;
+    let ran = run_in(rt, TestReader::new(&bundle, Step::All, Then::Ends), ROOM)?;
     let same = ran.status == status
         && ran.err.held() == err.as_bytes()
         && ran.out.held() == text.as_slice();
@@ -159,18 +160,53 @@ fn stops(
 fn a_full_device_ends_the_run(rt: HostRuntime) -> Result<(), Fail> {
     let bundle = joined(&rt, &[SHEET, "\n", INFO, HUNDRED, END])?;
     let text = joined(&rt, HUNDRED_TEXT)?;
-    let input = TestReader::new(&bundle, 1, Then::Ends);
+    let input = TestReader::new(&bundle, Step::Few(1), Then::Ends);
     assert!(rt; stops(&rt, input, 0, b"", "device: 0 bytes written\n")?);
     let front = text.get(..275).unwrap_or_default();
     assert!(rt; stops(&rt, input, 275, front, "device: 275 bytes written\n")?);
     Ok(())
 }
 
+/// Whether the run stops and says that its input cannot be read, and writes nothing else; none where
+/// memory was refused.
+fn is_unread(rt: &HostRuntime, input: TestReader<'_>) -> Option<bool> {
+    let mut out = Expecting::just(b"");
+    let mut err = Either(
+        Expecting::just(b"file -: cannot be read\n"),
+        Expecting::just(b"out of memory\n"),
+    );
+    let status = run(rt.alloc(), rt, NO_WORDS, input, &mut out, &mut err);
+    if status == 3 && err.1.is_met() {
+        return None;
+    }
+    Some(status == 3 && out.is_met() && err.0.is_met())
+}
+
+/// Whether inputs that stop behind these bytes are not read, at each step.
+fn are_unread(rt: &HostRuntime, front: &[u8]) -> bool {
+    for step in STEPS {
+        for then in [Then::Fails, Then::IsInterrupted] {
+            let input = TestReader::new(front, step, then);
+            let mut answer = is_unread(rt, input);
+            if answer.is_none() {
+                tell_refused(rt);
+                answer = is_unread(rt, input);
+            }
+            if answer != Some(true) {
+                return false;
+            }
+        }
+    }
+    true
+}
+
 #[test]
-fn a_failing_input_ends_the_run(rt: HostRuntime) -> Result<(), Fail> {
+fn an_input_that_stops_at_any_place_ends_the_run(rt: HostRuntime) -> Result<(), Fail> {
     let bundle = joined(&rt, &[SHEET, "\n", INFO, HUNDRED, END])?;
-    let input = TestReader::new(&bundle, ROOM, Then::Fails);
-    assert!(rt; stops(&rt, input, ROOM, b"", "file -: cannot be read\n")?);
+    for length in 0..=bundle.len() {
+        let front = bundle.get(..length).unwrap_or_default();
+        assert!(rt; are_unread(&rt, front), "at {length}");
+    }
     Ok(())
 }
 
@@ -179,7 +215,7 @@ fn a_text_that_is_not_flushed_is_a_fault(rt: HostRuntime) -> Result<(), Fail> {
     let refused = [SHEET, "\n{}\n", INFO, HUNDRED, END];
     let bundle = joined(&rt, &refused)?;
     let mut err = writer(&rt, ROOM)?;
-    let input = TestReader::new(&bundle, ROOM, Then::Ends);
+    let input = TestReader::new(&bundle, Step::All, Then::Ends);
     let mut status = run(rt.alloc(), &rt, NO_WORDS, input, NeverFlushed, &mut err);
     if err.held() == b"out of memory\n".as_slice() {
         tell_refused(&rt);
@@ -196,7 +232,7 @@ fn a_failing_standard_error_is_passed_over(rt: HostRuntime) -> Result<(), Fail> 
     let bundle = joined(&rt, &[SHEET, "\n{}"])?;
     let mut out = writer(&rt, ROOM)?;
     let mut err = writer(&rt, 3)?;
-    let input = TestReader::new(&bundle, ROOM, Then::Ends);
+    let input = TestReader::new(&bundle, Step::All, Then::Ends);
     let status = run(rt.alloc(), &rt, NO_WORDS, input, &mut out, &mut err);
     if err.held() == b"out".as_slice() {
         tell_refused(&rt);
