@@ -82,7 +82,7 @@ number_fact = fact (record {
   unit = Some (record { numerators = in_second (codes "a") ∷ in_second (codes "b") ∷ []; denominators = in_second (codes "c") ∷ in_second (codes "c") ∷ [] });
   language = None;
   members = [];
-}) (Number (negsuc 1499999999999999999) (Some (pos 1)))
+}) (Number (negsuc 14999999999999999999) (Some (pos 1)))
 
 -- numbers of a concept alone and a unit
 abbrev pub measured : List QName → List QName → Value → Fact
@@ -92,7 +92,7 @@ abbrev pub product_fact : Fact
 product_fact = measured (in_second (codes "a") ∷ in_second (codes "b") ∷ []) [] (Number (pos 0) None)
 
 abbrev pub ratio_fact : Fact
-ratio_fact = measured (in_second (codes "a") ∷ in_second (codes "b") ∷ []) (in_second (codes "c") ∷ []) (Number (pos 100000000000000000000) (Some (pos 0)))
+ratio_fact = measured (in_second (codes "a") ∷ in_second (codes "b") ∷ []) (in_second (codes "c") ∷ []) (Number (pos 1000000000000000000000) (Some (pos 0)))
 
 abbrev pub nil_fact : Fact
 nil_fact = fact (alone (in_first (codes "A"))) Nil
