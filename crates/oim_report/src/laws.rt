@@ -5,7 +5,7 @@ ghost use Rattle.oim_report.specs.Report.{AcceptedFactsFit, AcceptedReferencesAr
 ghost use Rattle.oim_report.specs.Sheet.{SheetOutcomesWantNoMemory};
 ghost use Rattle.oim_report.specs.OneDocument.{SaysOneDocument};
 ghost use Rattle.oim_report.specs.SaidUnlessRefused.{FactsAreSaid};
-ghost use Rattle.oim_report.specs.PlainJson.{PlainHasNoFloat, PlainTextReadsBack};
+ghost use Rattle.oim_report.specs.PlainJson.{PlainHasNoFloat, PlainTextReadsBack, ReadHasUtf8};
 ghost use Rattle.oim_report.specs.ReadBack.{ConceptsReadBack, DimensionsReadBack, EntitiesReadBack, FactObjectHasParts, FactObjectIsPlain, FactObjectReadsBack, FormsAreAccepted, LanguagesReadBack, NamesAreAccepted, PeriodsReadBack, UnitsReadBack, ValuesReadBack};
 
 /// A kept text of a reference is kept as itself where there is no base, is UTF-8 where the
@@ -111,6 +111,11 @@ pub fn written_facts_are_accepted()
 /// names is spelled by a prefix of ASCII letters and digits that is bound to its URI.
 pub fn fact_object_reads_back()
     ensures { FactObjectReadsBack }
+{}
+
+/// Each string and each key of the value of a file's bytes is UTF-8.
+pub fn what_is_read_is_utf8()
+    ensures { ReadHasUtf8 }
 {}
 
 /// A plain object is read from its compact text. It has no float, so that this is what `serde_json`
