@@ -55,5 +55,8 @@ pub mod ReadText
 pub mod TextUtf8
 pub mod StringsUtf8
 pub mod ReadUtf8
+pub mod ListedKinds
+pub mod AcceptedWhereFree
+pub mod RefusedWhereHeld
 pub mod PlainFact
 pub mod GlossaryAdds
