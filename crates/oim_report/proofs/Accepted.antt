@@ -90,7 +90,7 @@ pub record IsAccepted (sheet : Sheet) (bs : List Binding) (p : FactParts) (ds : 
   pub each : EachSays sheet bs ds f.dimensions
   pub value : said_value bs (concept_kind sheet bs ds.concept) p.value p.decimals ≡ Some f.value
 
-record Says (sheet : Sheet) (bs : List Binding) (p : FactParts) (f : Fact) : Type 0 where
+pub record Says (sheet : Sheet) (bs : List Binding) (p : FactParts) (f : Fact) : Type 0 where
   pub refused : fact_refusal sheet bs p ≡ None
   pub said : said_fact sheet bs p ≡ Some f
 
@@ -99,7 +99,7 @@ ok_or None (Some g) f e = (refl, cc)
 ok_or None None f e = absurd (cc)
 ok_or (Some r) o f e = absurd (cc)
 
-parts_say : (sheet : Sheet) (bs : List Binding) (o : Option FactParts) (f : Fact) → parts_outcome sheet bs o ≡ Ok f → (p : FactParts) × (o ≡ Some p) × Says sheet bs p f
+pub parts_say : (sheet : Sheet) (bs : List Binding) (o : Option FactParts) (f : Fact) → parts_outcome sheet bs o ≡ Ok f → (p : FactParts) × (o ≡ Some p) × Says sheet bs p f
 parts_say sheet bs None f e = absurd (cc)
 parts_say sheet bs (Some p) f e = let both = ok_or (fact_refusal sheet bs p) (said_fact sheet bs p) f e in (p, refl, record { refused = both.0; said = both.1 })
 

@@ -103,7 +103,7 @@ pub ok_of : {A B : Type 0} (g : A → B) (r : Result A Refusal) (b : B) → map_
 ok_of g (Ok a) b e = (a, refl, cc)
 ok_of g (Err q) b e = absurd (cc)
 
-next : (n : ℕ) (o : Result Fact Reason) (os : List (Result Fact Reason)) (fs : List Fact) → all_or_first n (o ∷ os) ≡ Ok fs → (f : Fact) × (gs : List Fact) × (o ≡ Ok f) × (all_or_first (n + 1) os ≡ Ok gs) × (f ∷ gs ≡ fs)
+pub next : (n : ℕ) (o : Result Fact Reason) (os : List (Result Fact Reason)) (fs : List Fact) → all_or_first n (o ∷ os) ≡ Ok fs → (f : Fact) × (gs : List Fact) × (o ≡ Ok f) × (all_or_first (n + 1) os ≡ Ok gs) × (f ∷ gs ≡ fs)
 next n (Ok f) os fs e = let a = ok_of (λ gs. f ∷ gs) (all_or_first (n + 1) os) fs e in (f, a.0, refl, a.1, a.2)
 next n (Err r) os fs e = absurd (cc)
 

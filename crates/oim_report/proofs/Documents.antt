@@ -60,29 +60,34 @@ level_allows found d e h = by (is_lt (level_cmp d.level found)) h
     by true h' = absurd (cc)
     by false h' = cc
 
-is_allowed : (r : Result Document Refusal) (d : Document) → then_allowed r ≡ Ok d → r ≡ Ok d
+pub is_allowed : (r : Result Document Refusal) (d : Document) → then_allowed r ≡ Ok d → r ≡ Ok d
 is_allowed (Ok c) d e = ap Ok (level_allows (level_of c.facts) c d e)
 is_allowed (Err q) d e = absurd (cc)
 
-not_refused : (o : Option Reason) (r : Result Document Refusal) (d : Document) → unless_refused o r ≡ Ok d → (o ≡ None) × (r ≡ Ok d)
+pub not_refused : (o : Option Reason) (r : Result Document Refusal) (d : Document) → unless_refused o r ≡ Ok d → (o ≡ None) × (r ≡ Ok d)
 not_refused None r d e = (refl, e)
 not_refused (Some q) r d e = absurd (cc)
+
+-- what the facts of a report that is not refused make is what its bytes say
+pub document_is_said : (sheet : Sheet) (bytes : List ℕ) (tree : Data) (fs : List Fact) → json bytes ≡ Some tree → document_refusal tree ≡ None → facts_said sheet (bindings_of tree) (facts_of tree) ≡ Ok fs → SaysDocument sheet bytes (document_with tree fs)
+document_is_said sheet bytes tree fs read none said =
+    let groups = none_of (shape_refusal tree) _ none in
+    let info = none_of (info_refusal tree) None groups.1 in
+    let each = four (any_in binds_nothing (namespaces_of tree)) (is_none (base_said tree)) (is_none (references_said tree)) (is_none (level_said tree)) info.0 in
+    record {
+      tree = tree;
+      read = read;
+      facts = facts_are_said sheet (bindings_of tree) (facts_of tree) fs (bindings_are_namespaces tree none) said;
+      references = there (references_said tree) [] each.2;
+      level = there (level_said tree) AllLevel each.3;
+    }
 
 tree_says : (sheet : Sheet) (bytes : List ℕ) (tree : Data) (d : Document) → json bytes ≡ Some tree → tree_outcome sheet (Some tree) ≡ Ok d → SaysDocument sheet bytes d
 tree_says sheet bytes tree d read e =
     let a = not_refused (document_refusal tree) _ d e in
     let b = is_allowed (map_ok (document_with tree) (facts_said sheet (bindings_of tree) (facts_of tree))) d a.1 in
     let c = ok_of (document_with tree) (facts_said sheet (bindings_of tree) (facts_of tree)) d b in
-    let groups = none_of (shape_refusal tree) _ a.0 in
-    let info = none_of (info_refusal tree) None groups.1 in
-    let each = four (any_in binds_nothing (namespaces_of tree)) (is_none (base_said tree)) (is_none (references_said tree)) (is_none (level_said tree)) info.0 in
-    subst (SaysDocument sheet bytes) c.2 (record {
-      tree = tree;
-      read = read;
-      facts = facts_are_said sheet (bindings_of tree) (facts_of tree) c.0 (bindings_are_namespaces tree a.0) c.1;
-      references = there (references_said tree) [] each.2;
-      level = there (level_said tree) AllLevel each.3;
-    })
+    subst (SaysDocument sheet bytes) c.2 (document_is_said sheet bytes tree c.0 read a.0 c.1)
 
 pub document_said : (sheet : Sheet) (bytes : List ℕ) (o : Option Data) (d : Document) → json bytes ≡ o → tree_outcome sheet o ≡ Ok d → SaysDocument sheet bytes d
 document_said sheet bytes None d read e = absurd (cc)

@@ -53,5 +53,10 @@ pub mod ReadValues
 pub mod ReadFact
 pub mod ReadText
 pub mod TextUtf8
+pub mod StringsUtf8
+pub mod ReadUtf8
+pub mod ListedKinds
+pub mod AcceptedWhereFree
+pub mod RefusedWhereHeld
 pub mod PlainFact
 pub mod GlossaryAdds

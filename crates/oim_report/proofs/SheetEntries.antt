@@ -28,7 +28,7 @@ first_of-none : {A : Type 0} (a : Option A) → first_of a None ≡ a
 first_of-none None = refl
 first_of-none (Some a) = refl
 
-tied : (b : Bool) (q n : QName) → eq_by_cmp name_cmp q n ≡ b → b ≡ true → q ≡ n
+pub tied : (b : Bool) (q n : QName) → eq_by_cmp name_cmp q n ≡ b → b ≡ true → q ≡ n
 tied b q n e t = exact_name q n ((Equal-is (name_cmp q n)).0 (e ∙ t))
 
 module _ {X : Type 0} where

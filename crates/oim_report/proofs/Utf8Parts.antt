@@ -52,7 +52,7 @@ back (x ∷ xs) ys c = let e : length (x ∷ xs) + 1 ≡ suc (length xs + 1) = o
 seam_within : (xs ys : List ℕ) (c : ℕ) → length xs < length (xs ++ c ∷ ys)
 seam_within xs ys c = simp length-append (omega arith)
 
-both_utf8 : (xs ys : List ℕ) (c : ℕ) → c < 128 → IsUtf8 (xs ++ c ∷ ys) → IsUtf8 xs × IsUtf8 ys
+pub both_utf8 : (xs ys : List ℕ) (c : ℕ) → c < 128 → IsUtf8 (xs ++ c ∷ ys) → IsUtf8 xs × IsUtf8 ys
 both_utf8 xs ys c ascii utf8 =
     let low : get_or (xs ++ c ∷ ys) (length xs) 0 < 128 = rw (at_seam xs ys c) ascii in (
       subst IsUtf8 (front xs (c ∷ ys)) (IsUtf8-take (xs ++ c ∷ ys) (length xs) utf8 (IsCharBoundary-before_ascii (xs ++ c ∷ ys) (length xs) (seam_within xs ys c) low)),

@@ -6,6 +6,7 @@ pub mod SeenParts
 pub mod Namespaces
 pub mod Names
 pub mod Sheet
+pub mod Listed
 pub mod SheetCode
 pub mod KindLaws
 pub mod Conditions
@@ -24,6 +25,8 @@ pub mod FactFits
 pub mod FactObject
 pub mod Report
 pub mod OneDocument
+pub mod Accepts
+pub mod Refuses
 pub mod SaidUnlessRefused
 pub mod PlainJson
 pub mod ReadBack

@@ -68,3 +68,7 @@ PlainTextReadsBack = (ms : Members) → IsPlainJson (object ms) max_depth → js
 -- and has no float, so that it is what `serde_json` writes
 abbrev pub PlainHasNoFloat : Type 0
 PlainHasNoFloat = (d : Data) → IsPlain d → has_float d ≡ false
+
+-- each string and each key of what is read is UTF-8
+abbrev pub ReadHasUtf8 : Type 0
+ReadHasUtf8 = (bytes : List ℕ) (d : Data) → json bytes ≡ Some d → HasUtf8 d

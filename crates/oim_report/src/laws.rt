@@ -1,11 +1,14 @@
+ghost use Rattle.oim_report.specs.Accepts.{AcceptedWhereFree};
 ghost use Rattle.oim_report.specs.Duplicates.{LevelIgnoresOrder, LevelIsStrictest, ValuesMeetIsMeets};
 ghost use Rattle.oim_report.specs.Kept.{KeptIsAccepted, KeptIsKept, KeptIsUtf8};
+ghost use Rattle.oim_report.specs.Listed.{ConceptsAreListed, DimensionsAreListed};
 ghost use Rattle.oim_report.specs.Outcome.{OutcomesWantNoMemory};
+ghost use Rattle.oim_report.specs.Refuses.{RefusedWhereHeld};
 ghost use Rattle.oim_report.specs.Report.{AcceptedFactsFit, AcceptedReferencesAreKept, OutcomesAreSaid};
 ghost use Rattle.oim_report.specs.Sheet.{SheetOutcomesWantNoMemory};
 ghost use Rattle.oim_report.specs.OneDocument.{SaysOneDocument};
 ghost use Rattle.oim_report.specs.SaidUnlessRefused.{FactsAreSaid};
-ghost use Rattle.oim_report.specs.PlainJson.{PlainHasNoFloat, PlainTextReadsBack};
+ghost use Rattle.oim_report.specs.PlainJson.{PlainHasNoFloat, PlainTextReadsBack, ReadHasUtf8};
 ghost use Rattle.oim_report.specs.ReadBack.{ConceptsReadBack, DimensionsReadBack, EntitiesReadBack, FactObjectHasParts, FactObjectIsPlain, FactObjectReadsBack, FormsAreAccepted, LanguagesReadBack, NamesAreAccepted, PeriodsReadBack, UnitsReadBack, ValuesReadBack};
 
 /// A kept text of a reference is kept as itself where there is no base, is UTF-8 where the
@@ -36,6 +39,13 @@ pub fn sheet_outcomes_want_no_memory()
     ensures { SheetOutcomesWantNoMemory }
 {}
 
+/// An accepted sheet has a concept with a kind exactly where some key of `concepts` expands to it and
+/// its value says the kind, and a dimension exactly where one of `dimensions` does.
+pub fn sheet_lists_what_it_says()
+    ensures concepts { ConceptsAreListed }
+    ensures dimensions { DimensionsAreListed }
+{}
+
 /// A report's bytes say at most one document under a sheet.
 pub fn says_one_document()
     ensures { SaysOneDocument }
@@ -47,6 +57,20 @@ pub fn outcomes_are_said()
     ensures said { OutcomesAreSaid }
     ensures facts { AcceptedFactsFit }
     ensures references { AcceptedReferencesAreKept }
+{}
+
+/// A report is accepted as a document exactly where its bytes are JSON, no condition holds of the
+/// document or of a fact, they say that document, and the level of its facts is not above the
+/// declared one.
+pub fn accepted_where_free()
+    ensures { AcceptedWhereFree }
+{}
+
+/// A report is refused exactly for the first condition that holds: that its bytes are not JSON, the
+/// first condition of the document, that of the first fact with one, at its place, or that the level
+/// of its facts is above the declared one.
+pub fn refused_where_held()
+    ensures { RefusedWhereHeld }
 {}
 
 /// Parts of a fact object that no condition refuses say a fact.
@@ -111,6 +135,11 @@ pub fn written_facts_are_accepted()
 /// names is spelled by a prefix of ASCII letters and digits that is bound to its URI.
 pub fn fact_object_reads_back()
     ensures { FactObjectReadsBack }
+{}
+
+/// Each string and each key of the value of a file's bytes is UTF-8.
+pub fn what_is_read_is_utf8()
+    ensures { ReadHasUtf8 }
 {}
 
 /// A plain object is read from its compact text. It has no float, so that this is what `serde_json`

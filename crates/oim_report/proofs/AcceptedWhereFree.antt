@@ -1,0 +1,92 @@
+-- A report is accepted exactly where no condition holds and its level allows its facts.
+use Rattle.std.proofs.Common.{◌≡◌, ℕ, ◌+◌, List, [], ◌∷◌, map, Bool, true, false, cond, Option, Some, None, Ok, Err, refl, sym, ap, ◌∙◌}
+use Rattle.std.specs.List.{AllByRecursion}
+use Rattle.std.specs.Ordering.{is_lt}
+use Rattle.oim_names.specs.Bindings.{Binding}
+use Rattle.oim_names.specs.declared.reason.Reason.TheVariants.{DisallowedDuplicates}
+use Rattle.oim_value.specs.Level.{level_cmp}
+use Rattle.oim_dims.specs.declared.fact.Fact.{Fact}
+use Rattle.serde_json.specs.Data.{Data}
+use Rattle.oim_report.specs.declared.place.Place.TheVariants.{Document as AtDocument}
+use Rattle.oim_report.specs.Accepts.{AcceptedWhereFree, Accepts, IsFree}
+use Rattle.oim_report.specs.Document.{Document}
+use Rattle.oim_report.specs.Duplicates.{level_of}
+use Rattle.oim_report.specs.Info.{bindings_of, document_refusal, facts_of}
+use Rattle.oim_report.specs.Json.{json, values}
+use Rattle.oim_report.specs.Outcome.{all_or_first, at, document_with, fact_or, fact_outcome, facts_said, outcome, parts_outcome, then_allowed, tree_outcome, unless_above, unless_refused}
+use Rattle.oim_report.specs.Parts.{fact_parts}
+use Rattle.oim_report.specs.Refusal.{map_ok}
+use Rattle.oim_report.specs.Said.{said_fact}
+use Rattle.oim_report.specs.Sheet.{Sheet}
+use Rattle.oim_report.proofs.Accepted.{parts_say}
+use Rattle.oim_report.proofs.AcceptedFacts.{next, ok_of}
+use Rattle.oim_report.proofs.Documents.{document_is_said, document_said, is_allowed, not_refused}
+use Rattle.oim_report.proofs.OneDocument.{says_one_document}
+use Rattle.oim_report.proofs.SaidUnlessRefused.{facts_are_said}
+
+-- ---- what is accepted is free
+
+pub one_free : (sheet : Sheet) (bs : List Binding) (d : Data) (f : Fact) → fact_outcome sheet bs d ≡ Ok f → IsFree sheet bs d
+one_free sheet bs d f e = let a = parts_say sheet bs (fact_parts d) f e in record { parts = a.0; are = a.1; free = a.2.refused }
+
+pub all_free : (sheet : Sheet) (bs : List Binding) (n : ℕ) (ds : List Data) (fs : List Fact) → all_or_first n (map (fact_outcome sheet bs) ds) ≡ Ok fs → AllByRecursion (IsFree sheet bs) ds
+all_free sheet bs n [] fs e = tt
+all_free sheet bs n (d ∷ ds) fs e =
+    let a = next n (fact_outcome sheet bs d) (map (fact_outcome sheet bs) ds) fs e in
+    (one_free sheet bs d a.0 a.2, all_free sheet bs (n + 1) ds a.1 a.3)
+
+not_above : (b : Bool) (d e : Document) → cond b (Err (at AtDocument DisallowedDuplicates)) (Ok d) ≡ Ok e → b ≡ false
+not_above true d e h = absurd (cc)
+not_above false d e h = refl
+
+tree_accepts : (sheet : Sheet) (bytes : List ℕ) (tree : Data) (d : Document) → json bytes ≡ Some tree → tree_outcome sheet (Some tree) ≡ Ok d → Accepts sheet bytes d
+tree_accepts sheet bytes tree d read e =
+    let found = map_ok (document_with tree) (facts_said sheet (bindings_of tree) (facts_of tree)) in
+    let a = not_refused (document_refusal tree) (then_allowed found) d e in
+    let b = is_allowed found d a.1 in
+    let c = ok_of (document_with tree) (facts_said sheet (bindings_of tree) (facts_of tree)) d b in
+    record {
+      tree = tree;
+      read = read;
+      document = a.0;
+      facts = all_free sheet (bindings_of tree) 1 (values (facts_of tree)) c.0 c.1;
+      said = document_said sheet bytes (Some tree) d read e;
+      level = not_above (is_lt (level_cmp d.level (level_of d.facts))) d d (ap then_allowed (sym b) ∙ a.1);
+    }
+
+some_accepts : (sheet : Sheet) (bytes : List ℕ) (o : Option Data) (d : Document) → json bytes ≡ o → tree_outcome sheet o ≡ Ok d → Accepts sheet bytes d
+some_accepts sheet bytes None d read e = absurd (cc)
+some_accepts sheet bytes (Some tree) d read e = tree_accepts sheet bytes tree d read e
+
+-- ---- what is free is accepted
+
+pub one_said : (sheet : Sheet) (bs : List Binding) (d : Data) → IsFree sheet bs d → (f : Fact) × (fact_outcome sheet bs d ≡ Ok f)
+one_said sheet bs d free =
+    let f = facts_are_said sheet bs free.parts free.free in
+    (f.0, ap (parts_outcome sheet bs) free.are ∙ ap (λ r. fact_or r (said_fact sheet bs free.parts)) free.free ∙ ap (fact_or None) f.1)
+
+pub all_ok : (sheet : Sheet) (bs : List Binding) (n : ℕ) (ds : List Data) → AllByRecursion (IsFree sheet bs) ds → (fs : List Fact) × (all_or_first n (map (fact_outcome sheet bs) ds) ≡ Ok fs)
+all_ok sheet bs n [] free = ([], refl)
+all_ok sheet bs n (d ∷ ds) free =
+    let f = one_said sheet bs d free.0 in
+    let fs = all_ok sheet bs (n + 1) ds free.1 in
+    (f.0 ∷ fs.0, ap (λ o. all_or_first n (o ∷ map (fact_outcome sheet bs) ds)) f.1 ∙ ap (map_ok (λ facts. f.0 ∷ facts)) fs.1)
+
+free_accepted : (sheet : Sheet) (bytes : List ℕ) (d : Document) → Accepts sheet bytes d → outcome sheet bytes ≡ Ok d
+unfolding outcome
+free_accepted sheet bytes d acc =
+    let tree = acc.tree in
+    let bs = bindings_of tree in
+    let fs = all_ok sheet bs 1 (values (facts_of tree)) acc.facts in
+    let doc = document_with tree fs.0 in
+    let says = document_is_said sheet bytes tree fs.0 acc.read acc.document fs.1 in
+    let one : doc ≡ d = says_one_document sheet bytes doc d says acc.said in
+    ap (tree_outcome sheet) acc.read
+    ∙ ap (λ r. unless_refused r (then_allowed (map_ok (document_with tree) (facts_said sheet bs (facts_of tree))))) acc.document
+    ∙ ap (λ r. then_allowed (map_ok (document_with tree) r)) fs.1
+    ∙ ap (λ e. unless_above (level_of e.facts) e) one
+    ∙ ap (λ b. cond b (Err (at AtDocument DisallowedDuplicates)) (Ok d)) acc.level
+
+pub accepted_where_free : AcceptedWhereFree
+unfolding outcome
+accepted_where_free sheet bytes d = ((λ e. some_accepts sheet bytes (json bytes) d refl e), (λ acc. free_accepted sheet bytes d acc))

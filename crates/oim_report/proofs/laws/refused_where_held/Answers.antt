@@ -1,0 +1,5 @@
+use Rattle.oim_report.proofs.RefusedWhereHeld.{refused_where_held}
+use Rattle.oim_report.proofs.laws.refused_where_held.Goals as goal
+
+pub returns : goal.returns
+returns c = refused_where_held
