@@ -1,4 +1,4 @@
-"""Tells of a fact by which of its conditions `xbrlmerge` refuses it, as its README lists them."""
+"""Tells of a fact by which of its conditions `xbrlmerge` refuses it, as docs/REFUSALS.md lists them."""
 import datetime
 import re
 
