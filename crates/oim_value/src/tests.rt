@@ -185,6 +185,13 @@ fn decimals_have_a_range(rt: HostRuntime) {
     assert!(rt; Decimals::INFINITE.get() == None);
 }
 
+#[test]
+fn decimals_are_copied(rt: HostRuntime) {
+    for decimals in [finite(-18), finite(2), Decimals::INFINITE] {
+        assert!(rt; decimals.copied(rt.alloc()) == Ok(decimals));
+    }
+}
+
 pub(crate) fn number(text: &str, decimals: Decimals) -> Value {
     match read_fixed(text) {
         Ok(number) => Value::Number(number, decimals),

@@ -1,6 +1,6 @@
 ghost use Rattle.std.specs.Prelude.{◌-◌, ◌^◌, ◌<◌};
 
-use crate::sink::{Sink, put_all};
+use crate::sink::{Sink, SinkError, put_all};
 use crate::sink_buffer::SinkBuffer;
 use crate::std_sink::StdSink;
 use crate::tests::tell_refused;
@@ -205,5 +205,35 @@ fn a_writer_may_stop_about_a_chunk(rt: HostRuntime) -> Result<(), Fail> {
         answer = stops_about_a_chunk(rt.alloc());
     }
     assert!(rt; answer == Ok(true));
+    Ok(())
+}
+
+/// Is interrupted at its first write, and takes the next one.
+#[derive(Clone, Copy)]
+struct InterruptedOnce {
+    is_over: bool,
+}
+
+impl Write for InterruptedOnce {
+    fn write(&mut self, bytes: &[u8]) -> io::Result<usize> {
+        if self.is_over {
+            return Ok(bytes.len());
+        }
+        self.is_over = true;
+        Err(io::Error::from(ErrorKind::Interrupted))
+    }
+
+    fn flush(&mut self) -> io::Result<()> {
+        Ok(())
+    }
+}
+
+#[test]
+fn an_interrupted_write_is_not_tried_again(rt: HostRuntime) -> Result<(), Fail> {
+    let mut sink = StdSink::new(InterruptedOnce { is_over: false });
+    assert!(rt; sink.put(b"ab") == Err(SinkError));
+    assert!(rt; sink.failures() == 1 && sink.taken() == 0);
+    assert!(rt; sink.put(b"ab") == Ok(2));
+    assert!(rt; sink.failures() == 1 && sink.taken() == 2);
     Ok(())
 }
