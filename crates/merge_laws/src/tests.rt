@@ -4,8 +4,8 @@ mod many;
 
 use crate::{Merge, SortedMap, SortedSet, Summary, laws};
 use again::{
-    Items, ItemsAt, Pair, copied, has_at, has_just, has_just_at, insert, items_at, merge,
-    merge_maps, merge_pairs, merge_sets, pair, put, set, text,
+    Items, ItemsAt, Pair, Same, copied, has_at, has_just, has_just_at, insert, items_at, merge,
+    pair, put, set, text,
 };
 use oim_names::Text;
 use oim_value::{Decimals, Interval, Value, read_fixed};
@@ -17,7 +17,7 @@ const UNIT: i128 = 10_000_000_000_000_000_000;
 // Takes in the set of some items; answers whether there are then just these.
 fn merges_to(rt: &HostRuntime, first: &mut Items, items: &[&str], all: &[&str]) -> bool {
     match set(rt, items) {
-        Ok(second) => merge_sets(rt, first, &second).is_ok() && has_just(first, all),
+        Ok(second) => merge(rt, first, &second).is_ok() && has_just(first, all),
         Err(_) => false,
     }
 }
@@ -234,7 +234,7 @@ fn copy_is_merged(rt: &HostRuntime, map: &ItemsAt) -> bool {
 // Whether a map is merged where it has taken in that of some rows.
 fn merges_rows(rt: &HostRuntime, map: &mut ItemsAt, rows: &[(&str, &str)]) -> bool {
     match items_at(rt, rows) {
-        Ok(other) => merge_maps(rt, map, &other).is_ok() && copy_is_merged(rt, map),
+        Ok(other) => merge(rt, map, &other).is_ok() && copy_is_merged(rt, map),
         Err(_) => false,
     }
 }
@@ -274,7 +274,7 @@ fn is_entry(map: &ItemsAt, place: usize, key: &str, items: &[&str]) -> bool {
 
 fn merge_pair(rt: &HostRuntime, first: &mut Pair) -> Result<(), AllocError> {
     let second = pair(rt, "b", "w")?;
-    merge_pairs(rt, first, &second)
+    merge(rt, first, &second)
 }
 
 fn has_both_parts(pair: &Pair) -> bool {
@@ -299,7 +299,7 @@ fn pairs_merge_part_by_part(rt: HostRuntime) -> Result<(), Fail> {
 }
 
 // The value with a copy of it merged in.
-fn doubled<M: Merge>(rt: &HostRuntime, value: &M) -> Result<M, AllocError> {
+fn doubled<M: Same>(rt: &HostRuntime, value: &M) -> Result<M, AllocError> {
     let mut copy = copied(rt, value)?;
     merge(rt, &mut copy, value)?;
     copy.known();

@@ -293,10 +293,10 @@ fn room_for_reports(rt: &HostRuntime) -> Result<Vec<Encoded>, AllocError> {
     }
 }
 
-/// What is no report, one of the facts 100 and 101, and the same again.
-fn reports(rt: &HostRuntime) -> Result<Vec<Encoded>, AllocError> {
+/// What is no report, one that is, and the same again.
+fn reports(rt: &HostRuntime, report: &str) -> Result<Vec<Encoded>, AllocError> {
     let mut reports = room_for_reports(rt)?;
-    for report in ["", TOUCHING, TOUCHING] {
+    for report in ["", report, report] {
         reports.push(encoded(rt, report.as_bytes())?)?;
     }
     Ok(reports)
@@ -343,7 +343,7 @@ fn consolidates(rt: &HostRuntime, sheet: &Sheet, reports: &[Encoded], text: &[u8
 }
 
 fn is_consolidated(rt: &HostRuntime, sheet: &Sheet, text: &[u8]) -> bool {
-    match reports(rt) {
+    match reports(rt, TOUCHING) {
         Ok(reports) => consolidates(rt, sheet, reports.as_slice(), text),
         Err(_) => false,
     }
@@ -357,13 +357,18 @@ fn a_refused_merge_has_its_front_in_the_sink(rt: HostRuntime) -> Result<(), Fail
     Ok(())
 }
 
-/// The rounding intervals of 100 and 101 touch.
-const BOTH_TOUCH: &[u8] = b"1 f1 f2 consistent common 100.5 100.5\n";
+/// Two numbers whose rounding intervals touch, two that are apart, and a text.
+const THREE_SETS: &str =
+    r#"{"documentInfo":{"documentType":"https://xbrl.org/2021/xbrl-json","namespaces":{"eg":"http://example.org/t"}},"facts":{"a":{"value":"100","decimals":0,"dimensions":{"concept":"eg:A"}},"b":{"value":"101","decimals":0,"dimensions":{"concept":"eg:A"}},"c":{"value":"1","decimals":0,"dimensions":{"concept":"eg:B"}},"d":{"value":"3","decimals":0,"dimensions":{"concept":"eg:B"}},"e":{"value":"Blue","dimensions":{"concept":"eg:T"}}}}"#;
+
+// Memory is wanted for each line, so that a refusal in a later one leaves those before it in the sink.
+const THREE_LINES: &[u8] =
+    b"1 f1 f2 consistent common 100.5 100.5\n2 f3 f4 inconsistent apart f3 f4\n3 f5 f5 complete\n";
 
 fn lists_once(rt: &HostRuntime, sheet: &Sheet, reports: &[Encoded]) -> Option<bool> {
-    let mut sink = StdSink::new(Expecting::just(BOTH_TOUCH));
+    let mut sink = StdSink::new(Expecting::just(THREE_LINES));
     let answer = verdict_lines(rt.alloc(), sheet, reports, &mut sink);
-    came_to(rt, answer, sink, BOTH_TOUCH)
+    came_to(rt, answer, sink, THREE_LINES)
 }
 
 fn lists(rt: &HostRuntime, sheet: &Sheet, reports: &[Encoded]) -> bool {
@@ -376,7 +381,7 @@ fn lists(rt: &HostRuntime, sheet: &Sheet, reports: &[Encoded]) -> bool {
 #[test]
 fn refused_lines_have_their_front_in_the_sink(rt: HostRuntime) -> Result<(), Fail> {
     let sheet = read_sheet(&rt)?;
-    let reports = reports(&rt)?;
+    let reports = reports(&rt, THREE_SETS)?;
     assert!(rt; lists(&rt, &sheet, reports.as_slice()));
     Ok(())
 }

@@ -119,29 +119,39 @@ fn an_equal_or_empty_base_adds_nothing(rt: HostRuntime) {
     }
 }
 
-// Whether a base that absorbs another has one row of three facts. The other is lost where a request is
-// refused: then there is nothing to count.
-fn absorbs(rt: &HostRuntime, base: &mut Base<'_>, other: Base<'_>) -> bool {
+// Has a base absorb one of two facts, and answers whether it did; where a request is refused, the other
+// is lost.
+fn absorb_two(rt: &HostRuntime, base: &mut Base<'_>) -> Option<bool> {
+    let other = base_of(rt, base.sheet(), &[TWO, ONE])?;
     if !base.same_sheet(other.sheet()) {
-        return false;
+        return None;
     }
-    if base.absorb(other).is_err() {
-        tell_refused(rt);
-        return true;
-    }
-    base.row_count() == 1 && base.fact_count() == 3
+    Some(base.absorb(other).is_ok())
 }
 
-fn absorbs_other(rt: &HostRuntime, base: &mut Base<'_>) -> bool {
-    match base_of(rt, base.sheet(), &[TWO, ONE]) {
-        Some(other) => absorbs(rt, base, other),
+// The same again where a request is refused and the base is then as before.
+fn absorbs(rt: &HostRuntime, base: &mut Base<'_>, before: &Base<'_>) -> bool {
+    match absorb_two(rt, base) {
+        Some(false) if base.same_as(before) => {
+            tell_refused(rt);
+            absorb_two(rt, base) == Some(true)
+        }
+        absorbed => absorbed == Some(true),
+    }
+}
+
+fn counts_once(rt: &HostRuntime, before: &Base<'_>) -> bool {
+    match base_of(rt, before.sheet(), &[NINE, ONE]) {
+        Some(mut base) => {
+            absorbs(rt, &mut base, before) && base.row_count() == 1 && base.fact_count() == 3
+        }
         None => false,
     }
 }
 
 fn is_counted_once(rt: &HostRuntime, sheet: &Sheet) -> bool {
     match base_of(rt, sheet, &[NINE, ONE]) {
-        Some(mut base) => absorbs_other(rt, &mut base),
+        Some(before) => counts_once(rt, &before),
         None => false,
     }
 }

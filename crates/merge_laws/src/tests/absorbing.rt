@@ -1,6 +1,6 @@
 use super::again::{
-    Items, ItemsAt, Pair, absorb, absorb_map, absorb_set, copied, has_just, has_just_at, items_at,
-    pair, room, set, text,
+    Items, ItemsAt, Pair, absorb, absorb_set, copied, has_just, has_just_at, items_at, pair, room,
+    set, text,
 };
 use super::{
     ALL, SummaryAt, both_rounded, has_both_parts, has_value, is_merged, is_new, is_there, put_at,
@@ -67,7 +67,7 @@ fn absorb_rows(
     rows: &[(&str, &str)],
 ) -> Result<(), AllocError> {
     let other = items_at(rt, rows)?;
-    absorb_map(rt, map, other)
+    absorb(rt, map, other)
 }
 
 // Whether an empty map has one row where it has absorbed it and an empty map.
@@ -86,7 +86,7 @@ fn an_empty_map_absorbs_all(rt: HostRuntime) {
 
 fn absorb_copy(rt: &HostRuntime, map: &mut ItemsAt, other: &ItemsAt) -> Result<(), AllocError> {
     let copy = copied(rt, other)?;
-    absorb_map(rt, map, copy)
+    absorb(rt, map, copy)
 }
 
 // Whether a map is merged where it has absorbed a copy of that of some rows.

@@ -16,7 +16,7 @@ pub(super) type Pair = (Items, Items);
 // has changed something; then the test fails. The line on standard error tells
 // `tests/refused_memory` of it, and whether the request was the test's own.
 
-fn tell_refused(rt: &HostRuntime) {
+pub(super) fn tell_refused(rt: &HostRuntime) {
     let _ = eprintln!(rt; "refused");
 }
 
@@ -44,13 +44,54 @@ pub(super) fn copied<T: Copied>(rt: &HostRuntime, value: &T) -> Result<T, AllocE
     }
 }
 
-pub(super) fn merge<M: Merge>(
-    rt: &HostRuntime,
-    value: &mut M,
-    other: &M,
-) -> Result<(), AllocError> {
+// What a value shows, compared with what another one does.
+pub(super) trait Same: Merge {
+    fn is_same(&self, other: &Self) -> bool;
+}
+
+impl<T: Key> Same for SortedSet<T> {
+    fn is_same(&self, other: &Self) -> bool {
+        let (items, others) = (self.as_slice(), other.as_slice());
+        for place in 0..items.len() {
+            match others.get(place) {
+                Some(item) if items[place].cmp(item).is_eq() => {}
+                _ => return false,
+            }
+        }
+        items.len() == others.len()
+    }
+}
+
+impl Same for Summary {
+    fn is_same(&self, other: &Self) -> bool {
+        self == other
+    }
+}
+
+impl<A: Same, B: Same> Same for (A, B) {
+    fn is_same(&self, other: &Self) -> bool {
+        self.0.is_same(&other.0) && self.1.is_same(&other.1)
+    }
+}
+
+impl<K: Key, V: Same> Same for SortedMap<K, V> {
+    fn is_same(&self, other: &Self) -> bool {
+        for place in 0..self.len() {
+            let (Some(entry), Some(others)) = (self.at(place), other.at(place)) else {
+                return false;
+            };
+            if entry.0.cmp(others.0).is_ne() || !entry.1.is_same(others.1) {
+                return false;
+            }
+        }
+        self.len() == other.len()
+    }
+}
+
+pub(super) fn merge<M: Same>(rt: &HostRuntime, value: &mut M, other: &M) -> Result<(), AllocError> {
+    let before = copied(rt, value)?;
     match value.merge(rt.alloc(), other) {
-        Err(_) => {
+        Err(_) if value.is_same(&before) => {
             tell_refused(rt);
             value.merge(rt.alloc(), other)
         }
@@ -58,88 +99,31 @@ pub(super) fn merge<M: Merge>(
     }
 }
 
-pub(super) fn merge_sets(
-    rt: &HostRuntime,
-    set: &mut Items,
-    other: &Items,
-) -> Result<(), AllocError> {
-    let before = copied(rt, set)?;
-    match set.merge(rt.alloc(), other) {
-        Err(_) if same_items(set, &before) => {
-            tell_refused(rt);
-            set.merge(rt.alloc(), other)
-        }
-        merged => merged,
-    }
-}
-
-pub(super) fn merge_maps(
-    rt: &HostRuntime,
-    map: &mut ItemsAt,
-    other: &ItemsAt,
-) -> Result<(), AllocError> {
-    let before = copied(rt, map)?;
-    match map.merge(rt.alloc(), other) {
-        Err(_) if same_entries(map, &before) => {
-            tell_refused(rt);
-            map.merge(rt.alloc(), other)
-        }
-        merged => merged,
-    }
-}
-
-pub(super) fn merge_pairs(
-    rt: &HostRuntime,
-    pair: &mut Pair,
-    other: &Pair,
-) -> Result<(), AllocError> {
-    let before = copied(rt, pair)?;
-    match pair.merge(rt.alloc(), other) {
-        Err(_) if same_items(&pair.0, &before.0) && same_items(&pair.1, &before.1) => {
-            tell_refused(rt);
-            pair.merge(rt.alloc(), other)
-        }
-        merged => merged,
-    }
-}
-
-pub(super) fn same_items(set: &Items, other: &Items) -> bool {
-    set.as_slice() == other.as_slice()
-}
-
-pub(super) fn same_entries(map: &ItemsAt, other: &ItemsAt) -> bool {
-    for i in 0..map.len() {
-        let (Some(entry), Some(before)) = (map.at(i), other.at(i)) else {
-            return false;
-        };
-        if entry.0 != before.0 || !same_items(entry.1, before.1) {
-            return false;
-        }
-    }
-    map.len() == other.len()
-}
-
 pub(super) fn insert(rt: &HostRuntime, set: &mut Items, item: &str) -> Result<bool, AllocError> {
     let item = text(rt, item)?;
-    let many = set.as_slice().len();
-    match set.insert(&item) {
-        Err(_) if set.as_slice().len() == many => {
+    insert_text(rt, set, &item)
+}
+
+fn insert_text(rt: &HostRuntime, set: &mut Items, item: &Text) -> Result<bool, AllocError> {
+    let before = copied(rt, set)?;
+    match set.insert(item) {
+        Err(_) if set.is_same(&before) => {
             tell_refused(rt);
-            set.insert(&item)
+            set.insert(item)
         }
         new => new,
     }
 }
 
-pub(super) fn put<K: Key>(
+pub(super) fn put<K: Key, V: Same>(
     rt: &HostRuntime,
-    map: &mut SortedMap<K, Summary>,
+    map: &mut SortedMap<K, V>,
     key: &K,
-    value: &Summary,
+    value: &V,
 ) -> Result<(), AllocError> {
-    let many = map.len();
+    let before = copied(rt, map)?;
     match map.put(key, value) {
-        Err(_) if map.len() == many => {
+        Err(_) if map.is_same(&before) => {
             tell_refused(rt);
             map.put(key, value)
         }
@@ -147,12 +131,7 @@ pub(super) fn put<K: Key>(
     }
 }
 
-pub(super) fn put_item(
-    rt: &HostRuntime,
-    map: &mut ItemsAt,
-    key: &str,
-    item: &str,
-) -> Result<(), AllocError> {
+fn put_item(rt: &HostRuntime, map: &mut ItemsAt, key: &str, item: &str) -> Result<(), AllocError> {
     let items = set(rt, &[item])?;
     put_items(rt, map, key, &items)
 }
@@ -164,14 +143,7 @@ fn put_items(
     items: &Items,
 ) -> Result<(), AllocError> {
     let key = text(rt, key)?;
-    let before = copied(rt, map)?;
-    match map.put(&key, items) {
-        Err(_) if same_entries(map, &before) => {
-            tell_refused(rt);
-            map.put(&key, items)
-        }
-        done => done,
-    }
+    put(rt, map, &key, items)
 }
 
 // The map with an item put at a key, row by row.
@@ -242,7 +214,7 @@ fn absorb_set_from(
 ) -> Result<(), AllocError> {
     let same = copied(rt, &other)?;
     match set.absorb(other) {
-        Err(_) if same_items(set, before) => {
+        Err(_) if set.is_same(before) => {
             tell_refused(rt);
             set.absorb(same)
         }
@@ -250,41 +222,24 @@ fn absorb_set_from(
     }
 }
 
-pub(super) fn absorb_map(
-    rt: &HostRuntime,
-    map: &mut ItemsAt,
-    other: ItemsAt,
-) -> Result<(), AllocError> {
-    let before = copied(rt, map)?;
-    absorb_map_from(rt, map, other, &before)
-}
-
-fn absorb_map_from(
-    rt: &HostRuntime,
-    map: &mut ItemsAt,
-    other: ItemsAt,
-    before: &ItemsAt,
-) -> Result<(), AllocError> {
-    let same = copied(rt, &other)?;
-    match map.absorb(other) {
-        Err(_) if same_entries(map, before) => {
-            tell_refused(rt);
-            map.absorb(same)
-        }
-        absorbed => absorbed,
-    }
-}
-
-// A map of pairs or of summaries: how many keys there are tells whether it changed.
-pub(super) fn absorb<K: Key, V: Merge>(
+pub(super) fn absorb<K: Key, V: Same>(
     rt: &HostRuntime,
     map: &mut SortedMap<K, V>,
     other: SortedMap<K, V>,
 ) -> Result<(), AllocError> {
-    let many = map.len();
+    let before = copied(rt, map)?;
+    absorb_from(rt, map, other, &before)
+}
+
+fn absorb_from<K: Key, V: Same>(
+    rt: &HostRuntime,
+    map: &mut SortedMap<K, V>,
+    other: SortedMap<K, V>,
+    before: &SortedMap<K, V>,
+) -> Result<(), AllocError> {
     let same = copied(rt, &other)?;
     match map.absorb(other) {
-        Err(_) if map.len() == many => {
+        Err(_) if map.is_same(before) => {
             tell_refused(rt);
             map.absorb(same)
         }

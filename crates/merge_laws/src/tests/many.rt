@@ -1,4 +1,4 @@
-use super::again::{absorb, merge, put};
+use super::again::{absorb, merge, tell_refused};
 use super::{finite, rounded};
 use crate::{SortedMap, Summary};
 use oim_value::Decimals;
@@ -18,12 +18,45 @@ fn digits(number: i64) -> (Decimals, Decimals) {
     (finite(number / 25 % 25 - 12), finite(number % 25 - 12))
 }
 
+fn has_value(map: &Many, at: usize, number: i64) -> bool {
+    match map.at(at) {
+        Some((key, value)) => *key == place(number) && *value == rounded("1"),
+        None => false,
+    }
+}
+
+// Whether there is the value at each multiple of a step below another number, and no other key.
+fn has_multiples(map: &Many, step: i64, end: i64) -> bool {
+    let mut seen = 0usize;
+    for number in 0..end {
+        if number.checked_rem(step) == Some(0) {
+            if !has_value(map, seen, number) {
+                return false;
+            }
+            seen = seen.saturating_add(1);
+        }
+    }
+    map.len() == seen
+}
+
+// Puts a value at the next multiple of a step. What was there is told by the numbers: to copy the map
+// each time would take too long.
+fn put_next(rt: &HostRuntime, map: &mut Many, step: i64, number: i64) -> Result<(), AllocError> {
+    let value = rounded("1");
+    match map.put(&place(number), &value) {
+        Err(_) if has_multiples(map, step, number) => {
+            tell_refused(rt);
+            map.put(&place(number), &value)
+        }
+        done => done,
+    }
+}
+
 fn put_all(rt: &HostRuntime, step: i64) -> Result<Many, AllocError> {
     let mut map = SortedMap::new(rt.alloc());
-    let value = rounded("1");
     for number in 0..200_000i64 {
         if number.checked_rem(step) == Some(0) {
-            put(rt, &mut map, &place(number), &value)?;
+            put_next(rt, &mut map, step, number)?;
         }
     }
     Ok(map)
