@@ -1,5 +1,10 @@
+ghost use Rattle.std.specs.Prelude.{◌≡◌, ◌↔◌, ℕ, List, Some};
+ghost use Rattle.oim_names.specs.QName.{QName};
+ghost use Rattle.oim_names.specs.Bindings.{Binding};
+ghost use Rattle.oim_names.specs.Expansion.{Expands, ExpandsEntity};
 ghost use Rattle.oim_report.specs.Duplicates.{LevelIgnoresOrder, LevelIsStrictest, ValuesMeetIsMeets};
 ghost use Rattle.oim_report.specs.Kept.{KeptIsAccepted, KeptIsKept, KeptIsUtf8};
+ghost use Rattle.oim_report.specs.Names.{entity_named, named};
 ghost use Rattle.oim_report.specs.Outcome.{OutcomesWantNoMemory};
 ghost use Rattle.oim_report.specs.Report.{AcceptedFactsFit, AcceptedReferencesAreKept, OutcomesAreSaid};
 ghost use Rattle.oim_report.specs.Sheet.{SheetOutcomesWantNoMemory};
@@ -7,6 +12,12 @@ ghost use Rattle.oim_report.specs.OneDocument.{SaysOneDocument};
 ghost use Rattle.oim_report.specs.SaidUnlessRefused.{FactsAreSaid};
 ghost use Rattle.oim_report.specs.PlainJson.{PlainHasNoFloat, PlainTextReadsBack};
 ghost use Rattle.oim_report.specs.ReadBack.{ConceptsReadBack, DimensionsReadBack, EntitiesReadBack, FactObjectHasParts, FactObjectIsPlain, FactObjectReadsBack, FormsAreAccepted, LanguagesReadBack, NamesAreAccepted, PeriodsReadBack, UnitsReadBack, ValuesReadBack};
+
+/// A text is said to name what it expands to, and nothing else; so with entities.
+pub fn names_are_expanded()
+    ensures names { (bs : List Binding) (t : List ℕ) (n : QName) → (named bs t ≡ Some n) ↔ Expands bs t n }
+    ensures entities { (bs : List Binding) (t : List ℕ) (n : QName) → (entity_named bs t ≡ Some n) ↔ ExpandsEntity bs t n }
+{}
 
 /// A kept text of a reference is kept as itself where there is no base, is UTF-8 where the
 /// reference is, and passes the limit where it passed.
