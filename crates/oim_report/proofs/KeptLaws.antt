@@ -36,11 +36,15 @@ web_kind url h =
 same_bytes : (xs : List ℕ) → bytes_eq xs xs ≡ true
 same_bytes xs = (bytes_eq-Decides xs xs).1 refl
 
--- the text of a URL that code has
+-- the text of a URL that code has parses as that URL
+pub web_text-parsed : (url : Parts) → IsValid url → is_web url ≡ true → parse_url None (serialize url) ≡ Ok url
+web_text-parsed url valid web = parse_url-serialize_special url None valid (web_kind url web)
+
+-- and is its text
 pub web_text-valid : (url : Parts) → IsValid url → IsUtf8 (serialize url) → is_web url ≡ true → web_text (Some url) ≡ Some (serialize url)
 web_text-valid url valid utf8 web =
     let reads : web_url (parse_url None (serialize url)) ≡ Some url =
-    ap web_url (parse_url-serialize_special url None valid (web_kind url web)) ∙ cond-true _ _ _ web in
+    ap web_url (web_text-parsed url valid web) ∙ cond-true _ _ _ web in
     let same : option_map_or (λ u. bytes_eq (serialize u) (serialize url)) (web_url (parse_url None (serialize url))) false ≡ true =
     ap (λ o. option_map_or (λ u. bytes_eq (serialize u) (serialize url)) o false) reads ∙ same_bytes (serialize url) in
     cond-true _ _ _ (and_from _ _ (is_utf8-from_IsUtf8 (serialize url) utf8) same)

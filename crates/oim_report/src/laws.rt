@@ -1,7 +1,15 @@
+ghost use Rattle.std.specs.Prelude.{◌≡◌, ◌↔◌, ℕ, List, None, Some, Ok, IsTrue};
+ghost use Rattle.std.specs.Str.{is_utf8};
+ghost use Rattle.url.specs.Parser.{parse_url};
+ghost use Rattle.url.specs.Parts.{serialize};
+ghost use Rattle.oim_names.specs.QName.{QName};
+ghost use Rattle.oim_names.specs.Bindings.{Binding};
+ghost use Rattle.oim_names.specs.Expansion.{Expands, ExpandsEntity};
 ghost use Rattle.oim_report.specs.Accepts.{AcceptedWhereFree};
 ghost use Rattle.oim_report.specs.Duplicates.{LevelIgnoresOrder, LevelIsStrictest, ValuesMeetIsMeets};
-ghost use Rattle.oim_report.specs.Kept.{KeptIsAccepted, KeptIsKept, KeptIsUtf8};
+ghost use Rattle.oim_report.specs.Kept.{KeptIsAccepted, KeptIsKept, KeptIsUtf8, is_web, web_text};
 ghost use Rattle.oim_report.specs.Listed.{ConceptsAreListed, DimensionsAreListed};
+ghost use Rattle.oim_report.specs.Names.{entity_named, named};
 ghost use Rattle.oim_report.specs.Outcome.{OutcomesWantNoMemory};
 ghost use Rattle.oim_report.specs.Refuses.{RefusedWhereHeld};
 ghost use Rattle.oim_report.specs.Report.{AcceptedFactsFit, AcceptedReferencesAreKept, OutcomesAreSaid};
@@ -10,6 +18,24 @@ ghost use Rattle.oim_report.specs.OneDocument.{SaysOneDocument};
 ghost use Rattle.oim_report.specs.SaidUnlessRefused.{FactsAreSaid};
 ghost use Rattle.oim_report.specs.PlainJson.{PlainHasNoFloat, PlainTextReadsBack, ReadHasUtf8};
 ghost use Rattle.oim_report.specs.ReadBack.{ConceptsReadBack, DimensionsReadBack, EntitiesReadBack, FactObjectHasParts, FactObjectIsPlain, FactObjectReadsBack, FormsAreAccepted, LanguagesReadBack, NamesAreAccepted, PeriodsReadBack, UnitsReadBack, ValuesReadBack};
+
+use url::Url;
+
+/// The text of an http or https URL is UTF-8 and parses as that URL, so that it is always the text
+/// under which the URL is kept (URL Standard, sections 4.4 and 4.5).
+pub fn web_texts_read_back(url: &Url)
+    ensures utf8 { IsTrue (is_web url.now) → IsTrue (is_utf8 (serialize url.now)) }
+    ensures parsed { IsTrue (is_web url.now) → parse_url None (serialize url.now) ≡ Ok url.now }
+    ensures kept { IsTrue (is_web url.now) → web_text (Some url.now) ≡ Some (serialize url.now) }
+{
+    let _text = url.as_str();
+}
+
+/// A text is said to name what it expands to, and nothing else; so with entities.
+pub fn names_are_expanded()
+    ensures names { (bs : List Binding) (t : List ℕ) (n : QName) → (named bs t ≡ Some n) ↔ Expands bs t n }
+    ensures entities { (bs : List Binding) (t : List ℕ) (n : QName) → (entity_named bs t ≡ Some n) ↔ ExpandsEntity bs t n }
+{}
 
 /// A kept text of a reference is kept as itself where there is no base, is UTF-8 where the
 /// reference is, and passes the limit where it passed.
