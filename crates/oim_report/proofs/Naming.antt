@@ -28,8 +28,8 @@ in_allowed u t n h =
     elim (bytes_eq u reserved_uri) as (λ b. bytes_eq u reserved_uri ≡ b → (if b then None else Some (record { uri = u; local_part = local_part t })) ≡ Some n → (u ≡ n.uri) × (u ≢ reserved_uri) × (n.local_part ≡ local_part t)) [
       | true ↦ λ same k. absurd (cc)
       | false ↦ λ other k.
-        let is : record { uri = u; local_part = local_part t } ≡ n = cc in
-        (ap (λ (m : QName). m.uri) is, other_bytes u reserved_uri other, sym (ap (λ (m : QName). m.local_part) is))
+          let is : record { uri = u; local_part = local_part t } ≡ n = cc in
+          (ap (λ (m : QName). m.uri) is, other_bytes u reserved_uri other, sym (ap (λ (m : QName). m.local_part) is))
     ] refl h
 
 made : (form : Bool) (uri : Option (List ℕ)) (t : List ℕ) (n : QName) → (if form then option_and_then (λ u. in_namespace u t) uri else None) ≡ Some n → IsMade form uri t n
