@@ -13,27 +13,30 @@ use crate::reason::Reason;
 use crate::recent::Recent;
 use crate::text::Text;
 use std::alloc::{AllocError, Global};
+use std::collections::BTreeMap;
 use std::marker::Model;
 
 /// The namespace of xBRL's own words, in which no fact has a name.
 const RESERVED: &str = "https://xbrl.org/2021";
 
-/// Prefixes and their URIs. Contracts see the bindings in the order in which they were added.
+/// Prefixes and their URIs. Contracts see the bindings in the order in which they were added. To
+/// add one, or to find the URI of a prefix, takes as many steps as the logarithm of their number.
 #[derive(Debug, Drop)]
 pub struct Aliases {
     bindings: Vec<Binding>,
+    uris: BTreeMap<String, Text>,
     recent: Recent,
 }
 
 impl Model for Aliases {
     ghost use Rattle.std.specs.Prelude.{List};
-    ghost use Rattle.oim_names.specs.Bindings.{Binding as Bound, AreBindings};
+    ghost use Rattle.oim_names.specs.Bindings.{Binding as Bound, AreIndexed};
 
     ghost Value = { List Bound };
 
     ghost view = { λ a. a.bindings.items };
 
-    ghost invariant = { λ a. AreBindings a.bindings.items };
+    ghost invariant = { λ a. AreIndexed a.bindings.items a.uris };
 }
 
 impl Aliases {
@@ -43,6 +46,7 @@ impl Aliases {
     {
         Aliases {
             bindings: Vec::new(alloc),
+            uris: BTreeMap::new(alloc),
             recent: Recent::new(),
         }
     }
@@ -76,9 +80,16 @@ impl Aliases {
         ensures errors { IfErr result (λ e. e ≡ Reason.OutOfMemory) }
         ensures err { OnErr result (self.new ≡ self.old) }
     {
-        let binding = Binding::new(*self.bindings.allocator(), prefix, uri)?;
+        let alloc = *self.bindings.allocator();
+        let binding = Binding::new(alloc, prefix, uri)?;
+        let key = String::from_str(alloc, prefix)?;
+        let known = binding.uri_text().copied(alloc)?;
+        self.bindings.reserve(1)?;
+        let Ok(_) = self.uris.insert(key, known) else {
+            return Err(Reason::OutOfMemory);
+        };
         let place = self.bindings.len();
-        self.bindings.push(binding)?;
+        self.bindings.push_reserved(binding);
         self.recent.set(prefix, place);
         Ok(())
     }
@@ -91,25 +102,16 @@ impl Aliases {
         self.uri_text(prefix).map(|uri| uri.as_str())
     }
 
-    /// The same as a text, which a name can share. Most are where the prefix of their class is.
+    /// The same as a text, which a name can share. Most are where the prefix of their class is, which
+    /// is found in one step.
     fn uri_text(&self, prefix: &str) -> Option<&Text>
         ensures found { option_copied result ≡ uri_of self.now prefix.now }
         ensures filled { IfSome result (λ uri. uri.now ≢ []) }
     {
         match self.bindings.get(self.recent.place(prefix)) {
             Some(known) if known.prefix() == prefix => Some(known.uri_text()),
-            _ => self.searched(prefix),
+            _ => self.uris.get(prefix),
         }
-    }
-
-    fn searched(&self, prefix: &str) -> Option<&Text>
-        ensures found { option_copied result ≡ uri_of self.now prefix.now }
-        ensures filled { IfSome result (λ uri. uri.now ≢ []) }
-    {
-        self.bindings
-            .iter()
-            .find(|binding| binding.prefix() == prefix)
-            .map(|binding| binding.uri_text())
     }
 
     /// Does nothing, and tells that each prefix has its form and is bound once, to a URI that is not
