@@ -1,13 +1,27 @@
-ghost use Rattle.std.specs.Prelude.{◌<◌};
+ghost use Rattle.std.specs.Prelude.{◌≡◌, ◌<◌, ◌≤◌};
+ghost use Rattle.oim_names.specs.Places.{byte_from_end, place_in, text_class};
+
+use std::marker::Model;
 
 /// How many classes of texts there are.
 const CLASSES: usize = 512;
 
 /// Where texts of each class were put last. It is a hint that is right for most: a place may be that
 /// of another text of the class, or of none, so whoever asks for one looks at what is there.
+/// Contracts see the places, one a class.
 #[derive(Clone, Copy, Debug)]
 pub struct Recent {
     places: [u16; CLASSES],
+}
+
+impl Model for Recent {
+    ghost use Rattle.std.specs.Prelude.{ℕ, List};
+
+    ghost Value = { List ℕ };
+
+    ghost view = { λ r. r.places };
+
+    ghost inverse = { λ places. record { places = places } };
 }
 
 impl Recent {
@@ -19,12 +33,16 @@ impl Recent {
     }
 
     /// Where a text of this class was put last.
-    pub fn place(&self, text: &str) -> usize {
+    pub fn place(&self, text: &str) -> usize
+        ensures { result ≡ place_in self.now text.now }
+    {
         usize::from(self.places[class_of(text)])
     }
 
-    /// Tells that a text was put at the place. One that is too far is not remembered.
-    pub fn set(&mut self, text: &str, place: usize) {
+    /// Tells that a text was put at the place. One over 65,535 is not remembered.
+    pub fn set(&mut self, text: &str, place: usize)
+        ensures { place ≤ 65535 → place_in self.new text.now ≡ place }
+    {
         if let Ok(place) = u16::try_from(place) {
             self.places[class_of(text)] = place;
         }
@@ -32,12 +50,24 @@ impl Recent {
 }
 
 /// The class of a text, by its length and its last four bytes.
+#[tactic(auto, unfolding(crate::specs::Places::text_class))]
 fn class_of(text: &str) -> usize
-    ensures { result < CLASSES }
+    ensures is { result ≡ text_class text.now }
+    ensures bounded { result < CLASSES }
 {
-    let mut mixed = text.len();
-    for byte in text.as_bytes().iter().rev().take(4) {
-        mixed = mixed.wrapping_mul(31).wrapping_add(*byte as usize);
+    let two = byte_from_end(text, 3) + 31 * byte_from_end(text, 4);
+    let four = byte_from_end(text, 1) + 31 * (byte_from_end(text, 2) + 31 * two);
+    (text.len() % CLASSES + 31 * four) % CLASSES
+}
+
+/// The byte that is so many from the end, the first of a shorter text, 0 of the empty one.
+fn byte_from_end(text: &str, back: usize) -> usize
+    ensures is { result ≡ byte_from_end text.now back }
+    ensures bounded { result < 256 }
+{
+    let place = text.len().saturating_sub(back);
+    match text.as_bytes().get(place) {
+        Some(byte) => usize::from(*byte),
+        None => 0,
     }
-    mixed % CLASSES
 }

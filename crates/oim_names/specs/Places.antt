@@ -1,0 +1,15 @@
+-- Where texts were put last, by their class.
+use Rattle.std.specs.Prelude.{ℕ, List, length, ◌+◌, ◌-◌, ◌*◌, ◌%◌}
+use Rattle.std.specs.List.{slice_index_or}
+
+-- the byte that is so many from a text's end, the first of a shorter text, 0 of the empty one
+abbrev pub byte_from_end : List ℕ → ℕ → ℕ
+byte_from_end t back = slice_index_or t (length t - back) 0
+
+-- the class of a text, by its length and its last four bytes
+unfoldable pub text_class : List ℕ → ℕ
+text_class t = (length t % 512 + 31 * (byte_from_end t 1 + 31 * (byte_from_end t 2 + 31 * (byte_from_end t 3 + 31 * byte_from_end t 4)))) % 512
+
+-- the place of a text's class
+abbrev pub place_in : List ℕ → List ℕ → ℕ
+place_in places t = slice_index_or places (text_class t) 0
