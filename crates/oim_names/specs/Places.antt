@@ -1,4 +1,4 @@
--- Where texts were put last, by their class.
+-- Where texts were put last, by their class (own).
 use Rattle.std.specs.Prelude.{ℕ, List, length, ◌+◌, ◌-◌, ◌*◌, ◌%◌}
 use Rattle.std.specs.List.{slice_index_or}
 
