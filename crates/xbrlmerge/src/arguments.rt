@@ -9,7 +9,19 @@ pub(crate) const SHEET: &str = "sheet";
 /// The words that name reports.
 pub(crate) const REPORT: &str = "REPORT";
 
-/// The option that names the sheet, which has to be there.
+/// The option that names the file that is written.
+pub(crate) const OUTPUT: &str = "output";
+
+/// The option that names the file that is written.
+pub(crate) fn output_argument<'w>(alloc: Global) -> Arg<'w> {
+    Arg::new(alloc, OUTPUT)
+        .short('o')
+        .long(OUTPUT)
+        .value_name("FILE")
+        .help("Write to FILE, whole or not at all")
+}
+
+/// The option that names the sheet, required.
 pub(crate) fn sheet_argument<'w>(alloc: Global) -> Arg<'w> {
     Arg::new(alloc, SHEET)
         .long(SHEET)
@@ -25,7 +37,7 @@ pub(crate) fn reports_argument<'w>(alloc: Global) -> Arg<'w> {
         .help("The files of the reports, in this order")
 }
 
-/// The name of one report, which has to be there.
+/// The name of one report, required.
 pub(crate) fn report_argument<'w>(alloc: Global) -> Arg<'w> {
     Arg::new(alloc, REPORT)
         .required(true)

@@ -4,8 +4,8 @@ use oim_names::Reason;
 use oim_report::Sheet;
 use oim_write::Encoded;
 use std::alloc::Global;
-use std::fs::File;
-use std::io::Read;
+use std::fs::{self, File};
+use std::io::{ErrorKind, Read};
 use std::rt::Files;
 
 /// How many bytes a file may have.
@@ -37,6 +37,21 @@ pub(crate) fn read_file<'w, F: Files>(
     match File::open(files, name) {
         Ok(file) => read_bytes(alloc, name, file),
         Err(_) => Err(Stop::File(name, ReadFault::Device(0))),
+    }
+}
+
+/// Why the file of this name cannot be read, where that can be told.
+pub(crate) fn why_unread<F: Files>(files: &F, name: &str) -> Option<&'static str> {
+    match fs::metadata(files, name) {
+        Ok(found) if found.is_dir() => return Some("It is a folder."),
+        Err(fault) if fault.kind() == ErrorKind::NotFound => return Some("There is no such file."),
+        _ => {}
+    }
+    match File::open(files, name) {
+        Err(fault) if fault.kind() == ErrorKind::PermissionDenied => {
+            Some("You may not read it: permission denied.")
+        }
+        _ => None,
     }
 }
 

@@ -44,6 +44,14 @@ pub(crate) fn put_checked<S: Sink>(
     }
 }
 
+/// The line that is shown to who gave no words on a terminal.
+pub(crate) fn print_awaited<E: Write>(err: &mut E) {
+    let _ = writeln!(
+        err,
+        "Waiting for a bundle on standard input; `xbrlmerge --help` shows the commands."
+    );
+}
+
 /// The lines of refused reports.
 pub(crate) fn print_refusals<E: Write>(err: &mut E, refusals: &Refusals) {
     for (report, refusal) in refusals.as_slice() {
@@ -67,6 +75,9 @@ pub(crate) fn print_stop<E: Write>(err: &mut E, stop: &Stop<'_>) {
             let _ = write!(err, "{error}");
         }
         Stop::File(file, fault) => print_read_fault(err, file, *fault),
+        Stop::Unwritten(file) => {
+            let _ = writeln!(err, "file {file}: cannot be written");
+        }
         Stop::Event(line) => {
             let _ = writeln!(err, "event {line}: refused");
         }

@@ -2,11 +2,14 @@ ghost use Rattle.std.specs.Prelude.{◌-◌, ◌^◌, ◌<◌};
 
 use crate::commands::bundle::merge_bundle;
 use crate::commands::show::show;
-use crate::lines::{print_refusals, print_stop};
+use crate::files::why_unread;
+use crate::lines::{print_awaited, print_refusals, print_stop};
+use crate::new_file::{new_beside, put_in_place, remove};
 use crate::stop::Stop;
 use crate::task::Task;
+use crate::terminals::Terminals;
 use crate::words::read_words;
-use oim_merge::{Fault, Refusals};
+use oim_merge::{Fault, ReadFault, Refusals};
 use oim_write::{Sink, StdSink};
 use std::alloc::Global;
 use std::convert::AsStr;
@@ -24,9 +27,18 @@ const FAILED: u8 = 3;
 
 /// The program: it does what the words after its name ask for. With none it merges the bundle on
 /// `input`. What it answers goes to `out`, and `err` has a line for each refused report, or for
-/// what stopped it. It answers the status: 0; 1 where a report was refused; 2 where a row is above
+/// what stopped it. Where a device is a terminal, `err` has more: that the bundle is awaited, and why a
+/// file cannot be read. It answers the status: 0; 1 where a report was refused; 2 where a row is above
 /// the level that is allowed; 3 where it stopped.
-pub fn run<F, W, R, O, E>(alloc: Global, files: &F, words: &[W], input: R, out: O, mut err: E) -> u8
+pub fn run<F, W, R, O, E>(
+    alloc: Global,
+    files: &F,
+    words: &[W],
+    terminals: Terminals,
+    input: R,
+    out: O,
+    mut err: E,
+) -> u8
 where
     F: Files,
     W: AsStr,
@@ -34,29 +46,94 @@ where
     O: Write + Drop,
     E: Write + Drop,
 {
-    let mut sink = StdSink::new(out);
-    let worked = work(alloc, files, words, input, &mut sink);
-    let ended = flush(worked, sink);
+    if words.is_empty() && terminals.input {
+        print_awaited(&mut err);
+    }
+    let ended = do_asked(alloc, files, words, input, out);
     match &ended {
         Ok(refusals) => print_refusals(&mut err, refusals),
-        Err(stop) => print_stop(&mut err, stop),
+        Err(stop) => {
+            print_stop(&mut err, stop);
+            if terminals.errors && !words.is_empty() {
+                print_reason(&mut err, files, stop);
+            }
+        }
     }
     status_of(&ended)
 }
 
+/// The line that says why a file is not read, where that can be told.
+fn print_reason<F: Files, E: Write>(err: &mut E, files: &F, stop: &Stop<'_>) {
+    if let Stop::File(name, ReadFault::Device(_)) = stop {
+        if let Some(why) = why_unread(files, name) {
+            let _ = writeln!(err, "{why}");
+        }
+    }
+}
+
 /// Does what the words ask for, and answers the refused reports.
-fn work<'w, F: Files, W: AsStr, R: Read + Drop, S: Sink>(
+fn do_asked<'w, F, W, R, O>(
     alloc: Global,
     files: &F,
     words: &'w [W],
+    input: R,
+    out: O,
+) -> Result<Refusals, Stop<'w>>
+where
+    F: Files,
+    W: AsStr,
+    R: Read + Drop,
+    O: Write + Drop,
+{
+    let asked = read_words(alloc, words)?;
+    match asked.output {
+        Some(name) => write_file(alloc, files, &asked.task, input, name),
+        None => {
+            let mut sink = StdSink::new(out);
+            let worked = work(alloc, files, &asked.task, input, &mut sink);
+            flush(worked, sink)
+        }
+    }
+}
+
+/// Does a task whose text goes to the file of this name, whole or not at all.
+fn write_file<'w, F: Files, R: Read + Drop>(
+    alloc: Global,
+    files: &F,
+    task: &Task<'w>,
+    input: R,
+    name: &'w str,
+) -> Result<Refusals, Stop<'w>> {
+    let (beside, file) = new_beside(alloc, files, name)?;
+    let mut sink = StdSink::new(file);
+    let worked = work(alloc, files, task, input, &mut sink);
+    let ended = match worked {
+        Ok(refusals) => match put_in_place(files, sink.into_inner(), &beside, name) {
+            Ok(()) => Ok(refusals),
+            Err(_) => Err(Stop::Unwritten(name)),
+        },
+        Err(Stop::Run(Fault::Device(_))) => Err(Stop::Unwritten(name)),
+        Err(stop) => Err(stop),
+    };
+    if ended.is_err() {
+        remove(files, &beside);
+    }
+    ended
+}
+
+/// Does a task, and answers the refused reports.
+fn work<'w, F: Files, R: Read + Drop, S: Sink>(
+    alloc: Global,
+    files: &F,
+    task: &Task<'w>,
     input: R,
     out: &mut S,
 ) -> Result<Refusals, Stop<'w>>
     requires { S.failures out.old < 2 ^ 64 - 1 }
 {
-    match read_words(alloc, words)? {
+    match task {
         Task::Bundle => merge_bundle(alloc, input, out),
-        Task::Show(asked) => show(alloc, &asked, out),
+        Task::Show(asked) => show(alloc, asked, out),
         Task::Merge(merge) => merge.run(alloc, files, out),
         Task::Verdicts(verdicts) => verdicts.run(alloc, files, out),
         Task::Check(check) => check.run(alloc, files, out),

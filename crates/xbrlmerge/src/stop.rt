@@ -9,6 +9,8 @@ pub(crate) enum Stop<'w> {
     Words(Error),
     /// The file of this name was not read.
     File(&'w str, ReadFault),
+    /// The file of this name cannot be written.
+    Unwritten(&'w str),
     /// This line, from 1, is no event, or its event names what is not there.
     Event(u64),
     /// The work had a fault.

@@ -7,6 +7,7 @@ use crate::devices::{FullAfter, NeverFlushed, Step, TestReader, Then};
 use crate::expecting::Expecting;
 use crate::ran::{ends, stops, words_of};
 use crate::run::run;
+use crate::terminals::Terminals;
 use made::{FOLDER, made};
 use replayed::REPLAYED;
 use rows::{CHECKED, FULL, Full, JUDGED, MERGED, Row, STOPPED, UNFLUSHED, UNHEARD};
@@ -49,7 +50,15 @@ fn stop_unflushed(rt: &HostRuntime, rows: &[(&str, &str)]) -> Result<bool, Fail>
 fn ends_unheard(rt: &HostRuntime, words: &[&str], status: u8, out: &[u8]) -> bool {
     let input = TestReader::new(b"", Step::All, Then::Fails);
     let mut out = Expecting::just(out);
-    let ended = run(rt.alloc(), rt, words, input, &mut out, FullAfter(3));
+    let ended = run(
+        rt.alloc(),
+        rt,
+        words,
+        Terminals::NONE,
+        input,
+        &mut out,
+        FullAfter(3),
+    );
     ended == status && out.is_met()
 }
 

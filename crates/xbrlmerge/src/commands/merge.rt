@@ -1,6 +1,8 @@
 ghost use Rattle.std.specs.Prelude.{◌-◌, ◌^◌, ◌<◌};
 
-use crate::arguments::{REPORT, SHEET, reports_argument, sheet_argument, values_of};
+use crate::arguments::{
+    REPORT, SHEET, output_argument, reports_argument, sheet_argument, values_of,
+};
 use crate::files::{read_files, read_sheet};
 use crate::stop::Stop;
 use clap::builder::ValueParser;
@@ -25,7 +27,8 @@ const MORE: &str =
     "Equal facts are one, whoever reports them. The text does not depend on the order of the reports,
 nor on how often one is named. A report with a fault is passed over whole.
 
-LEVEL tells which rows the text may have. A row is the facts of the same dimensions.
+LEVEL tells which rows the text may have. A row is all facts with the same dimensions. To refuse
+contradictions, pass --allow consistent.
   none, complete  rows of one fact
   consistent      also rows of numbers whose rounding intervals meet
   all             also rows of facts that contradict each other
@@ -38,8 +41,8 @@ Status:
   1  a report was refused, and standard error tells why; the others were merged
   2  a row is above LEVEL: nothing was written, and standard error tells the number of the
      first such row, as `verdicts` counts them
-  3  nothing was merged, or not to the end: the words are wrong, the sheet is refused, a file
-     or a device failed, or memory was refused";
+  3  nothing was merged, or not to the end: invalid arguments, the sheet is refused, a file
+     or a device failed, or out of memory";
 
 /// The reports of these files are merged under the sheet of that file.
 #[derive(Debug, Drop)]
@@ -63,6 +66,7 @@ impl<'w> Merge<'w> {
             .after_help(MORE)
             .arg(sheet_argument(alloc))?
             .arg(allow)?
+            .arg(output_argument(alloc))?
             .arg(reports_argument(alloc))
     }
 

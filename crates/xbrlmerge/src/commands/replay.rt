@@ -1,6 +1,8 @@
 ghost use Rattle.std.specs.Prelude.{◌≡◌, ◌-◌, ◌^◌, ◌<◌, OnOk};
 
-use crate::arguments::{REPORT, SHEET, reports_argument, sheet_argument, values_of};
+use crate::arguments::{
+    REPORT, SHEET, output_argument, reports_argument, sheet_argument, values_of,
+};
 use crate::files::{read_file, read_files, read_sheet};
 use crate::lines::put_text;
 use crate::stop::Stop;
@@ -48,9 +50,8 @@ Status:
   0  every event happened
   1  a report that was taken was refused, and standard error tells why, one line a take; the
      others were taken
-  3  nothing was written, or not to the end: the words are wrong, the sheet is refused, a line of
-     EVENTS is no event or names what is not there, a file or a device failed, or memory was
-     refused";
+  3  nothing was written, or not to the end: invalid arguments, the sheet is refused, a line of
+     EVENTS is no event or names what is not there, a file or a device failed, or out of memory";
 
 /// The schedule in this file is run on so many replicas, which take the reports of these files
 /// under the sheet of that file.
@@ -71,6 +72,7 @@ impl<'w> Replay<'w> {
             .arg(sheet_argument(alloc))?
             .arg(replicas_argument(alloc))?
             .arg(events_argument(alloc))?
+            .arg(output_argument(alloc))?
             .arg(reports_argument(alloc))
     }
 
@@ -120,7 +122,7 @@ impl<'w> Replay<'w> {
     }
 }
 
-/// How many replicas there are, which has to be told.
+/// How many replicas there are, required.
 fn replicas_argument<'w>(alloc: Global) -> Arg<'w> {
     Arg::new(alloc, REPLICAS)
         .long(REPLICAS)
@@ -130,7 +132,7 @@ fn replicas_argument<'w>(alloc: Global) -> Arg<'w> {
         .help("How many replicas there are, from 1 to 64")
 }
 
-/// The option that names the schedule, which has to be there.
+/// The option that names the schedule, required.
 fn events_argument<'w>(alloc: Global) -> Arg<'w> {
     Arg::new(alloc, EVENTS)
         .long(EVENTS)

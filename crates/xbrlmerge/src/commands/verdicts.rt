@@ -1,6 +1,8 @@
 ghost use Rattle.std.specs.Prelude.{◌-◌, ◌^◌, ◌<◌};
 
-use crate::arguments::{REPORT, SHEET, reports_argument, sheet_argument, values_of};
+use crate::arguments::{
+    REPORT, SHEET, output_argument, reports_argument, sheet_argument, values_of,
+};
 use crate::files::{read_files, read_sheet};
 use crate::stop::Stop;
 use clap::{ArgMatches, Command};
@@ -12,10 +14,12 @@ use std::rt::Files;
 /// The word of this command.
 pub(crate) const NAME: &str = "verdicts";
 
-const ABOUT: &str = "Tells of each row of facts whether they agree, one line a row";
+const ABOUT: &str = "Prints a verdict for each set of facts with the same dimensions";
 
 const MORE: &str =
-    "A row is the facts of the same dimensions in the text that `merge` writes. Its line is one of
+    "Each line describes one row: all facts with the same dimensions in the text that `merge` writes.
+It says whether they agree exactly, agree within rounding, or contradict each other, with the
+evidence. The line is one of
 
   ROW FIRST LAST complete
   ROW FIRST LAST consistent common LOW HIGH
@@ -23,8 +27,8 @@ const MORE: &str =
 
   ROW           the number of the row, from 1
   FIRST LAST    its first and its last fact, by their identifiers in that text
-  complete      the row has one fact: all who report it say the same
-  consistent    it has several, numbers whose rounding intervals meet
+  complete      the row has one fact: all who report it agree exactly
+  consistent    it has several, numbers that agree within rounding
   LOW HIGH      the ends of what all these intervals have in common
   inconsistent  it has facts that contradict each other
   I J           two of these
@@ -35,8 +39,8 @@ Example:
 Status:
   0  every report was judged, whatever the verdicts are
   1  a report was refused, and standard error tells why; the others were judged
-  3  nothing was judged, or not to the end: the words are wrong, the sheet is refused, a file
-     or a device failed, or memory was refused";
+  3  nothing was judged, or not to the end: invalid arguments, the sheet is refused, a file
+     or a device failed, or out of memory";
 
 /// The facts of the reports of these files are judged under the sheet of that file.
 #[derive(Debug, Drop)]
@@ -52,6 +56,7 @@ impl<'w> Verdicts<'w> {
             .about(ABOUT)
             .after_help(MORE)
             .arg(sheet_argument(alloc))?
+            .arg(output_argument(alloc))?
             .arg(reports_argument(alloc))
     }
 
