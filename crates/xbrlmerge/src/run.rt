@@ -107,18 +107,29 @@ fn write_file<'w, F: Files, R: Read + Drop>(
     let (beside, file) = new_beside(alloc, files, name)?;
     let mut sink = StdSink::new(file);
     let worked = work(alloc, files, task, input, &mut sink);
-    let ended = match worked {
-        Ok(refusals) => match put_in_place(files, sink.into_inner(), &beside, name) {
-            Ok(()) => Ok(refusals),
-            Err(_) => Err(Stop::Unwritten(name)),
-        },
-        Err(Stop::Run(Fault::Device(_))) => Err(Stop::Unwritten(name)),
-        Err(stop) => Err(stop),
-    };
+    let ended = settle(files, worked, sink.into_inner(), &beside, name);
     if ended.is_err() {
         remove(files, &beside);
     }
     ended
+}
+
+/// Puts the file beside another in its place, unless the work stopped.
+fn settle<'w, F: Files>(
+    files: &F,
+    worked: Result<Refusals, Stop<'w>>,
+    file: F::File,
+    beside: &str,
+    name: &'w str,
+) -> Result<Refusals, Stop<'w>> {
+    match worked {
+        Err(Stop::Run(Fault::Device(_))) => Err(Stop::Unwritten(name)),
+        worked if worked.is_err() => worked,
+        worked => match put_in_place(files, file, beside, name) {
+            Ok(()) => worked,
+            Err(_) => Err(Stop::Unwritten(name)),
+        },
+    }
 }
 
 /// Does a task, and answers the refused reports.
