@@ -218,3 +218,26 @@ impl Write for FullAfter {
         Ok(())
     }
 }
+
+/// Takes so many bytes and then fails, and counts how often it is flushed.
+#[derive(Clone, Copy)]
+pub struct CountsFlushes {
+    pub room: usize,
+    pub flushes: u64,
+}
+
+impl Write for CountsFlushes {
+    fn write(&mut self, bytes: &[u8]) -> io::Result<usize> {
+        let taken = bytes.len().min(self.room);
+        if taken == 0 && !bytes.is_empty() {
+            return Err(fault(Then::Fails));
+        }
+        self.room -= taken;
+        Ok(taken)
+    }
+
+    fn flush(&mut self) -> io::Result<()> {
+        self.flushes = self.flushes.saturating_add(1);
+        Ok(())
+    }
+}

@@ -11,32 +11,46 @@ use std::rt::Files;
 /// How many bytes a file may have.
 const MOST_BYTES: u32 = 2_147_483_648;
 
-/// Reads a reader to its end; the name is what a line calls it.
-///
-/// Errors: `Stop::File` where it fails, is too long, or memory is refused.
-pub(crate) fn read_bytes<R: Read + Drop>(
-    alloc: Global,
-    name: &str,
-    reader: R,
-) -> Result<Encoded, Stop<'_>> {
+/// What standard input is called in words and in a line.
+pub(crate) const STANDARD_INPUT: &str = "-";
+
+/// Reads a reader to its end.
+fn read_bytes<R: Read + Drop>(alloc: Global, reader: R) -> Result<Encoded, ReadFault> {
     let mut source = StdSource::new(reader);
-    match read_all(alloc, &mut source, MOST_BYTES) {
+    read_all(alloc, &mut source, MOST_BYTES)
+}
+
+/// Reads standard input.
+///
+/// Errors: `Stop::Input` where it fails, is too long, or memory is refused.
+pub(crate) fn read_input<R: Read + Drop>(
+    alloc: Global,
+    input: R,
+) -> Result<Encoded, Stop<'static>> {
+    match read_bytes(alloc, input) {
         Ok(bytes) => Ok(bytes),
-        Err(fault) => Err(Stop::File(name, fault)),
+        Err(fault) => Err(Stop::Input(fault)),
+    }
+}
+
+fn open_and_read<F: Files>(alloc: Global, files: &F, name: &str) -> Result<Encoded, ReadFault> {
+    match File::open(files, name) {
+        Ok(file) => read_bytes(alloc, file),
+        Err(_) => Err(ReadFault::Device(0)),
     }
 }
 
 /// Opens the file of this name and reads it.
 ///
-/// Errors: `Stop::File`, also where it is not opened.
+/// Errors: `Stop::File` where it is not opened, fails, is too long, or memory is refused.
 pub(crate) fn read_file<'w, F: Files>(
     alloc: Global,
     files: &F,
     name: &'w str,
 ) -> Result<Encoded, Stop<'w>> {
-    match File::open(files, name) {
-        Ok(file) => read_bytes(alloc, name, file),
-        Err(_) => Err(Stop::File(name, ReadFault::Device(0))),
+    match open_and_read(alloc, files, name) {
+        Ok(bytes) => Ok(bytes),
+        Err(fault) => Err(Stop::File(name, fault)),
     }
 }
 
@@ -55,17 +69,20 @@ pub(crate) fn why_unread<F: Files>(files: &F, name: &str) -> Option<&'static str
     }
 }
 
-/// Reads the files of these names, in their order. The first that is not read ends it.
+/// Reads the reports of these names, in their order. The first that is not read ends it.
 ///
-/// Errors: `Stop::File`, and want of memory.
-pub(crate) fn read_files<'w, F: Files>(
+/// Errors: `Stop::Report`, and want of memory.
+pub(crate) fn read_reports<F: Files>(
     alloc: Global,
     files: &F,
-    names: &[&'w str],
-) -> Result<Vec<Encoded>, Stop<'w>> {
+    names: &[&str],
+) -> Result<Vec<Encoded>, Stop<'static>> {
     let mut all = Vec::new(alloc);
-    for name in names {
-        all.push(read_file(alloc, files, *name)?)?;
+    for (place, name) in names.iter().enumerate() {
+        match open_and_read(alloc, files, name) {
+            Ok(bytes) => all.push(bytes)?,
+            Err(fault) => return Err(Stop::Report(place, fault)),
+        }
     }
     Ok(all)
 }

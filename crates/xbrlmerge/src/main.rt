@@ -14,6 +14,7 @@ mod devices;
 mod expecting;
 mod files;
 mod lines;
+mod named;
 mod new_file;
 #[cfg(test)]
 mod ran;

@@ -6,7 +6,7 @@ use crate::files::why_unread;
 use crate::lines::{print_awaited, print_refusals, print_stop};
 use crate::new_file::{new_beside, put_in_place, remove};
 use crate::stop::Stop;
-use crate::task::Task;
+use crate::task::{Asked, Task};
 use crate::terminals::Terminals;
 use crate::words::read_words;
 use oim_merge::{Fault, ReadFault, Refusals};
@@ -35,7 +35,7 @@ pub fn run<F, W, R, O, E>(
     files: &F,
     words: &[W],
     terminals: Terminals,
-    input: R,
+    mut input: R,
     out: O,
     mut err: E,
 ) -> u8
@@ -49,48 +49,68 @@ where
     if words.is_empty() && terminals.input {
         print_awaited(&mut err);
     }
-    let ended = do_asked(alloc, files, words, input, out);
-    match &ended {
-        Ok(refusals) => print_refusals(&mut err, refusals),
+    let asked = match read_words(alloc, words) {
+        Ok(asked) => asked,
+        Err(stop) => return tell(&mut err, files, terminals, &[], &Err(stop)),
+    };
+    let list = match asked.reports.read_list(alloc, files, &mut input) {
+        Ok(list) => list,
+        Err(stop) => return tell(&mut err, files, terminals, &[], &Err(stop)),
+    };
+    let names = match asked.reports.names(alloc, &list) {
+        Ok(names) => names,
+        Err(stop) => return tell(&mut err, files, terminals, &[], &Err(stop)),
+    };
+    let ended = do_asked(alloc, files, &asked, &names, input, out);
+    tell(&mut err, files, terminals, &names, &ended)
+}
+
+/// The lines of how a run on reports of these names ended, and its status.
+fn tell<F: Files, E: Write>(
+    err: &mut E,
+    files: &F,
+    terminals: Terminals,
+    names: &[&str],
+    ended: &Result<Refusals, Stop<'_>>,
+) -> u8 {
+    match ended {
+        Ok(refusals) => print_refusals(err, refusals),
         Err(stop) => {
-            print_stop(&mut err, stop);
-            if terminals.errors && !words.is_empty() {
-                print_reason(&mut err, files, stop);
+            print_stop(err, names, stop);
+            if terminals.errors {
+                print_reason(err, files, names, stop);
             }
         }
     }
-    status_of(&ended)
+    status_of(ended)
 }
 
 /// The line that says why a file is not read, where that can be told.
-fn print_reason<F: Files, E: Write>(err: &mut E, files: &F, stop: &Stop<'_>) {
-    if let Stop::File(name, ReadFault::Device(_)) = stop {
-        if let Some(why) = why_unread(files, name) {
-            let _ = writeln!(err, "{why}");
-        }
+fn print_reason<F: Files, E: Write>(err: &mut E, files: &F, names: &[&str], stop: &Stop<'_>) {
+    let name = match stop {
+        Stop::File(name, ReadFault::Device(_)) => Some(*name),
+        Stop::Report(place, ReadFault::Device(_)) => names.get(*place).copied(),
+        _ => None,
+    };
+    if let Some(why) = name.and_then(|name| why_unread(files, name)) {
+        let _ = writeln!(err, "{why}");
     }
 }
 
-/// Does what the words ask for, and answers the refused reports.
-fn do_asked<'w, F, W, R, O>(
+/// Does what the words ask for with the reports of these names, and answers the refused ones.
+fn do_asked<'w, F: Files, R: Read + Drop, O: Write + Drop>(
     alloc: Global,
     files: &F,
-    words: &'w [W],
+    asked: &Asked<'w>,
+    names: &[&str],
     input: R,
     out: O,
-) -> Result<Refusals, Stop<'w>>
-where
-    F: Files,
-    W: AsStr,
-    R: Read + Drop,
-    O: Write + Drop,
-{
-    let asked = read_words(alloc, words)?;
+) -> Result<Refusals, Stop<'w>> {
     match asked.output {
-        Some(name) => write_file(alloc, files, &asked.task, input, name),
+        Some(file) => write_file(alloc, files, &asked.task, names, input, file),
         None => {
             let mut sink = StdSink::new(out);
-            let worked = work(alloc, files, &asked.task, input, &mut sink);
+            let worked = work(alloc, files, &asked.task, names, input, &mut sink);
             flush(worked, sink)
         }
     }
@@ -101,12 +121,13 @@ fn write_file<'w, F: Files, R: Read + Drop>(
     alloc: Global,
     files: &F,
     task: &Task<'w>,
+    names: &[&str],
     input: R,
     name: &'w str,
 ) -> Result<Refusals, Stop<'w>> {
     let (beside, file) = new_beside(alloc, files, name)?;
     let mut sink = StdSink::new(file);
-    let worked = work(alloc, files, task, input, &mut sink);
+    let worked = work(alloc, files, task, names, input, &mut sink);
     let ended = settle(files, worked, sink.into_inner(), &beside, name);
     if ended.is_err() {
         remove(files, &beside);
@@ -137,6 +158,7 @@ fn work<'w, F: Files, R: Read + Drop, S: Sink>(
     alloc: Global,
     files: &F,
     task: &Task<'w>,
+    names: &[&str],
     input: R,
     out: &mut S,
 ) -> Result<Refusals, Stop<'w>>
@@ -145,10 +167,10 @@ fn work<'w, F: Files, R: Read + Drop, S: Sink>(
     match task {
         Task::Bundle => merge_bundle(alloc, input, out),
         Task::Show(asked) => show(alloc, asked, out),
-        Task::Merge(merge) => merge.run(alloc, files, out),
-        Task::Verdicts(verdicts) => verdicts.run(alloc, files, out),
+        Task::Merge(merge) => merge.run(alloc, files, names, out),
+        Task::Verdicts(verdicts) => verdicts.run(alloc, files, names, out),
         Task::Check(check) => check.run(alloc, files, out),
-        Task::Replay(replay) => replay.run(alloc, files, out),
+        Task::Replay(replay) => replay.run(alloc, files, names, out),
     }
 }
 

@@ -2,12 +2,15 @@ use crate::commands::check::Check;
 use crate::commands::merge::Merge;
 use crate::commands::replay::Replay;
 use crate::commands::verdicts::Verdicts;
+use crate::named::Named;
 use clap::Error;
 
-/// What the words ask for, and the name of the file that it is written to, else standard output.
+/// What the words ask for.
 #[derive(Debug, Drop)]
 pub(crate) struct Asked<'w> {
     pub task: Task<'w>,
+    pub reports: Named<'w>,
+    /// The name of the file that is written, else it is standard output.
     pub output: Option<&'w str>,
 }
 

@@ -1,6 +1,6 @@
 use crate::asked_again::{INFO, SHEET, joined, tell_refused};
 use crate::canonical_parts::{END, HEAD, MIDDLE, MIDDLE_ALONE, ONE_URI, WRITTEN_HUNDRED};
-use crate::devices::{NeverFlushed, STEPS, Step, TestReader, TestWriter, Then};
+use crate::devices::{CountsFlushes, NeverFlushed, STEPS, Step, TestReader, TestWriter, Then};
 use crate::expecting::{Either, Expecting};
 use crate::lines::print_read_fault;
 use crate::ran::NO_WORDS;
@@ -257,6 +257,41 @@ fn a_text_that_is_not_flushed_is_a_fault(rt: HostRuntime) -> Result<(), Fail> {
     }
     assert_eq!(rt; status, 3);
     assert_eq!(rt; err.held(), b"device: 276 bytes written\n".as_slice());
+    Ok(())
+}
+
+/// The status, and how often standard output is flushed where it has room for so many bytes; none
+/// where memory was refused.
+fn flushed(rt: &HostRuntime, bundle: &[u8], room: usize) -> Option<(u8, u64)> {
+    let mut out = CountsFlushes { room, flushes: 0 };
+    let mut err = Expecting::just(b"out of memory\n");
+    let input = TestReader::new(bundle, Step::All, Then::Ends);
+    let status = run(
+        rt.alloc(),
+        rt,
+        NO_WORDS,
+        Terminals::NONE,
+        input,
+        &mut out,
+        &mut err,
+    );
+    if status == 3 && err.is_met() {
+        return None;
+    }
+    Some((status, out.flushes))
+}
+
+#[test]
+fn an_output_that_failed_is_not_flushed(rt: HostRuntime) -> Result<(), Fail> {
+    let bundle = joined(&rt, &[SHEET, "\n", INFO, HUNDRED, END])?;
+    for (room, expected) in [(0, (3, 0)), (275, (3, 0)), (276, (0, 1))] {
+        let mut answer = flushed(&rt, &bundle, room);
+        if answer.is_none() {
+            tell_refused(&rt);
+            answer = flushed(&rt, &bundle, room);
+        }
+        assert!(rt; answer == Some(expected), "room for {room} bytes");
+    }
     Ok(())
 }
 

@@ -4,6 +4,7 @@ use crate::commands::merge::Merge;
 use crate::commands::replay::Replay;
 use crate::commands::verdicts::Verdicts;
 use crate::commands::{check, merge, replay, verdicts};
+use crate::named::Named;
 use crate::stop::Stop;
 use crate::task::{Asked, Task};
 use clap::error::ErrorKind;
@@ -14,7 +15,7 @@ use std::convert::AsStr;
 
 const PROGRAM: &str = "xbrlmerge";
 
-const VERSION: &str = "0.1.0";
+const VERSION: &str = "0.2.0";
 
 const ABOUT: &str = "Consolidates xBRL-JSON reports, and finds where they contradict each other";
 
@@ -37,22 +38,27 @@ Status, of each command:
 /// Errors: `Stop::Words` where they are not those of a command, and want of memory.
 pub(crate) fn read_words<W: AsStr>(alloc: Global, words: &[W]) -> Result<Asked<'_>, Stop<'_>> {
     if words.is_empty() {
-        return Ok(to_standard_output(Task::Bundle));
+        return Ok(alone(alloc, Task::Bundle));
     }
     match asked(alloc, words) {
         Ok(asked) => Ok(asked),
         Err(error) => match error.kind() {
-            ErrorKind::DisplayHelp | ErrorKind::DisplayVersion => Ok(to_standard_output(Task::Show(
-                error,
-            ))),
+            ErrorKind::DisplayHelp | ErrorKind::DisplayVersion => {
+                Ok(alone(alloc, Task::Show(error)))
+            }
             ErrorKind::OutOfMemory => Err(Stop::Run(Fault::OutOfMemory(0))),
             _ => Err(Stop::Words(error)),
         },
     }
 }
 
-fn to_standard_output(task: Task<'_>) -> Asked<'_> {
-    Asked { task, output: None }
+/// A task with no report and no file.
+fn alone(alloc: Global, task: Task<'_>) -> Asked<'_> {
+    Asked {
+        task,
+        reports: Named::none(alloc),
+        output: None,
+    }
 }
 
 fn asked<W: AsStr>(alloc: Global, words: &[W]) -> Result<Asked<'_>, Error> {
@@ -69,24 +75,25 @@ fn found<'w>(alloc: Global, matches: &ArgMatches<'w>) -> Result<Option<Asked<'w>
     let Some((name, found)) = matches.subcommand() else {
         return Ok(None);
     };
-    let output = found.get_str(OUTPUT);
-    let task = task_of(alloc, name, found)?;
-    Ok(task.map(|task| Asked { task, output }))
+    let Some(task) = task_of(name, found) else {
+        return Ok(None);
+    };
+    Ok(Some(Asked {
+        task,
+        reports: Named::found(alloc, found)?,
+        output: found.get_str(OUTPUT),
+    }))
 }
 
 /// What a command is to do; None where there is no such command.
-fn task_of<'w>(
-    alloc: Global,
-    name: &str,
-    found: &ArgMatches<'w>,
-) -> Result<Option<Task<'w>>, AllocError> {
-    Ok(match name {
-        merge::NAME => Merge::asked(alloc, found)?.map(Task::Merge),
-        verdicts::NAME => Verdicts::asked(alloc, found)?.map(Task::Verdicts),
+fn task_of<'w>(name: &str, found: &ArgMatches<'w>) -> Option<Task<'w>> {
+    match name {
+        merge::NAME => Merge::asked(found).map(Task::Merge),
+        verdicts::NAME => Verdicts::asked(found).map(Task::Verdicts),
         check::NAME => Check::asked(found).map(Task::Check),
-        replay::NAME => Replay::asked(alloc, found)?.map(Task::Replay),
+        replay::NAME => Replay::asked(found).map(Task::Replay),
         _ => None,
-    })
+    }
 }
 
 /// The program with its help, and no command yet.

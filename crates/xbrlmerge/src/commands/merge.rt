@@ -1,9 +1,7 @@
 ghost use Rattle.std.specs.Prelude.{◌-◌, ◌^◌, ◌<◌};
 
-use crate::arguments::{
-    REPORT, SHEET, output_argument, reports_argument, sheet_argument, values_of,
-};
-use crate::files::{read_files, read_sheet};
+use crate::arguments::{SHEET, sheet_argument, with_reports};
+use crate::files::{read_reports, read_sheet};
 use crate::stop::Stop;
 use clap::builder::ValueParser;
 use clap::{Arg, ArgMatches, Command};
@@ -44,11 +42,10 @@ Status:
   3  nothing was merged, or not to the end: invalid arguments, the sheet is refused, a file
      or a device failed, or out of memory";
 
-/// The reports of these files are merged under the sheet of that file.
+/// Reports are merged under the sheet of this file.
 #[derive(Debug, Drop)]
 pub(crate) struct Merge<'w> {
     sheet: &'w str,
-    reports: Vec<&'w str>,
     allow: Level,
 }
 
@@ -61,48 +58,36 @@ impl<'w> Merge<'w> {
             .value_parser(ValueParser::Names(LEVELS.as_slice()))
             .default_value("all")
             .help("Which rows the text may have");
-        Command::new(alloc, NAME)
+        let command = Command::new(alloc, NAME)
             .about(ABOUT)
             .after_help(MORE)
             .arg(sheet_argument(alloc))?
-            .arg(allow)?
-            .arg(output_argument(alloc))?
-            .arg(reports_argument(alloc))
+            .arg(allow)?;
+        with_reports(alloc, command)
     }
 
     /// What was found in its words; None where a word that it needs is not there.
-    pub(crate) fn asked(
-        alloc: Global,
-        found: &ArgMatches<'w>,
-    ) -> Result<Option<Merge<'w>>, AllocError> {
-        let reports = values_of(alloc, found, REPORT)?;
-        let Some(sheet) = found.get_str(SHEET) else {
-            return Ok(None);
-        };
-        let Some(allow) = found.get_str(ALLOW).and_then(Level::read) else {
-            return Ok(None);
-        };
-        Ok(Some(Merge {
-            sheet,
-            reports,
-            allow,
-        }))
+    pub(crate) fn asked(found: &ArgMatches<'w>) -> Option<Merge<'w>> {
+        let sheet = found.get_str(SHEET)?;
+        let allow = found.get_str(ALLOW).and_then(Level::read)?;
+        Some(Merge { sheet, allow })
     }
 
     /// Reads the files and writes the merged text to `out`. It answers the refused reports, by
-    /// their places among the words, from 1.
+    /// their places among the names, from 1.
     ///
     /// Errors: those of the files, of the sheet and of `consolidate`.
     pub(crate) fn run<F: Files, S: Sink>(
         &self,
         alloc: Global,
         files: &F,
+        names: &[&str],
         out: &mut S,
     ) -> Result<Refusals, Stop<'w>>
         requires { S.failures out.old < 2 ^ 64 - 1 }
     {
         let sheet = read_sheet(alloc, files, self.sheet)?;
-        let reports = read_files(alloc, files, self.reports.as_slice())?;
+        let reports = read_reports(alloc, files, names)?;
         Ok(consolidate(alloc, &sheet, reports.as_slice(), self.allow, out)?)
     }
 }

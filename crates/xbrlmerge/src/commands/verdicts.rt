@@ -1,9 +1,7 @@
 ghost use Rattle.std.specs.Prelude.{◌-◌, ◌^◌, ◌<◌};
 
-use crate::arguments::{
-    REPORT, SHEET, output_argument, reports_argument, sheet_argument, values_of,
-};
-use crate::files::{read_files, read_sheet};
+use crate::arguments::{SHEET, sheet_argument, with_reports};
+use crate::files::{read_reports, read_sheet};
 use crate::stop::Stop;
 use clap::{ArgMatches, Command};
 use oim_merge::{Refusals, verdict_lines};
@@ -42,50 +40,43 @@ Status:
   3  nothing was judged, or not to the end: invalid arguments, the sheet is refused, a file
      or a device failed, or out of memory";
 
-/// The facts of the reports of these files are judged under the sheet of that file.
+/// The facts of reports are judged under the sheet of this file.
 #[derive(Debug, Drop)]
 pub(crate) struct Verdicts<'w> {
     sheet: &'w str,
-    reports: Vec<&'w str>,
 }
 
 impl<'w> Verdicts<'w> {
     /// The words of this command, with its help.
     pub(crate) fn words(alloc: Global) -> Result<Command<'w>, AllocError> {
-        Command::new(alloc, NAME)
+        let command = Command::new(alloc, NAME)
             .about(ABOUT)
             .after_help(MORE)
-            .arg(sheet_argument(alloc))?
-            .arg(output_argument(alloc))?
-            .arg(reports_argument(alloc))
+            .arg(sheet_argument(alloc))?;
+        with_reports(alloc, command)
     }
 
     /// What was found in its words; None where a word that it needs is not there.
-    pub(crate) fn asked(
-        alloc: Global,
-        found: &ArgMatches<'w>,
-    ) -> Result<Option<Verdicts<'w>>, AllocError> {
-        let reports = values_of(alloc, found, REPORT)?;
-        Ok(match found.get_str(SHEET) {
-            Some(sheet) => Some(Verdicts { sheet, reports }),
-            None => None,
-        })
+    pub(crate) fn asked(found: &ArgMatches<'w>) -> Option<Verdicts<'w>> {
+        let sheet = found.get_str(SHEET)?;
+        Some(Verdicts { sheet })
     }
 
     /// Reads the files and writes the line of each row to `out`. It answers the refused reports,
-    /// by their places among the words, from 1.
+    /// by their places among the names, from 1.
     ///
     /// Errors: those of the files, of the sheet and of `verdict_lines`.
     pub(crate) fn run<F: Files, S: Sink>(
         &self,
         alloc: Global,
         files: &F,
+        names: &[&str],
         out: &mut S,
     ) -> Result<Refusals, Stop<'w>>
         requires { S.failures out.old < 2 ^ 64 - 1 }
     {
         let sheet = read_sheet(alloc, files, self.sheet)?;
-        let reports = read_files(alloc, files, self.reports.as_slice())?;
+        let reports = read_reports(alloc, files, names)?;
         Ok(verdict_lines(alloc, &sheet, reports.as_slice(), out)?)
     }
 }
