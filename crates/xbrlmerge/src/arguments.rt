@@ -15,6 +15,9 @@ pub(crate) const LIST: &str = "reports-from";
 /// The option by which these names end with NUL.
 pub(crate) const NULL: &str = "null";
 
+/// The option that leaves out the line of progress.
+pub(crate) const QUIET: &str = "quiet";
+
 /// The option that names the file that is written.
 pub(crate) const OUTPUT: &str = "output";
 
@@ -45,6 +48,7 @@ pub(crate) fn with_reports<'w>(
         .arg(list_argument(alloc))?
         .arg(null_argument(alloc)?)?
         .arg(output_argument(alloc))?
+        .arg(quiet_argument(alloc))?
         .arg(reports_argument(alloc))
 }
 
@@ -63,6 +67,14 @@ fn null_argument<'w>(alloc: Global) -> Result<Arg<'w>, AllocError> {
         .action(ArgAction::SetTrue)
         .help("The names in FILE end with NUL, not with their line")
         .requires_arg(LIST)
+}
+
+/// The option that leaves out the line of progress.
+fn quiet_argument<'w>(alloc: Global) -> Arg<'w> {
+    Arg::new(alloc, QUIET)
+        .long(QUIET)
+        .action(ArgAction::SetTrue)
+        .help("Do not tell on a terminal how many reports were read")
 }
 
 /// The names of any number of reports.

@@ -1,3 +1,4 @@
+use crate::progress::Progress;
 use crate::stop::Stop;
 use oim_merge::{Fault, ReadFault, StdSource, read_all};
 use oim_names::Reason;
@@ -5,7 +6,7 @@ use oim_report::Sheet;
 use oim_write::Encoded;
 use std::alloc::Global;
 use std::fs::{self, File};
-use std::io::{ErrorKind, Read};
+use std::io::{ErrorKind, Read, Write};
 use std::rt::Files;
 
 /// How many bytes a file may have.
@@ -69,18 +70,36 @@ pub(crate) fn why_unread<F: Files>(files: &F, name: &str) -> Option<&'static str
     }
 }
 
-/// Reads the reports of these names, in their order. The first that is not read ends it.
+/// Reads the reports of these names, in their order, and shows how far it is. The first that is not
+/// read ends it.
 ///
 /// Errors: `Stop::Report`, and want of memory.
-pub(crate) fn read_reports<F: Files>(
+pub(crate) fn read_reports<F: Files, E: Write>(
     alloc: Global,
     files: &F,
     names: &[&str],
+    progress: &mut Progress<E>,
+) -> Result<Vec<Encoded>, Stop<'static>> {
+    let read = read_each(alloc, files, names, progress);
+    progress.clear();
+    read
+}
+
+fn read_each<F: Files, E: Write>(
+    alloc: Global,
+    files: &F,
+    names: &[&str],
+    progress: &mut Progress<E>,
 ) -> Result<Vec<Encoded>, Stop<'static>> {
     let mut all = Vec::new(alloc);
+    let mut bytes: u64 = 0;
     for (place, name) in names.iter().enumerate() {
+        progress.show(place, names.len(), bytes);
         match open_and_read(alloc, files, name) {
-            Ok(bytes) => all.push(bytes)?,
+            Ok(report) => {
+                bytes = bytes.saturating_add(report.as_bytes().len() as u64);
+                all.push(report)?;
+            }
             Err(fault) => return Err(Stop::Report(place, fault)),
         }
     }

@@ -16,6 +16,7 @@ mod files;
 mod lines;
 mod named;
 mod new_file;
+mod progress;
 #[cfg(test)]
 mod ran;
 mod run;

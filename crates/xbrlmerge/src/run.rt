@@ -5,6 +5,7 @@ use crate::commands::show::show;
 use crate::files::why_unread;
 use crate::lines::{print_awaited, print_refusals, print_stop};
 use crate::new_file::{new_beside, put_in_place, remove};
+use crate::progress::Progress;
 use crate::stop::Stop;
 use crate::task::{Asked, Task};
 use crate::terminals::Terminals;
@@ -61,7 +62,11 @@ where
         Ok(names) => names,
         Err(stop) => return tell(&mut err, files, terminals, &[], &Err(stop)),
     };
-    let ended = do_asked(alloc, files, &asked, &names, input, out);
+    let is_shown = terminals.errors && !asked.is_quiet;
+    let ended = {
+        let mut progress = Progress::new(&mut err, is_shown);
+        do_asked(alloc, files, &asked, &names, &mut progress, input, out)
+    };
     tell(&mut err, files, terminals, &names, &ended)
 }
 
@@ -98,36 +103,38 @@ fn print_reason<F: Files, E: Write>(err: &mut E, files: &F, names: &[&str], stop
 }
 
 /// Does what the words ask for with the reports of these names, and answers the refused ones.
-fn do_asked<'w, F: Files, R: Read + Drop, O: Write + Drop>(
+fn do_asked<'w, F: Files, R: Read + Drop, O: Write + Drop, E: Write>(
     alloc: Global,
     files: &F,
     asked: &Asked<'w>,
     names: &[&str],
+    progress: &mut Progress<E>,
     input: R,
     out: O,
 ) -> Result<Refusals, Stop<'w>> {
     match asked.output {
-        Some(file) => write_file(alloc, files, &asked.task, names, input, file),
+        Some(file) => write_file(alloc, files, &asked.task, names, progress, input, file),
         None => {
             let mut sink = StdSink::new(out);
-            let worked = work(alloc, files, &asked.task, names, input, &mut sink);
+            let worked = work(alloc, files, &asked.task, names, progress, input, &mut sink);
             flush(worked, sink)
         }
     }
 }
 
 /// Does a task whose text goes to the file of this name, whole or not at all.
-fn write_file<'w, F: Files, R: Read + Drop>(
+fn write_file<'w, F: Files, R: Read + Drop, E: Write>(
     alloc: Global,
     files: &F,
     task: &Task<'w>,
     names: &[&str],
+    progress: &mut Progress<E>,
     input: R,
     name: &'w str,
 ) -> Result<Refusals, Stop<'w>> {
     let (beside, file) = new_beside(alloc, files, name)?;
     let mut sink = StdSink::new(file);
-    let worked = work(alloc, files, task, names, input, &mut sink);
+    let worked = work(alloc, files, task, names, progress, input, &mut sink);
     let ended = settle(files, worked, sink.into_inner(), &beside, name);
     if ended.is_err() {
         remove(files, &beside);
@@ -154,11 +161,12 @@ fn settle<'w, F: Files>(
 }
 
 /// Does a task, and answers the refused reports.
-fn work<'w, F: Files, R: Read + Drop, S: Sink>(
+fn work<'w, F: Files, R: Read + Drop, E: Write, S: Sink>(
     alloc: Global,
     files: &F,
     task: &Task<'w>,
     names: &[&str],
+    progress: &mut Progress<E>,
     input: R,
     out: &mut S,
 ) -> Result<Refusals, Stop<'w>>
@@ -167,10 +175,10 @@ fn work<'w, F: Files, R: Read + Drop, S: Sink>(
     match task {
         Task::Bundle => merge_bundle(alloc, input, out),
         Task::Show(asked) => show(alloc, asked, out),
-        Task::Merge(merge) => merge.run(alloc, files, names, out),
-        Task::Verdicts(verdicts) => verdicts.run(alloc, files, names, out),
+        Task::Merge(merge) => merge.run(alloc, files, names, progress, out),
+        Task::Verdicts(verdicts) => verdicts.run(alloc, files, names, progress, out),
         Task::Check(check) => check.run(alloc, files, out),
-        Task::Replay(replay) => replay.run(alloc, files, names, out),
+        Task::Replay(replay) => replay.run(alloc, files, names, progress, out),
     }
 }
 

@@ -12,6 +12,8 @@ pub(crate) struct Asked<'w> {
     pub reports: Named<'w>,
     /// The name of the file that is written, else it is standard output.
     pub output: Option<&'w str>,
+    /// That the line of progress is left out.
+    pub is_quiet: bool,
 }
 
 /// What is to be done.

@@ -1,4 +1,4 @@
-use crate::arguments::OUTPUT;
+use crate::arguments::{OUTPUT, QUIET};
 use crate::commands::check::Check;
 use crate::commands::merge::Merge;
 use crate::commands::replay::Replay;
@@ -58,6 +58,7 @@ fn alone(alloc: Global, task: Task<'_>) -> Asked<'_> {
         task,
         reports: Named::none(alloc),
         output: None,
+        is_quiet: false,
     }
 }
 
@@ -82,6 +83,7 @@ fn found<'w>(alloc: Global, matches: &ArgMatches<'w>) -> Result<Option<Asked<'w>
         task,
         reports: Named::found(alloc, found)?,
         output: found.get_str(OUTPUT),
+        is_quiet: found.get_flag(QUIET),
     }))
 }
 

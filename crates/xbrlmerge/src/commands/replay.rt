@@ -3,6 +3,7 @@ ghost use Rattle.std.specs.Prelude.{◌≡◌, ◌-◌, ◌^◌, ◌<◌, OnOk};
 use crate::arguments::{SHEET, sheet_argument, with_reports};
 use crate::files::{read_file, read_reports, read_sheet};
 use crate::lines::put_text;
+use crate::progress::Progress;
 use crate::stop::Stop;
 use clap::builder::ValueParser;
 use clap::{Arg, ArgMatches, Command};
@@ -10,6 +11,7 @@ use fact_base::Base;
 use oim_merge::{Fault, Refusals, read_events, replay};
 use oim_write::{Sink, write_to};
 use std::alloc::{AllocError, Global};
+use std::io::Write;
 use std::rt::Files;
 
 /// The word of this command.
@@ -90,11 +92,12 @@ impl<'w> Replay<'w> {
     /// Errors: those of the files and of the sheet; `Stop::Event` where a line is no event, which
     /// comes before any report is read, or where it names what is not there; want of memory;
     /// `Fault::Device`.
-    pub(crate) fn run<F: Files, S: Sink>(
+    pub(crate) fn run<F: Files, E: Write, S: Sink>(
         &self,
         alloc: Global,
         files: &F,
         names: &[&str],
+        progress: &mut Progress<E>,
         out: &mut S,
     ) -> Result<Refusals, Stop<'w>>
         requires { S.failures out.old < 2 ^ 64 - 1 }
@@ -102,7 +105,7 @@ impl<'w> Replay<'w> {
         let sheet = read_sheet(alloc, files, self.sheet)?;
         let lines = read_file(alloc, files, self.events)?;
         let events = read_events(alloc, lines.as_bytes())?;
-        let reports = read_reports(alloc, files, names)?;
+        let reports = read_reports(alloc, files, names, progress)?;
         let replayed = replay(alloc, &sheet, self.replicas, reports.as_slice(), &events)?;
         put_replicas(alloc, out, replayed.replicas())?;
         Ok(replayed.into_refused())

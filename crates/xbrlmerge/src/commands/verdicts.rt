@@ -2,11 +2,13 @@ ghost use Rattle.std.specs.Prelude.{◌-◌, ◌^◌, ◌<◌};
 
 use crate::arguments::{SHEET, sheet_argument, with_reports};
 use crate::files::{read_reports, read_sheet};
+use crate::progress::Progress;
 use crate::stop::Stop;
 use clap::{ArgMatches, Command};
 use oim_merge::{Refusals, verdict_lines};
 use oim_write::Sink;
 use std::alloc::{AllocError, Global};
+use std::io::Write;
 use std::rt::Files;
 
 /// The word of this command.
@@ -66,17 +68,18 @@ impl<'w> Verdicts<'w> {
     /// by their places among the names, from 1.
     ///
     /// Errors: those of the files, of the sheet and of `verdict_lines`.
-    pub(crate) fn run<F: Files, S: Sink>(
+    pub(crate) fn run<F: Files, E: Write, S: Sink>(
         &self,
         alloc: Global,
         files: &F,
         names: &[&str],
+        progress: &mut Progress<E>,
         out: &mut S,
     ) -> Result<Refusals, Stop<'w>>
         requires { S.failures out.old < 2 ^ 64 - 1 }
     {
         let sheet = read_sheet(alloc, files, self.sheet)?;
-        let reports = read_reports(alloc, files, names)?;
+        let reports = read_reports(alloc, files, names, progress)?;
         Ok(verdict_lines(alloc, &sheet, reports.as_slice(), out)?)
     }
 }
