@@ -26,7 +26,11 @@ mod terminals;
 #[cfg(test)]
 mod tests_files;
 #[cfg(test)]
+mod tests_progress;
+#[cfg(test)]
 mod tests_run;
+#[cfg(test)]
+mod tests_terminals;
 #[cfg(test)]
 mod tests_words;
 mod words;

@@ -25,6 +25,17 @@ struct List<'w> {
     end: char,
 }
 
+impl<'w> List<'w> {
+    /// What stops the program where the file is not read.
+    fn unread(self, fault: ReadFault) -> Stop<'w> {
+        if self.file == STANDARD_INPUT {
+            Stop::Input(fault)
+        } else {
+            Stop::File(self.file, fault)
+        }
+    }
+}
+
 impl<'w> Named<'w> {
     /// No report.
     pub(crate) fn none(alloc: Global) -> Named<'w> {
@@ -64,7 +75,7 @@ impl<'w> Named<'w> {
     /// The names of all reports, where the file of names has these bytes. Empty names are passed
     /// over.
     ///
-    /// Errors: `Stop::File` where the names are not UTF-8; `Stop::NoNames` where there is such a file
+    /// Errors: `Stop::File` or `Stop::Input` where the names are not UTF-8; `Stop::NoNames` where there is such a file
     /// and nothing is named; want of memory.
     pub(crate) fn names<'n>(
         &'n self,
@@ -79,7 +90,7 @@ impl<'w> Named<'w> {
             return Ok(all);
         };
         let Ok(text) = str::from_utf8(bytes.as_bytes()) else {
-            return Err(Stop::File(list.file, ReadFault::Device(0)));
+            return Err(list.unread(ReadFault::Device(0)));
         };
         push_names(&mut all, text, list.end)?;
         if all.is_empty() {

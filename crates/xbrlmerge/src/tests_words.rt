@@ -17,7 +17,14 @@ fn is_answered(rt: &HostRuntime, words: &[&str], front: &str) -> bool {
     ends(rt, words, 0, out, Expecting::just(b""))
 }
 
-const WRONG: [&str; 42] = [
+const WRONG: [&str; 49] = [
+    "merge --sheet s --reports-from",
+    "merge --sheet s --reports-from f --reports-from g",
+    "merge --sheet s -0 r",
+    "check --sheet s r --reports-from f",
+    "-o f",
+    "merge --sheet s -o",
+    "merge --sheet s -o f --output g",
     "replay",
     "replay --sheet s",
     "replay --sheet s --replicas 2",
