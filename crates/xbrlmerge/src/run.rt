@@ -29,8 +29,8 @@ const FAILED: u8 = 3;
 /// The program: it does what the words after its name ask for. With none it merges the bundle on
 /// `input`. What it answers goes to `out`, and `err` has a line for each refused report, or for
 /// what stopped it. Where a device is a terminal, `err` has more: that the bundle is awaited, how
-/// many reports were read, and why a file cannot be read. It answers the status: 0; 1 where a report was refused; 2 where a row is above
-/// the level that is allowed; 3 where it stopped.
+/// many reports were read, and why a file cannot be read. It answers the status: 0; 1 where a
+/// report was refused; 2 where a row is above the level that is allowed; 3 where it stopped.
 pub fn run<F, W, R, O, E>(
     alloc: Global,
     files: &F,
