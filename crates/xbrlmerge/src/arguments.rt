@@ -1,4 +1,4 @@
-use clap::{Arg, ArgMatches};
+use clap::{Arg, ArgAction, Command};
 use std::alloc::{AllocError, Global};
 
 // What several commands are told.
@@ -9,7 +9,28 @@ pub(crate) const SHEET: &str = "sheet";
 /// The words that name reports.
 pub(crate) const REPORT: &str = "REPORT";
 
-/// The option that names the sheet, which has to be there.
+/// The option that names a file of names.
+pub(crate) const LIST: &str = "reports-from";
+
+/// The option by which these names end with NUL.
+pub(crate) const NULL: &str = "null";
+
+/// The option that leaves out the line of progress.
+pub(crate) const QUIET: &str = "quiet";
+
+/// The option that names the file that is written.
+pub(crate) const OUTPUT: &str = "output";
+
+/// The option that names the file that is written.
+pub(crate) fn output_argument<'w>(alloc: Global) -> Arg<'w> {
+    Arg::new(alloc, OUTPUT)
+        .short('o')
+        .long(OUTPUT)
+        .value_name("FILE")
+        .help("Write to FILE, whole or not at all")
+}
+
+/// The option that names the sheet, required.
 pub(crate) fn sheet_argument<'w>(alloc: Global) -> Arg<'w> {
     Arg::new(alloc, SHEET)
         .long(SHEET)
@@ -18,28 +39,54 @@ pub(crate) fn sheet_argument<'w>(alloc: Global) -> Arg<'w> {
         .help("The file of the concept sheet, which the reports are read under")
 }
 
+/// A command that reads any number of reports and writes a text, with the words for both.
+pub(crate) fn with_reports<'w>(
+    alloc: Global,
+    command: Command<'w>,
+) -> Result<Command<'w>, AllocError> {
+    command
+        .arg(list_argument(alloc))?
+        .arg(null_argument(alloc)?)?
+        .arg(output_argument(alloc))?
+        .arg(quiet_argument(alloc))?
+        .arg(reports_argument(alloc))
+}
+
+/// The option that names a file of names.
+fn list_argument<'w>(alloc: Global) -> Arg<'w> {
+    Arg::new(alloc, LIST).long(LIST).value_name("FILE").help(
+        "Also read the reports that FILE names, one a line; - is standard input",
+    )
+}
+
+/// The option by which these names end with NUL.
+fn null_argument<'w>(alloc: Global) -> Result<Arg<'w>, AllocError> {
+    Arg::new(alloc, NULL)
+        .short('0')
+        .long(NULL)
+        .action(ArgAction::SetTrue)
+        .help("The names in FILE end with NUL, not with their line")
+        .requires_arg(LIST)
+}
+
+/// The option that leaves out the line of progress.
+fn quiet_argument<'w>(alloc: Global) -> Arg<'w> {
+    Arg::new(alloc, QUIET)
+        .long(QUIET)
+        .action(ArgAction::SetTrue)
+        .help("Do not tell on a terminal how many reports were read")
+}
+
 /// The names of any number of reports.
-pub(crate) fn reports_argument<'w>(alloc: Global) -> Arg<'w> {
+fn reports_argument<'w>(alloc: Global) -> Arg<'w> {
     Arg::new(alloc, REPORT)
         .num_args(0..)
         .help("The files of the reports, in this order")
 }
 
-/// The name of one report, which has to be there.
+/// The name of one report, required.
 pub(crate) fn report_argument<'w>(alloc: Global) -> Arg<'w> {
     Arg::new(alloc, REPORT)
         .required(true)
         .help("The file of the report")
-}
-
-/// The values of an argument, in their order.
-pub(crate) fn values_of<'w>(
-    alloc: Global,
-    found: &ArgMatches<'w>,
-    id: &str,
-) -> Result<Vec<&'w str>, AllocError> {
-    match found.get_strs(id) {
-        Some(values) => Vec::from_slice(alloc, values),
-        None => Ok(Vec::new(alloc)),
-    }
 }

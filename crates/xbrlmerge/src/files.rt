@@ -1,56 +1,107 @@
+use crate::progress::Progress;
 use crate::stop::Stop;
 use oim_merge::{Fault, ReadFault, StdSource, read_all};
 use oim_names::Reason;
 use oim_report::Sheet;
 use oim_write::Encoded;
 use std::alloc::Global;
-use std::fs::File;
-use std::io::Read;
+use std::fs::{self, File};
+use std::io::{ErrorKind, Read, Write};
 use std::rt::Files;
 
 /// How many bytes a file may have.
 const MOST_BYTES: u32 = 2_147_483_648;
 
-/// Reads a reader to its end; the name is what a line calls it.
-///
-/// Errors: `Stop::File` where it fails, is too long, or memory is refused.
-pub(crate) fn read_bytes<R: Read + Drop>(
-    alloc: Global,
-    name: &str,
-    reader: R,
-) -> Result<Encoded, Stop<'_>> {
+/// What standard input is called in words and in a line.
+pub(crate) const STANDARD_INPUT: &str = "-";
+
+/// Reads a reader to its end.
+fn read_bytes<R: Read + Drop>(alloc: Global, reader: R) -> Result<Encoded, ReadFault> {
     let mut source = StdSource::new(reader);
-    match read_all(alloc, &mut source, MOST_BYTES) {
+    read_all(alloc, &mut source, MOST_BYTES)
+}
+
+/// Reads standard input.
+///
+/// Errors: `Stop::Input` where it fails, is too long, or memory is refused.
+pub(crate) fn read_input<R: Read + Drop>(
+    alloc: Global,
+    input: R,
+) -> Result<Encoded, Stop<'static>> {
+    match read_bytes(alloc, input) {
         Ok(bytes) => Ok(bytes),
-        Err(fault) => Err(Stop::File(name, fault)),
+        Err(fault) => Err(Stop::Input(fault)),
+    }
+}
+
+fn open_and_read<F: Files>(alloc: Global, files: &F, name: &str) -> Result<Encoded, ReadFault> {
+    match File::open(files, name) {
+        Ok(file) => read_bytes(alloc, file),
+        Err(_) => Err(ReadFault::Device(0)),
     }
 }
 
 /// Opens the file of this name and reads it.
 ///
-/// Errors: `Stop::File`, also where it is not opened.
+/// Errors: `Stop::File` where it is not opened, fails, is too long, or memory is refused.
 pub(crate) fn read_file<'w, F: Files>(
     alloc: Global,
     files: &F,
     name: &'w str,
 ) -> Result<Encoded, Stop<'w>> {
-    match File::open(files, name) {
-        Ok(file) => read_bytes(alloc, name, file),
-        Err(_) => Err(Stop::File(name, ReadFault::Device(0))),
+    match open_and_read(alloc, files, name) {
+        Ok(bytes) => Ok(bytes),
+        Err(fault) => Err(Stop::File(name, fault)),
     }
 }
 
-/// Reads the files of these names, in their order. The first that is not read ends it.
+/// Why the file of this name cannot be read, where that can be told.
+pub(crate) fn why_unread<F: Files>(files: &F, name: &str) -> Option<&'static str> {
+    match fs::metadata(files, name) {
+        Ok(found) if found.is_dir() => return Some("It is a folder."),
+        Err(fault) if fault.kind() == ErrorKind::NotFound => return Some("There is no such file."),
+        _ => {}
+    }
+    match File::open(files, name) {
+        Err(fault) if fault.kind() == ErrorKind::PermissionDenied => {
+            Some("You may not read it: permission denied.")
+        }
+        _ => None,
+    }
+}
+
+/// Reads the reports of these names, in their order, and shows how far it is. The first that is not
+/// read ends it.
 ///
-/// Errors: `Stop::File`, and want of memory.
-pub(crate) fn read_files<'w, F: Files>(
+/// Errors: `Stop::Report`, and want of memory.
+pub(crate) fn read_reports<F: Files, E: Write>(
     alloc: Global,
     files: &F,
-    names: &[&'w str],
-) -> Result<Vec<Encoded>, Stop<'w>> {
+    names: &[&str],
+    progress: &mut Progress<E>,
+) -> Result<Vec<Encoded>, Stop<'static>> {
+    let read = read_each(alloc, files, names, progress);
+    progress.clear();
+    read
+}
+
+fn read_each<F: Files, E: Write>(
+    alloc: Global,
+    files: &F,
+    names: &[&str],
+    progress: &mut Progress<E>,
+) -> Result<Vec<Encoded>, Stop<'static>> {
     let mut all = Vec::new(alloc);
-    for name in names {
-        all.push(read_file(alloc, files, *name)?)?;
+    let mut bytes: u64 = 0;
+    for (place, name) in names.iter().enumerate() {
+        progress.show(place, names.len(), bytes);
+        match open_and_read(alloc, files, name) {
+            Ok(report) => {
+                bytes = bytes.saturating_add(report.as_bytes().len() as u64);
+                all.push(report)?;
+            }
+            Err(fault) => return Err(Stop::Report(place, fault)),
+        }
     }
     Ok(all)
 }

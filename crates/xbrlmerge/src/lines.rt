@@ -1,5 +1,6 @@
 ghost use Rattle.std.specs.Prelude.{◌≡◌, ◌-◌, ◌^◌, ◌<◌, OnOk};
 
+use crate::files::STANDARD_INPUT;
 use crate::stop::Stop;
 use oim_merge::{Checked, Fault, ReadFault, Refusals};
 use oim_report::{Place, Refusal};
@@ -44,6 +45,14 @@ pub(crate) fn put_checked<S: Sink>(
     }
 }
 
+/// The line that is shown to who gave no words on a terminal.
+pub(crate) fn print_awaited<E: Write>(err: &mut E) {
+    let _ = writeln!(
+        err,
+        "Waiting for a bundle on standard input; `xbrlmerge --help` shows the commands."
+    );
+}
+
 /// The lines of refused reports.
 pub(crate) fn print_refusals<E: Write>(err: &mut E, refusals: &Refusals) {
     for (report, refusal) in refusals.as_slice() {
@@ -60,13 +69,24 @@ fn print_refusal<E: Write>(err: &mut E, report: u64, refusal: &Refusal) {
     };
 }
 
-/// The lines of what stopped the program.
-pub(crate) fn print_stop<E: Write>(err: &mut E, stop: &Stop<'_>) {
+/// The lines of what stopped the program, which was asked for reports of these names.
+pub(crate) fn print_stop<E: Write>(err: &mut E, names: &[&str], stop: &Stop<'_>) {
     match stop {
         Stop::Words(error) => {
             let _ = write!(err, "{error}");
         }
         Stop::File(file, fault) => print_read_fault(err, file, *fault),
+        Stop::Report(place, fault) => {
+            let name = names.get(*place).copied().unwrap_or_default();
+            print_read_fault(err, name, *fault);
+        }
+        Stop::Input(fault) => print_read_fault(err, STANDARD_INPUT, *fault),
+        Stop::NoNames(file) => {
+            let _ = writeln!(err, "file {file}: names no report");
+        }
+        Stop::Unwritten(file) => {
+            let _ = writeln!(err, "file {file}: cannot be written");
+        }
         Stop::Event(line) => {
             let _ = writeln!(err, "event {line}: refused");
         }

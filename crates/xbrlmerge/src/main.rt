@@ -14,22 +14,32 @@ mod devices;
 mod expecting;
 mod files;
 mod lines;
+mod named;
+mod new_file;
+mod progress;
 #[cfg(test)]
 mod ran;
 mod run;
 mod stop;
 mod task;
+mod terminals;
 #[cfg(test)]
 mod tests_files;
 #[cfg(test)]
+mod tests_progress;
+#[cfg(test)]
 mod tests_run;
+#[cfg(test)]
+mod tests_terminals;
 #[cfg(test)]
 mod tests_words;
 mod words;
 
 use run::run;
+use std::io::IsTerminal;
 use std::process::ExitCode;
 use std::{env, io};
+use terminals::Terminals;
 
 /// The words after the program's name.
 fn given(rt: &HostRuntime) -> io::Result<Vec<String>> {
@@ -44,12 +54,27 @@ fn main(rt: HostRuntime) -> ExitCode {
     let words = match given(&rt) {
         Ok(words) => words,
         Err(fault) => {
-            if fault.kind() == io::ErrorKind::OutOfMemory {
-                let _ = eprintln!(rt; "out of memory");
-            }
+            let line = match fault.kind() {
+                io::ErrorKind::OutOfMemory => "out of memory",
+                _ => "error: an argument is not UTF-8",
+            };
+            let _ = eprintln!(rt; "{line}");
             return ExitCode::from(3);
         }
     };
-    let alloc = rt.alloc();
-    ExitCode::from(run(alloc, &rt, &words, rt.stdin(), rt.stdout(), rt.stderr()))
+    let (input, errors) = (rt.stdin(), rt.stderr());
+    let terminals = Terminals {
+        input: input.is_terminal(),
+        errors: errors.is_terminal(),
+    };
+    let status = run(
+        rt.alloc(),
+        &rt,
+        &words,
+        terminals,
+        input,
+        rt.stdout(),
+        errors,
+    );
+    ExitCode::from(status)
 }

@@ -2,6 +2,7 @@ use crate::asked_again::{tell_refused, tell_refused_here};
 use crate::devices::{Step, TestReader, Then};
 use crate::expecting::{Either, Expecting};
 use crate::run::run;
+use crate::terminals::Terminals;
 use std::alloc::AllocError;
 use std::io::Write;
 
@@ -113,6 +114,14 @@ fn heard<'a, O: Write + Drop>(
 ) -> (u8, Either<'a>) {
     let mut heard = Either(err, Expecting::just(b"out of memory\n"));
     let input = TestReader::new(b"", Step::All, Then::Fails);
-    let status = run(rt.alloc(), rt, words, input, out, &mut heard);
+    let status = run(
+        rt.alloc(),
+        rt,
+        words,
+        Terminals::NONE,
+        input,
+        out,
+        &mut heard,
+    );
     (status, heard)
 }

@@ -2,11 +2,15 @@ ghost use Rattle.std.specs.Prelude.{◌-◌, ◌^◌, ◌<◌};
 
 use crate::commands::bundle::merge_bundle;
 use crate::commands::show::show;
-use crate::lines::{print_refusals, print_stop};
+use crate::files::why_unread;
+use crate::lines::{print_awaited, print_refusals, print_stop};
+use crate::new_file::{new_beside, put_in_place, remove};
+use crate::progress::Progress;
 use crate::stop::Stop;
-use crate::task::Task;
+use crate::task::{Asked, Task};
+use crate::terminals::Terminals;
 use crate::words::read_words;
-use oim_merge::{Fault, Refusals};
+use oim_merge::{Fault, ReadFault, Refusals};
 use oim_write::{Sink, StdSink};
 use std::alloc::Global;
 use std::convert::AsStr;
@@ -24,9 +28,18 @@ const FAILED: u8 = 3;
 
 /// The program: it does what the words after its name ask for. With none it merges the bundle on
 /// `input`. What it answers goes to `out`, and `err` has a line for each refused report, or for
-/// what stopped it. It answers the status: 0; 1 where a report was refused; 2 where a row is above
-/// the level that is allowed; 3 where it stopped.
-pub fn run<F, W, R, O, E>(alloc: Global, files: &F, words: &[W], input: R, out: O, mut err: E) -> u8
+/// what stopped it. Where a device is a terminal, `err` has more: that the bundle is awaited, how
+/// many reports were read, and why a file cannot be read. It answers the status: 0; 1 where a
+/// report was refused; 2 where a row is above the level that is allowed; 3 where it stopped.
+pub fn run<F, W, R, O, E>(
+    alloc: Global,
+    files: &F,
+    words: &[W],
+    terminals: Terminals,
+    mut input: R,
+    out: O,
+    mut err: E,
+) -> u8
 where
     F: Files,
     W: AsStr,
@@ -34,33 +47,138 @@ where
     O: Write + Drop,
     E: Write + Drop,
 {
-    let mut sink = StdSink::new(out);
-    let worked = work(alloc, files, words, input, &mut sink);
-    let ended = flush(worked, sink);
-    match &ended {
-        Ok(refusals) => print_refusals(&mut err, refusals),
-        Err(stop) => print_stop(&mut err, stop),
+    if words.is_empty() && terminals.input {
+        print_awaited(&mut err);
     }
-    status_of(&ended)
+    let asked = match read_words(alloc, words) {
+        Ok(asked) => asked,
+        Err(stop) => return tell(&mut err, files, terminals, &[], &Err(stop)),
+    };
+    let list = match asked.reports.read_list(alloc, files, &mut input) {
+        Ok(list) => list,
+        Err(stop) => return tell(&mut err, files, terminals, &[], &Err(stop)),
+    };
+    let names = match asked.reports.names(alloc, &list) {
+        Ok(names) => names,
+        Err(stop) => return tell(&mut err, files, terminals, &[], &Err(stop)),
+    };
+    let is_shown = terminals.errors && !asked.is_quiet;
+    let ended = {
+        let mut progress = Progress::new(&mut err, is_shown);
+        do_asked(alloc, files, &asked, &names, &mut progress, input, out)
+    };
+    tell(&mut err, files, terminals, &names, &ended)
 }
 
-/// Does what the words ask for, and answers the refused reports.
-fn work<'w, F: Files, W: AsStr, R: Read + Drop, S: Sink>(
+/// The lines of how a run on reports of these names ended, and its status.
+fn tell<F: Files, E: Write>(
+    err: &mut E,
+    files: &F,
+    terminals: Terminals,
+    names: &[&str],
+    ended: &Result<Refusals, Stop<'_>>,
+) -> u8 {
+    match ended {
+        Ok(refusals) => print_refusals(err, refusals),
+        Err(stop) => {
+            print_stop(err, names, stop);
+            if terminals.errors {
+                print_reason(err, files, names, stop);
+            }
+        }
+    }
+    status_of(ended)
+}
+
+/// The line that says why a file is not read, where that can be told.
+fn print_reason<F: Files, E: Write>(err: &mut E, files: &F, names: &[&str], stop: &Stop<'_>) {
+    let name = match stop {
+        Stop::File(name, ReadFault::Device(_)) => Some(*name),
+        Stop::Report(place, ReadFault::Device(_)) => names.get(*place).copied(),
+        _ => None,
+    };
+    if let Some(why) = name.and_then(|name| why_unread(files, name)) {
+        let _ = writeln!(err, "{why}");
+    }
+}
+
+/// Does what the words ask for with the reports of these names, and answers the refused ones.
+fn do_asked<'w, F: Files, R: Read + Drop, O: Write + Drop, E: Write>(
     alloc: Global,
     files: &F,
-    words: &'w [W],
+    asked: &Asked<'w>,
+    names: &[&str],
+    progress: &mut Progress<E>,
+    input: R,
+    out: O,
+) -> Result<Refusals, Stop<'w>> {
+    match asked.output {
+        Some(file) => write_file(alloc, files, &asked.task, names, progress, input, file),
+        None => {
+            let mut sink = StdSink::new(out);
+            let worked = work(alloc, files, &asked.task, names, progress, input, &mut sink);
+            flush(worked, sink)
+        }
+    }
+}
+
+/// Does a task whose text goes to the file of this name, whole or not at all.
+fn write_file<'w, F: Files, R: Read + Drop, E: Write>(
+    alloc: Global,
+    files: &F,
+    task: &Task<'w>,
+    names: &[&str],
+    progress: &mut Progress<E>,
+    input: R,
+    name: &'w str,
+) -> Result<Refusals, Stop<'w>> {
+    let (beside, file) = new_beside(alloc, files, name)?;
+    let mut sink = StdSink::new(file);
+    let worked = work(alloc, files, task, names, progress, input, &mut sink);
+    let ended = settle(files, worked, sink.into_inner(), &beside, name);
+    if ended.is_err() {
+        remove(files, &beside);
+    }
+    ended
+}
+
+/// Puts the file beside another in its place, unless the work stopped.
+fn settle<'w, F: Files>(
+    files: &F,
+    worked: Result<Refusals, Stop<'w>>,
+    file: F::File,
+    beside: &str,
+    name: &'w str,
+) -> Result<Refusals, Stop<'w>> {
+    match worked {
+        Err(Stop::Run(Fault::Device(_))) => Err(Stop::Unwritten(name)),
+        worked if worked.is_err() => worked,
+        worked => match put_in_place(files, file, beside, name) {
+            Ok(()) => worked,
+            Err(_) => Err(Stop::Unwritten(name)),
+        },
+    }
+}
+
+/// Does a task, and answers the refused reports.
+fn work<'w, F: Files, R: Read + Drop, E: Write, S: Sink>(
+    alloc: Global,
+    files: &F,
+    task: &Task<'w>,
+    names: &[&str],
+    progress: &mut Progress<E>,
     input: R,
     out: &mut S,
 ) -> Result<Refusals, Stop<'w>>
     requires { S.failures out.old < 2 ^ 64 - 1 }
 {
-    match read_words(alloc, words)? {
+    match task {
         Task::Bundle => merge_bundle(alloc, input, out),
-        Task::Show(asked) => show(alloc, &asked, out),
-        Task::Merge(merge) => merge.run(alloc, files, out),
-        Task::Verdicts(verdicts) => verdicts.run(alloc, files, out),
+        Task::Show(asked) => show(alloc, asked, out),
+        Task::Merge(merge) => merge.run(alloc, files, names, progress, out),
+        Task::Verdicts(verdicts) => verdicts.run(alloc, files, names, progress, out),
         Task::Check(check) => check.run(alloc, files, out),
-        Task::Replay(replay) => replay.run(alloc, files, out),
+        Task::Replay(replay) => replay.run(alloc, files, names, progress, out),
     }
 }
 

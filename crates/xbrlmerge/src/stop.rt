@@ -9,6 +9,14 @@ pub(crate) enum Stop<'w> {
     Words(Error),
     /// The file of this name was not read.
     File(&'w str, ReadFault),
+    /// The report at this place among the names, from 0, was not read.
+    Report(usize, ReadFault),
+    /// Standard input was not read.
+    Input(ReadFault),
+    /// The file of this name has to name reports, and none is named.
+    NoNames(&'w str),
+    /// The file of this name cannot be written.
+    Unwritten(&'w str),
     /// This line, from 1, is no event, or its event names what is not there.
     Event(u64),
     /// The work had a fault.

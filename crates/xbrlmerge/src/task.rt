@@ -2,9 +2,21 @@ use crate::commands::check::Check;
 use crate::commands::merge::Merge;
 use crate::commands::replay::Replay;
 use crate::commands::verdicts::Verdicts;
+use crate::named::Named;
 use clap::Error;
 
 /// What the words ask for.
+#[derive(Debug, Drop)]
+pub(crate) struct Asked<'w> {
+    pub task: Task<'w>,
+    pub reports: Named<'w>,
+    /// The name of the file that is written, else it is standard output.
+    pub output: Option<&'w str>,
+    /// That the line of progress is left out.
+    pub is_quiet: bool,
+}
+
+/// What is to be done.
 #[derive(Debug, Drop)]
 pub(crate) enum Task<'w> {
     /// To merge the bundle on standard input.

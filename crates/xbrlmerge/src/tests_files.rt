@@ -7,9 +7,13 @@ use crate::devices::{FullAfter, NeverFlushed, Step, TestReader, Then};
 use crate::expecting::Expecting;
 use crate::ran::{ends, stops, words_of};
 use crate::run::run;
+use crate::terminals::Terminals;
 use made::{FOLDER, made};
 use replayed::REPLAYED;
-use rows::{CHECKED, FULL, Full, JUDGED, MERGED, Row, STOPPED, UNFLUSHED, UNHEARD};
+use rows::{
+    CHECKED, FULL, Full, JUDGED, LISTED, MERGED, ONE, Row, SHOWN, STOPPED, UNFLUSHED, UNHEARD,
+    WRITTEN,
+};
 use std::test::Fail;
 use std::{env, fs};
 
@@ -49,7 +53,15 @@ fn stop_unflushed(rt: &HostRuntime, rows: &[(&str, &str)]) -> Result<bool, Fail>
 fn ends_unheard(rt: &HostRuntime, words: &[&str], status: u8, out: &[u8]) -> bool {
     let input = TestReader::new(b"", Step::All, Then::Fails);
     let mut out = Expecting::just(out);
-    let ended = run(rt.alloc(), rt, words, input, &mut out, FullAfter(3));
+    let ended = run(
+        rt.alloc(),
+        rt,
+        words,
+        Terminals::NONE,
+        input,
+        &mut out,
+        FullAfter(3),
+    );
     ended == status && out.is_met()
 }
 
@@ -66,6 +78,44 @@ fn are_unheard(rt: &HostRuntime, rows: &[Row]) -> Result<bool, Fail> {
     Ok(all)
 }
 
+fn holds(rt: &HostRuntime, name: &str, parts: &[&str]) -> Result<bool, Fail> {
+    let text = joined(rt, parts)?;
+    let held = fs::read(rt, name)?;
+    Ok(held.as_slice() == text.as_slice())
+}
+
+/// Whether the program ends well, with this on a standard error that is a terminal.
+fn shows_once(rt: &HostRuntime, words: &[&str], shown: &str) -> bool {
+    let terminals = Terminals {
+        input: false,
+        errors: true,
+    };
+    let input = TestReader::new(b"", Step::All, Then::Fails);
+    let mut err = Expecting::just(shown.as_bytes());
+    let status = run(
+        rt.alloc(),
+        rt,
+        words,
+        terminals,
+        input,
+        FullAfter(1_000),
+        &mut err,
+    );
+    status == 0 && err.is_met()
+}
+
+fn show(rt: &HostRuntime, rows: &[(&str, &str)]) -> Result<bool, Fail> {
+    let mut all = true;
+    for (line, shown) in rows {
+        let words = words_of(rt, line)?;
+        if !shows_once(rt, &words, shown) {
+            tell_refused(rt);
+            all = shows_once(rt, &words, shown) && all;
+        }
+    }
+    Ok(all)
+}
+
 // One test makes the files, since tests may run side by side.
 #[test]
 fn files_are_read_and_answered(rt: HostRuntime) -> Result<(), Fail> {
@@ -74,6 +124,10 @@ fn files_are_read_and_answered(rt: HostRuntime) -> Result<(), Fail> {
     assert!(rt; are_met(&rt, JUDGED.as_slice())?);
     assert!(rt; are_met(&rt, CHECKED.as_slice())?);
     assert!(rt; are_met(&rt, REPLAYED.as_slice())?);
+    assert!(rt; are_met(&rt, LISTED.as_slice())?);
+    assert!(rt; show(&rt, SHOWN.as_slice())?);
+    assert!(rt; are_met(&rt, WRITTEN.as_slice())?);
+    assert!(rt; holds(&rt, "out", ONE)?);
     assert!(rt; are_met(&rt, STOPPED.as_slice())?);
     assert!(rt; are_met(&rt, replayed::STOPPED.as_slice())?);
     assert!(rt; stop_when_full(&rt, FULL.as_slice())?);

@@ -5,6 +5,7 @@ use crate::expecting::{Either, Expecting};
 use crate::lines::print_read_fault;
 use crate::ran::NO_WORDS;
 use crate::run::run;
+use crate::terminals::Terminals;
 use oim_merge::ReadFault;
 use std::alloc::AllocError;
 use std::test::Fail;
@@ -37,7 +38,15 @@ struct Ran {
 fn run_once(rt: &HostRuntime, input: TestReader<'_>, room: usize) -> Result<Ran, AllocError> {
     let mut out = writer(rt, room)?;
     let mut err = writer(rt, ROOM)?;
-    let status = run(rt.alloc(), rt, NO_WORDS, input, &mut out, &mut err);
+    let status = run(
+        rt.alloc(),
+        rt,
+        NO_WORDS,
+        Terminals::NONE,
+        input,
+        &mut out,
+        &mut err,
+    );
     Ok(Ran { status, out, err })
 }
 
@@ -175,7 +184,15 @@ fn is_unread(rt: &HostRuntime, input: TestReader<'_>) -> Option<bool> {
         Expecting::just(b"file -: cannot be read\n"),
         Expecting::just(b"out of memory\n"),
     );
-    let status = run(rt.alloc(), rt, NO_WORDS, input, &mut out, &mut err);
+    let status = run(
+        rt.alloc(),
+        rt,
+        NO_WORDS,
+        Terminals::NONE,
+        input,
+        &mut out,
+        &mut err,
+    );
     if status == 3 && err.1.is_met() {
         return None;
     }
@@ -216,11 +233,27 @@ fn a_text_that_is_not_flushed_is_a_fault(rt: HostRuntime) -> Result<(), Fail> {
     let bundle = joined(&rt, &refused)?;
     let mut err = writer(&rt, ROOM)?;
     let input = TestReader::new(&bundle, Step::All, Then::Ends);
-    let mut status = run(rt.alloc(), &rt, NO_WORDS, input, NeverFlushed, &mut err);
+    let mut status = run(
+        rt.alloc(),
+        &rt,
+        NO_WORDS,
+        Terminals::NONE,
+        input,
+        NeverFlushed,
+        &mut err,
+    );
     if err.held() == b"out of memory\n".as_slice() {
         tell_refused(&rt);
         err = writer(&rt, ROOM)?;
-        status = run(rt.alloc(), &rt, NO_WORDS, input, NeverFlushed, &mut err);
+        status = run(
+            rt.alloc(),
+            &rt,
+            NO_WORDS,
+            Terminals::NONE,
+            input,
+            NeverFlushed,
+            &mut err,
+        );
     }
     assert_eq!(rt; status, 3);
     assert_eq!(rt; err.held(), b"device: 276 bytes written\n".as_slice());
@@ -233,7 +266,15 @@ fn flushed(rt: &HostRuntime, bundle: &[u8], room: usize) -> Option<(u8, u64)> {
     let mut out = CountsFlushes { room, flushes: 0 };
     let mut err = Expecting::just(b"out of memory\n");
     let input = TestReader::new(bundle, Step::All, Then::Ends);
-    let status = run(rt.alloc(), rt, NO_WORDS, input, &mut out, &mut err);
+    let status = run(
+        rt.alloc(),
+        rt,
+        NO_WORDS,
+        Terminals::NONE,
+        input,
+        &mut out,
+        &mut err,
+    );
     if status == 3 && err.is_met() {
         return None;
     }
@@ -260,7 +301,15 @@ fn a_failing_standard_error_is_passed_over(rt: HostRuntime) -> Result<(), Fail> 
     let mut out = writer(&rt, ROOM)?;
     let mut err = writer(&rt, 3)?;
     let input = TestReader::new(&bundle, Step::All, Then::Ends);
-    let status = run(rt.alloc(), &rt, NO_WORDS, input, &mut out, &mut err);
+    let status = run(
+        rt.alloc(),
+        &rt,
+        NO_WORDS,
+        Terminals::NONE,
+        input,
+        &mut out,
+        &mut err,
+    );
     if err.held() == b"out".as_slice() {
         tell_refused(&rt);
         return Ok(());

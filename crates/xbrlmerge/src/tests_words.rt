@@ -17,7 +17,14 @@ fn is_answered(rt: &HostRuntime, words: &[&str], front: &str) -> bool {
     ends(rt, words, 0, out, Expecting::just(b""))
 }
 
-const WRONG: [&str; 42] = [
+const WRONG: [&str; 49] = [
+    "merge --sheet s --reports-from",
+    "merge --sheet s --reports-from f --reports-from g",
+    "merge --sheet s -0 r",
+    "check --sheet s r --reports-from f",
+    "-o f",
+    "merge --sheet s -o",
+    "merge --sheet s -o f --output g",
     "replay",
     "replay --sheet s",
     "replay --sheet s --replicas 2",
@@ -154,14 +161,14 @@ const ANSWERED: [(&str, &str); 15] = [
     ("merge -h", "Writes one canonical report"),
     ("merge --help", "Writes one canonical report"),
     ("merge r --sheet s --help", "Writes one canonical report"),
-    ("help verdicts", "Tells of each row of facts"),
-    ("verdicts --help", "Tells of each row of facts"),
-    ("help check", "Tells of one report"),
-    ("check -h", "Tells of one report"),
+    ("help verdicts", "Prints a verdict for each set"),
+    ("verdicts --help", "Prints a verdict for each set"),
+    ("help check", "Counts the facts of one report"),
+    ("check -h", "Counts the facts of one report"),
     ("help replay", "Runs a schedule"),
     ("replay --help", "Runs a schedule"),
-    ("--version", "xbrlmerge 0.1.0\n"),
-    ("-V", "xbrlmerge 0.1.0\n"),
+    ("--version", "xbrlmerge 0.2.0\n"),
+    ("-V", "xbrlmerge 0.2.0\n"),
 ];
 
 #[test]

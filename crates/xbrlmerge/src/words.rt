@@ -1,10 +1,12 @@
+use crate::arguments::{OUTPUT, QUIET};
 use crate::commands::check::Check;
 use crate::commands::merge::Merge;
 use crate::commands::replay::Replay;
 use crate::commands::verdicts::Verdicts;
 use crate::commands::{check, merge, replay, verdicts};
+use crate::named::Named;
 use crate::stop::Stop;
-use crate::task::Task;
+use crate::task::{Asked, Task};
 use clap::error::ErrorKind;
 use clap::{ArgMatches, Command, Error};
 use oim_merge::Fault;
@@ -13,9 +15,9 @@ use std::convert::AsStr;
 
 const PROGRAM: &str = "xbrlmerge";
 
-const VERSION: &str = "0.1.0";
+const VERSION: &str = "0.2.0";
 
-const ABOUT: &str = "Consolidates xBRL-JSON reports, and tells where they contradict each other";
+const ABOUT: &str = "Consolidates xBRL-JSON reports, and finds where they contradict each other";
 
 const MORE: &str =
     "With no words it merges the bundle on standard input: its first line is a concept sheet, and
@@ -25,47 +27,75 @@ Example:
   cat examples/sheet.json examples/issuer.json examples/statfeed.json | xbrlmerge
 
 Status, of each command:
-  0  all was done
+  0  everything was done
   1  a report was refused, and standard error tells why
-  2  `merge` wrote nothing, since a row is above what --allow allows
-  3  it was not done, or not to the end: the words are wrong, the sheet or an event is refused, a
-     file or a device failed, or memory was refused";
+  2  `merge` wrote nothing, because a row is above what --allow allows
+  3  it was not done, or not to the end: invalid arguments, the sheet or an event is refused, a
+     file or a device failed, or out of memory";
 
 /// Reads what the words ask for, those after the program's name.
 ///
 /// Errors: `Stop::Words` where they are not those of a command, and want of memory.
-pub(crate) fn read_words<W: AsStr>(alloc: Global, words: &[W]) -> Result<Task<'_>, Stop<'_>> {
+pub(crate) fn read_words<W: AsStr>(alloc: Global, words: &[W]) -> Result<Asked<'_>, Stop<'_>> {
     if words.is_empty() {
-        return Ok(Task::Bundle);
+        return Ok(alone(alloc, Task::Bundle));
     }
-    match task_of(alloc, words) {
-        Ok(task) => Ok(task),
+    match asked(alloc, words) {
+        Ok(asked) => Ok(asked),
         Err(error) => match error.kind() {
-            ErrorKind::DisplayHelp | ErrorKind::DisplayVersion => Ok(Task::Show(error)),
+            ErrorKind::DisplayHelp | ErrorKind::DisplayVersion => {
+                Ok(alone(alloc, Task::Show(error)))
+            }
             ErrorKind::OutOfMemory => Err(Stop::Run(Fault::OutOfMemory(0))),
             _ => Err(Stop::Words(error)),
         },
     }
 }
 
-fn task_of<W: AsStr>(alloc: Global, words: &[W]) -> Result<Task<'_>, Error> {
+/// A task with no report and no file.
+fn alone(alloc: Global, task: Task<'_>) -> Asked<'_> {
+    Asked {
+        task,
+        reports: Named::none(alloc),
+        output: None,
+        is_quiet: false,
+    }
+}
+
+fn asked<W: AsStr>(alloc: Global, words: &[W]) -> Result<Asked<'_>, Error> {
     let mut program = program(alloc)?;
     let matches = program.try_get_matches_from_mut(words)?;
-    match asked(alloc, &matches)? {
-        Some(task) => Ok(task),
+    match found(alloc, &matches)? {
+        Some(asked) => Ok(asked),
         None => Err(program.error(ErrorKind::MissingSubcommand, "a command is missing")?),
     }
 }
 
 /// What was found in the words; None where they name no command.
-fn asked<'w>(alloc: Global, matches: &ArgMatches<'w>) -> Result<Option<Task<'w>>, AllocError> {
-    Ok(match matches.subcommand() {
-        Some((merge::NAME, found)) => Merge::asked(alloc, found)?.map(Task::Merge),
-        Some((verdicts::NAME, found)) => Verdicts::asked(alloc, found)?.map(Task::Verdicts),
-        Some((check::NAME, found)) => Check::asked(found).map(Task::Check),
-        Some((replay::NAME, found)) => Replay::asked(alloc, found)?.map(Task::Replay),
+fn found<'w>(alloc: Global, matches: &ArgMatches<'w>) -> Result<Option<Asked<'w>>, AllocError> {
+    let Some((name, found)) = matches.subcommand() else {
+        return Ok(None);
+    };
+    let Some(task) = task_of(name, found) else {
+        return Ok(None);
+    };
+    Ok(Some(Asked {
+        task,
+        reports: Named::found(alloc, found)?,
+        output: found.get_str(OUTPUT),
+        is_quiet: found.get_flag(QUIET),
+    }))
+}
+
+/// What a command is to do; None where there is no such command.
+fn task_of<'w>(name: &str, found: &ArgMatches<'w>) -> Option<Task<'w>> {
+    match name {
+        merge::NAME => Merge::asked(found).map(Task::Merge),
+        verdicts::NAME => Verdicts::asked(found).map(Task::Verdicts),
+        check::NAME => Check::asked(found).map(Task::Check),
+        replay::NAME => Replay::asked(found).map(Task::Replay),
         _ => None,
-    })
+    }
 }
 
 /// The program with its help, and no command yet.

@@ -1,6 +1,6 @@
 ghost use Rattle.std.specs.Prelude.{◌-◌, ◌^◌, ◌<◌};
 
-use crate::arguments::{REPORT, SHEET, report_argument, sheet_argument};
+use crate::arguments::{REPORT, SHEET, output_argument, report_argument, sheet_argument};
 use crate::files::{read_file, read_sheet};
 use crate::lines::put_checked;
 use crate::stop::Stop;
@@ -14,7 +14,7 @@ use std::rt::Files;
 /// The word of this command.
 pub(crate) const NAME: &str = "check";
 
-const ABOUT: &str = "Tells of one report how many facts it has and which duplicates are among them";
+const ABOUT: &str = "Counts the facts of one report and classifies its duplicates";
 
 const MORE: &str = "The line of an accepted report is one of
 
@@ -39,8 +39,8 @@ Example:
 Status:
   0  the report is accepted
   1  it is refused, and standard error tells why and where
-  3  it was not checked: the words are wrong, the sheet is refused, a file or a device failed,
-     or memory was refused";
+  3  it was not checked: invalid arguments, the sheet is refused, a file or a device failed,
+     or out of memory";
 
 /// The report of this file is checked under the sheet of that file.
 #[derive(Debug, Drop)]
@@ -56,6 +56,7 @@ impl<'w> Check<'w> {
             .about(ABOUT)
             .after_help(MORE)
             .arg(sheet_argument(alloc))?
+            .arg(output_argument(alloc))?
             .arg(report_argument(alloc))
     }
 

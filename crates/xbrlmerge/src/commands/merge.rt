@@ -1,7 +1,8 @@
 ghost use Rattle.std.specs.Prelude.{◌-◌, ◌^◌, ◌<◌};
 
-use crate::arguments::{REPORT, SHEET, reports_argument, sheet_argument, values_of};
-use crate::files::{read_files, read_sheet};
+use crate::arguments::{SHEET, sheet_argument, with_reports};
+use crate::files::{read_reports, read_sheet};
+use crate::progress::Progress;
 use crate::stop::Stop;
 use clap::builder::ValueParser;
 use clap::{Arg, ArgMatches, Command};
@@ -9,6 +10,7 @@ use oim_merge::{Refusals, consolidate};
 use oim_value::Level;
 use oim_write::Sink;
 use std::alloc::{AllocError, Global};
+use std::io::Write;
 use std::rt::Files;
 
 /// The word of this command.
@@ -25,7 +27,8 @@ const MORE: &str =
     "Equal facts are one, whoever reports them. The text does not depend on the order of the reports,
 nor on how often one is named. A report with a fault is passed over whole.
 
-LEVEL tells which rows the text may have. A row is the facts of the same dimensions.
+LEVEL tells which rows the text may have. A row is all facts with the same dimensions. To refuse
+contradictions, pass --allow consistent.
   none, complete  rows of one fact
   consistent      also rows of numbers whose rounding intervals meet
   all             also rows of facts that contradict each other
@@ -38,14 +41,13 @@ Status:
   1  a report was refused, and standard error tells why; the others were merged
   2  a row is above LEVEL: nothing was written, and standard error tells the number of the
      first such row, as `verdicts` counts them
-  3  nothing was merged, or not to the end: the words are wrong, the sheet is refused, a file
-     or a device failed, or memory was refused";
+  3  nothing was merged, or not to the end: invalid arguments, the sheet is refused, a file
+     or a device failed, or out of memory";
 
-/// The reports of these files are merged under the sheet of that file.
+/// Reports are merged under the sheet of this file.
 #[derive(Debug, Drop)]
 pub(crate) struct Merge<'w> {
     sheet: &'w str,
-    reports: Vec<&'w str>,
     allow: Level,
 }
 
@@ -58,47 +60,37 @@ impl<'w> Merge<'w> {
             .value_parser(ValueParser::Names(LEVELS.as_slice()))
             .default_value("all")
             .help("Which rows the text may have");
-        Command::new(alloc, NAME)
+        let command = Command::new(alloc, NAME)
             .about(ABOUT)
             .after_help(MORE)
             .arg(sheet_argument(alloc))?
-            .arg(allow)?
-            .arg(reports_argument(alloc))
+            .arg(allow)?;
+        with_reports(alloc, command)
     }
 
     /// What was found in its words; None where a word that it needs is not there.
-    pub(crate) fn asked(
-        alloc: Global,
-        found: &ArgMatches<'w>,
-    ) -> Result<Option<Merge<'w>>, AllocError> {
-        let reports = values_of(alloc, found, REPORT)?;
-        let Some(sheet) = found.get_str(SHEET) else {
-            return Ok(None);
-        };
-        let Some(allow) = found.get_str(ALLOW).and_then(Level::read) else {
-            return Ok(None);
-        };
-        Ok(Some(Merge {
-            sheet,
-            reports,
-            allow,
-        }))
+    pub(crate) fn asked(found: &ArgMatches<'w>) -> Option<Merge<'w>> {
+        let sheet = found.get_str(SHEET)?;
+        let allow = found.get_str(ALLOW).and_then(Level::read)?;
+        Some(Merge { sheet, allow })
     }
 
     /// Reads the files and writes the merged text to `out`. It answers the refused reports, by
-    /// their places among the words, from 1.
+    /// their places among the names, from 1.
     ///
     /// Errors: those of the files, of the sheet and of `consolidate`.
-    pub(crate) fn run<F: Files, S: Sink>(
+    pub(crate) fn run<F: Files, E: Write, S: Sink>(
         &self,
         alloc: Global,
         files: &F,
+        names: &[&str],
+        progress: &mut Progress<E>,
         out: &mut S,
     ) -> Result<Refusals, Stop<'w>>
         requires { S.failures out.old < 2 ^ 64 - 1 }
     {
         let sheet = read_sheet(alloc, files, self.sheet)?;
-        let reports = read_files(alloc, files, self.reports.as_slice())?;
+        let reports = read_reports(alloc, files, names, progress)?;
         Ok(consolidate(alloc, &sheet, reports.as_slice(), self.allow, out)?)
     }
 }

@@ -1,8 +1,9 @@
 ghost use Rattle.std.specs.Prelude.{◌≡◌, ◌-◌, ◌^◌, ◌<◌, OnOk};
 
-use crate::arguments::{REPORT, SHEET, reports_argument, sheet_argument, values_of};
-use crate::files::{read_file, read_files, read_sheet};
+use crate::arguments::{SHEET, sheet_argument, with_reports};
+use crate::files::{read_file, read_reports, read_sheet};
 use crate::lines::put_text;
+use crate::progress::Progress;
 use crate::stop::Stop;
 use clap::builder::ValueParser;
 use clap::{Arg, ArgMatches, Command};
@@ -10,6 +11,7 @@ use fact_base::Base;
 use oim_merge::{Fault, Refusals, read_events, replay};
 use oim_write::{Sink, write_to};
 use std::alloc::{AllocError, Global};
+use std::io::Write;
 use std::rt::Files;
 
 /// The word of this command.
@@ -48,64 +50,54 @@ Status:
   0  every event happened
   1  a report that was taken was refused, and standard error tells why, one line a take; the
      others were taken
-  3  nothing was written, or not to the end: the words are wrong, the sheet is refused, a line of
-     EVENTS is no event or names what is not there, a file or a device failed, or memory was
-     refused";
+  3  nothing was written, or not to the end: invalid arguments, the sheet is refused, a line of
+     EVENTS is no event or names what is not there, a file or a device failed, or out of memory";
 
-/// The schedule in this file is run on so many replicas, which take the reports of these files
-/// under the sheet of that file.
+/// The schedule in this file is run on so many replicas, which take reports under the sheet of that
+/// file.
 #[derive(Debug, Drop)]
 pub(crate) struct Replay<'w> {
     sheet: &'w str,
     replicas: usize,
     events: &'w str,
-    reports: Vec<&'w str>,
 }
 
 impl<'w> Replay<'w> {
     /// The words of this command, with its help.
     pub(crate) fn words(alloc: Global) -> Result<Command<'w>, AllocError> {
-        Command::new(alloc, NAME)
+        let command = Command::new(alloc, NAME)
             .about(ABOUT)
             .after_help(MORE)
             .arg(sheet_argument(alloc))?
             .arg(replicas_argument(alloc))?
-            .arg(events_argument(alloc))?
-            .arg(reports_argument(alloc))
+            .arg(events_argument(alloc))?;
+        with_reports(alloc, command)
     }
 
     /// What was found in its words; None where a word that it needs is not there.
-    pub(crate) fn asked(
-        alloc: Global,
-        found: &ArgMatches<'w>,
-    ) -> Result<Option<Replay<'w>>, AllocError> {
-        let reports = values_of(alloc, found, REPORT)?;
-        let words = (
-            found.get_str(SHEET),
-            found.get_one(REPLICAS),
-            found.get_str(EVENTS),
-        );
-        Ok(match words {
-            (Some(sheet), Some(replicas), Some(events)) => Some(Replay {
-                sheet,
-                replicas,
-                events,
-                reports,
-            }),
-            _ => None,
+    pub(crate) fn asked(found: &ArgMatches<'w>) -> Option<Replay<'w>> {
+        let sheet = found.get_str(SHEET)?;
+        let replicas = found.get_one(REPLICAS)?;
+        let events = found.get_str(EVENTS)?;
+        Some(Replay {
+            sheet,
+            replicas,
+            events,
         })
     }
 
     /// Reads the files, runs the schedule and writes the text of each replica to `out`. It answers
-    /// the refused takes, by the places of their reports among the words, from 1.
+    /// the refused takes, by the places of their reports among the names, from 1.
     ///
     /// Errors: those of the files and of the sheet; `Stop::Event` where a line is no event, which
     /// comes before any report is read, or where it names what is not there; want of memory;
     /// `Fault::Device`.
-    pub(crate) fn run<F: Files, S: Sink>(
+    pub(crate) fn run<F: Files, E: Write, S: Sink>(
         &self,
         alloc: Global,
         files: &F,
+        names: &[&str],
+        progress: &mut Progress<E>,
         out: &mut S,
     ) -> Result<Refusals, Stop<'w>>
         requires { S.failures out.old < 2 ^ 64 - 1 }
@@ -113,14 +105,14 @@ impl<'w> Replay<'w> {
         let sheet = read_sheet(alloc, files, self.sheet)?;
         let lines = read_file(alloc, files, self.events)?;
         let events = read_events(alloc, lines.as_bytes())?;
-        let reports = read_files(alloc, files, self.reports.as_slice())?;
+        let reports = read_reports(alloc, files, names, progress)?;
         let replayed = replay(alloc, &sheet, self.replicas, reports.as_slice(), &events)?;
         put_replicas(alloc, out, replayed.replicas())?;
         Ok(replayed.into_refused())
     }
 }
 
-/// How many replicas there are, which has to be told.
+/// How many replicas there are, required.
 fn replicas_argument<'w>(alloc: Global) -> Arg<'w> {
     Arg::new(alloc, REPLICAS)
         .long(REPLICAS)
@@ -130,7 +122,7 @@ fn replicas_argument<'w>(alloc: Global) -> Arg<'w> {
         .help("How many replicas there are, from 1 to 64")
 }
 
-/// The option that names the schedule, which has to be there.
+/// The option that names the schedule, required.
 fn events_argument<'w>(alloc: Global) -> Arg<'w> {
     Arg::new(alloc, EVENTS)
         .long(EVENTS)

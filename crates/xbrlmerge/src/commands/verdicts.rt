@@ -1,21 +1,25 @@
 ghost use Rattle.std.specs.Prelude.{◌-◌, ◌^◌, ◌<◌};
 
-use crate::arguments::{REPORT, SHEET, reports_argument, sheet_argument, values_of};
-use crate::files::{read_files, read_sheet};
+use crate::arguments::{SHEET, sheet_argument, with_reports};
+use crate::files::{read_reports, read_sheet};
+use crate::progress::Progress;
 use crate::stop::Stop;
 use clap::{ArgMatches, Command};
 use oim_merge::{Refusals, verdict_lines};
 use oim_write::Sink;
 use std::alloc::{AllocError, Global};
+use std::io::Write;
 use std::rt::Files;
 
 /// The word of this command.
 pub(crate) const NAME: &str = "verdicts";
 
-const ABOUT: &str = "Tells of each row of facts whether they agree, one line a row";
+const ABOUT: &str = "Prints a verdict for each set of facts with the same dimensions";
 
 const MORE: &str =
-    "A row is the facts of the same dimensions in the text that `merge` writes. Its line is one of
+    "Each line describes one row: all facts with the same dimensions in the text that `merge` writes.
+It says whether they agree exactly, agree within rounding, or contradict each other, with the
+evidence. The line is one of
 
   ROW FIRST LAST complete
   ROW FIRST LAST consistent common LOW HIGH
@@ -23,8 +27,8 @@ const MORE: &str =
 
   ROW           the number of the row, from 1
   FIRST LAST    its first and its last fact, by their identifiers in that text
-  complete      the row has one fact: all who report it say the same
-  consistent    it has several, numbers whose rounding intervals meet
+  complete      the row has one fact: all who report it agree exactly
+  consistent    it has several, numbers that agree within rounding
   LOW HIGH      the ends of what all these intervals have in common
   inconsistent  it has facts that contradict each other
   I J           two of these
@@ -35,52 +39,47 @@ Example:
 Status:
   0  every report was judged, whatever the verdicts are
   1  a report was refused, and standard error tells why; the others were judged
-  3  nothing was judged, or not to the end: the words are wrong, the sheet is refused, a file
-     or a device failed, or memory was refused";
+  3  nothing was judged, or not to the end: invalid arguments, the sheet is refused, a file
+     or a device failed, or out of memory";
 
-/// The facts of the reports of these files are judged under the sheet of that file.
+/// The facts of reports are judged under the sheet of this file.
 #[derive(Debug, Drop)]
 pub(crate) struct Verdicts<'w> {
     sheet: &'w str,
-    reports: Vec<&'w str>,
 }
 
 impl<'w> Verdicts<'w> {
     /// The words of this command, with its help.
     pub(crate) fn words(alloc: Global) -> Result<Command<'w>, AllocError> {
-        Command::new(alloc, NAME)
+        let command = Command::new(alloc, NAME)
             .about(ABOUT)
             .after_help(MORE)
-            .arg(sheet_argument(alloc))?
-            .arg(reports_argument(alloc))
+            .arg(sheet_argument(alloc))?;
+        with_reports(alloc, command)
     }
 
     /// What was found in its words; None where a word that it needs is not there.
-    pub(crate) fn asked(
-        alloc: Global,
-        found: &ArgMatches<'w>,
-    ) -> Result<Option<Verdicts<'w>>, AllocError> {
-        let reports = values_of(alloc, found, REPORT)?;
-        Ok(match found.get_str(SHEET) {
-            Some(sheet) => Some(Verdicts { sheet, reports }),
-            None => None,
-        })
+    pub(crate) fn asked(found: &ArgMatches<'w>) -> Option<Verdicts<'w>> {
+        let sheet = found.get_str(SHEET)?;
+        Some(Verdicts { sheet })
     }
 
     /// Reads the files and writes the line of each row to `out`. It answers the refused reports,
-    /// by their places among the words, from 1.
+    /// by their places among the names, from 1.
     ///
     /// Errors: those of the files, of the sheet and of `verdict_lines`.
-    pub(crate) fn run<F: Files, S: Sink>(
+    pub(crate) fn run<F: Files, E: Write, S: Sink>(
         &self,
         alloc: Global,
         files: &F,
+        names: &[&str],
+        progress: &mut Progress<E>,
         out: &mut S,
     ) -> Result<Refusals, Stop<'w>>
         requires { S.failures out.old < 2 ^ 64 - 1 }
     {
         let sheet = read_sheet(alloc, files, self.sheet)?;
-        let reports = read_files(alloc, files, self.reports.as_slice())?;
+        let reports = read_reports(alloc, files, names, progress)?;
         Ok(verdict_lines(alloc, &sheet, reports.as_slice(), out)?)
     }
 }

@@ -10,10 +10,12 @@ const OTHER_INFO: &str =
     r#"{"documentInfo":{"documentType":"https://xbrl.org/2021/xbrl-json","namespaces":{"zz":"http://example.org/t"}},"facts":{"#;
 
 /// Each file's name and text, which is in two parts. `zz` says what `100` says, by another prefix.
-const FILES: [(&str, &str, &str); 19] = [
+const FILES: [(&str, &str, &str); 21] = [
     ("sheet", "", SHEET),
     ("empty", "", ""),
     ("list", "", "[]"),
+    ("names", "101\n", "\n100\n"),
+    ("ended", "101\0", "100"),
     (
         "mail",
         "take 1 1\nsend 1\ntake 2 2\n",

@@ -23,7 +23,7 @@ const A_FOLDER: &str = "file .: cannot be read\n";
 const EMPTY: &[&str] = &[HEAD, MIDDLE_ALONE, END];
 
 /// The text of 100.
-const ONE: &[&str] = &[HEAD, ONE_URI, MIDDLE, WRITTEN_HUNDRED, END];
+pub(super) const ONE: &[&str] = &[HEAD, ONE_URI, MIDDLE, WRITTEN_HUNDRED, END];
 
 pub(super) const FIRST: &str =
     r#""f1":{"decimals":0,"dimensions":{"concept":"n1:A"},"value":"100"},"f2":{"decimals":0,"dimensions":{"concept":"n1:A"},"value":"#;
@@ -171,6 +171,82 @@ pub(super) const CHECKED: [Row; 7] = [
         "report 1: 13 UnboundPrefix at fact 1\n",
     ),
     ("check --sheet sheet empty", 1, &[], NOT_JSON),
+];
+
+/// The words name a file in place of standard output. Those that end with status 2 or 3 leave it.
+pub(super) const WRITTEN: [Row; 6] = [
+    ("merge --sheet sheet empty 100 -o out", 1, &[], NOT_JSON),
+    (
+        "merge --sheet sheet 100 101 --allow none -o out",
+        2,
+        &[],
+        TOO_LOOSE,
+    ),
+    ("verdicts --sheet sheet 100 none -o out", 3, &[], NOT_READ),
+    ("merge --sheet sheet --output=out -- out", 0, &[], ""),
+    (
+        "check --sheet sheet 100 -o .",
+        3,
+        &[],
+        "file .: cannot be written\n",
+    ),
+    (
+        "merge --sheet sheet -o none/out",
+        3,
+        &[],
+        "file none/out: cannot be written\n",
+    ),
+];
+
+/// What a terminal shows of reports that are read.
+pub(super) const SHOWN: [(&str, &str); 2] = [
+    (
+        "verdicts --sheet sheet 100 101",
+        "\r0 of 2 reports, 0 MB\r1 of 2 reports, 0 MB\r\x1b[K",
+    ),
+    ("merge --sheet sheet 100 --quiet", ""),
+];
+
+/// A file names reports, which come behind those of the words.
+pub(super) const LISTED: [Row; 8] = [
+    ("merge --sheet sheet --reports-from names", 0, BOTH, ""),
+    ("merge --sheet sheet -0 --reports-from ended", 0, BOTH, ""),
+    (
+        "verdicts --sheet sheet 100 unbound --reports-from names",
+        1,
+        TOUCHING,
+        SECOND,
+    ),
+    (
+        "merge --sheet sheet 100 --reports-from empty --null",
+        0,
+        ONE,
+        "",
+    ),
+    (
+        "merge --sheet sheet --reports-from empty",
+        3,
+        &[],
+        "file empty: names no report\n",
+    ),
+    (
+        "merge --sheet sheet --reports-from ended",
+        3,
+        &[],
+        "file 101\0100: cannot be read\n",
+    ),
+    (
+        "verdicts --sheet sheet --reports-from none",
+        3,
+        &[],
+        NOT_READ,
+    ),
+    (
+        "merge --sheet list --reports-from -",
+        3,
+        &[],
+        "file -: cannot be read\n",
+    ),
 ];
 
 /// A file or the sheet stops the program, and nothing else is said.

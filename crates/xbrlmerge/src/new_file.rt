@@ -1,0 +1,87 @@
+use crate::stop::Stop;
+use std::alloc::{AllocError, Global};
+use std::fs::{self, File, OpenFile, Permissions};
+use std::io::{self, ErrorKind, Write};
+use std::rt::Files;
+
+/// How many names are tried for a file beside another: runs that go on in one folder, and files
+/// that a run left which a signal ended.
+const MOST_NAMES: u32 = 1_000;
+
+/// A new file, with its name.
+pub(crate) type Named<F> = (String, F);
+
+/// Makes a new file in the folder of the file of this name, to be put in its place, and with its
+/// mode where that is there.
+///
+/// Errors: `Stop::Unwritten` where there can be none, or where the name is of a symbolic link, or of
+/// what is no regular file; want of memory.
+pub(crate) fn new_beside<'w, F: Files>(
+    alloc: Global,
+    files: &F,
+    name: &'w str,
+) -> Result<Named<F::File>, Stop<'w>> {
+    let kept = old_mode(files, name)?;
+    let Some((beside, file)) = first_new(alloc, files, name)? else {
+        return Err(Stop::Unwritten(name));
+    };
+    if let Some(mode) = kept {
+        if file.set_permissions(mode).is_err() {
+            remove(files, &beside);
+            return Err(Stop::Unwritten(name));
+        }
+    }
+    Ok((beside, file))
+}
+
+/// Puts the file that has this name, and is written, in the place of another.
+pub(crate) fn put_in_place<F: Files>(
+    files: &F,
+    mut file: F::File,
+    beside: &str,
+    name: &str,
+) -> io::Result<()> {
+    file.flush()?;
+    file.sync_all()?;
+    fs::rename(files, beside, name)
+}
+
+/// Removes a file, if that can be done.
+pub(crate) fn remove<F: Files>(files: &F, name: &str) {
+    let _ = fs::remove_file(files, name);
+}
+
+/// The mode of the regular file of this name, if there is one.
+///
+/// Errors: `Stop::Unwritten` where something else has that name, or none can have it.
+fn old_mode<'w, F: Files>(files: &F, name: &'w str) -> Result<Option<Permissions>, Stop<'w>> {
+    match fs::symlink_metadata(files, name) {
+        Ok(old) if old.is_file() => Ok(Some(old.permissions())),
+        Err(fault) if fault.kind() == ErrorKind::NotFound && !name.is_empty() => Ok(None),
+        _ => Err(Stop::Unwritten(name)),
+    }
+}
+
+/// The first file that can be made new beside this one, by a number in its name.
+fn first_new<F: Files>(
+    alloc: Global,
+    files: &F,
+    name: &str,
+) -> Result<Option<Named<F::File>>, AllocError> {
+    for number in 0..MOST_NAMES {
+        let beside = name_beside(alloc, name, number)?;
+        match File::create_new(files, beside.as_str()) {
+            Ok(file) => return Ok(Some((beside, file))),
+            Err(fault) if fault.kind() == ErrorKind::AlreadyExists => {}
+            Err(_) => break,
+        }
+    }
+    Ok(None)
+}
+
+fn name_beside(alloc: Global, name: &str, number: u32) -> Result<String, AllocError> {
+    match name.rsplit_once('/') {
+        Some((folder, _)) => format!(in alloc; "{folder}/.xbrlmerge-{number}"),
+        None => format!(in alloc; ".xbrlmerge-{number}"),
+    }
+}

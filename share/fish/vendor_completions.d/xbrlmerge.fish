@@ -1,0 +1,16 @@
+# What fish completes behind `xbrlmerge`. Written by hand; tests/words compares it with the program.
+# ./build --install PREFIX puts it in place; by hand, copy it to ~/.config/fish/completions/
+
+complete -c xbrlmerge -n __fish_use_subcommand -f -a 'merge verdicts check replay help'
+complete -c xbrlmerge -n __fish_use_subcommand -s h -l help -d 'Print help'
+complete -c xbrlmerge -n __fish_use_subcommand -s V -l version -d 'Print version'
+complete -c xbrlmerge -n '__fish_seen_subcommand_from help' -f -a 'merge verdicts check replay help'
+complete -c xbrlmerge -n '__fish_seen_subcommand_from merge verdicts check replay' -s h -l help -d 'Print help'
+complete -c xbrlmerge -n '__fish_seen_subcommand_from merge verdicts check replay' -l sheet -r -F -d 'The file of the concept sheet'
+complete -c xbrlmerge -n '__fish_seen_subcommand_from merge verdicts check replay' -s o -l output -r -F -d 'Write to this file, whole or not at all'
+complete -c xbrlmerge -n '__fish_seen_subcommand_from merge verdicts replay' -l reports-from -r -F -d 'Also read the reports that this file names'
+complete -c xbrlmerge -n '__fish_seen_subcommand_from merge verdicts replay' -s 0 -l null -d 'These names end with NUL'
+complete -c xbrlmerge -n '__fish_seen_subcommand_from merge verdicts replay' -l quiet -d 'Do not tell how many reports were read'
+complete -c xbrlmerge -n '__fish_seen_subcommand_from merge' -l allow -x -a 'none complete consistent all' -d 'Which rows the text may have'
+complete -c xbrlmerge -n '__fish_seen_subcommand_from replay' -l replicas -x -d 'How many replicas there are'
+complete -c xbrlmerge -n '__fish_seen_subcommand_from replay' -l events -r -F -d 'The file of the schedule'
