@@ -2,7 +2,7 @@ mod made;
 mod replayed;
 mod rows;
 
-use crate::asked_again::{joined, tell_refused};
+use crate::asked_again::{joined, tell_refused, tell_refused_here};
 use crate::devices::{FullAfter, NeverFlushed, Step, TestReader, Then};
 use crate::expecting::Expecting;
 use crate::ran::{ends, stops, words_of};
@@ -78,9 +78,18 @@ fn are_unheard(rt: &HostRuntime, rows: &[Row]) -> Result<bool, Fail> {
     Ok(all)
 }
 
+/// The bytes of a file; the test's own request for memory may be refused once.
+fn content(rt: &HostRuntime, name: &str) -> Result<Vec<u8>, Fail> {
+    if let Ok(held) = fs::read(rt, name) {
+        return Ok(held);
+    }
+    tell_refused_here(rt);
+    Ok(fs::read(rt, name)?)
+}
+
 fn holds(rt: &HostRuntime, name: &str, parts: &[&str]) -> Result<bool, Fail> {
     let text = joined(rt, parts)?;
-    let held = fs::read(rt, name)?;
+    let held = content(rt, name)?;
     Ok(held.as_slice() == text.as_slice())
 }
 
