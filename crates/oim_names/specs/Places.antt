@@ -8,7 +8,7 @@ byte_from_end t back = slice_index_or t (length t - back) 0
 
 -- the class of a text, by its length and its last four bytes
 unfoldable pub text_class : List ℕ → ℕ
-text_class t = (length t % 512 + 31 * (byte_from_end t 1 + 31 * (byte_from_end t 2 + 31 * (byte_from_end t 3 + 31 * byte_from_end t 4)))) % 512
+text_class t = (length t % 2048 + 31 * (byte_from_end t 1 + 31 * (byte_from_end t 2 + 31 * (byte_from_end t 3 + 31 * byte_from_end t 4)))) % 2048
 
 -- the place of a text's class
 abbrev pub place_in : List ℕ → List ℕ → ℕ

@@ -4,7 +4,7 @@ ghost use Rattle.oim_names.specs.Places.{byte_from_end, place_in, text_class};
 use std::marker::Model;
 
 /// How many classes of texts there are.
-const CLASSES: usize = 512;
+const CLASSES: usize = 2048;
 
 /// Where texts of each class were put last. It is a hint that is right for most: a place may be that
 /// of another text of the class, or of none, so whoever asks for one looks at what is there.
