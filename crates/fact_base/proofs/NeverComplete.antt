@@ -8,7 +8,7 @@ use Rattle.std.specs.declared.cmp.Ordering.TheVariants.{Less, Equal, Greater}
 use Rattle.std.proofs.lemmas.Bool.{false≢true, and_from, and_parts}
 use Rattle.merge_laws.specs.Sorted.{IsSet}
 use Rattle.oim_value.specs.ValueOrder.{value_cmp}
-use Rattle.oim_value.specs.declared.level.Level.TheVariants.{Unique, Complete, Consistent, All as AllLevel}
+use Rattle.oim_value.specs.declared.level.Level.TheVariants.{Unique, Complete, Consistent}
 use Rattle.oim_dims.specs.FactOrder.{dimensions_cmp, fact_cmp}
 use Rattle.oim_dims.specs.declared.fact.Fact.{Fact}
 use Rattle.oim_report.specs.Duplicates.{allows, allows_each}

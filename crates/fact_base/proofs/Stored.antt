@@ -1,18 +1,24 @@
 -- What is stored once more is taken.
-use Rattle.std.proofs.Common.{◌≡◌, ℕ, List, [], ◌∷◌, ◌++◌, append-nil, append_assoc, ◌<◌, ◌≤◌, ◌+◌, length, take, get_or, false, Result, Ok, Err, sym, ap, subst, ◌∙◌, inl, inr, ⊎_elim, arith}
-use Rattle.std.specs.Prelude.{Contains}
+use Rattle.std.proofs.Common.{◌≡◌, ℕ, List, [], ◌∷◌, ◌++◌, append-nil, length, get_or, false, Result, Ok, Err, sym, ap, subst, ◌∙◌, inl, inr, ⊎_elim, arith}
+use Rattle.std.specs.Prelude.{Contains, IsPermutation}
 use mathlib.Core.Bool.{true≢false}
 use Rattle.std.specs.Prelude.{IfOk}
 use Rattle.std.specs.Result.{is_err}
-use Rattle.std.specs.List.{All, HoldsAt}
-use Rattle.std.specs.List.Sorted.{IsSearchInRange}
+use Rattle.std.specs.List.{All, HoldsAt, dedup}
+use Rattle.std.specs.List.Sorted.{IsSearchInRange, IsSorted}
+use Rattle.std.specs.Ordering.{eq_by_cmp}
+use Rattle.std.specs.Str.{bytes_eq}
 use Rattle.std.specs.declared.cmp.Ordering.TheVariants.{Equal}
-use Rattle.std.proofs.lemmas.List.{take_more}
+use Rattle.std.proofs.lemmas.Cmp.{nat_list_eq_equiv}
+use Rattle.std.proofs.lemmas.List.Kept.{Contains-dedup, Contains-from_dedup, IsStrictlySortedBy-dedup}
+use Rattle.std.proofs.lemmas.List.Sorted.{Contains-permutation, IsPermutation-sym}
+use Rattle.std.proofs.lemmas.Map.Text.{is_eq-slice_cmp}
+use Rattle.oim_names.proofs.Bytes.{same_bytes}
 use Rattle.merge_laws.specs.Members.{SameMembers}
 use Rattle.merge_laws.specs.Sorted.{IsRising, IsSet, entry_key, itself}
 use Rattle.merge_laws.proofs.Rising.{none_rise}
-use Rattle.merge_laws.specs.Union.{map_union, set_with}
-use Rattle.merge_laws.proofs.Both.{map_union_has_both}
+use Rattle.merge_laws.specs.Union.{map_union, set_union}
+use Rattle.merge_laws.proofs.Both.{map_union_has_both, set_union_has_both}
 use Rattle.oim_dims.specs.FactOrder.{dimensions_cmp, fact_cmp}
 use Rattle.oim_dims.specs.declared.fact.Fact.{Fact}
 use Rattle.oim_dims.proofs.Orders.{dimensions_cmp_total, fact_cmp_exact, fact_cmp_total}
@@ -24,7 +30,7 @@ use Rattle.fact_base.specs.Body.{Body, body, text_cmp, union}
 use Rattle.fact_base.specs.Entries.{AreEntriesOf, AreStored, Entry, EntryFits, facts_of_entries, facts_of_entry, summed_of_both}
 use Rattle.fact_base.specs.Fits.{Fits}
 use Rattle.fact_base.specs.Sets.{set_of}
-use Rattle.fact_base.proofs.Members.{each_by_there, each_there, first_or_later, first_there, in_flat_map, in_one_of_both, later_there, none_there, to_the_end}
+use Rattle.fact_base.proofs.Members.{each_by_there, each_there, in_flat_map, in_one_of_both}
 use Rattle.fact_base.proofs.Sets.{is_set_of, same_sets, set_of_is_set}
 use Rattle.fact_base.proofs.TextOrder.{text_cmp_exact, text_cmp_total}
 use Rattle.fact_base.proofs.Unions.{Fit, all_fit_together, fit_in_order, rises, union_facts}
@@ -86,10 +92,7 @@ taken sheet es ds references wider d stored are fit is =
       λ h. subst (λ rs. Contains rs r) (append-nil d.references) ((kept.members r).0 h),
     ))))
 
--- ---- references that are added one by one
-
-pub none_added : (references : List (List ℕ)) → IsSet text_cmp references → references ≡ set_of text_cmp (references ++ [])
-none_added references rise = is_set_of text_cmp_total text_cmp_exact references (references ++ []) rise (λ r. (λ h. subst (λ rs. Contains rs r) (sym (append-nil references)) h, λ h. subst (λ rs. Contains rs r) (append-nil references) h))
+-- ---- references among which others go
 
 pub all_there : (references others : List (List ℕ)) → IsSet text_cmp references → All (Contains references) others → references ≡ set_of text_cmp (references ++ others)
 all_there references others rise all = is_set_of text_cmp_total text_cmp_exact references (references ++ others) rise (λ r. (
@@ -97,21 +100,29 @@ all_there references others rise all = is_set_of text_cmp_total text_cmp_exact r
   λ h. ⊎_elim (λ l. l) (each_there (Contains references) others r all) ((in_one_of_both references others r).0 h),
 ))
 
-pub one_added : (rs : List (List ℕ)) (r : List ℕ) → set_of text_cmp (r ∷ rs) ≡ set_of text_cmp (rs ++ r ∷ [])
-one_added rs r = same_sets text_cmp_total text_cmp_exact (r ∷ rs) (rs ++ r ∷ []) (λ q. (
-  λ h. (in_one_of_both rs (r ∷ []) q).1 (⊎_elim (λ is. inr (subst (Contains (r ∷ [])) is (first_there r []))) inl (first_or_later r rs q h)),
-  λ h. ⊎_elim (later_there r rs q) (λ o. ⊎_elim (λ is. subst (Contains (r ∷ rs)) is (first_there r rs)) (none_there q) (first_or_later r [] q o)) ((in_one_of_both rs (r ∷ []) q).0 h),
-))
+-- the set of others among references in order
+pub set_among : (references others : List (List ℕ)) → IsSet text_cmp references → set_union text_cmp references (set_of text_cmp others) ≡ set_of text_cmp (references ++ others)
+set_among references others rise =
+    let set = set_of_is_set text_cmp_total text_cmp_exact others in
+    let both = set_union_has_both text_cmp_total text_cmp_exact references (set_of text_cmp others) rise set.rises in
+    is_set_of text_cmp_total text_cmp_exact (set_union text_cmp references (set_of text_cmp others)) (references ++ others) both.rises (λ r. (
+      λ h. (in_one_of_both references others r).1 (⊎_elim inl (λ o. inr ((set.members r).0 o)) ((both.members r).0 h)),
+      λ h. (both.members r).1 (⊎_elim inl (λ o. inr ((set.members r).1 o)) ((in_one_of_both references others r).0 h)),
+    ))
 
-pub added_further : (references others : List (List ℕ)) (i : ℕ) (r : List ℕ) (old new : List (List ℕ)) → i < length others → r ≡ get_or others i r → old ≡ set_of text_cmp (references ++ take i others) → new ≡ set_with text_cmp r old → new ≡ set_of text_cmp (references ++ take (i + 1) others)
-unfolding set_of
-added_further references others i r old new within is so_far put =
-    put ∙ ap (set_with text_cmp r) so_far
-    ∙ one_added (references ++ take i others) r
-    ∙ ap (set_of text_cmp) (append_assoc references (take i others) (r ∷ []) ∙ ap (λ rs. references ++ rs) (sym (take_more others i r within ∙ ap (λ q. take i others ++ q ∷ []) (sym is))))
+-- texts that were put in order, each once, are the set of them
+same_bytes_tie : (x y : List ℕ) → bytes_eq x y ≡ eq_by_cmp text_cmp x y
+same_bytes_tie x y = sym (is_eq-slice_cmp x y)
 
-pub all_added : (references others : List (List ℕ)) (i : ℕ) (wider : List (List ℕ)) → length others ≤ i → wider ≡ set_of text_cmp (references ++ take i others) → wider ≡ set_of text_cmp (references ++ others)
-all_added references others i wider past so_far = so_far ∙ ap (λ rs. set_of text_cmp (references ++ rs)) (to_the_end others i past)
+pub sorted_rises : (sorted once : List (List ℕ)) → IsSorted text_cmp sorted → once ≡ dedup bytes_eq sorted → IsSet text_cmp once
+sorted_rises sorted once in_order is = subst (IsSet text_cmp) (sym is) (IsStrictlySortedBy-dedup text_cmp_total same_bytes_tie sorted in_order)
+
+pub sorted_set : (texts sorted once : List (List ℕ)) → IsPermutation texts sorted → IsSorted text_cmp sorted → once ≡ dedup bytes_eq sorted → once ≡ set_of text_cmp texts
+sorted_set texts sorted once moved in_order is =
+    is_set_of text_cmp_total text_cmp_exact once texts (sorted_rises sorted once in_order is) (λ t. (
+      λ h. Contains-permutation sorted texts t (IsPermutation-sym texts sorted moved) (Contains-from_dedup bytes_eq sorted t (subst (λ ts. Contains ts t) is h)),
+      λ h. subst (λ ts. Contains ts t) (sym is) (Contains-dedup nat_list_eq_equiv (λ x y same. same_bytes x y same) sorted t (Contains-permutation texts sorted t moved h)),
+    ))
 
 -- ---- a text that is found
 

@@ -8,7 +8,7 @@ use oim_names::{Copied, Text};
 use std::alloc::{AllocError, Global};
 
 /// The references with others among them; None where none of these is new. The references are
-/// copied only where one is.
+/// copied only where one is, and the others, in whatever order they come, go among them at once.
 pub(crate) fn with_all(
     alloc: Global,
     references: &SortedSet<Text>,
@@ -21,10 +21,28 @@ pub(crate) fn with_all(
         return Ok(None);
     }
     let mut wider = references.copied(alloc)?;
-    for other in others {
-        wider.insert(other)?;
-    }
+    wider.absorb(set_of(alloc, others)?)?;
     Ok(Some(wider))
+}
+
+// The texts in order, each once.
+fn set_of(alloc: Global, texts: &[Text]) -> Result<SortedSet<Text>, AllocError>
+    ensures { IfOk result (λ set. set ≡ set_of text_cmp texts.now) }
+{
+    let mut items = copies_of(alloc, texts)?;
+    items.sort_unstable();
+    items.dedup();
+    Ok(SortedSet::of_rising(items))
+}
+
+fn copies_of(alloc: Global, texts: &[Text]) -> Result<Vec<Text>, AllocError>
+    ensures { IfOk result (λ copies. copies.items ≡ texts.now) }
+{
+    let mut copies = Vec::with_capacity(alloc, texts.len())?;
+    for text in texts {
+        copies.push_reserved(text.copied(alloc)?);
+    }
+    Ok(copies)
 }
 
 // Whether none of the others is new to references in order.

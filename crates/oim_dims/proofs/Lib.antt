@@ -7,6 +7,7 @@ pub mod Periods
 pub mod Sides
 pub mod Naming
 pub mod Places
+pub mod Rising
 pub mod Products
 pub mod SortedOnce
 pub mod OneUnit

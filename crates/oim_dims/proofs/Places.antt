@@ -20,7 +20,7 @@ pub record IsPast (n : QName) (es : List (QName × Member)) (i : ℕ) : Type 0 w
   pub none : has_name n es ≡ has_name n (drop i es)
   pub rising : rises (drop i es) ≡ true
 
-less_is : (o : Ordering) → is_lt o ≡ true → o ≡ Less
+pub less_is : (o : Ordering) → is_lt o ≡ true → o ≡ Less
 less_is Less h = refl
 less_is Equal h = cc
 less_is Greater h = cc
@@ -40,7 +40,7 @@ below_here n es i e within is less h =
     let rest = and_parts (is_below e.0 (drop (suc i) es)) (rises (drop (suc i) es)) (rw here at h.rising) in
     h.none ∙ rw (here, less) (below_none n e.0 (drop (suc i) es) less rest.0)
 
-below_all : (n k : QName) (es : List (QName × Member)) → name_cmp n k ≡ Less → is_below k es ≡ true → is_below n es ≡ true
+pub below_all : (n k : QName) (es : List (QName × Member)) → name_cmp n k ≡ Less → is_below k es ≡ true → is_below n es ≡ true
 below_all n k [] less h = refl
 below_all n k (e ∷ es) less h =
     let b = and_parts (is_lt (name_cmp k e.0)) (is_below k es) h in
@@ -117,7 +117,7 @@ head_is e f es is = (0, omega arith, is)
 tail_has : (e f : QName × Member) (es : List (QName × Member)) → Contains es f → Contains (e ∷ es) f
 tail_has e f es c = (suc c.0, omega (arith, c.1), c.2)
 
-old_or_new : (n : QName) (m : Member) (f : QName × Member) (es : List (QName × Member)) → Contains (with_member n m es) f → Contains es f ⊎ (f ≡ (n, m))
+pub old_or_new : (n : QName) (m : Member) (f : QName × Member) (es : List (QName × Member)) → Contains (with_member n m es) f → Contains es f ⊎ (f ≡ (n, m))
 old_or_new n m f [] c = elim (head_or_tail (n, m) f [] c) [ inl is ↦ inr (sym is) | inr none ↦ absurd (omega (arith, none.1)) ]
 old_or_new n m f (e ∷ es) c =
     elim (is_lt (name_cmp n e.0)) as (λ b. Contains (if b then (n, m) ∷ e ∷ es else e ∷ with_member n m es) f → Contains (e ∷ es) f ⊎ (f ≡ (n, m))) [
@@ -128,7 +128,7 @@ old_or_new n m f (e ∷ es) c =
       ]
     ] c
 
-old_is_kept : (n : QName) (m : Member) (f : QName × Member) (es : List (QName × Member)) → Contains es f → Contains (with_member n m es) f
+pub old_is_kept : (n : QName) (m : Member) (f : QName × Member) (es : List (QName × Member)) → Contains es f → Contains (with_member n m es) f
 old_is_kept n m f [] c = absurd (omega (arith, c.1))
 old_is_kept n m f (e ∷ es) c =
     elim (is_lt (name_cmp n e.0)) as (λ b. Contains (if b then (n, m) ∷ e ∷ es else e ∷ with_member n m es) f) [
@@ -136,7 +136,7 @@ old_is_kept n m f (e ∷ es) c =
       | false ↦ elim (head_or_tail e f es c) [ inl is ↦ head_is e f (with_member n m es) is | inr old ↦ tail_has e f (with_member n m es) (old_is_kept n m f es old) ]
     ]
 
-new_is_there : (n : QName) (m : Member) (es : List (QName × Member)) → Contains (with_member n m es) (n, m)
+pub new_is_there : (n : QName) (m : Member) (es : List (QName × Member)) → Contains (with_member n m es) (n, m)
 new_is_there n m [] = head_is (n, m) (n, m) [] refl
 new_is_there n m (e ∷ es) =
     elim (is_lt (name_cmp n e.0)) as (λ b. Contains (if b then (n, m) ∷ e ∷ es else e ∷ with_member n m es) (n, m)) [

@@ -1,5 +1,5 @@
 -- What a fact is about (OIM Common 1.0, dimensions; xBRL-JSON 1.0, the core dimensions).
-use Rattle.std.specs.Prelude.{◌≡◌, ◌⊎◌, ◌↔◌, ℕ, Bool, true, ◌&&◌, if◌then◌else◌, List, [], ◌∷◌, Option, Contains, IsTrue, IfSome}
+use Rattle.std.specs.Prelude.{◌≡◌, ◌⊎◌, ◌↔◌, ℕ, Bool, true, false, ◌&&◌, ◌||◌, if◌then◌else◌, List, [], ◌∷◌, Option, Contains, IsTrue, IfSome}
 use Rattle.std.specs.List.{list_any}
 use Rattle.std.specs.Ordering.{is_lt, is_eq}
 use Rattle.oim_names.specs.QName.{QName}
@@ -22,6 +22,11 @@ rises (e ∷ es) = is_below e.0 es && rises es
 -- whether one of them has the name
 abbrev pub has_name : QName → List (QName × Member) → Bool
 has_name n es = list_any (λ e. is_eq (name_cmp n e.0)) es
+
+-- whether one of the names comes again
+abbrev pub repeats : List (QName × Member) → Bool
+repeats [] = false
+repeats (e ∷ es) = has_name e.0 es || repeats es
 
 -- with one more, in the order of names
 abbrev pub with_member : QName → Member → List (QName × Member) → List (QName × Member)

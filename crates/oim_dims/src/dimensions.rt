@@ -1,9 +1,9 @@
-ghost use Rattle.std.specs.Prelude.{◌≡◌, ◌≤◌, ◌⊎◌, ◌↔◌, [], true, None, Some, length, IsTrue, IfErr, IfSome, OnOk, OnErr};
+ghost use Rattle.std.specs.Prelude.{◌≡◌, ◌≤◌, ◌⊎◌, ◌↔◌, [], true, None, Some, length, IsTrue, IsPermutation, IfErr, IfSome, OnOk, OnErr};
 ghost use Rattle.std.specs.List.{insert};
 ghost use Rattle.std.specs.Option.{option_copied};
 ghost use Rattle.oim_dims.specs.declared.period.Period.TheVariants.{Forever};
 ghost use Rattle.oim_dims.specs.declared.member.Member.{Member as AMember};
-ghost use Rattle.oim_dims.specs.DimensionSet.{rises, has_name, with_member, IsDimensionSet};
+ghost use Rattle.oim_dims.specs.DimensionSet.{rises, repeats, has_name, with_member, IsDimensionSet};
 
 use crate::member::Member;
 use crate::period::Period;
@@ -155,6 +155,43 @@ impl Dimensions {
             None => Err(Reason::DimensionValue),
         }
     }
+
+    /// Gives it these taxonomy-defined dimensions with their members, which may stand in any order, in
+    /// place of those that it has. After an error nothing has changed. It takes no memory.
+    ///
+    /// Errors: `DimensionValue` exactly where one of the dimensions comes again.
+    pub fn set_members(&mut self, mut members: Vec<(Name, Member)>) -> Result<(), Reason>
+        ensures members { OnOk result (IsPermutation members.items self.new.members) }
+        ensures sorted { OnOk result (IsTrue (rises self.new.members)) }
+        ensures others { self.new ≡ record self.old { members = self.new.members } }
+        ensures refused { (result ≡ Err Reason.DimensionValue) ↔ IsTrue (repeats members.items) }
+        ensures errors { IfErr result (λ e. e ≡ Reason.DimensionValue) }
+        ensures err { OnErr result (self.new ≡ self.old) }
+    {
+        members.sort_unstable();
+        if !do_names_rise(members.as_slice()) {
+            return Err(Reason::DimensionValue);
+        }
+        self.members = Sequence::new(members);
+        Ok(())
+    }
+}
+
+// Whether each name is below the next one.
+fn do_names_rise(members: &[(Name, Member)]) -> bool
+    ensures { result ≡ rises members.now }
+{
+    let Some((first, rest)) = members.split_first() else {
+        return true;
+    };
+    let mut last = first;
+    for member in rest {
+        if !last.0.cmp(&member.0).is_lt() {
+            return false;
+        }
+        last = member;
+    }
+    true
 }
 
 // Where the name goes, or `None` where it is there.

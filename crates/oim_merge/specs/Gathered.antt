@@ -2,7 +2,7 @@
 use Rattle.std.specs.Prelude.{◌≡◌, List, [], ◌∷◌, ◌++◌}
 use Rattle.oim_report.specs.Document.{Document}
 use Rattle.oim_report.specs.Sheet.{Sheet}
-use Rattle.fact_base.specs.Body.{body}
+use Rattle.fact_base.specs.Body.{Body, body, union}
 use Rattle.fact_base.specs.Contents.{Contents}
 
 -- the base that took these documents
@@ -17,3 +17,8 @@ AreBasesOf sheet docs (b ∷ bs) = (first rest : List Document) × ((docs ≡ fi
 -- bases that took some documents
 abbrev pub AreBases : Sheet → List Contents → Type 0
 AreBases sheet bases = (docs : List Document) × AreBasesOf sheet docs bases
+
+-- what bases say in all
+abbrev pub body_in : List Contents → Body
+body_in [] = body []
+body_in (b ∷ bs) = union b.body (body_in bs)

@@ -1,5 +1,6 @@
 pub mod Bundle
 pub mod Reports
+pub mod Added
 pub mod Above
 pub mod Run
 pub mod Gathered

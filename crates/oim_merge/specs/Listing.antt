@@ -35,14 +35,23 @@ pub record BreaksLines (b : Body) (old new : Option (List ℕ)) (before : Pendin
   pub lines : AreLines b text
   pub broken : Breaks old new before text written
 
--- the lines of what the accepted reports say were appended, and the refused ones were told
-pub record ListsVerdicts (sheet : Sheet) (reports : List (List ℕ)) (old new : Option (List ℕ)) (told : List (ℕ × Refusal)) : Type 0 where
-  pub refusals_are : told ≡ refused sheet reports
-  pub lines : AppendsLines (merged sheet reports) old new
+-- its lines were appended, and these refusals were told
+pub record Lists (b : Body) (refusals : List (ℕ × Refusal)) (old new : Option (List ℕ)) (told : List (ℕ × Refusal)) : Type 0 where
+  pub refusals_are : told ≡ refusals
+  pub lines : AppendsLines b old new
 
 -- what a fault leaves behind
+abbrev pub ListStops : Body → Option (List ℕ) → Option (List ℕ) → Fault → Type 0
+ListStops b old new (OutOfMemory written) = StopsBefore old new written ⊎ AppendsFrontOfLines b old new written
+ListStops b old new (Device written) = AppendsFrontOfLines b old new written
+ListStops b old new (TooLoose row told) = ⊥
+ListStops b old new (SheetFault reason) = ⊥
+
+-- ---- reports
+
+-- the lines of what the accepted reports say were appended, and the refused ones were told
+abbrev pub ListsVerdicts : Sheet → List (List ℕ) → Option (List ℕ) → Option (List ℕ) → List (ℕ × Refusal) → Type 0
+ListsVerdicts sheet reports = Lists (merged sheet reports) (refused sheet reports)
+
 abbrev pub ListingStops : Sheet → List (List ℕ) → Option (List ℕ) → Option (List ℕ) → Fault → Type 0
-ListingStops sheet reports old new (OutOfMemory written) = StopsBefore old new written ⊎ AppendsFrontOfLines (merged sheet reports) old new written
-ListingStops sheet reports old new (Device written) = AppendsFrontOfLines (merged sheet reports) old new written
-ListingStops sheet reports old new (TooLoose row told) = ⊥
-ListingStops sheet reports old new (SheetFault reason) = ⊥
+ListingStops sheet reports = ListStops (merged sheet reports)

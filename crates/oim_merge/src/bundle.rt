@@ -1,14 +1,11 @@
 ghost use Rattle.std.specs.Prelude.{◌≡◌, ◌-◌, ◌^◌, ◌<◌, IfOk, IfErr};
+ghost use Rattle.oim_merge.specs.Added.{added};
 ghost use Rattle.oim_merge.specs.Bundle.{filled_pieces};
-ghost use Rattle.oim_merge.specs.Gathered.{base_of};
-ghost use Rattle.oim_merge.specs.Reports.{accepted, refused};
 ghost use Rattle.oim_merge.specs.Run.{BundleStops, ConsolidatesBundle, failures_after_run};
 
-use crate::consolidation::write_within;
 use crate::fault::Fault;
 use crate::line_cut::cut_line;
-use crate::merged::Merged;
-use crate::merging::Merging;
+use crate::merging::Consolidation;
 use crate::refusals::Refusals;
 use oim_names::Reason;
 use oim_report::Sheet;
@@ -38,27 +35,28 @@ pub fn consolidate_bundle<S: Sink>(
         Err(Reason::OutOfMemory) => return Err(Fault::OutOfMemory(0)),
         Err(reason) => return Err(Fault::Sheet(reason)),
     };
-    let Ok(merged) = merge_lines(alloc, &sheet, rest) else {
+    let Ok(consolidation) = merge_lines(alloc, &sheet, rest) else {
         return Err(Fault::OutOfMemory(0));
     };
-    write_within(alloc, merged, Level::All, out)
+    consolidation.finish(Level::All, out)
 }
 
-/// Reads each line that is not empty.
-fn merge_lines<'s>(alloc: Global, sheet: &'s Sheet, lines: &[u8]) -> Result<Merged<'s>, AllocError>
-    ensures base { IfOk result (λ merged.
-        merged.base ≡ base_of sheet.now (accepted sheet.now (filled_pieces lines.now))) }
-    ensures refusals { IfOk result
-        (λ merged. merged.refusals ≡ refused sheet.now (filled_pieces lines.now)) }
+/// Adds each line that is not empty.
+fn merge_lines<'s>(
+    alloc: Global,
+    sheet: &'s Sheet,
+    lines: &[u8],
+) -> Result<Consolidation<'s>, AllocError>
+    ensures { IfOk result (λ consolidation. consolidation ≡ added sheet.now (filled_pieces lines.now)) }
 {
-    let mut merging = Merging::new(alloc, sheet);
+    let mut consolidation = Consolidation::new(alloc, sheet);
     let mut rest = lines;
     while !rest.is_empty() {
         let (line, behind) = cut_line(rest);
         if !line.is_empty() {
-            merging.read(alloc, line)?;
+            consolidation.add(line)?;
         }
         rest = behind;
     }
-    Merged::from_merging(alloc, merging)
+    Ok(consolidation)
 }

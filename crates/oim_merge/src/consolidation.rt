@@ -4,6 +4,7 @@ ghost use Rattle.oim_merge.specs.Run.{Consolidates, ConsolidationStops, Stops, W
 
 use crate::fault::Fault;
 use crate::merged::Merged;
+use crate::merging::Consolidation;
 use crate::refusals::Refusals;
 use fact_base::{Base, Verdict};
 use oim_report::Sheet;
@@ -29,10 +30,10 @@ pub fn consolidate<S: Sink>(
     ensures err { IfErr result (ConsolidationStops sheet.now reports.now allow (S.told out.old) (S.told out.new)) }
     ensures failures { S.failures out.new ≡ failures_after_run result (S.failures out.old) }
 {
-    let Ok(merged) = Merged::of(alloc, sheet, reports) else {
+    let Ok(consolidation) = Consolidation::of(alloc, sheet, reports) else {
         return Err(Fault::OutOfMemory(0));
     };
-    write_within(alloc, merged, allow, out)
+    consolidation.finish(allow, out)
 }
 
 /// Writes the base, where no dimension set is above the level.

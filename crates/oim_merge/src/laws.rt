@@ -1,5 +1,6 @@
 //! Laws of the definitions, each the contract of a function that does nothing.
 ghost use Rattle.oim_merge.specs.Above.{AllowedIsDeclared};
+ghost use Rattle.oim_merge.specs.Added.{StepsAreList};
 ghost use Rattle.oim_merge.specs.EventLines.{LinesSayOneEvent};
 ghost use Rattle.oim_merge.specs.History.{EarlierTextsGiveBodies, HistoriesAreForgotten, MergedTextsMerge, TextsGiveBodies};
 ghost use Rattle.oim_merge.specs.Lines.{LinesAreOne, LinesTellVerdicts};
@@ -11,6 +12,12 @@ ghost use Rattle.oim_merge.specs.Run.{ReportsIgnoreOrder};
 /// as often as one likes, are written by the same bytes.
 pub fn reports_ignore_order()
     ensures { ReportsIgnoreOrder }
+{}
+
+/// Reports that are added one at a time come to what `consolidate` says of their list: the body that
+/// it writes, and the refused ones that it tells.
+pub fn steps_are_list()
+    ensures { StepsAreList }
 {}
 
 /// The text of a body that fits a sheet is read as its facts and its references, both in order, at

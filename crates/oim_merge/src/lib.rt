@@ -61,6 +61,7 @@ mod verdict_line;
 pub use bundle::consolidate_bundle;
 pub use consolidation::consolidate;
 pub use fault::Fault;
+pub use merging::Consolidation;
 pub use refusals::Refusals;
 // judging and checking
 pub use checked::{Checked, check_report};

@@ -3,12 +3,13 @@ ghost use Rattle.fact_base.specs.Rows.{rows_of};
 ghost use Rattle.fact_base.specs.Shown.{shown};
 ghost use Rattle.fact_base.specs.Verdict.{IsEvidence};
 ghost use Rattle.oim_write.specs.Sink.{failures_after_write, written_of};
-ghost use Rattle.oim_merge.specs.Listing.{AppendsFrontOfLines, AppendsLines, BreaksLines, ListingStops, ListsVerdicts, PassesLines};
+ghost use Rattle.oim_merge.specs.Listing.{AppendsFrontOfLines, AppendsLines, BreaksLines, ListStops, ListingStops, Lists, ListsVerdicts, PassesLines};
 ghost use Rattle.oim_merge.specs.Named.{IsLineBy};
 ghost use Rattle.oim_merge.specs.Run.{failures_after_run};
 
 use crate::fault::Fault;
 use crate::merged::Merged;
+use crate::merging::Consolidation;
 use crate::refusals::Refusals;
 use crate::verdict_line::{Identifiers, line_of};
 use fact_base::{Base, Evidence, Row};
@@ -32,9 +33,24 @@ pub fn verdict_lines<S: Sink>(
     ensures err { IfErr result (ListingStops sheet.now reports.now (S.told out.old) (S.told out.new)) }
     ensures failures { S.failures out.new ≡ failures_after_run result (S.failures out.old) }
 {
-    let Ok(Merged { base, refusals }) = Merged::of(alloc, sheet, reports) else {
+    let Ok(consolidation) = Consolidation::of(alloc, sheet, reports) else {
         return Err(Fault::OutOfMemory(0));
     };
+    consolidation.finish_lines(out)
+}
+
+/// Appends the lines of the base, and answers the refusals.
+pub(crate) fn write_verdicts<S: Sink>(
+    alloc: Global,
+    merged: Merged<'_>,
+    out: &mut S,
+) -> Result<Refusals, Fault>
+    requires { S.failures out.old < 2 ^ 64 - 1 }
+    ensures ok { IfOk result (Lists merged.entry.base.body merged.entry.refusals (S.told out.old) (S.told out.new)) }
+    ensures err { IfErr result (ListStops merged.entry.base.body (S.told out.old) (S.told out.new)) }
+    ensures failures { S.failures out.new ≡ failures_after_run result (S.failures out.old) }
+{
+    let Merged { base, refusals } = merged;
     match write_lines(alloc, &base, out) {
         Ok(()) => Ok(refusals),
         Err(fault) => Err(Fault::from(fault)),

@@ -1,72 +1,151 @@
-ghost use Rattle.std.specs.Prelude.{◌≡◌, ◌+◌, ◌^◌, ◌<◌, [], ◌∷◌, ◌++◌, List, OnOk, IfOk};
-ghost use Rattle.oim_report.specs.Document.{Document};
-ghost use Rattle.oim_report.specs.Outcome.{outcome};
-ghost use Rattle.oim_merge.specs.Gathered.{AreBases, AreBasesOf, base_of};
-ghost use Rattle.oim_merge.specs.Reports.{document_in, refusal_in};
+ghost use Rattle.std.specs.Prelude.{◌≡◌, ◌+◌, ◌-◌, ◌^◌, ◌<◌, IfOk, IfErr, OnOk, OnErr};
+ghost use Rattle.oim_merge.specs.Added.{added, begun, with_report};
+ghost use Rattle.oim_merge.specs.Listing.{ListStops, Lists};
+ghost use Rattle.oim_merge.specs.Run.{Stops, Writes, failures_after_run};
 
-use crate::gathering::{joined, put};
+use crate::consolidation::write_within;
+use crate::fault::Fault;
+use crate::gathering::{join_all, take};
+use crate::listing::write_verdicts;
+use crate::merged::Merged;
 use crate::reading::read;
 use crate::refusals::Refusals;
 use fact_base::Base;
-use oim_report::{Report, Sheet};
+use oim_report::Sheet;
+use oim_value::Level;
+use oim_write::{Encoded, Sink};
 use std::alloc::{AllocError, Global};
+use std::marker::Model;
 
-/// Reports on their way into one base: what the accepted ones say, in bases of growing size, the
-/// refused ones, and how many came.
+/// Reports that are merged one at a time: what the accepted ones say in all, the refused ones, and
+/// how many came. Of the bytes of a report it keeps nothing. It borrows the sheet under which the
+/// reports are read.
 #[derive(Drop)]
-pub(crate) struct Merging<'s> {
-    pub sheet: &'s Sheet,
-    pub bases: Vec<Base<'s>>,
-    pub refusals: Refusals,
-    pub reports: u64,
+pub struct Consolidation<'s> {
+    alloc: Global,
+    sheet: &'s Sheet,
+    // those that take no more reports
+    bases: Vec<Base<'s>>,
+    // the one that takes the next report, where it is not much larger
+    last: Base<'s>,
+    refusals: Refusals,
+    reports: u64,
 }
 
-impl<'s> Merging<'s> {
-    /// No report yet; those that come are read under the sheet.
-    pub(crate) fn new(alloc: Global, sheet: &'s Sheet) -> Merging<'s>
-        ensures sheet { result.sheet.now ≡ sheet.now }
-        ensures bases { result.bases.items ≡ [] }
-        ensures refusals { result.refusals ≡ [] }
-        ensures reports { result.reports ≡ 0 }
+impl<'s> Model for Consolidation<'s> {
+    ghost use Rattle.std.specs.Prelude.{[], ◌∷◌, ◌++◌};
+    ghost use Rattle.std.specs.Coded.{codes};
+    ghost use Rattle.oim_report.specs.SheetCode.{sheet_code};
+    ghost use Rattle.oim_merge.specs.Added.{Added};
+    ghost use Rattle.oim_merge.specs.Gathered.{AreBases, body_in};
+
+    ghost Value = { Added };
+
+    ghost coded = { Prim.hlevel (codes, sheet_code) };
+
+    ghost view = { λ c. record { sheet = c.sheet.now; body = body_in (c.bases.items ++ c.last ∷ []); refusals = c.refusals; reports = c.reports } };
+
+    ghost invariant = { λ c. AreBases c.sheet.now (c.bases.items ++ c.last ∷ []) };
+}
+
+impl<'s> Consolidation<'s> {
+    /// No report yet. Those that come are read under the sheet. Later calls take their memory from
+    /// `alloc`.
+    pub fn new(alloc: Global, sheet: &'s Sheet) -> Consolidation<'s>
+        ensures { result ≡ begun sheet.now }
     {
-        Merging {
+        Consolidation {
+            alloc,
             sheet,
             bases: Vec::new(alloc),
+            last: Base::new(alloc, sheet),
             refusals: Refusals::new(alloc),
             reports: 0,
         }
     }
 
-    /// Reads one more report and takes it, or keeps its refusal.
-    pub(crate) fn read(&mut self, alloc: Global, bytes: &[u8]) -> Result<(), AllocError>
-        requires count { self.old.reports + 1 < 2 ^ 64 }
-        requires bases { AreBases self.old.sheet.now self.old.bases.items }
-        ensures sheet { OnOk result (self.new.sheet.now ≡ self.old.sheet.now) }
-        ensures bases { (docs : List Document) → AreBasesOf self.old.sheet.now docs self.old.bases.items →
-            OnOk result (AreBasesOf self.old.sheet.now
-            (docs ++ document_in (outcome self.old.sheet.now bytes.now)) self.new.bases.items) }
-        ensures refusals { OnOk result (self.new.refusals ≡ self.old.refusals
-            ++ refusal_in (self.old.reports + 1) (outcome self.old.sheet.now bytes.now)) }
-        ensures reports { OnOk result (self.new.reports ≡ self.old.reports + 1) }
+    /// What a list of reports comes to.
+    pub(crate) fn of(
+        alloc: Global,
+        sheet: &'s Sheet,
+        reports: &[Encoded],
+    ) -> Result<Consolidation<'s>, AllocError>
+        ensures { IfOk result (λ consolidation. consolidation ≡ added sheet.now reports.now) }
     {
-        self.reports += 1;
-        match read(alloc, self.sheet, bytes)? {
-            Ok(report) => put(&mut self.bases, base_with(alloc, self.sheet, &report)?),
-            Err(refusal) => self.refusals.push(self.reports, refusal),
+        let mut consolidation = Consolidation::new(alloc, sheet);
+        for report in reports {
+            consolidation.add(report.as_bytes())?;
         }
+        Ok(consolidation)
     }
-}
 
-/// A base of one report.
-fn base_with<'s>(
-    alloc: Global,
-    sheet: &'s Sheet,
-    report: &Report<'_>,
-) -> Result<Base<'s>, AllocError>
-    requires { report.now.sheet ≡ sheet.now }
-    ensures { IfOk result (λ base. base ≡ base_of sheet.now (report.now.document ∷ [])) }
-{
-    let mut base = Base::new(alloc, sheet);
-    base.take(report)?;
-    Ok(base)
+    /// Reads one more report under the sheet, and takes what it says, or keeps its refusal with its
+    /// number from 1.
+    ///
+    /// Errors: want of memory; all is then as before, so that the report can be added again.
+    pub fn add(&mut self, bytes: &[u8]) -> Result<(), AllocError>
+        requires { self.old.reports + 1 < 2 ^ 64 }
+        ensures ok { OnOk result (self.new ≡ with_report self.old bytes.now) }
+        ensures err { OnErr result (self.new ≡ self.old) }
+    {
+        let number = self.reports + 1;
+        match read(self.alloc, self.sheet, bytes)? {
+            Ok(report) => take(self.alloc, &mut self.bases, &mut self.last, &report)?,
+            Err(refusal) => self.refusals.push(number, refusal)?,
+        }
+        self.reports = number;
+        Ok(())
+    }
+
+    /// Writes the canonical text of what the accepted reports say to the sink, as `consolidate` does,
+    /// and answers the refused ones.
+    ///
+    /// Errors: `TooLoose` where a dimension set has duplicates above `allow`, and then nothing is
+    /// written; `Device` where the sink failed; `OutOfMemory`.
+    pub fn finish<S: Sink>(self, allow: Level, out: &mut S) -> Result<Refusals, Fault>
+        requires { S.failures out.old < 2 ^ 64 - 1 }
+        ensures ok { IfOk result (Writes allow self.entry.body self.entry.refusals (S.told out.old) (S.told out.new)) }
+        ensures err { IfErr result (Stops allow self.entry.body self.entry.refusals (S.told out.old) (S.told out.new)) }
+        ensures failures { S.failures out.new ≡ failures_after_run result (S.failures out.old) }
+    {
+        let alloc = self.alloc;
+        let Ok(merged) = self.into_merged() else {
+            return Err(Fault::OutOfMemory(0));
+        };
+        write_within(alloc, merged, allow, out)
+    }
+
+    /// Appends one line for each dimension set of what the accepted reports say to the sink, as
+    /// `verdict_lines` does, and answers the refused ones.
+    ///
+    /// Errors: `Device` where the sink failed; `OutOfMemory`.
+    pub fn finish_lines<S: Sink>(self, out: &mut S) -> Result<Refusals, Fault>
+        requires { S.failures out.old < 2 ^ 64 - 1 }
+        ensures ok { IfOk result (Lists self.entry.body self.entry.refusals (S.told out.old) (S.told out.new)) }
+        ensures err { IfErr result (ListStops self.entry.body (S.told out.old) (S.told out.new)) }
+        ensures failures { S.failures out.new ≡ failures_after_run result (S.failures out.old) }
+    {
+        let alloc = self.alloc;
+        let Ok(merged) = self.into_merged() else {
+            return Err(Fault::OutOfMemory(0));
+        };
+        write_verdicts(alloc, merged, out)
+    }
+
+    /// Joins all that came.
+    pub(crate) fn into_merged(self) -> Result<Merged<'s>, AllocError>
+        ensures base { IfOk result
+            (λ merged. merged.base ≡ record { sheet = self.entry.sheet; body = self.entry.body }) }
+        ensures refusals { IfOk result (λ merged. merged.refusals ≡ self.entry.refusals) }
+    {
+        let Consolidation {
+            alloc,
+            bases,
+            last,
+            refusals,
+            ..
+        } = self;
+        let base = join_all(alloc, bases, last)?;
+        Ok(Merged { base, refusals })
+    }
 }

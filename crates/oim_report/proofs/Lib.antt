@@ -38,6 +38,7 @@ pub mod RisingNames
 pub mod SheetEntries
 pub mod OtherReasons
 pub mod OneMembers
+pub mod InTurn
 pub mod OneDocument
 pub mod MemberOrder
 pub mod Spelled

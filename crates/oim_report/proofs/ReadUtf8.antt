@@ -14,7 +14,7 @@ use Rattle.json.specs.Word.{after_number, ends_word, is_operator, is_space, head
 use Rattle.json.specs.Lex.{Lexeme, token, comma, colon, Class, quote, backslash, operator, space, other, class, operator_lexeme, string_token, Mode, between, in_word, in_string, in_escape, lex_byte, lex, Place, fresh, after_value, after_comma, after_key, begins_colon, may_begin, may_close, if_allowed, place_token, punctuate, tokens}
 use Rattle.json.specs.Json as json
 use Rattle.json.specs.Json.{Parse, parse_map, after_end_array, read_key, items_step, members_step, items, members, value_with, value, if_last}
-use Rattle.serde_json.specs.Data.{Data, Items, no_items, item, Members, no_members, member, put, number}
+use Rattle.serde_json.specs.Data.{Data, item, Members, no_members, member, put, number}
 use Rattle.serde_json.specs.Read.{of_json, of_items, of_members, number_of, read, max_depth}
 use Rattle.oim_report.specs.Json.{json_text, without_mark}
 use Rattle.oim_report.specs.PlainJson.{HasUtf8, ItemsHaveUtf8, MembersHaveUtf8, ReadHasUtf8}

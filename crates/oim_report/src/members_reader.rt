@@ -64,8 +64,8 @@ fn value_refusal(sheet: &Sheet, aliases: &Aliases, defined: &[(&str, Given<'_>)]
     }
 }
 
-// The same up to the first dimension that is refused, whichever way: `UnknownDimension`, or
-// `DimensionValue`.
+// The same, but for which of `UnknownDimension` and `DimensionValue` is answered where both hold. The
+// members are put in the order of names once, when all are there.
 fn add_members<'s, 'a>(
     alloc: Global,
     sheet: &'s Sheet,
@@ -87,15 +87,17 @@ fn add_members<'s, 'a>(
         ⊎ ((r ≡ Reason.DimensionValue) × (is_faulty sheet.now aliases.now all ≡ true)))) }
     ensures known { OnOk result (AreGlossaries sheet.now aliases.now glossaries.new) }
 {
-    let mut dimensions = Dimensions::new(alloc, concept);
+    let mut found = Vec::with_capacity(alloc, defined.len())?;
     for (key, member) in defined {
         let Some((name, kind)) = recall_dimension(sheet, aliases, &mut glossaries.dimensions, *key)
         else {
             return Err(Reason::UnknownDimension);
         };
         let member = read_member(alloc, aliases, &mut glossaries.members, kind, *member)?;
-        dimensions.add(name.copied(alloc)?, member)?;
+        found.push_reserved((name.copied(alloc)?, member));
     }
+    let mut dimensions = Dimensions::new(alloc, concept);
+    dimensions.set_members(found)?;
     Ok(dimensions)
 }
 

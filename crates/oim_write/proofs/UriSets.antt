@@ -1,22 +1,19 @@
 -- Sets of URIs that gain those of further names.
-use Rattle.std.proofs.Common.{◌≡◌, ◌≢◌, ℕ, zero, suc, ◌+◌, ◌<◌, ◌≤◌, true, false, List, [], ◌∷◌, ◌++◌, length, get_or, take, append-nil, inl, inr, ⊎_elim, refl, sym, ap, subst, ◌∙◌, arith}
+use Rattle.std.proofs.Common.{◌≡◌, ℕ, ◌+◌, ◌<◌, Bool, true, false, List, [], ◌∷◌, ◌++◌, length, get_or, take, append-nil, inl, inr, ⊎_elim, refl, sym, ap, subst, ◌∙◌}
 use Rattle.std.specs.Prelude.{Contains, flat_map}
-use Rattle.std.specs.Cmp.{IsTotalOrder}
-use Rattle.std.specs.List.{insert}
-use Rattle.std.specs.List.Sorted.{IsPartitionPoint, IsStrictlySortedBy}
-use Rattle.std.specs.Ordering.{is_lt, ordering_reverse}
-use Rattle.std.specs.declared.cmp.Ordering.{Ordering}
-use Rattle.std.specs.declared.cmp.Ordering.TheVariants.{Less, Equal, Greater}
+use Rattle.std.specs.Bool.{OnTrue}
+use Rattle.std.specs.Str.{bytes_eq}
 use Rattle.std.proofs.lemmas.Grind.{flat_map-append}
 use Rattle.std.proofs.lemmas.List.{map-append, take_more}
-use Rattle.std.proofs.lemmas.List.Sorted.{Contains-permutation, IsPermutation-insert, IsPermutation-sym}
 use Rattle.oim_names.specs.QName.{QName}
+use Rattle.oim_names.proofs.Bytes.{same_bytes}
 use Rattle.fact_base.specs.Body.{text_cmp}
 use Rattle.fact_base.specs.Passed.{IsSet}
-use Rattle.fact_base.proofs.Members.{each_in_turn, first_or_later, first_there, in_one_of_both, later_there, none_there, turn_there}
+use Rattle.fact_base.specs.Sets.{set_of}
+use Rattle.fact_base.proofs.Members.{first_or_later, in_one_of_both, none_there}
+use Rattle.fact_base.proofs.Sets.{same_sets, set_of_is_set}
 use Rattle.fact_base.proofs.TextOrder.{text_cmp_exact, text_cmp_total}
 use Rattle.oim_write.specs.Uris.{Gains, uris_of_names}
-use Rattle.oim_write.proofs.Ranks.{less}
 
 -- ---- what is gained
 
@@ -63,53 +60,36 @@ pub gains_name : {a b c : List (List ℕ)} (ns : List QName) (i : ℕ) (n : QNam
 gains_name {a} {b} {c} ns i n within is first second =
     subst (λ ms. Gains a ms c) (sym (take_more ns i n within ∙ ap (λ m. take i ns ++ m ∷ []) (sym is))) (gains_both first second)
 
--- ---- a new item at its place
+-- ---- the set of some URIs
 
-module _ {K : Type 0} {R : K → K → Ordering} (o : IsTotalOrder R) (exact : (x y : K) → R x y ≡ Equal → x ≡ y) where
-  -- an item that is not below another, and not it, is above
-  above : (x y : K) → is_lt (R y x) ≡ false → y ≢ x → R x y ≡ Less
-  above x y not_below other = by_order (R y x) refl not_below
-    where
-      by_order : (r : Ordering) → R y x ≡ r → is_lt r ≡ false → R x y ≡ Less
-      by_order Less is h = absurd (cc)
-      by_order Equal is h = absurd (other (exact y x is))
-      by_order Greater is h = o.antisymm x y ∙ ap ordering_reverse is
-
-  -- what stands there is another item
-  abbrev IsOther : List K → ℕ → K → Type 0
-  IsOther xs i x = (d : K) → i < length xs → get_or xs i d ≢ x
-
-  pub rises_at : (x : K) (xs : List K) (i : ℕ) → IsStrictlySortedBy R xs → i ≤ length xs
-      → IsPartitionPoint (λ y. is_lt (R y x) ≡ true) (λ y. is_lt (R y x) ≡ false) xs i → IsOther xs i x → IsStrictlySortedBy R (insert xs i x)
-  unfolding IsStrictlySortedBy
-  rises_at x [] zero rises within point other = (tt, tt)
-  rises_at x [] (suc i) rises within point other = absurd (omega (arith, within))
-  rises_at x (y ∷ ys) zero rises within point other =
-      let first : R x y ≡ Less = above x y (point.1 zero y (omega arith) (omega arith)) (other y (omega arith)) in
-      ((first, each_in_turn (λ z. R x z ≡ Less) ys (λ z at. o.trans x y z first (turn_there (λ z. R y z ≡ Less) ys z rises.0 at))), rises)
-  rises_at x (y ∷ ys) (suc i) rises within point other =
-      let first : R y x ≡ Less = less (R y x) (point.0 zero y (omega arith) (omega arith)) in (
-        each_in_turn (λ z. R y z ≡ Less) (insert ys i x) (λ z at. ⊎_elim
-            (λ is. subst (λ z. R y z ≡ Less) is first)
-            (turn_there (λ z. R y z ≡ Less) ys z rises.0)
-            (first_or_later x ys z (Contains-permutation (insert ys i x) (x ∷ ys) z (IsPermutation-sym (x ∷ ys) (insert ys i x) (IsPermutation-insert ys i x)) at))),
-        rises_at x ys i rises.1 (omega (arith, within)) ((λ k d low high. point.0 (suc k) d (omega arith) (omega arith)), (λ k d low high. point.1 (suc k) d (omega arith) (omega arith))) (λ d h. other d (omega (arith, h))),
-      )
-
-pub is_set_at : (x : List ℕ) (us : List (List ℕ)) (i : ℕ) → IsSet text_cmp us → i ≤ length us
-    → IsPartitionPoint (λ y. is_lt (text_cmp y x) ≡ true) (λ y. is_lt (text_cmp y x) ≡ false) us i → ((d : List ℕ) → i < length us → get_or us i d ≢ x) → IsSet text_cmp (insert us i x)
-is_set_at = rises_at text_cmp_total text_cmp_exact
-
--- and nothing but that item is gained
-pub gains_at : (us : List (List ℕ)) (i : ℕ) (n : QName) → Gains us (n ∷ []) (insert us i n.uri)
-gains_at us i n =
-    let moved = IsPermutation-insert us i n.uri in
+-- with one more it gains that one
+pub gains_one : (us : List (List ℕ)) (n : QName) → Gains (set_of text_cmp us) (n ∷ []) (set_of text_cmp (us ++ n.uri ∷ []))
+gains_one us n =
+    let old = set_of_is_set text_cmp_total text_cmp_exact us in
+    let new = set_of_is_set text_cmp_total text_cmp_exact (us ++ n.uri ∷ []) in
     record {
-      members = λ u. (
-        λ new. ⊎_elim (λ is. inr (subst (Contains (n.uri ∷ [])) is (first_there n.uri []))) inl
-            (first_or_later n.uri us u (Contains-permutation (insert us i n.uri) (n.uri ∷ us) u (IsPermutation-sym (n.uri ∷ us) (insert us i n.uri) moved) new)),
-        λ h. Contains-permutation (n.uri ∷ us) (insert us i n.uri) u moved (⊎_elim
-            (λ old. later_there n.uri us u old)
-            (λ one. ⊎_elim (λ is. subst (Contains (n.uri ∷ us)) is (first_there n.uri us)) (none_there u) (first_or_later n.uri [] u one)) h),
-      );
+      members = λ u.
+          let both = in_one_of_both us (n.uri ∷ []) u in (
+            λ h. ⊎_elim (λ l. inl ((old.members u).1 l)) inr (both.0 ((new.members u).0 h)),
+            λ h. (new.members u).1 (both.1 (⊎_elim (λ l. inl ((old.members u).0 l)) inr h)),
+          );
     }
+
+pub in_set : (us : List (List ℕ)) (u : List ℕ) → Contains us u → Contains (set_of text_cmp us) u
+in_set us u h = ((set_of_is_set text_cmp_total text_cmp_exact us).members u).1 h
+
+-- where a URI is told to be at a place
+pub told_there : (us : List (List ℕ)) (i : ℕ) (known u : List ℕ) (told : Bool) → told ≡ bytes_eq known u → i < length us → get_or us i u ≡ known → OnTrue told (Contains (set_of text_cmp us) u)
+told_there us i known u true is within there = in_set us u (i, within, there ∙ same_bytes known u (sym is))
+told_there us i known u false is within there = tt
+
+pub set_rises : (us : List (List ℕ)) → IsSet text_cmp (set_of text_cmp us)
+set_rises us = (set_of_is_set text_cmp_total text_cmp_exact us).rises
+
+-- put in order they are the set that they were
+pub set_of_set : (us : List (List ℕ)) → set_of text_cmp (set_of text_cmp us) ≡ set_of text_cmp us
+set_of_set us = same_sets text_cmp_total text_cmp_exact (set_of text_cmp us) us (set_of_is_set text_cmp_total text_cmp_exact us).members
+
+pub none_in_set : set_of text_cmp [] ≡ []
+unfolding set_of
+none_in_set = refl

@@ -2,6 +2,7 @@ ghost use Rattle.std.specs.Prelude.{◌≡◌, [], ◌∷◌, ◌++◌, Contains
 ghost use Rattle.std.specs.Bool.{OnTrue};
 ghost use Rattle.fact_base.specs.Body.{text_cmp};
 ghost use Rattle.fact_base.specs.Passed.{IsSet};
+ghost use Rattle.fact_base.specs.Sets.{set_of};
 ghost use Rattle.fact_base.specs.Shown.{shown};
 ghost use Rattle.oim_write.specs.Uris.{Gains, defined_names, dimension_names, entity_names, row_names, unit_names, value_names};
 
@@ -12,23 +13,25 @@ use oim_value::Value;
 use std::alloc::{AllocError, Global};
 use std::marker::Model;
 
-/// The URIs of names, each once and in byte order.
+/// The URIs of names. Contracts see each once and in byte order. The first of them stand so, and new
+/// ones behind those as they come; whenever there are more of these, all are put in order.
 #[derive(Drop)]
 pub(crate) struct UriSet {
     uris: Vec<Text>,
+    ordered: usize,
     recent: Recent,
 }
 
 impl Model for UriSet {
-    ghost use Rattle.std.specs.Prelude.{ℕ, List};
-    ghost use Rattle.fact_base.specs.Passed.{IsSet};
+    ghost use Rattle.std.specs.Prelude.{◌≤◌, ℕ, List, vec_len};
     ghost use Rattle.fact_base.specs.Body.{text_cmp};
+    ghost use Rattle.fact_base.specs.Sets.{set_of};
 
     ghost Value = { List (List ℕ) };
 
-    ghost view = { λ s. s.uris.items };
+    ghost view = { λ s. set_of text_cmp s.uris.items };
 
-    ghost invariant = { λ s. IsSet text_cmp s.uris.items };
+    ghost invariant = { λ s. s.ordered ≤ vec_len s.uris };
 }
 
 impl UriSet {
@@ -37,6 +40,7 @@ impl UriSet {
     {
         UriSet {
             uris: Vec::new(alloc),
+            ordered: 0,
             recent: Recent::new(),
         }
     }
@@ -46,7 +50,9 @@ impl UriSet {
         ensures uris { result.items ≡ self }
         ensures rises { IsSet text_cmp result.items }
     {
-        self.uris
+        let mut uris = self.uris;
+        put_in_order(&mut uris);
+        uris
     }
 
     /// Those of a row's names.
@@ -157,18 +163,36 @@ impl UriSet {
         }
     }
 
-    // The same as `add`, and where the URI is.
+    // The same as `add`, and where the URI is, until all are put in order.
     fn put(&mut self, alloc: Global, name: &Name) -> Result<usize, AllocError>
         ensures { OnOk result (Gains self.old (name.now ∷ []) self.new) }
     {
         let uri = name.uri();
-        let place = self.uris.partition_point(|known| known.as_str() < uri);
-        match self.uris.get(place) {
-            Some(known) if known.as_str() == uri => Ok(place),
-            _ => {
-                self.uris.insert(place, Text::new(alloc, uri)?)?;
-                Ok(place)
-            }
+        let place = self.uris[..self.ordered].partition_point(|known| known.as_str() < uri);
+        if self.is_at(place, uri) {
+            return Ok(place);
         }
+        let place = self.uris.len();
+        self.uris.push(Text::new(alloc, uri)?)?;
+        if place / 2 > self.ordered {
+            self.put_in_order();
+        }
+        Ok(place)
     }
+
+    // Puts all in order, which changes nothing that contracts see.
+    fn put_in_order(&mut self)
+        ensures { self.new ≡ self.old }
+    {
+        put_in_order(&mut self.uris);
+        self.ordered = self.uris.len();
+    }
+}
+
+// Leaves each text once, in byte order.
+fn put_in_order(texts: &mut Vec<Text>)
+    ensures { texts.new.items ≡ set_of text_cmp texts.old.items }
+{
+    texts.sort_unstable();
+    texts.dedup();
 }

@@ -1,6 +1,8 @@
+ghost use Rattle.std.specs.Prelude.{◌≡◌};
+
 use crate::progress::Progress;
 use crate::stop::Stop;
-use oim_merge::{Fault, ReadFault, StdSource, read_all};
+use oim_merge::{Consolidation, Fault, ReadFault, StdSource, read_all};
 use oim_names::Reason;
 use oim_report::Sheet;
 use oim_write::Encoded;
@@ -104,6 +106,47 @@ fn read_each<F: Files, E: Write>(
         }
     }
     Ok(all)
+}
+
+/// Reads the reports of these names, in their order, adds each and lets it go, and shows how far it
+/// is. The first that is not read ends it.
+///
+/// Errors: `Stop::Report`, and want of memory.
+pub(crate) fn add_reports<F: Files, E: Write>(
+    alloc: Global,
+    files: &F,
+    names: &[&str],
+    progress: &mut Progress<E>,
+    consolidation: &mut Consolidation<'_>,
+) -> Result<(), Stop<'static>>
+    requires { consolidation.old.reports ≡ 0 }
+{
+    let added = add_each(alloc, files, names, progress, consolidation);
+    progress.clear();
+    added
+}
+
+fn add_each<F: Files, E: Write>(
+    alloc: Global,
+    files: &F,
+    names: &[&str],
+    progress: &mut Progress<E>,
+    consolidation: &mut Consolidation<'_>,
+) -> Result<(), Stop<'static>>
+    requires { consolidation.old.reports ≡ 0 }
+{
+    let mut bytes: u64 = 0;
+    for place in 0..names.len() {
+        progress.show(place, names.len(), bytes);
+        match open_and_read(alloc, files, names[place]) {
+            Ok(report) => {
+                bytes = bytes.saturating_add(report.as_bytes().len() as u64);
+                consolidation.add(report.as_bytes())?;
+            }
+            Err(fault) => return Err(Stop::Report(place, fault)),
+        }
+    }
+    Ok(())
 }
 
 /// Reads the concept sheet in the file of this name.

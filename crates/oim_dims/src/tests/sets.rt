@@ -176,6 +176,51 @@ fn a_dimension_stands_once(rt: HostRuntime) -> Result<(), Fail> {
     Ok(())
 }
 
+// Nil members of these names, as they come.
+fn listed(
+    rt: &HostRuntime,
+    aliases: &Aliases,
+    names: &[&str],
+) -> Result<Vec<(Name, Member)>, Reason> {
+    let mut members = Vec::new(rt.alloc());
+    for spelled in names {
+        if members
+            .push((name(rt, aliases, spelled)?, Member::Nil))
+            .is_err()
+        {
+            return Err(Reason::OutOfMemory);
+        }
+    }
+    Ok(members)
+}
+
+// Whether the set takes these names, as they come, for the members that it has.
+fn takes(rt: &HostRuntime, aliases: &Aliases, set: &mut Dimensions, names: &[&str]) -> bool {
+    match listed(rt, aliases, names) {
+        Ok(members) => set.set_members(members).is_ok(),
+        Err(_) => false,
+    }
+}
+
+// Whether members stand in the order of names, however they come, and stay where others are refused.
+fn are_put_in_order(rt: &HostRuntime, aliases: &Aliases) -> bool {
+    match with_members(rt, aliases, &["eg:c"]) {
+        Ok(mut set) => {
+            takes(rt, aliases, &mut set, &["x:a", "eg:b", "x:b", "eg:a"])
+                && !takes(rt, aliases, &mut set, &["x:a", "eg:a", "x:a"])
+                && are_named(set.members(), &["a", "b", "a", "b"])
+        }
+        Err(_) => false,
+    }
+}
+
+#[test]
+fn members_are_set_in_any_order(rt: HostRuntime) -> Result<(), Fail> {
+    let aliases = example(&rt)?;
+    assert!(rt; are_put_in_order(&rt, &aliases));
+    Ok(())
+}
+
 pub(super) fn equals_its_copy<T: Copied + PartialEq>(rt: &HostRuntime, value: &T) -> bool {
     match copied(rt, value) {
         Ok(copy) => copy == *value,

@@ -6,7 +6,7 @@ use crate::canonical_parts::{
 };
 use crate::tests_sinks::sheet;
 use oim_names::Reason;
-use oim_report::{Place, Refusal, read_report};
+use oim_report::{Place, Refusal, Sheet, read_report};
 use std::alloc::{AllocError, Global};
 use std::test::Fail;
 
@@ -26,6 +26,15 @@ const WITH_NIL: &str =
 const WIDE: &str =
     r#""f1":{"decimals":0,"dimensions":{"concept":"n1:A"},"value":"100"},"f2":{"decimals":0,"dimensions":{"concept":"n1:A"},"value":"102"}"#;
 
+/// The sheet of these texts; where a request is refused it is asked for again.
+fn sheet_told(rt: &HostRuntime) -> Result<Sheet, Fail> {
+    if let Ok(made) = sheet(rt.alloc()) {
+        return Ok(made);
+    }
+    tell_refused(rt);
+    Ok(sheet(rt.alloc())?)
+}
+
 /// Why the text of these facts with this level in place of its own is refused; none where it is not.
 fn refusal(
     alloc: Global,
@@ -33,7 +42,7 @@ fn refusal(
     level: &str,
     facts: &str,
 ) -> Result<Option<Refusal>, Fail> {
-    let sheet = sheet(alloc)?;
+    let sheet = sheet_told(rt)?;
     let parts = [
         BEFORE_LEVEL,
         level,

@@ -1,12 +1,12 @@
 ghost use Rattle.std.specs.Prelude.{◌-◌, ◌^◌, ◌<◌};
 
 use crate::arguments::{SHEET, sheet_argument, with_reports};
-use crate::files::{read_reports, read_sheet};
+use crate::files::{add_reports, read_sheet};
 use crate::progress::Progress;
 use crate::stop::Stop;
 use clap::builder::ValueParser;
 use clap::{Arg, ArgMatches, Command};
-use oim_merge::{Refusals, consolidate};
+use oim_merge::{Consolidation, Refusals};
 use oim_value::Level;
 use oim_write::Sink;
 use std::alloc::{AllocError, Global};
@@ -75,10 +75,10 @@ impl<'w> Merge<'w> {
         Some(Merge { sheet, allow })
     }
 
-    /// Reads the files and writes the merged text to `out`. It answers the refused reports, by
-    /// their places among the names, from 1.
+    /// Reads the files, adds each as it is read, and writes the merged text to `out`. It answers the
+    /// refused reports, by their places among the names, from 1.
     ///
-    /// Errors: those of the files, of the sheet and of `consolidate`.
+    /// Errors: those of the files, of the sheet and of `Consolidation::finish`.
     pub(crate) fn run<F: Files, E: Write, S: Sink>(
         &self,
         alloc: Global,
@@ -90,7 +90,8 @@ impl<'w> Merge<'w> {
         requires { S.failures out.old < 2 ^ 64 - 1 }
     {
         let sheet = read_sheet(alloc, files, self.sheet)?;
-        let reports = read_reports(alloc, files, names, progress)?;
-        Ok(consolidate(alloc, &sheet, reports.as_slice(), self.allow, out)?)
+        let mut consolidation = Consolidation::new(alloc, &sheet);
+        add_reports(alloc, files, names, progress, &mut consolidation)?;
+        Ok(consolidation.finish(self.allow, out)?)
     }
 }

@@ -1,11 +1,11 @@
 ghost use Rattle.std.specs.Prelude.{◌-◌, ◌^◌, ◌<◌};
 
 use crate::arguments::{SHEET, sheet_argument, with_reports};
-use crate::files::{read_reports, read_sheet};
+use crate::files::{add_reports, read_sheet};
 use crate::progress::Progress;
 use crate::stop::Stop;
 use clap::{ArgMatches, Command};
-use oim_merge::{Refusals, verdict_lines};
+use oim_merge::{Consolidation, Refusals};
 use oim_write::Sink;
 use std::alloc::{AllocError, Global};
 use std::io::Write;
@@ -64,10 +64,10 @@ impl<'w> Verdicts<'w> {
         Some(Verdicts { sheet })
     }
 
-    /// Reads the files and writes the line of each row to `out`. It answers the refused reports,
-    /// by their places among the names, from 1.
+    /// Reads the files, adds each as it is read, and writes the line of each row to `out`. It answers
+    /// the refused reports, by their places among the names, from 1.
     ///
-    /// Errors: those of the files, of the sheet and of `verdict_lines`.
+    /// Errors: those of the files, of the sheet and of `Consolidation::finish_lines`.
     pub(crate) fn run<F: Files, E: Write, S: Sink>(
         &self,
         alloc: Global,
@@ -79,7 +79,8 @@ impl<'w> Verdicts<'w> {
         requires { S.failures out.old < 2 ^ 64 - 1 }
     {
         let sheet = read_sheet(alloc, files, self.sheet)?;
-        let reports = read_reports(alloc, files, names, progress)?;
-        Ok(verdict_lines(alloc, &sheet, reports.as_slice(), out)?)
+        let mut consolidation = Consolidation::new(alloc, &sheet);
+        add_reports(alloc, files, names, progress, &mut consolidation)?;
+        Ok(consolidation.finish_lines(out)?)
     }
 }

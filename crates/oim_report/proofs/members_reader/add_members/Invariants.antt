@@ -1,22 +1,17 @@
-use Rattle.std.proofs.Common.{◌≡◌, drop, [], None}
+use Rattle.std.proofs.Common.{◌≡◌, ◌≤◌, drop, length, None, vec_len, vec_capacity}
 use Rattle.std.specs.List.{flat_map}
-use Rattle.oim_dims.specs.declared.period.Period.TheVariants.{Forever}
-use Rattle.oim_report.specs.Conditions.{defined_names, lists_unknown}
+use Rattle.oim_report.specs.Conditions.{defined_names}
 use Rattle.oim_report.specs.Glossaries.{AreGlossaries}
 use Rattle.oim_report.specs.Names.{names_refusal}
-use Rattle.oim_report.specs.Said.{members_with}
 use Rattle.oim_report.specs.SeenParts.{seen_defined}
-use Rattle.oim_report.proofs.MemberLists.{faulty_after}
+use Rattle.oim_report.proofs.InTurn.{AreFound}
 use Rattle.oim_report.proofs.members_reader.add_members.Given as goal
 
 abbrev pub invariant-loop-key : goal.invariant-loop-key
-invariant-loop-key l =
-    let rest = seen_defined (drop l.key-index l.defined) in
-    let all = seen_defined l.defined in record {
-      known : AreGlossaries l.sheet l.aliases l.glossaries;
-      names : names_refusal l.aliases (flat_map (defined_names l.sheet l.aliases) all) ≡ None → names_refusal l.aliases (flat_map (defined_names l.sheet l.aliases) rest) ≡ None;
-      unknown : lists_unknown l.sheet l.aliases rest ≡ lists_unknown l.sheet l.aliases all;
-      faulty : faulty_after l.sheet l.aliases l.dimensions.members rest ≡ faulty_after l.sheet l.aliases [] all;
-      members : members_with l.sheet l.aliases l.dimensions.members rest ≡ members_with l.sheet l.aliases [] all;
-      others : l.dimensions ≡ record { concept = l.fn.concept; entity = None; period = Forever; unit = None; language = None; members = l.dimensions.members };
-    }
+invariant-loop-key l = record {
+  known : AreGlossaries l.sheet l.aliases l.glossaries;
+  names : names_refusal l.aliases (flat_map (defined_names l.sheet l.aliases) (seen_defined l.defined)) ≡ None → names_refusal l.aliases (flat_map (defined_names l.sheet l.aliases) (seen_defined (drop l.key-index l.defined))) ≡ None;
+  found : AreFound l.sheet l.aliases l.defined l.found.items l.key-index;
+  count : vec_len l.found ≡ l.key-index;
+  room : length l.defined ≤ vec_capacity l.found;
+}
