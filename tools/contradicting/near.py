@@ -3,6 +3,7 @@ import collections
 import datetime
 import itertools
 
+from contradicting.sources import names_of, providers
 from contradicting.tables import DIMENSIONS, dimension_cells
 from contradicting.texts import CORE, Name
 
@@ -22,11 +23,11 @@ class Near:
 
     def wants(self, holders):
         """Tells whether a row can have a partner: somebody holds it, and somebody does not."""
-        who = {name for names in holders.values() for name in names}
+        who = names_of(holders)
         return bool(who) and who < self.everybody
 
     def add(self, number, facts, holders):
-        self.kept[number] = facts, holders, {name for names in holders.values() for name in names}
+        self.kept[number] = facts, holders, names_of(holders)
 
     def pairs(self):
         """Yields two numbers of rows and the dimension in which these differ, in order."""
@@ -63,7 +64,7 @@ class Near:
             for number in (one, other):
                 facts, holders, _ = self.kept[number]
                 for name, fact in facts.items():
-                    cells = fact.value, *fact.precision(), ", ".join(holders[name]), labels.get(fact.concept, "")
+                    cells = fact.value, *fact.precision(), providers(holders[name]), labels.get(fact.concept, "")
                     yield rank, axis, number, name, *dimension_cells(fact), *cells
 
 

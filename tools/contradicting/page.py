@@ -7,6 +7,7 @@ import os
 from decimal import Decimal
 
 from contradicting.rows import day, plain
+from contradicting.sources import names_of, told
 from contradicting.texts import Name
 
 FIRST = 200  # rows that stand before the index
@@ -21,7 +22,7 @@ def part(name):
         return file.read()
 
 
-def page(rows, counts, labels):
+def page(rows, reader, labels):
     """Yields the pieces of the page. Only the script that is of it may run."""
     script = part("page.js")
     known = base64.b64encode(hashlib.sha256(script.encode()).digest()).decode()
@@ -29,16 +30,23 @@ def page(rows, counts, labels):
     yield f"""<!DOCTYPE html><html lang="en"><head><meta charset="utf-8"><title>Contradicting figures</title>
 <meta http-equiv="Content-Security-Policy" content="{policy}">
 <meta name="viewport" content="width=device-width"><style>{part("page.css")}</style></head><body><h1>Contradicting figures</h1>
-<p class="counts">{"".join(f"<span><b>{counts[verdict]}</b>{word}</span>" for verdict, word in WORDS.items())}</p>
+<p class="counts">{"".join(f"<span><b>{count}</b>{word}</span>" for count, word in counts(reader))}</p>
 <p>A value with decimals stands for all numbers within half of its last place. A pair that has none in common is red.</p>
 <p class="filter" hidden><label>Rows with the words <input type="search"></label> <output></output></p>"""
     largest = sorted(rows, key=order)
     if len(rows) > FIRST:
         yield f"<h2>The {FIRST} largest differences</h2>\n<p>Those with a text or a nil value stand first.</p>"
     for row in largest[:FIRST]:
-        yield from section(row, labels)
-    yield from by_concept(largest, labels)
+        yield from section(row, reader, labels)
+    yield from by_concept(largest, reader, labels)
     yield f"<script>{script}</script></body></html>\n"
+
+
+def counts(reader):
+    """Yields how many rows there are of each kind, and where there are providers, how many a single one reported."""
+    yield from ((reader.counts[verdict], word) for verdict, word in WORDS.items())
+    if reader.providers:
+        yield reader.counts["alone"], f"of these said by {reader.said_by(1)}"
 
 
 def order(row):
@@ -47,7 +55,7 @@ def order(row):
     return (0, 0, row.number) if share is None else (1, -share, row.number)
 
 
-def by_concept(rows, labels):
+def by_concept(rows, reader, labels):
     """Yields the index, and behind it the rows that do not stand before it."""
     concepts, rest = {}, {}
     for place, row in enumerate(rows):
@@ -67,7 +75,7 @@ def by_concept(rows, labels):
             place = f'id="c{rank}" ' * (start == 0)
             yield f'<div class="group" {place}style="contain-intrinsic-size:auto {15 * len(some)}rem">'
             for row in some:
-                yield from section(row, labels)
+                yield from section(row, reader, labels)
             yield "</div>\n"
 
 
@@ -83,17 +91,18 @@ def heading(concept, labels, tag):
     return f'<details class="name"><summary><{tag}>{first}</{tag}></summary>{rest}</details>'
 
 
-def section(row, labels):
+def section(row, reader, labels):
     """Yields the pieces of the page that show a row."""
     last, gap = [*row.facts.values()][-1], row.gap  # the last is no nil: that comes first
     terms, ends = dict(details(last)), [end for fact in row.facts.values() for end in (fact.interval() if gap else ())]
     kind = "number" if "Unit" in terms else "text"
     yield f'<section class="row {kind}" id="row{row.number}">{heading(last.concept, labels, "h3")}<dl>'
-    yield "".join(f"<dt>{term}<dd>{text}" for term, text in terms.items())
+    said_by = reader.said_by(len(names_of(row.holders)))
+    yield "".join(f"<dt>{term}<dd>{text}" for term, text in (*terms.items(), *[("Said by", said_by)] * bool(said_by)))
     yield "</dl>" + ROW_HEAD
     for name, fact in row.facts.items():
         yield f'<tr{" class=pair" * (name in row.said.group("one", "two"))}>'
-        cells = (name, ", ".join(row.holders[name]), fact.value, *fact.precision())
+        cells = (name, told(row.holders[name]), fact.value, *fact.precision())
         yield "".join(f"<td>{shown(each)}</td>" for each in cells)
         yield drawn(fact, min(ends), max(ends), gap) if gap else ""
     if gap:

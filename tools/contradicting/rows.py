@@ -5,6 +5,7 @@ import itertools
 import re
 from decimal import Decimal, getcontext
 
+from contradicting.sources import names_of
 from contradicting.texts import CORE, using
 
 getcontext().prec = 100  # more digits than an end of an interval has: sums are exact
@@ -26,7 +27,7 @@ class Fact(collections.namedtuple("Fact", "concept entity period unit language m
 
 
 class Row(collections.namedtuple("Row", "number facts said holders gap")):
-    """The facts of one dimension set by identifier, what a line says of them, and the providers of each.
+    """The facts of one dimension set by identifier, what a line says of them, and who said each.
 
     The gap has the ends of what lies between the two facts that don't meet, and is None where they are no numbers.
     """
@@ -48,11 +49,11 @@ def contradiction(number, facts, said, holders):
 
 
 class Reader:
-    """Reads the rows of a merged text along with their lines and the providers' own texts."""
+    """Reads the rows of a merged text along with their lines, and who said their facts."""
 
-    def __init__(self, text, sheet, providers, near=None):
-        self.text, self.sheet, self.providers, self.near = text, sheet, providers, near
-        self.counts, self.kinds = collections.Counter(), {}
+    def __init__(self, text, sheet, sources, near=None, listed=None):
+        self.text, self.sheet, self.sources, self.near, self.listed = text, sheet, sources, near, listed
+        self.counts, self.kinds, self.providers = collections.Counter(), {}, len(set(sources.names))
 
     def rows(self, path):
         """Returns the rows that contradict themselves. The lines have to tell of just the facts, and what they show."""
@@ -62,12 +63,23 @@ class Reader:
                 row = self.row(number, dict(group[1]), line)
                 if row is None:
                     raise ValueError(f"line {number} does not fit the text")
-                self.counts[row.said[0].split(" ")[0]] += 1
+                self.count(row)
                 if row.said["one"]:
                     kept.append(row)
-        for provider in self.providers:
-            provider.finish()
+        self.sources.finish()
         return kept
+
+    def count(self, row):
+        verdict, who = row.said[0].split(" ")[0], names_of(row.holders)
+        self.counts[verdict] += 1
+        self.counts["alone"] += verdict == "complete" and len(who) == 1
+        if self.listed is not None:
+            names = [*row.holders]
+            self.listed.append((row.number, verdict, names[0], names[-1], self.said_by(len(who)), ", ".join(sorted(who))))
+
+    def said_by(self, count):
+        """Returns in words that so many of the providers said something, nothing where there are no providers."""
+        return f"{count} of {self.providers}" if self.providers else ""
 
     def row(self, number, facts, line):
         """Returns a row, None where its line does not fit it. Of one that contradicts itself all facts are expanded."""
@@ -75,7 +87,7 @@ class Reader:
             is_numeric = [self.kind(tree) == "numeric" for tree in facts.values()][0]
         names = [*facts]
         said = said_of(line, f"{number} {names[0]} {names[-1]} ")
-        holders = {name: self.holders(tree) for name, tree in facts.items()}
+        holders = {name: self.sources.holders(name, tree) for name, tree in facts.items()}
         if self.near and self.near.wants(holders):
             self.near.add(number, self.expanded(facts), holders)
         if said and said["one"]:
@@ -92,9 +104,6 @@ class Reader:
             if not NUMBER.fullmatch(tree["value"]) or tree.get("decimals", 0) not in range(-39, 40):
                 raise ValueError(f"it has a number of another form: {tree['value']}")
         return self.kinds[concept]
-
-    def holders(self, tree):
-        return tuple(provider.name for provider in self.providers if provider.said(tree))
 
     def expanded(self, facts):
         with using(self.text.path):

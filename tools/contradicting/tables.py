@@ -5,11 +5,13 @@ import re
 from decimal import Decimal
 
 from contradicting.rows import plain
+from contradicting.sources import identifiers, providers
 from contradicting.texts import Name
 
 FORMULA_START = re.compile(r"(^|[\t\r\n;|])(?=[\s\x00-\x20\ufeff'\"]*[=+\-@\uff1d\uff0b\uff0d\uff20])")
 DIMENSIONS = "concept entity period unit language dimensions".split()
-COLUMNS = ["row", "fact", *DIMENSIONS, *"value decimals low high evidence providers label".split()]
+COLUMNS = ["row", "fact", *DIMENSIONS, *"value decimals low high evidence providers identifiers said_by label".split()]
+LISTED = "row verdict first last said_by providers".split()
 
 
 class Line(list):
@@ -50,12 +52,20 @@ def dimension_cells(fact):
     return fact.concept, fact.entity or "", fact.period, unit, fact.language, members
 
 
-def table(rows, labels):
-    """Yields the lines of the table of contradictions."""
+def table(rows, labels, said_by):
+    """Yields the lines of the table of contradictions. said_by tells in words how many of the providers said a value."""
     yield COLUMNS
     for row in rows:
         first = next(iter(row.facts.values()))
         dimensions, label = dimension_cells(first), labels.get(first.concept, "")
         for name, fact in row.facts.items():
             pair = "pair" * (name in row.said.group("one", "two"))
-            yield row.number, name, *dimensions, fact.value, *fact.precision(), pair, ", ".join(row.holders[name]), label
+            who = row.holders[name]
+            cells = providers(who), identifiers(who), said_by(len(who)), label
+            yield row.number, name, *dimensions, fact.value, *fact.precision(), pair, *cells
+
+
+def listed_table(listed):
+    """Yields the lines of the table of all rows."""
+    yield LISTED
+    yield from listed

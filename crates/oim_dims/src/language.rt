@@ -24,7 +24,8 @@ pub fn read_language(alloc: Global, text: &str) -> Result<Text, Reason>
     Ok(Text::new(alloc, lower.as_str())?)
 }
 
-fn is_language(text: &str) -> bool
+/// Whether a text has the form of a language. It takes no memory.
+pub fn is_language(text: &str) -> bool
     ensures { result ≡ is_language text.now }
 {
     are_groups(text) && are_letters(first_group(text))

@@ -17,12 +17,12 @@ mod unit_writer;
 
 pub use dimensions::Dimensions;
 pub use fact::Fact;
-pub use language::read_language;
+pub use language::{is_language, read_language};
 pub use member::Member;
 pub use moment::Moment;
 pub use period::{Period, read_period, write_period};
 pub use unit::Unit;
-pub use unit_check::unit_refusal;
+pub use unit_check::{is_unit_text, refuses_some_piece, unit_refusal};
 pub use unit_reader::read_unit;
 pub use unit_writer::{can_write_unit, write_unit};
 

@@ -37,20 +37,20 @@ pub fn unit_refusal(aliases: &Aliases, text: &str) -> Option<Reason>
     if !is_unit_text(text) {
         return Some(Reason::UnitForm);
     }
-    if refuses_some(aliases, Reason::NameForm, text) {
+    if refuses_some_piece(aliases, Reason::NameForm, text) {
         return Some(Reason::NameForm);
     }
-    if refuses_some(aliases, Reason::UnboundPrefix, text) {
+    if refuses_some_piece(aliases, Reason::UnboundPrefix, text) {
         return Some(Reason::UnboundPrefix);
     }
-    if refuses_some(aliases, Reason::ReservedNamespace, text) {
+    if refuses_some_piece(aliases, Reason::ReservedNamespace, text) {
         return Some(Reason::ReservedNamespace);
     }
     None
 }
 
 /// Whether a text has the form of a unit.
-pub(crate) fn is_unit_text(text: &str) -> bool
+pub fn is_unit_text(text: &str) -> bool
     ensures { result ≡ is_unit_text text.now }
 {
     let (numerator, denominator) = sides(text);
@@ -80,7 +80,8 @@ pub(crate) fn has_mark(text: &[u8]) -> bool
         .any(|c| *c == b'(' || *c == b')' || *c == b'*' || *c == b'/')
 }
 
-fn refuses_some(aliases: &Aliases, reason: Reason, text: &str) -> bool
+/// Whether this is why some piece of a unit's text is no name. It takes no memory.
+pub fn refuses_some_piece(aliases: &Aliases, reason: Reason, text: &str) -> bool
     ensures { result ≡ some_piece (refuses reason aliases.now) text.now }
 {
     let (numerator, denominator) = sides(text);

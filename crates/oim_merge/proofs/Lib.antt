@@ -22,3 +22,11 @@ pub mod Afresh
 pub mod Schedules
 pub mod Steps
 pub mod Replays
+pub mod ByPlace
+pub mod PlacedFacts
+pub mod PlacePoint
+pub mod MentionLists
+pub mod FlatLines
+pub mod SourceMentions
+pub mod SourceLaws
+pub mod SourceTexts

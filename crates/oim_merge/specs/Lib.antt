@@ -7,6 +7,9 @@ pub mod Gathered
 pub mod Lines
 pub mod Named
 pub mod Listing
+pub mod Sources
+pub mod Mentions
+pub mod SourceListing
 pub mod Checked
 pub mod Source
 pub mod ReadBack

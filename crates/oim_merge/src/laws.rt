@@ -7,6 +7,7 @@ ghost use Rattle.oim_merge.specs.Lines.{LinesAreOne, LinesTellVerdicts};
 ghost use Rattle.oim_merge.specs.ReadBack.{CanonicalReadsBack, EarlierIsNotCanonical, EarlierReadsBack, LeastLevelIsDeclared, MergedTextsAreCanonical};
 ghost use Rattle.oim_merge.specs.Replicas.{EqualSetsWriteTheSame, ReplicasSayAsAfresh, ReplicasStay, WireAgrees};
 ghost use Rattle.oim_merge.specs.Run.{ReportsIgnoreOrder};
+ghost use Rattle.oim_merge.specs.Sources.{EachFactIsSaid, EachMentionIsTold};
 
 /// Reports under one sheet of which the accepted ones say the same documents, in any order and each
 /// as often as one likes, are written by the same bytes.
@@ -79,6 +80,13 @@ pub fn lines_are_one()
 /// The word in a line is that of the verdict on its dimension set.
 pub fn lines_tell_verdicts()
     ensures { LinesTellVerdicts }
+{}
+
+/// The lines of sources tell each fact object of each accepted report once and nothing else, and
+/// each fact of what the reports say in all has a line.
+pub fn sources_are_whole()
+    ensures told { EachMentionIsTold }
+    ensures said { EachFactIsSaid }
 {}
 
 /// Replicas that exchange their texts have, after every schedule without a bad event, the bases of

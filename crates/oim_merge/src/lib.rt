@@ -19,13 +19,16 @@ mod events;
 mod events_reader;
 #[cfg(test)]
 mod expecting;
+mod fact_list;
 mod fault;
 mod gathering;
 pub mod laws;
 mod line_cut;
 mod listing;
+mod mentions;
 mod merged;
 mod merging;
+mod placed_mention;
 mod read_fault;
 mod reading;
 mod refusals;
@@ -35,6 +38,7 @@ mod replaying;
 mod replicas;
 mod round_trip;
 mod source;
+mod source_listing;
 mod source_reader;
 mod std_source;
 #[cfg(test)]
@@ -52,6 +56,8 @@ mod tests_round_trip;
 #[cfg(test)]
 mod tests_sinks;
 #[cfg(test)]
+mod tests_sources;
+#[cfg(test)]
 mod tests_texts;
 #[cfg(test)]
 mod tests_writers;
@@ -66,6 +72,7 @@ pub use refusals::Refusals;
 // judging and checking
 pub use checked::{Checked, check_report};
 pub use listing::verdict_lines;
+pub use source_listing::source_lines;
 // replicas
 pub use event::Event;
 pub use events::Events;

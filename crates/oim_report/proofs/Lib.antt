@@ -61,3 +61,10 @@ pub mod AcceptedWhereFree
 pub mod RefusedWhereHeld
 pub mod PlainFact
 pub mod GlossaryAdds
+pub mod KeyedFacts
+pub mod FoundWith
+pub mod NameTests
+pub mod ComesAgain
+pub mod EachRefusal
+pub mod FirstFault
+pub mod FaultLaws

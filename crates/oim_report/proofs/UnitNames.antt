@@ -14,7 +14,7 @@ use Rattle.oim_report.specs.Names.{a_name, names_refusal}
 use Rattle.oim_report.specs.Refusal.{lesser}
 
 -- the first of three that some name has
-abbrev by_any : Bool → Bool → Bool → Option Reason
+abbrev pub by_any : Bool → Bool → Bool → Option Reason
 by_any form prefix namespace =
     if form then Some NameForm else (if prefix then Some UnboundPrefix else (if namespace then Some ReservedNamespace else None))
 
@@ -22,7 +22,7 @@ abbrev of_one : Bool → Bool → Bool → Option Reason
 of_one named unbound reserved =
     if named then (if unbound then Some UnboundPrefix else (if reserved then Some ReservedNamespace else None)) else Some NameForm
 
-one_more : (a u r f p n : Bool) → lesser (of_one a u r) (by_any f p n) ≡ by_any (not a || f) ((a && u) || p) ((a && r) || n)
+pub one_more : (a u r f p n : Bool) → lesser (of_one a u r) (by_any f p n) ≡ by_any (not a || f) ((a && u) || p) ((a && r) || n)
 one_more false u r true p n = refl
 one_more false u r false true n = refl
 one_more false u r false false true = refl

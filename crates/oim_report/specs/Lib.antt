@@ -21,6 +21,8 @@ pub mod Beside
 pub mod Info
 pub mod Document
 pub mod Outcome
+pub mod Identifiers
+pub mod Faults
 pub mod FactFits
 pub mod FactObject
 pub mod Report

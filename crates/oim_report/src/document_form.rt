@@ -28,7 +28,7 @@ pub(crate) fn check_shape(tree: &Value) -> Result<(), Reason>
     Ok(())
 }
 
-fn has_misshapen_part(tree: &Value) -> bool
+pub(crate) fn has_misshapen_part(tree: &Value) -> bool
     ensures { result ≡ has_misshapen_part (view tree.now) }
 {
     !tree.is_object()
@@ -39,7 +39,7 @@ fn has_misshapen_part(tree: &Value) -> bool
         || is_no_array(within(tree, "documentInfo", "taxonomy"))
 }
 
-fn has_unknown_part(tree: &Value) -> bool
+pub(crate) fn has_unknown_part(tree: &Value) -> bool
     ensures { result ≡ has_unknown_part (view tree.now) }
 {
     has_unknown_in(tree.as_object(), &["documentInfo", "facts"])
@@ -57,7 +57,7 @@ fn has_unknown_part(tree: &Value) -> bool
         )
 }
 
-fn has_other_type(tree: &Value) -> bool
+pub(crate) fn has_other_type(tree: &Value) -> bool
     ensures { result ≡ has_other_type (view tree.now) }
 {
     match Given::of(within(tree, "documentInfo", "documentType")).text() {

@@ -1,11 +1,15 @@
-ghost use Rattle.std.specs.Prelude.{◌≡◌, Some, IfOk, not};
+ghost use Rattle.std.specs.Prelude.{◌≡◌, Some, IfOk, not, option_map};
 ghost use Rattle.std.specs.Result.{result_err};
+ghost use Rattle.serde_json.specs.View.{view};
 ghost use Rattle.oim_report.specs.Conditions.{form_refusal, has_misshapen_core, in_dimensions};
+ghost use Rattle.oim_report.specs.Faults.{form_refusals};
 ghost use Rattle.oim_report.specs.Json.{is_absent};
 ghost use Rattle.oim_report.specs.SeenParts.{seen_parts};
 
 use crate::parts::{DimensionParts, FactParts};
+use crate::when::when;
 use oim_names::Reason;
+use serde_json::Value;
 
 /// The parts of a fact's dimensions, where the fact has the form: its members, links and notes.
 ///
@@ -31,6 +35,24 @@ pub(crate) fn check_form<'p, 'a>(parts: &'p FactParts<'a>) -> Result<&'p Dimensi
         Some(dimensions) => Ok(dimensions),
         None => Err(Reason::DimensionsMissing),
     }
+}
+
+/// Each condition of a fact's form, where this stands at its `dimensions`.
+pub(crate) fn form_refusals(
+    parts: &FactParts<'_>,
+    dimensions: Option<&Value>,
+) -> [Option<Reason>; 5]
+    ensures { result ≡ form_refusals (seen_parts parts.now) (option_map (λ v. view v.now) dimensions.entry) }
+{
+    let is_misshapen = parts.misshapen || parts.value.is_absent() || has_misshapen_core(parts);
+    let is_unknown = parts.unknown || has_unknown_dimension(parts);
+    [
+        when(is_misshapen, Reason::MemberForm),
+        when(is_unknown, Reason::UnknownMember),
+        when(parts.linked, Reason::Links),
+        when(has_note(parts), Reason::Notes),
+        when(dimensions.is_none(), Reason::DimensionsMissing),
+    ]
 }
 
 fn has_misshapen_core(parts: &FactParts<'_>) -> bool

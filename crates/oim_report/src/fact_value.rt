@@ -1,14 +1,16 @@
-ghost use Rattle.std.specs.Prelude.{◌≡◌, ◌⊎◌, Some, None, IfOk, IfErr};
+ghost use Rattle.std.specs.Prelude.{◌≡◌, ◌⊎◌, if◌then◌else◌, Some, None, IfOk, IfErr};
 ghost use Rattle.std.specs.Result.{result_err};
-ghost use Rattle.oim_report.specs.Conditions.{decimals_refusal, value_names, value_refusals};
+ghost use Rattle.oim_report.specs.Conditions.{decimals_refusal, value_names, value_refusal, value_refusals};
+ghost use Rattle.oim_report.specs.Faults.{value_refusals as each_refusal};
 ghost use Rattle.oim_report.specs.Given.{seen};
-ghost use Rattle.oim_report.specs.Json.{text as a_text, whole};
+ghost use Rattle.oim_report.specs.Json.{is_absent, text as a_text, whole};
 ghost use Rattle.oim_report.specs.Names.{names_refusal};
 ghost use Rattle.oim_report.specs.Refusal.{first_refusal};
 ghost use Rattle.oim_report.specs.Said.{said_decimals, said_value};
 
-use crate::concept_kind::ConceptKind;
+use crate::concept_kind::{ConceptKind, is_numeric, is_other};
 use crate::given::Given;
+use crate::when::when;
 use oim_names::{Aliases, Reason, Text};
 use oim_value::{Decimals, Value, read_fixed};
 use std::alloc::Global;
@@ -70,6 +72,35 @@ fn read_text(
             read_decimals(kind, decimals)?;
             Ok(Value::Name(aliases.expand(text)?))
         }
+    }
+}
+
+/// Each condition of the value and the decimals of a fact whose concept has this kind. It takes no
+/// memory.
+pub(crate) fn value_refusals(
+    kind: Option<ConceptKind>,
+    value: Given<'_>,
+    decimals: Given<'_>,
+) -> [Option<Reason>; 3]
+    ensures { result ≡ each_refusal kind (seen value.entry) (seen decimals.entry) }
+{
+    let is_misplaced = !decimals.is_absent() && is_other(kind);
+    [
+        value_refusal(kind, value),
+        read_decimals(ConceptKind::Numeric, decimals).err(),
+        when(is_misplaced, Reason::DecimalsOnOther),
+    ]
+}
+
+fn value_refusal(kind: Option<ConceptKind>, value: Given<'_>) -> Option<Reason>
+    ensures { let refusal = value_refusal kind (seen value.entry) in
+        result ≡ (if is_absent (seen value.entry) then None else refusal) }
+{
+    match value {
+        Given::Absent | Given::Nil => None,
+        Given::Text(text) if is_numeric(kind) => read_fixed(text).err(),
+        Given::Text(_) => None,
+        Given::Whole(_) | Given::Other => Some(Reason::ValueForm),
     }
 }
 

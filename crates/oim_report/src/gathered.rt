@@ -41,6 +41,13 @@ impl<K: Kind> Gathered<K> {
         }
     }
 
+    /// Whether the name is there.
+    pub(crate) fn has(&self, name: &Name) -> bool
+        ensures { result ≡ map.contains_key self.now name.now }
+    {
+        self.kinds.contains_key(name)
+    }
+
     /// Adds the name with the kind, unless it is there; and what is then said of it.
     ///
     /// Errors: want of memory; all is then as before.

@@ -7,6 +7,8 @@ ghost use Rattle.oim_names.specs.Bindings.{Binding};
 ghost use Rattle.oim_names.specs.Expansion.{Expands, ExpandsEntity};
 ghost use Rattle.oim_report.specs.Accepts.{AcceptedWhereFree};
 ghost use Rattle.oim_report.specs.Duplicates.{LevelIgnoresOrder, LevelIsStrictest, ValuesMeetIsMeets};
+ghost use Rattle.oim_report.specs.Identifiers.{EachFactHasAnIdentifier};
+ghost use Rattle.oim_report.specs.Faults.{FirstFaultIsAnswered, NoFaultsWhereAccepted};
 ghost use Rattle.oim_report.specs.Kept.{KeptIsAccepted, KeptIsKept, KeptIsUtf8, is_web, web_text};
 ghost use Rattle.oim_report.specs.Listed.{ConceptsAreListed, DimensionsAreListed};
 ghost use Rattle.oim_report.specs.Names.{entity_named, named};
@@ -85,6 +87,12 @@ pub fn outcomes_are_said()
     ensures references { AcceptedReferencesAreKept }
 {}
 
+/// The bytes of an accepted report give as many identifiers as it has facts, and the object of each
+/// says the fact at its place.
+pub fn each_fact_has_an_identifier()
+    ensures { EachFactHasAnIdentifier }
+{}
+
 /// A report is accepted as a document exactly where its bytes are JSON, no condition holds of the
 /// document or of a fact, they say that document, and the level of its facts is not above the
 /// declared one.
@@ -97,6 +105,13 @@ pub fn accepted_where_free()
 /// of its facts is above the declared one.
 pub fn refused_where_held()
     ensures { RefusedWhereHeld }
+{}
+
+/// A report has faults exactly where it is refused, and the first of them is the refusal that
+/// `read_report` answers.
+pub fn faults_begin_with_the_refusal()
+    ensures none { NoFaultsWhereAccepted }
+    ensures first { FirstFaultIsAnswered }
 {}
 
 /// Parts of a fact object that no condition refuses say a fact.

@@ -33,7 +33,12 @@ pub fn read_report<'s>(alloc: Global, sheet: &'s Sheet, bytes: &[u8]) -> Result<
     read_document(alloc, sheet, &tree)
 }
 
-fn read_document<'s>(alloc: Global, sheet: &'s Sheet, tree: &Value) -> Result<Report<'s>, Refusal>
+/// The same of a JSON value.
+pub(crate) fn read_document<'s>(
+    alloc: Global,
+    sheet: &'s Sheet,
+    tree: &Value,
+) -> Result<Report<'s>, Refusal>
     ensures ok { IfOk result (λ r. tree_outcome sheet.now (Some (view tree.now)) ≡ Ok r.document) }
     ensures sheet { IfOk result (λ r. r.sheet ≡ sheet.now) }
     ensures errors { let said = tree_outcome sheet.now (Some (view tree.now)) in

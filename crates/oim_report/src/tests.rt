@@ -1,5 +1,7 @@
 mod duplicates;
 mod facts;
+mod faults;
+mod identifiers;
 mod kept;
 mod read_back;
 mod reports;

@@ -57,6 +57,21 @@ pub(crate) fn read_file<'w, F: Files>(
     }
 }
 
+/// Opens the report at this place among the names, from 0, and reads it.
+///
+/// Errors: `Stop::Report`.
+pub(crate) fn read_report<F: Files>(
+    alloc: Global,
+    files: &F,
+    place: usize,
+    name: &str,
+) -> Result<Encoded, Stop<'static>> {
+    match open_and_read(alloc, files, name) {
+        Ok(bytes) => Ok(bytes),
+        Err(fault) => Err(Stop::Report(place, fault)),
+    }
+}
+
 /// Why the file of this name cannot be read, where that can be told.
 pub(crate) fn why_unread<F: Files>(files: &F, name: &str) -> Option<&'static str> {
     match fs::metadata(files, name) {

@@ -3,6 +3,7 @@ ghost use Rattle.std.specs.Prelude.{◌≡◌, ◌-◌, ◌^◌, ◌<◌, OnOk};
 use crate::files::STANDARD_INPUT;
 use crate::stop::Stop;
 use oim_merge::{Checked, Fault, ReadFault, Refusals};
+use oim_names::Reason;
 use oim_report::{Place, Refusal};
 use oim_write::{Sink, put_all};
 use std::alloc::Global;
@@ -90,6 +91,10 @@ pub(crate) fn print_stop<E: Write>(err: &mut E, names: &[&str], stop: &Stop<'_>)
         Stop::Event(line) => {
             let _ = writeln!(err, "event {line}: refused");
         }
+        Stop::Sheet(reason, words) => {
+            print_sheet(err, *reason);
+            let _ = write!(err, "{words}");
+        }
         Stop::Run(fault) => print_fault(err, fault),
     }
 }
@@ -103,11 +108,17 @@ pub(crate) fn print_read_fault<E: Write>(err: &mut E, file: &str, fault: ReadFau
     };
 }
 
+/// The line of a sheet that is refused.
+fn print_sheet<E: Write>(err: &mut E, reason: Reason) {
+    let (number, name) = (reason.number(), reason.name());
+    let _ = writeln!(err, "sheet: {number} {name}");
+}
+
 fn print_fault<E: Write>(err: &mut E, fault: &Fault) {
     let _ = match fault {
         Fault::OutOfMemory(_) => writeln!(err, "out of memory"),
         Fault::Device(written) => writeln!(err, "device: {written} bytes written"),
-        Fault::Sheet(reason) => writeln!(err, "sheet: {} {}", reason.number(), reason.name()),
+        Fault::Sheet(reason) => return print_sheet(err, *reason),
         Fault::TooLoose { row, refused } => {
             print_refusals(err, refused);
             writeln!(err, "too loose: row {row}")

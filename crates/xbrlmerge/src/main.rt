@@ -10,8 +10,10 @@ mod canonical_parts;
 mod commands;
 #[cfg(test)]
 mod devices;
+mod ended;
 #[cfg(test)]
 mod expecting;
+mod explaining;
 mod files;
 mod lines;
 mod named;
@@ -23,6 +25,8 @@ mod run;
 mod stop;
 mod task;
 mod terminals;
+#[cfg(test)]
+mod tests_explained;
 #[cfg(test)]
 mod tests_files;
 #[cfg(test)]

@@ -2,6 +2,7 @@ ghost use Rattle.std.specs.Prelude.{◌-◌, ◌^◌, ◌<◌};
 
 use crate::commands::bundle::merge_bundle;
 use crate::commands::show::show;
+use crate::ended::Ended;
 use crate::files::why_unread;
 use crate::lines::{print_awaited, print_refusals, print_stop};
 use crate::new_file::{new_beside, put_in_place, remove};
@@ -10,7 +11,7 @@ use crate::stop::Stop;
 use crate::task::{Asked, Task};
 use crate::terminals::Terminals;
 use crate::words::read_words;
-use oim_merge::{Fault, ReadFault, Refusals};
+use oim_merge::{Fault, ReadFault};
 use oim_write::{Sink, StdSink};
 use std::alloc::Global;
 use std::convert::AsStr;
@@ -30,7 +31,7 @@ const FAILED: u8 = 3;
 /// `input`. What it answers goes to `out`, and `err` has a line for each refused report, or for
 /// what stopped it. Where a device is a terminal, `err` has more: that the bundle is awaited, how
 /// many reports were read, and why a file cannot be read. It answers the status: 0; 1 where a
-/// report was refused; 2 where a row is above the level that is allowed; 3 where it stopped.
+/// report was refused or has a fault; 2 where a row is above the level that is allowed; 3 where it stopped.
 pub fn run<F, W, R, O, E>(
     alloc: Global,
     files: &F,
@@ -76,10 +77,11 @@ fn tell<F: Files, E: Write>(
     files: &F,
     terminals: Terminals,
     names: &[&str],
-    ended: &Result<Refusals, Stop<'_>>,
+    ended: &Result<Ended, Stop<'_>>,
 ) -> u8 {
     match ended {
-        Ok(refusals) => print_refusals(err, refusals),
+        Ok(Ended::Refused(refusals)) => print_refusals(err, refusals),
+        Ok(Ended::Found(_)) => {}
         Err(stop) => {
             print_stop(err, names, stop);
             if terminals.errors {
@@ -102,7 +104,7 @@ fn print_reason<F: Files, E: Write>(err: &mut E, files: &F, names: &[&str], stop
     }
 }
 
-/// Does what the words ask for with the reports of these names, and answers the refused ones.
+/// Does what the words ask for with the reports of these names, and answers what it tells.
 fn do_asked<'w, F: Files, R: Read + Drop, O: Write + Drop, E: Write>(
     alloc: Global,
     files: &F,
@@ -111,7 +113,7 @@ fn do_asked<'w, F: Files, R: Read + Drop, O: Write + Drop, E: Write>(
     progress: &mut Progress<E>,
     input: R,
     out: O,
-) -> Result<Refusals, Stop<'w>> {
+) -> Result<Ended, Stop<'w>> {
     match asked.output {
         Some(file) => write_file(alloc, files, &asked.task, names, progress, input, file),
         None => {
@@ -131,7 +133,7 @@ fn write_file<'w, F: Files, R: Read + Drop, E: Write>(
     progress: &mut Progress<E>,
     input: R,
     name: &'w str,
-) -> Result<Refusals, Stop<'w>> {
+) -> Result<Ended, Stop<'w>> {
     let (beside, file) = new_beside(alloc, files, name)?;
     let mut sink = StdSink::new(file);
     let worked = work(alloc, files, task, names, progress, input, &mut sink);
@@ -145,11 +147,11 @@ fn write_file<'w, F: Files, R: Read + Drop, E: Write>(
 /// Puts the file beside another in its place, unless the work stopped.
 fn settle<'w, F: Files>(
     files: &F,
-    worked: Result<Refusals, Stop<'w>>,
+    worked: Result<Ended, Stop<'w>>,
     file: F::File,
     beside: &str,
     name: &'w str,
-) -> Result<Refusals, Stop<'w>> {
+) -> Result<Ended, Stop<'w>> {
     match worked {
         Err(Stop::Run(Fault::Device(_))) => Err(Stop::Unwritten(name)),
         worked if worked.is_err() => worked,
@@ -160,7 +162,7 @@ fn settle<'w, F: Files>(
     }
 }
 
-/// Does a task, and answers the refused reports.
+/// Does a task, and answers what it tells.
 fn work<'w, F: Files, R: Read + Drop, E: Write, S: Sink>(
     alloc: Global,
     files: &F,
@@ -169,25 +171,33 @@ fn work<'w, F: Files, R: Read + Drop, E: Write, S: Sink>(
     progress: &mut Progress<E>,
     input: R,
     out: &mut S,
-) -> Result<Refusals, Stop<'w>>
+) -> Result<Ended, Stop<'w>>
     requires { S.failures out.old < 2 ^ 64 - 1 }
 {
     match task {
-        Task::Bundle => merge_bundle(alloc, input, out),
-        Task::Show(asked) => show(alloc, asked, out),
-        Task::Merge(merge) => merge.run(alloc, files, names, progress, out),
-        Task::Verdicts(verdicts) => verdicts.run(alloc, files, names, progress, out),
-        Task::Check(check) => check.run(alloc, files, out),
-        Task::Replay(replay) => replay.run(alloc, files, names, progress, out),
+        Task::Bundle => Ok(Ended::Refused(merge_bundle(alloc, input, out)?)),
+        Task::Show(asked) => Ok(Ended::Refused(show(alloc, asked, out)?)),
+        Task::Merge(merge) => Ok(Ended::Refused(merge.run(alloc, files, names, progress, out)?)),
+        Task::Verdicts(verdicts) => Ok(Ended::Refused(verdicts.run(
+            alloc, files, names, progress, out,
+        )?)),
+        Task::Sources(sources) => Ok(Ended::Refused(sources.run(
+            alloc, files, names, progress, out,
+        )?)),
+        Task::Check(check) => Ok(Ended::Refused(check.run(alloc, files, out)?)),
+        Task::Explain(explain) => Ok(Ended::Found(explain.run(
+            alloc, files, names, progress, out,
+        )?)),
+        Task::Replay(replay) => Ok(Ended::Refused(replay.run(alloc, files, names, progress, out)?)),
     }
 }
 
 /// Flushes standard output, unless the program stopped. Where that fails it has stopped. A fault of
 /// standard output tells all that it took in this run.
 fn flush<'w, O: Write + Drop>(
-    worked: Result<Refusals, Stop<'w>>,
+    worked: Result<Ended, Stop<'w>>,
     sink: StdSink<O>,
-) -> Result<Refusals, Stop<'w>> {
+) -> Result<Ended, Stop<'w>> {
     let written = sink.taken();
     match worked {
         Err(Stop::Run(Fault::Device(_))) => Err(Stop::Run(Fault::Device(written))),
@@ -199,9 +209,10 @@ fn flush<'w, O: Write + Drop>(
     }
 }
 
-fn status_of(ended: &Result<Refusals, Stop<'_>>) -> u8 {
+fn status_of(ended: &Result<Ended, Stop<'_>>) -> u8 {
     match ended {
-        Ok(refusals) if refusals.as_slice().is_empty() => DONE,
+        Ok(Ended::Refused(refusals)) if refusals.as_slice().is_empty() => DONE,
+        Ok(Ended::Found(0)) => DONE,
         Ok(_) => REFUSED,
         Err(Stop::Run(Fault::TooLoose { .. })) => TOO_LOOSE,
         Err(_) => FAILED,

@@ -1,5 +1,6 @@
 use clap::Error;
 use oim_merge::{Fault, ReadFault, ReplayFault};
+use oim_names::Reason;
 use std::alloc::{AllocError, AllocFailed};
 
 /// Why the program stopped before its work was done.
@@ -19,6 +20,8 @@ pub(crate) enum Stop<'w> {
     Unwritten(&'w str),
     /// This line, from 1, is no event, or its event names what is not there.
     Event(u64),
+    /// The sheet is refused, and this line tells more of it.
+    Sheet(Reason, String),
     /// The work had a fault.
     Run(Fault),
 }

@@ -1,6 +1,8 @@
 use crate::commands::check::Check;
+use crate::commands::explain::Explain;
 use crate::commands::merge::Merge;
 use crate::commands::replay::Replay;
+use crate::commands::sources::Sources;
 use crate::commands::verdicts::Verdicts;
 use crate::named::Named;
 use clap::Error;
@@ -27,8 +29,12 @@ pub(crate) enum Task<'w> {
     Merge(Merge<'w>),
     /// The command `verdicts`.
     Verdicts(Verdicts<'w>),
+    /// The command `sources`.
+    Sources(Sources<'w>),
     /// The command `check`.
     Check(Check<'w>),
+    /// The command `explain`.
+    Explain(Explain<'w>),
     /// The command `replay`.
     Replay(Replay<'w>),
 }

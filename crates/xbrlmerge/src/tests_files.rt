@@ -1,3 +1,4 @@
+mod explained;
 mod made;
 mod replayed;
 mod rows;
@@ -8,6 +9,7 @@ use crate::expecting::Expecting;
 use crate::ran::{ends, stops, words_of};
 use crate::run::run;
 use crate::terminals::Terminals;
+use explained::{EXPLAINED, SAID};
 use made::{FOLDER, made};
 use replayed::REPLAYED;
 use rows::{
@@ -132,6 +134,9 @@ fn files_are_read_and_answered(rt: HostRuntime) -> Result<(), Fail> {
     assert!(rt; are_met(&rt, MERGED.as_slice())?);
     assert!(rt; are_met(&rt, JUDGED.as_slice())?);
     assert!(rt; are_met(&rt, CHECKED.as_slice())?);
+    assert!(rt; are_met(&rt, EXPLAINED.as_slice())?);
+    assert!(rt; holds(&rt, "said", SAID)?);
+    assert!(rt; stop_when_full(&rt, explained::FULL.as_slice())?);
     assert!(rt; are_met(&rt, REPLAYED.as_slice())?);
     assert!(rt; are_met(&rt, LISTED.as_slice())?);
     assert!(rt; show(&rt, SHOWN.as_slice())?);

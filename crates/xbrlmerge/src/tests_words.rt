@@ -17,11 +17,14 @@ fn is_answered(rt: &HostRuntime, words: &[&str], front: &str) -> bool {
     ends(rt, words, 0, out, Expecting::just(b""))
 }
 
-const WRONG: [&str; 49] = [
+const WRONG: [&str; 54] = [
     "merge --sheet s --reports-from",
     "merge --sheet s --reports-from f --reports-from g",
     "merge --sheet s -0 r",
     "check --sheet s r --reports-from f",
+    "explain",
+    "explain r",
+    "explain --sheet s --allow all",
     "-o f",
     "merge --sheet s -o",
     "merge --sheet s -o f --output g",
@@ -64,6 +67,8 @@ const WRONG: [&str; 49] = [
     "merge --version",
     "verdicts",
     "verdicts --sheet s --allow all",
+    "sources",
+    "sources --sheet s --allow all",
     "check --sheet s",
     "check r",
     "check --sheet s r r",
@@ -125,8 +130,8 @@ For more information, try '--help'.
 ",
     ),
     (
-        "s",
-        "error: unrecognized subcommand 's'
+        "no",
+        "error: unrecognized subcommand 'no'
 
 Usage: xbrlmerge [COMMAND]
 
@@ -153,7 +158,7 @@ fn usage_tells_what_is_wrong(rt: HostRuntime) -> Result<(), Fail> {
     Ok(())
 }
 
-const ANSWERED: [(&str, &str); 15] = [
+const ANSWERED: [(&str, &str); 17] = [
     ("help", "Consolidates xBRL-JSON reports"),
     ("-h", "Consolidates xBRL-JSON reports"),
     ("--help", "Consolidates xBRL-JSON reports"),
@@ -163,7 +168,9 @@ const ANSWERED: [(&str, &str); 15] = [
     ("merge r --sheet s --help", "Writes one canonical report"),
     ("help verdicts", "Prints a verdict for each set"),
     ("verdicts --help", "Prints a verdict for each set"),
+    ("help sources", "Tells which report says which fact"),
     ("help check", "Counts the facts of one report"),
+    ("help explain", "Tells everything that is wrong"),
     ("check -h", "Counts the facts of one report"),
     ("help replay", "Runs a schedule"),
     ("replay --help", "Runs a schedule"),

@@ -1,9 +1,11 @@
 use crate::arguments::{OUTPUT, QUIET};
 use crate::commands::check::Check;
+use crate::commands::explain::Explain;
 use crate::commands::merge::Merge;
 use crate::commands::replay::Replay;
+use crate::commands::sources::Sources;
 use crate::commands::verdicts::Verdicts;
-use crate::commands::{check, merge, replay, verdicts};
+use crate::commands::{check, explain, merge, replay, sources, verdicts};
 use crate::named::Named;
 use crate::stop::Stop;
 use crate::task::{Asked, Task};
@@ -28,7 +30,7 @@ Example:
 
 Status, of each command:
   0  everything was done
-  1  a report was refused, and standard error tells why
+  1  a report was refused, and standard error tells why; or `explain` found a fault
   2  `merge` wrote nothing, because a row is above what --allow allows
   3  it was not done, or not to the end: invalid arguments, the sheet or an event is refused, a
      file or a device failed, or out of memory";
@@ -92,7 +94,9 @@ fn task_of<'w>(name: &str, found: &ArgMatches<'w>) -> Option<Task<'w>> {
     match name {
         merge::NAME => Merge::asked(found).map(Task::Merge),
         verdicts::NAME => Verdicts::asked(found).map(Task::Verdicts),
+        sources::NAME => Sources::asked(found).map(Task::Sources),
         check::NAME => Check::asked(found).map(Task::Check),
+        explain::NAME => Explain::asked(found).map(Task::Explain),
         replay::NAME => Replay::asked(found).map(Task::Replay),
         _ => None,
     }
@@ -112,12 +116,14 @@ fn described<'w>(alloc: Global) -> Result<Command<'w>, AllocError> {
 fn consolidating<'w>(alloc: Global) -> Result<Command<'w>, AllocError> {
     described(alloc)?
         .subcommand(Merge::words(alloc)?)?
-        .subcommand(Verdicts::words(alloc)?)
+        .subcommand(Verdicts::words(alloc)?)?
+        .subcommand(Sources::words(alloc)?)
 }
 
 /// The words of the program, with its help.
 fn program<'w>(alloc: Global) -> Result<Command<'w>, AllocError> {
     consolidating(alloc)?
         .subcommand(Check::words(alloc)?)?
+        .subcommand(Explain::words(alloc)?)?
         .subcommand(Replay::words(alloc)?)
 }

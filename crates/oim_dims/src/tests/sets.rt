@@ -2,6 +2,7 @@ use super::{copied, dimensions, example, language, name, period, tell_refused, t
 use crate::{Dimensions, Fact, Member, Period};
 use oim_names::{Aliases, Copied, Name, Reason};
 use oim_value::Value;
+use std::alloc::AllocError;
 use std::test::Fail;
 
 // The dimensions of eg:A with one other part.
@@ -176,13 +177,27 @@ fn a_dimension_stands_once(rt: HostRuntime) -> Result<(), Fail> {
     Ok(())
 }
 
+const ROOM: usize = 4;
+
+fn room(rt: &HostRuntime) -> Result<Vec<(Name, Member)>, AllocError> {
+    match Vec::with_capacity(rt.alloc(), ROOM) {
+        Err(_) => {
+            let _ = eprintln!(rt; "refused here");
+            Vec::with_capacity(rt.alloc(), ROOM)
+        }
+        room => room,
+    }
+}
+
 // Nil members of these names, as they come.
 fn listed(
     rt: &HostRuntime,
     aliases: &Aliases,
     names: &[&str],
 ) -> Result<Vec<(Name, Member)>, Reason> {
-    let mut members = Vec::new(rt.alloc());
+    let Ok(mut members) = room(rt) else {
+        return Err(Reason::OutOfMemory);
+    };
     for spelled in names {
         if members
             .push((name(rt, aliases, spelled)?, Member::Nil))

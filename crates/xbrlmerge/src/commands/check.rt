@@ -38,7 +38,7 @@ Example:
 
 Status:
   0  the report is accepted
-  1  it is refused, and standard error tells why and where
+  1  it is refused, and standard error tells why and where; `explain` tells all that is wrong
   3  it was not checked: invalid arguments, the sheet is refused, a file or a device failed,
      or out of memory";
 

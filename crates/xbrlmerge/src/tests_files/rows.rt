@@ -106,7 +106,7 @@ const APART: &[&str] = &["1 f1 f2 inconsistent apart f1 f2\n"];
 
 const ALIKE: &[&str] = &["1 f1 f1 complete\n"];
 
-pub(super) const JUDGED: [Row; 9] = [
+pub(super) const JUDGED: [Row; 11] = [
     ("verdicts --sheet sheet", 0, &[], ""),
     ("verdicts --sheet sheet 100 101", 0, TOUCHING, ""),
     (
@@ -131,6 +131,13 @@ pub(super) const JUDGED: [Row; 9] = [
     ("verdicts --sheet sheet below", 0, APART, ""),
     ("verdicts --sheet sheet zeros", 0, ALIKE, ""),
     ("verdicts --sheet sheet nil", 0, APART, ""),
+    ("sources --sheet sheet", 0, &[], ""),
+    (
+        "sources 101 unbound 100 --sheet sheet",
+        1,
+        &["f1 3 \"a\"\nf2 1 \"a\"\n"],
+        SECOND,
+    ),
 ];
 
 pub(super) const CHECKED: [Row; 7] = [

@@ -1,0 +1,42 @@
+-- Where the facts that come before one end.
+use Rattle.std.proofs.Common.{◌≡◌, ℕ, ◌<◌, ◌≤◌, List, [], ◌∷◌, map, length, get_or, Bool, true, false, sym, ap, ◌∙◌, arith}
+use Rattle.std.specs.List.Sorted.{IsPartitionPoint, IsPartitionedBy}
+use Rattle.std.specs.Ordering.{is_lt}
+use Rattle.std.proofs.lemmas.List.{get_or-map, length-map}
+use Rattle.merge_laws.specs.Sorted.{IsSet}
+use Rattle.oim_dims.specs.FactOrder.{fact_cmp}
+use Rattle.oim_dims.specs.declared.fact.Fact.{Fact}
+use Rattle.oim_dims.proofs.Orders.{fact_cmp_total}
+use Rattle.oim_write.proofs.Ranks.{count_at, parted}
+use Rattle.oim_merge.specs.Mentions.{lent, place}
+use Rattle.oim_merge.specs.declared.fact_list.LentFact.{LentFact}
+
+module _ (f : Fact) where
+  abbrev pub comes_before : LentFact → Bool
+  comes_before g = is_lt (fact_cmp (lent g) f)
+
+  pub lent_parted : (gs : List LentFact) → IsSet fact_cmp (map lent gs) → IsPartitionedBy comes_before gs
+  lent_parted gs rise i j d le within h =
+      let at : (k : ℕ) → k < length gs → get_or (map lent gs) k (lent d) ≡ lent (get_or gs k d) = λ k lt. get_or-map lent gs k d (lent d) lt in
+      ap (λ g. is_lt (fact_cmp g f)) (sym (at i (omega (arith, le, within))))
+      ∙ parted fact_cmp_total (map lent gs) f rise i j (lent d) le (omega (arith, within, length-map gs lent)) (ap (λ g. is_lt (fact_cmp g f)) (at j within) ∙ h)
+
+  some_default : (gs : List LentFact) (k : ℕ) → k < length gs → LentFact
+  some_default [] k lt = absurd (omega (arith, lt))
+  some_default (g ∷ gs) k lt = g
+
+  at_lent : (gs : List LentFact) (k : ℕ) (d : Fact) (e : LentFact) → k < length gs → get_or (map lent gs) k d ≡ lent (get_or gs k e)
+  at_lent gs k d e lt = get_or-map lent gs k e d lt
+
+  pub place_is_point : (gs : List LentFact) (i : ℕ) → i ≤ length gs → IsPartitionPoint (λ g. comes_before g ≡ true) (λ g. comes_before g ≡ false) gs i → place (map lent gs) f ≡ i
+  place_is_point gs i le point =
+      count_at (λ g. is_lt (fact_cmp g f)) (map lent gs) i (omega (arith, le, length-map gs lent)) (
+        (λ k d low high.
+            let within : k < length gs = omega (arith, le, high) in
+            let e = some_default gs k within in
+            ap (λ g. is_lt (fact_cmp g f)) (at_lent gs k d e within) ∙ point.0 k e low high),
+        (λ k d low high.
+            let within : k < length gs = omega (arith, high, length-map gs lent) in
+            let e = some_default gs k within in
+            ap (λ g. is_lt (fact_cmp g f)) (at_lent gs k d e within) ∙ point.1 k e low within),
+      )

@@ -1,0 +1,17 @@
+use Rattle.std.proofs.Common.{◌+◌, ◌∷◌, ◌≡◌, drop, map, sym, ap, ◌∙◌, arith}
+use Rattle.std.proofs.lemmas.List.{drop_more}
+use Rattle.oim_merge.specs.Mentions.{lent}
+use Rattle.oim_merge.proofs.MentionLists.{mentions_more}
+use Rattle.oim_merge.proofs.mentions.mentions_of.Goals as goal
+
+pub loop-report-preserved : goal.loop-report-preserved
+loop-report-preserved c =
+    let l = c.loop-report in
+    let reports = c.args.reports.now in
+    let report = c.as_bytes.result.now in
+    let rest = drop (l.report-index + 1) reports in
+    let here : drop l.report-index reports ≡ report ∷ rest = drop_more reports l.report-index c.report-item.result (omega arith) ∙ ap (λ t. t ∷ rest) (sym c.report-item.is ∙ sym c.as_bytes.ensures) in
+    record {
+      count = omega (arith, l.invariant.count);
+      all = mentions_more (map lent c.args.facts.now) (l.number + 1) c.args.sheet.now report rest reports l.report-index l.mentions.items c.add_report.new.mentions.items here c.in_ok-add_report.ensures l.invariant.all;
+    }

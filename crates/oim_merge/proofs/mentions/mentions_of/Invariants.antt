@@ -1,0 +1,12 @@
+use Rattle.std.proofs.Common.{◌≡◌, ◌+◌, ◌++◌, drop, map}
+use Rattle.oim_merge.specs.Mentions.{all_placed, lent}
+use Rattle.oim_merge.specs.Sources.{mentions, mentions_from}
+use Rattle.oim_merge.proofs.mentions.mentions_of.Given as goal
+
+-- with those of the reports that are left they are all
+abbrev pub invariant-loop-report : goal.invariant-loop-report
+invariant-loop-report l = record {
+  count : l.number ≡ l.report-index;
+  all : l.mentions.items ++ all_placed (map lent l.facts) (mentions_from (l.number + 1) l.sheet (drop l.report-index l.reports))
+      ≡ all_placed (map lent l.facts) (mentions l.sheet l.reports);
+}

@@ -1,0 +1,76 @@
+-- Who said what: each fact object of the accepted reports, by the fact that it says (own). In bytes, a space is 32, a line end 10.
+use Rattle.std.specs.Prelude.{◌≡◌, ℕ, suc, Bool, Option, Some, None, List, [], ◌∷◌, ◌++◌, filter, flat_map, Contains, Result, Ok, Err}
+use Rattle.std.specs.Fmt.{decimal}
+use Rattle.std.specs.List.Sorted.{IsPermutation}
+use Rattle.std.specs.Ordering.{is_eq}
+use Rattle.serde_json.specs.Data.{string}
+use Rattle.serde_json.specs.Written.{compact_text}
+use Rattle.oim_dims.specs.FactOrder.{fact_cmp}
+use Rattle.oim_dims.specs.declared.fact.Fact.{Fact}
+use Rattle.oim_report.specs.Document.{Document}
+use Rattle.oim_report.specs.Identifiers.{identifiers}
+use Rattle.oim_report.specs.Outcome.{outcome}
+use Rattle.oim_report.specs.Sheet.{Sheet}
+use Rattle.oim_report.specs.declared.refusal.Refusal.{Refusal}
+use Rattle.oim_write.specs.Tree.{identifier}
+use Rattle.oim_merge.specs.Reports.{merged}
+
+-- that the report of a number says a fact, by an object with this identifier
+pub record Mention : Type 0 where
+  pub report : ℕ
+  pub identifier : List ℕ
+  pub fact : Fact
+
+-- those of a report, whose identifiers and facts stand place by place
+abbrev pub mentions_in : ℕ → List (List ℕ) → List Fact → List Mention
+mentions_in n [] facts = []
+mentions_in n (i ∷ is) [] = []
+mentions_in n (i ∷ is) (f ∷ facts) = record { report = n; identifier = i; fact = f } ∷ mentions_in n is facts
+
+-- a refused report has none
+abbrev pub mentions_of : ℕ → Option (List (List ℕ)) → Result Document Refusal → List Mention
+mentions_of n None said = []
+mentions_of n (Some is) (Ok d) = mentions_in n is d.facts
+mentions_of n (Some is) (Err r) = []
+
+-- those of reports in their order, where the first has the number n
+abbrev pub mentions_from : ℕ → Sheet → List (List ℕ) → List Mention
+mentions_from n sheet [] = []
+mentions_from n sheet (bytes ∷ reports) = mentions_of n (identifiers bytes) (outcome sheet bytes) ++ mentions_from (suc n) sheet reports
+
+abbrev pub mentions : Sheet → List (List ℕ) → List Mention
+mentions sheet reports = mentions_from 1 sheet reports
+
+-- whether it is this fact that is said
+abbrev pub is_of : Fact → Mention → Bool
+is_of f m = is_eq (fact_cmp m.fact f)
+
+-- fact by fact, those that say it
+abbrev pub by_fact : List Fact → List Mention → List Mention
+by_fact facts ms = flat_map (λ f. filter (is_of f) ms) facts
+
+abbrev pub mentions_by_fact : Sheet → List (List ℕ) → List Mention
+mentions_by_fact sheet reports = by_fact (merged sheet reports).facts (mentions sheet reports)
+
+-- the identifier of the fact in the canonical text, the number of the report, and its own identifier as a JSON string
+abbrev pub source_line : List Fact → Mention → List ℕ
+source_line facts m = identifier facts m.fact ++ 32 ∷ (decimal m.report ++ 32 ∷ (compact_text (string m.identifier) ++ 10 ∷ []))
+
+-- the line of each fact object of each accepted report, in the order of facts, of reports, and of identifiers
+abbrev pub sources : Sheet → List (List ℕ) → List ℕ
+sources sheet reports = flat_map (source_line (merged sheet reports).facts) (mentions_by_fact sheet reports)
+
+-- ---- what these come to
+
+-- each fact of the body is said
+pub record IsSaid (sheet : Sheet) (reports : List (List ℕ)) (f : Fact) : Type 0 where
+  pub mention : Mention
+  pub there : Contains (mentions_by_fact sheet reports) mention
+  pub of_fact : mention.fact ≡ f
+
+abbrev pub EachFactIsSaid : Type 0
+EachFactIsSaid = (sheet : Sheet) (reports : List (List ℕ)) (f : Fact) → Contains (merged sheet reports).facts f → IsSaid sheet reports f
+
+-- each fact object of an accepted report is told once, and nothing else is
+abbrev pub EachMentionIsTold : Type 0
+EachMentionIsTold = (sheet : Sheet) (reports : List (List ℕ)) → IsPermutation (mentions sheet reports) (mentions_by_fact sheet reports)

@@ -1,0 +1,125 @@
+ghost use Rattle.std.specs.Prelude.{◌≡◌, ◌++◌, map, length, IfOk, OnOk, Some, Ok};
+ghost use Rattle.merge_laws.specs.Sorted.{IsSet};
+ghost use Rattle.oim_dims.specs.FactOrder.{fact_cmp};
+ghost use Rattle.oim_report.specs.Identifiers.{identifiers};
+ghost use Rattle.oim_report.specs.Outcome.{outcome};
+ghost use Rattle.oim_merge.specs.Mentions.{all_placed, lent};
+ghost use Rattle.oim_merge.specs.Reports.{merged};
+ghost use Rattle.oim_merge.specs.Sources.{mentions, mentions_by_fact, mentions_in, mentions_of};
+
+use crate::fact_list::{LentFact, facts_of, place_of};
+use crate::placed_mention::PlacedMention;
+use crate::reading::read;
+use fact_base::Base;
+use oim_dims::Fact;
+use oim_names::{Copied, Text};
+use oim_report::{Sheet, fact_identifiers};
+use oim_write::Encoded;
+use std::alloc::{AllocError, Global};
+
+/// The mentions of the facts of a base in the reports that it was merged from, fact by fact, and
+/// those of a fact in the order of the reports and of the identifiers.
+pub(crate) fn mentions_by_fact(
+    alloc: Global,
+    base: &Base<'_>,
+    reports: &[Encoded],
+) -> Result<Vec<PlacedMention>, AllocError>
+    requires { base.now.body ≡ merged base.now.sheet reports.now }
+    ensures { IfOk result (λ ms. ms.items
+        ≡ all_placed base.now.body.facts (mentions_by_fact base.now.sheet reports.now)) }
+{
+    base.known();
+    let facts = facts_of(alloc, base)?;
+    let mut mentions = mentions_of(alloc, base.sheet(), facts.as_slice(), reports)?;
+    mentions.sort_by_key(|mention| mention.place)?;
+    Ok(mentions)
+}
+
+/// The mentions of these facts in the reports, in the order of the reports and of the identifiers.
+fn mentions_of(
+    alloc: Global,
+    sheet: &Sheet,
+    facts: &[LentFact<'_>],
+    reports: &[Encoded],
+) -> Result<Vec<PlacedMention>, AllocError>
+    requires { IsSet fact_cmp (map lent facts.now) }
+    ensures { IfOk result
+        (λ ms. ms.items ≡ all_placed (map lent facts.now) (mentions sheet.now reports.now)) }
+{
+    let mut mentions = Vec::new(alloc);
+    let mut number = 0;
+    for report in reports {
+        number += 1;
+        add_report(
+            alloc,
+            sheet,
+            facts,
+            number,
+            report.as_bytes(),
+            &mut mentions,
+        )?;
+    }
+    Ok(mentions)
+}
+
+/// Adds those of a report with this number; a refused one has none.
+fn add_report(
+    alloc: Global,
+    sheet: &Sheet,
+    facts: &[LentFact<'_>],
+    number: u64,
+    bytes: &[u8],
+    mentions: &mut Vec<PlacedMention>,
+) -> Result<(), AllocError>
+    requires { IsSet fact_cmp (map lent facts.now) }
+    ensures { OnOk result (mentions.new.items ≡ mentions.old.items ++ all_placed (map lent facts.now)
+        (mentions_of number (identifiers bytes.now) (outcome sheet.now bytes.now))) }
+{
+    let Ok(report) = read(alloc, sheet, bytes)? else {
+        return Ok(());
+    };
+    let identifiers = identifiers_of(alloc, bytes)?;
+    add_facts(
+        alloc,
+        facts,
+        number,
+        identifiers.as_slice(),
+        report.facts(),
+        mentions,
+    )
+}
+
+/// The identifiers of the facts of an accepted report, whose bytes are JSON.
+fn identifiers_of(alloc: Global, bytes: &[u8]) -> Result<Vec<Text>, AllocError>
+    ensures { IfOk result (λ is. identifiers bytes.now ≡ Some is.items) }
+{
+    match fact_identifiers(alloc, bytes) {
+        Ok(identifiers) => Ok(identifiers),
+        Err(_) => Err(AllocError),
+    }
+}
+
+/// Adds those of a report whose identifiers and facts these are.
+fn add_facts(
+    alloc: Global,
+    facts: &[LentFact<'_>],
+    number: u64,
+    identifiers: &[Text],
+    said: &[Fact],
+    mentions: &mut Vec<PlacedMention>,
+) -> Result<(), AllocError>
+    requires rise { IsSet fact_cmp (map lent facts.now) }
+    requires lengths { length identifiers.now ≡ length said.now }
+    ensures { OnOk result (mentions.new.items ≡ mentions.old.items
+        ++ all_placed (map lent facts.now) (mentions_in number identifiers.now said.now)) }
+{
+    for (i, fact) in said.iter().enumerate() {
+        let identifier = identifiers[i].copied(alloc)?;
+        mentions.push(PlacedMention {
+            place: place_of(facts, fact),
+            report: number,
+            identifier,
+        })?;
+    }
+    Ok(())
+}

@@ -1,0 +1,43 @@
+ghost use Rattle.std.specs.Prelude.{◌≡◌, IfOk, string_bytes};
+ghost use Rattle.serde_json.specs.Data.{string};
+ghost use Rattle.serde_json.specs.Written.{compact_text};
+ghost use Rattle.oim_merge.specs.Mentions.{placed_line};
+
+use oim_names::Text;
+use oim_write::identifier;
+use serde_json::Value;
+use std::alloc::{AllocError, Global};
+
+/// That a report says a fact of a base.
+#[derive(Debug, Drop)]
+pub(crate) struct PlacedMention {
+    /// How many facts of the base come before it.
+    pub place: usize,
+    /// The number of the report, from 1.
+    pub report: u64,
+    /// The identifier that the report gives it.
+    pub identifier: Text,
+}
+
+/// The line of a mention, and its line end, where the base has so many facts.
+pub(crate) fn line_of(
+    alloc: Global,
+    count: u128,
+    mention: &PlacedMention,
+) -> Result<String, AllocError>
+    ensures { IfOk result (λ line. string_bytes line ≡ placed_line count mention.now) }
+{
+    let fact = identifier(alloc, mention.place as u128 + 1, count)?;
+    let own = json_string(alloc, &mention.identifier)?;
+    let fact = fact.as_str();
+    let report = mention.report;
+    format!(in alloc; "{fact} {report} {own}\n")
+}
+
+/// A text as a JSON string.
+fn json_string(alloc: Global, text: &Text) -> Result<String, AllocError>
+    ensures { IfOk result (λ json. string_bytes json ≡ compact_text (string text.now)) }
+{
+    let value = Value::String(String::from_str(alloc, text.as_str())?);
+    value.to_string(alloc)
+}

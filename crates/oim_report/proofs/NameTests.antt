@@ -1,0 +1,74 @@
+-- Why a text is no name, by the test of each reason.
+use Rattle.std.proofs.Common.{◌≡◌, ℕ, List, [], ◌∷◌, ◌++◌, Bool, true, false, not, ◌||◌, ◌&&◌, refl, sym, ◌∙◌}
+use Rattle.std.specs.Prelude.{Option, Some, None, is_none, if◌then◌else◌, map}
+use Rattle.std.specs.Option.{option_eq, option_map_or}
+use Rattle.std.specs.Str.{bytes_eq}
+use Rattle.std.specs.List.{list_any}
+use Rattle.std.proofs.lemmas.List.Folds.{list_any-append}
+use Rattle.oim_names.specs.QName.{prefix_part}
+use Rattle.oim_names.specs.Bindings.{Binding, uri_of}
+use Rattle.oim_names.specs.Expansion.{prefix_refusal, refusal_as, reserved_uri}
+use Rattle.oim_names.specs.contracts.reason.ReasonPartialEq.TheImpl.{eq-value as same_reason}
+use Rattle.oim_names.specs.declared.reason.Reason.{Reason}
+use Rattle.oim_names.specs.declared.reason.Reason.TheVariants.{NameForm, UnboundPrefix, ReservedNamespace}
+use Rattle.oim_dims.specs.Unit.{denominator_pieces, is_unit_text, numerator_pieces, refuses, some_piece}
+use Rattle.oim_report.specs.Conditions.{piece_names}
+use Rattle.oim_report.specs.Faults.{refuses_name, refuses_some}
+use Rattle.oim_report.specs.Names.{Spelled, a_name}
+
+-- by whether it has the form, and what its prefix is bound to
+abbrev refuses_so : Reason → Bool → Option (List ℕ) → Bool
+refuses_so NameForm form uri = not form
+refuses_so UnboundPrefix form uri = form && is_none uri
+refuses_so ReservedNamespace form uri = form && option_map_or (λ u. bytes_eq u reserved_uri) uri false
+refuses_so r form uri = false
+
+told_so : (r : Reason) (form : Bool) (uri : Option (List ℕ)) → option_eq same_reason.it (if form then prefix_refusal uri else Some NameForm) (Some r) ≡ refuses_so r form uri
+told_so NameForm false uri = refl
+told_so UnboundPrefix false uri = refl
+told_so ReservedNamespace false uri = refl
+told_so r false uri = refl
+told_so NameForm true None = refl
+told_so UnboundPrefix true None = refl
+told_so ReservedNamespace true None = refl
+told_so r true None = refl
+told_so NameForm true (Some u) = elim (bytes_eq u reserved_uri) as (λ b. option_eq same_reason.it (if b then Some ReservedNamespace else None) (Some NameForm) ≡ false) [ true ↦ refl | false ↦ refl ]
+told_so UnboundPrefix true (Some u) = elim (bytes_eq u reserved_uri) as (λ b. option_eq same_reason.it (if b then Some ReservedNamespace else None) (Some UnboundPrefix) ≡ false) [ true ↦ refl | false ↦ refl ]
+told_so ReservedNamespace true (Some u) = elim (bytes_eq u reserved_uri) as (λ b. option_eq same_reason.it (if b then Some ReservedNamespace else None) (Some ReservedNamespace) ≡ b) [ true ↦ refl | false ↦ refl ]
+told_so r true (Some u) = elim (bytes_eq u reserved_uri) as (λ b. option_eq same_reason.it (if b then Some ReservedNamespace else None) (Some r) ≡ false) [ true ↦ refl | false ↦ refl ]
+
+-- a refusal is this one where the test holds
+pub told : (r : Reason) (bs : List Binding) (n : Spelled) → option_eq same_reason.it (refusal_as n.has_form bs n.text) (Some r) ≡ refuses_name r bs n
+told NameForm bs n = told_so NameForm (n.has_form n.text) (uri_of bs (prefix_part n.text))
+told UnboundPrefix bs n = told_so UnboundPrefix (n.has_form n.text) (uri_of bs (prefix_part n.text))
+told ReservedNamespace bs n = told_so ReservedNamespace (n.has_form n.text) (uri_of bs (prefix_part n.text))
+told r bs n = told_so r (n.has_form n.text) (uri_of bs (prefix_part n.text))
+
+-- ---- a unit
+
+piece_same : (r : Reason) (bs : List Binding) (t : List ℕ) → refuses r bs t ≡ refuses_name r bs (a_name t)
+piece_same NameForm bs t = refl
+piece_same UnboundPrefix bs t = refl
+piece_same ReservedNamespace bs t = refl
+piece_same r bs t = refl
+
+grouped : (a b c : Bool) → ((a || b) || c) ≡ (a || (b || c))
+grouped true b c = refl
+grouped false b c = refl
+
+pieces_same : (r : Reason) (bs : List Binding) (ps qs : List (List ℕ)) → (list_any (refuses r bs) ps || list_any (refuses r bs) qs) ≡ refuses_some r bs (map a_name (ps ++ qs))
+pieces_same r bs [] [] = refl
+pieces_same r bs [] (q ∷ qs) = λ i. piece_same r bs q i || pieces_same r bs [] qs i
+pieces_same r bs (p ∷ ps) qs = grouped (refuses r bs p) (list_any (refuses r bs) ps) (list_any (refuses r bs) qs) ∙ (λ i. piece_same r bs p i || pieces_same r bs ps qs i)
+
+with_form : (form : Bool) (r : Reason) (bs : List Binding) (ps : List (List ℕ)) → form ≡ true → refuses_some r bs (map a_name ps) ≡ refuses_some r bs (if form then map a_name ps else [])
+with_form true r bs ps h = refl
+with_form false r bs ps h = absurd (cc)
+
+pub unit_pieces : (r : Reason) (bs : List Binding) (t : List ℕ) → is_unit_text t ≡ true → some_piece (refuses r bs) t ≡ refuses_some r bs (piece_names t)
+unit_pieces r bs t form = pieces_same r bs (numerator_pieces t) (denominator_pieces t) ∙ with_form (is_unit_text t) r bs (numerator_pieces t ++ denominator_pieces t) form
+
+-- ---- several lists of names
+
+pub either : (r : Reason) (bs : List Binding) (xs ys : List Spelled) (b c : Bool) → b ≡ refuses_some r bs xs → c ≡ refuses_some r bs ys → (b || c) ≡ refuses_some r bs (xs ++ ys)
+either r bs xs ys b c one two = (λ i. one i || two i) ∙ sym (list_any-append (refuses_name r bs) xs ys)

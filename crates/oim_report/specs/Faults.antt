@@ -1,0 +1,188 @@
+-- Everything that is wrong with a report, as far as one condition makes sense beside another (own). Where `Info` and `Conditions` answer the
+-- first condition that holds, this tells each; one that speaks of what another refuses is not told beside it.
+use Rattle.std.specs.Prelude.{◌≡◌, ◌↔◌, ℕ, ◌+◌, List, [], ◌∷◌, ◌++◌, map, Bool, false, not, ◌||◌, ◌&&◌, if◌then◌else◌, codes, Option, Some, None, is_none, is_some, Result, Ok, Err}
+use Rattle.std.specs.Option.{option_map_or, unwrap_or}
+use Rattle.std.specs.List.{filter_map, list_any}
+use Rattle.std.specs.Result.{result_err}
+use Rattle.oim_names.specs.Bindings.{Binding}
+use Rattle.oim_names.specs.Expansion.{lacks_form, lacks_binding, lies_in_reserved, name_refusal}
+use Rattle.oim_names.specs.declared.reason.Reason.{Reason}
+use Rattle.oim_names.specs.declared.reason.Reason.TheVariants.{NotJson, MemberForm, UnknownMember, DocumentType, Namespace, BaseUrl, TaxonomyUrl, Feature, Links, Notes, DimensionsMissing, NameForm, UnboundPrefix, ReservedNamespace, MissingConcept, UnknownConcept, UnknownDimension, DimensionValue, UnitOnOther, LanguageOnNumeric, DecimalsOnOther}
+use Rattle.serde_json.specs.Data.{Data}
+use Rattle.serde_json.specs.Find.{get}
+use Rattle.oim_report.specs.declared.concept_kind.ConceptKind.{ConceptKind}
+use Rattle.oim_report.specs.declared.place.Place.TheVariants.{Document as AtDocument, Fact as AtFact}
+use Rattle.oim_report.specs.declared.refusal.Refusal.{Refusal}
+use Rattle.oim_report.specs.Conditions.{concept_kind, comes_again, decimals_refusal, dimension_kind, dimension_names, has_misshapen_core, in_dimensions, is_misfit, is_numeric, is_other_kind, language_refusal, names_of, period_refusal, unit_refusal, value_refusal}
+use Rattle.oim_report.specs.Document.{Document}
+use Rattle.oim_report.specs.Info.{base_said, bindings_of, facts_of, has_misshapen_part, has_other_type, has_unknown_part, level_said, namespaces_of, said_references, taxonomy_of}
+use Rattle.oim_report.specs.Json.{Given, is_absent, json, object_at, any_in, text_of, values}
+use Rattle.oim_report.specs.Names.{Spelled}
+use Rattle.oim_report.specs.Namespaces.{binds_nothing}
+use Rattle.oim_report.specs.Outcome.{at, outcome}
+use Rattle.oim_report.specs.Parts.{DimensionParts, FactParts, fact_parts}
+use Rattle.oim_report.specs.Sheet.{Sheet}
+
+-- a refusal, where its condition holds
+abbrev pub when : Bool → Reason → Option Reason
+when holds reason = if holds then Some reason else None
+
+-- those that there are
+abbrev pub all_refusals : List (Option Reason) → List Reason
+all_refusals refusals = filter_map (λ r. r) refusals
+
+-- ---- the document
+
+-- which references are kept depends on the base: where that is refused, they are looked at as without one
+abbrev pub refuses_references : Data → Bool
+refuses_references tree = is_none (said_references (unwrap_or (base_said tree) None) (taxonomy_of tree))
+
+-- which key is the feature depends on the prefixes: where an entry binds nothing, it is not told
+abbrev pub refuses_level : Data → Bool
+refuses_level tree = not (any_in binds_nothing (namespaces_of tree)) && is_none (level_said tree)
+
+-- and the type is not, where there is no `documentInfo` to have one
+abbrev pub document_refusals : Data → List (Option Reason)
+document_refusals tree =
+    when (has_misshapen_part tree) MemberForm
+    ∷ when (has_unknown_part tree) UnknownMember
+    ∷ when (is_some (object_at (codes "documentInfo") tree) && has_other_type tree) DocumentType
+    ∷ when (any_in binds_nothing (namespaces_of tree)) Namespace
+    ∷ when (is_none (base_said tree)) BaseUrl
+    ∷ when (refuses_references tree) TaxonomyUrl
+    ∷ when (refuses_level tree) Feature
+    ∷ []
+
+-- ---- the form of a fact
+
+-- of these parts, and what stands at `dimensions`, which is not missing where it is no object
+abbrev pub form_refusals : FactParts → Option Data → List (Option Reason)
+form_refusals p dimensions =
+    when (p.misshapen || is_absent p.value || in_dimensions has_misshapen_core p) MemberForm
+    ∷ when (p.unknown || in_dimensions (λ ds. ds.unknown) p) UnknownMember
+    ∷ when p.linked Links
+    ∷ when (in_dimensions (λ ds. not (is_absent ds.note)) p) Notes
+    ∷ when (is_none dimensions) DimensionsMissing
+    ∷ []
+
+-- ---- its names
+
+-- whether this is why a text is no such name
+abbrev pub refuses_name : Reason → List Binding → Spelled → Bool
+refuses_name NameForm bs n = lacks_form n.has_form n.text
+refuses_name UnboundPrefix bs n = lacks_binding n.has_form bs n.text
+refuses_name ReservedNamespace bs n = lies_in_reserved n.has_form bs n.text
+refuses_name r bs n = false
+
+abbrev pub refuses_some : Reason → List Binding → List Spelled → Bool
+refuses_some reason bs names = list_any (refuses_name reason bs) names
+
+abbrev pub names_refusals : List Binding → List Spelled → List (Option Reason)
+names_refusals bs names =
+    when (refuses_some NameForm bs names) NameForm
+    ∷ when (refuses_some UnboundPrefix bs names) UnboundPrefix
+    ∷ when (refuses_some ReservedNamespace bs names) ReservedNamespace
+    ∷ []
+
+-- ---- its concept and its dimensions; what is refused as a name is not unknown, and what is unknown has no kind
+
+abbrev pub is_a_name : List Binding → List ℕ → Bool
+is_a_name bs t = is_none (name_refusal bs t)
+
+abbrev pub is_unknown_concept : Sheet → List Binding → Given → Bool
+is_unknown_concept sheet bs concept = option_map_or (is_a_name bs) (text_of concept) false && is_none (concept_kind sheet bs concept)
+
+abbrev pub concept_refusals : Sheet → List Binding → Given → List (Option Reason)
+concept_refusals sheet bs concept =
+    when (is_absent concept) MissingConcept ∷ when (is_unknown_concept sheet bs concept) UnknownConcept ∷ []
+
+abbrev pub is_unknown_dimension : Sheet → List Binding → List ℕ × Given → Bool
+is_unknown_dimension sheet bs d = is_a_name bs d.0 && is_none (dimension_kind sheet bs d.0)
+
+abbrev pub has_misfit : Sheet → List Binding → List ℕ × Given → Bool
+has_misfit sheet bs d = is_some (dimension_kind sheet bs d.0) && is_misfit (dimension_kind sheet bs d.0) d.1
+
+abbrev pub defined_refusals : Sheet → List Binding → List (List ℕ × Given) → List (Option Reason)
+defined_refusals sheet bs defined =
+    when (list_any (is_unknown_dimension sheet bs) defined) UnknownDimension
+    ∷ when (list_any (has_misfit sheet bs) defined || comes_again (dimension_names bs defined)) DimensionValue
+    ∷ []
+
+-- its form, as that of a concept of no kind, and then whether it may stand there
+abbrev pub unit_refusals : Option ConceptKind → Given → List (Option Reason)
+unit_refusals kind unit = unit_refusal None unit ∷ when (not (is_absent unit) && is_other_kind kind) UnitOnOther ∷ []
+
+abbrev pub language_refusals : Option ConceptKind → Given → List (Option Reason)
+language_refusals kind language =
+    language_refusal None language ∷ when (not (is_absent language) && is_numeric kind) LanguageOnNumeric ∷ []
+
+abbrev pub core_refusals : Option ConceptKind → DimensionParts → List (Option Reason)
+core_refusals kind ds = period_refusal ds.period ∷ unit_refusals kind ds.unit ++ language_refusals kind ds.language
+
+-- ---- its value and its decimals; a value that is missing is told by the form
+
+abbrev pub value_refusals : Option ConceptKind → Given → Given → List (Option Reason)
+value_refusals kind value decimals =
+    (if is_absent value then None else value_refusal kind value)
+    ∷ decimals_refusal None decimals
+    ∷ when (not (is_absent decimals) && is_other_kind kind) DecimalsOnOther
+    ∷ []
+
+-- ---- a fact
+
+abbrev pub content_refusals : Sheet → List Binding → FactParts → DimensionParts → List (Option Reason)
+content_refusals sheet bs p ds =
+    let kind = concept_kind sheet bs ds.concept in
+    names_refusals bs (names_of sheet bs ds p.value)
+    ++ (concept_refusals sheet bs ds.concept ++ (defined_refusals sheet bs ds.defined ++ (core_refusals kind ds ++ value_refusals kind p.value p.decimals)))
+
+-- of a fact object of these parts, in the order of the numbers
+abbrev pub parts_refusals : Sheet → List Binding → Data → FactParts → List (Option Reason)
+parts_refusals sheet bs d p =
+    form_refusals p (get (codes "dimensions") d) ++ option_map_or (content_refusals sheet bs p) p.dimensions []
+
+-- what is no object has not the form
+abbrev pub fact_faults : Sheet → List Binding → Data → List Reason
+fact_faults sheet bs d = all_refusals (option_map_or (parts_refusals sheet bs d) (fact_parts d) (Some MemberForm ∷ []))
+
+-- of several fact objects, where the first has the place n
+abbrev pub faults_from : Sheet → List Binding → ℕ → List Data → List Refusal
+faults_from sheet bs n [] = []
+faults_from sheet bs n (d ∷ ds) = map (at (AtFact n)) (fact_faults sheet bs d) ++ faults_from sheet bs (n + 1) ds
+
+-- ---- a report
+
+-- the first list, or the second where it is empty
+abbrev pub or_else : List Refusal → List Refusal → List Refusal
+or_else [] later = later
+or_else (r ∷ rs) later = r ∷ rs
+
+-- the one refusal that is answered, where there is one
+abbrev pub answered : Result Document Refusal → List Refusal
+answered (Ok d) = []
+answered (Err r) = r ∷ []
+
+-- those of the document; where there are none, those of its facts, in byte order of their identifiers; where there are none, that it has
+-- duplicates beyond its level, which is then what is answered
+abbrev pub tree_faults : Sheet → Result Document Refusal → Data → List Refusal
+tree_faults sheet said tree =
+    or_else (map (at AtDocument) (all_refusals (document_refusals tree)))
+    (or_else (faults_from sheet (bindings_of tree) 1 (values (facts_of tree))) (answered said))
+
+-- everything that is wrong with a report's bytes under a sheet, each with its place
+unfoldable pub faults : Sheet → List ℕ → List Refusal
+faults sheet bytes = option_map_or (tree_faults sheet (outcome sheet bytes)) (json bytes) (at AtDocument NotJson ∷ [])
+
+-- ---- laws
+
+abbrev pub first_of : List Refusal → Option Refusal
+first_of [] = None
+first_of (r ∷ rs) = Some r
+
+-- there is none exactly where the report is accepted,
+abbrev pub NoFaultsWhereAccepted : Type 0
+NoFaultsWhereAccepted = (sheet : Sheet) (bytes : List ℕ) → (faults sheet bytes ≡ []) ↔ ((d : Document) × (outcome sheet bytes ≡ Ok d))
+
+-- and the first is the refusal that is answered
+abbrev pub FirstFaultIsAnswered : Type 0
+FirstFaultIsAnswered = (sheet : Sheet) (bytes : List ℕ) → first_of (faults sheet bytes) ≡ result_err (outcome sheet bytes)

@@ -1,0 +1,43 @@
+-- The identifiers of a report's facts (xBRL-JSON 1.0, section 2: the keys of `facts`; their order is own).
+use Rattle.std.specs.Prelude.{◌≡◌, ℕ, List, [], ◌∷◌, map, Ok, Option, Some, option_map}
+use Rattle.std.specs.List.{AllZip}
+use Rattle.oim_names.specs.Bindings.{Binding}
+use Rattle.oim_dims.specs.declared.fact.Fact.{Fact}
+use Rattle.serde_json.specs.Data.{Data, Members, no_members, member}
+use Rattle.oim_report.specs.Document.{Document, ObjectSays}
+use Rattle.oim_report.specs.Info.{bindings_of, facts_of}
+use Rattle.oim_report.specs.Json.{json}
+use Rattle.oim_report.specs.Outcome.{outcome}
+use Rattle.oim_report.specs.Sheet.{Sheet}
+
+-- the members with their keys, in byte order of these
+abbrev pub keyed : Members → List (List ℕ × Data)
+keyed no_members = []
+keyed (member key d ms) = (key, d) ∷ keyed ms
+
+-- the identifiers of fact objects
+abbrev pub identifiers_in : List (List ℕ × Data) → List (List ℕ)
+identifiers_in objects = map (λ o. o.0) objects
+
+abbrev pub tree_identifiers : Data → List (List ℕ)
+tree_identifiers tree = identifiers_in (keyed (facts_of tree))
+
+-- the identifiers that a file's bytes give, None where they are not JSON
+abbrev pub identifiers : List ℕ → Option (List (List ℕ))
+identifiers bytes = option_map tree_identifiers (json bytes)
+
+-- the object of an identifier says the fact
+abbrev pub IdentifierSays : Sheet → List Binding → List ℕ × Data → Fact → Type 0
+IdentifierSays sheet bs object said = ObjectSays sheet bs object.1 said
+
+-- these are the identifiers of a document's facts: the object of each says the fact at its place
+pub record Identify (sheet : Sheet) (bytes : List ℕ) (document : Document) (is : List (List ℕ)) : Type 0 where
+  pub tree : Data
+  pub read : json bytes ≡ Some tree
+  pub are : identifiers_in (keyed (facts_of tree)) ≡ is
+  pub say : AllZip (IdentifierSays sheet (bindings_of tree)) (keyed (facts_of tree)) document.facts
+
+-- the bytes of an accepted report give the identifiers of its facts, and no others
+abbrev pub EachFactHasAnIdentifier : Type 0
+EachFactHasAnIdentifier =
+    (sheet : Sheet) (bytes : List ℕ) (d : Document) → outcome sheet bytes ≡ Ok d → (is : List (List ℕ)) × (identifiers bytes ≡ Some is) × Identify sheet bytes d is

@@ -1,0 +1,76 @@
+ghost use Rattle.std.specs.Prelude.{◌≡◌, ◌++◌, Some, IfOk, OnOk};
+ghost use Rattle.serde_json.specs.View.{view};
+ghost use Rattle.oim_report.specs.Faults.{answered, faults, tree_faults};
+ghost use Rattle.oim_report.specs.Outcome.{tree_outcome};
+
+use crate::document_faults::add_document_faults;
+use crate::facts_faults::add_facts_faults;
+use crate::fault_list::Faults;
+use crate::info::read_info;
+use crate::json_tree::read_json;
+use crate::reader::read_document;
+use crate::refusal::Refusal;
+use crate::sheet::Sheet;
+use crate::unless_memory::unless_memory;
+use oim_names::Reason;
+use serde_json::Value;
+use std::alloc::{AllocError, Global};
+
+/// Everything that is wrong with a report's bytes under a sheet, where `read_report` answers the
+/// first alone (own): that they are not JSON; or else each condition of the document that holds; or
+/// else each of each fact, with its place; or else that its facts have duplicates beyond the declared
+/// level. A condition that speaks of what another one refuses is not told beside it. There is none
+/// where the report is accepted.
+///
+/// Errors: want of memory.
+#[tactic(auto, unfolding(crate::specs::Faults::faults, crate::specs::Outcome::outcome))]
+pub fn faults(alloc: Global, sheet: &Sheet, bytes: &[u8]) -> Result<Faults, AllocError>
+    ensures { IfOk result (λ found. found ≡ faults sheet.now bytes.now) }
+{
+    match unless_memory(read_json(alloc, bytes))? {
+        Some(tree) => tree_faults(alloc, sheet, &tree),
+        None => {
+            let mut faults = Faults::new(alloc);
+            faults.push(Refusal::from(Reason::NotJson))?;
+            Ok(faults)
+        }
+    }
+}
+
+fn tree_faults(alloc: Global, sheet: &Sheet, tree: &Value) -> Result<Faults, AllocError>
+    ensures { let said = tree_outcome sheet.now (Some (view tree.now)) in
+        IfOk result (λ found. found ≡ tree_faults sheet.now said (view tree.now)) }
+{
+    let mut faults = Faults::new(alloc);
+    add_document_faults(alloc, tree, &mut faults)?;
+    if !faults.as_slice().is_empty() {
+        return Ok(faults);
+    }
+    // No condition of the document holds, so that nothing but want of memory is left.
+    let Some(info) = unless_memory(read_info(alloc, tree))? else {
+        return Err(AllocError);
+    };
+    add_facts_faults(alloc, sheet, &info.aliases, tree, &mut faults)?;
+    if !faults.as_slice().is_empty() {
+        return Ok(faults);
+    }
+    add_answered(alloc, sheet, tree, &mut faults)?;
+    Ok(faults)
+}
+
+// Appends the refusal of a report, where it is refused.
+fn add_answered(
+    alloc: Global,
+    sheet: &Sheet,
+    tree: &Value,
+    faults: &mut Faults,
+) -> Result<(), AllocError>
+    ensures { let said = tree_outcome sheet.now (Some (view tree.now)) in
+        OnOk result (faults.new ≡ faults.old ++ answered said) }
+{
+    match read_document(alloc, sheet, tree) {
+        Ok(_) => Ok(()),
+        Err(refusal) if refusal.reason == Reason::OutOfMemory => Err(AllocError),
+        Err(refusal) => faults.push(refusal),
+    }
+}

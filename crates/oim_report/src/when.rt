@@ -1,0 +1,11 @@
+ghost use Rattle.std.specs.Prelude.{◌≡◌};
+ghost use Rattle.oim_report.specs.Faults.{when};
+
+use oim_names::Reason;
+
+/// The refusal, where its condition holds.
+pub(crate) fn when(holds: bool, reason: Reason) -> Option<Reason>
+    ensures { result ≡ when holds reason }
+{
+    if holds { Some(reason) } else { None }
+}

@@ -1,0 +1,145 @@
+use super::found_in_document::info;
+use oim_dims::Fact;
+use oim_names::{Aliases, Reason};
+use oim_report::{Sheet, read_report};
+use oim_value::{Level, Value as Said, interval_of, value_meets};
+use serde_json::Value;
+use std::alloc::{AllocError, Global};
+
+const RESERVED: &str = "https://xbrl.org/2021";
+
+/// The places, from 0, of two facts of an otherwise accepted report that its declared level does
+/// not allow beside one another.
+///
+/// Errors: want of memory.
+pub(crate) fn two_apart(
+    alloc: Global,
+    sheet: &Sheet,
+    aliases: &Aliases,
+    tree: &mut Value,
+) -> Result<Option<(usize, usize)>, AllocError> {
+    let level = declared(aliases, tree);
+    drop_features(tree);
+    let text = tree.to_string(alloc)?;
+    match read_report(alloc, sheet, text.as_bytes()) {
+        Ok(report) => Ok(first_apart(report.facts(), report.order(), level)),
+        Err(refusal) if refusal.reason == Reason::OutOfMemory => Err(AllocError),
+        Err(_) => Ok(None),
+    }
+}
+
+/// The level that is declared.
+fn declared(aliases: &Aliases, tree: &Value) -> Level {
+    let Some(features) = info(tree, "features").and_then(Value::as_object) else {
+        return Level::All;
+    };
+    for (key, value) in features.iter() {
+        if is_declaration(aliases, key.as_str()) {
+            return value.as_str().and_then(Level::read).unwrap_or(Level::All);
+        }
+    }
+    Level::All
+}
+
+fn is_declaration(aliases: &Aliases, key: &str) -> bool {
+    match key.split_once(':') {
+        Some((prefix, local)) => {
+            local == "allowedDuplicates" && aliases.uri(prefix) == Some(RESERVED)
+        }
+        None => false,
+    }
+}
+
+/// Without its features a report allows all duplicates.
+fn drop_features(tree: &mut Value) {
+    if let Some(info) = tree.get_mut("documentInfo") {
+        if let Some(members) = info.as_object_mut() {
+            let _features = members.remove("features");
+        }
+    }
+}
+
+/// The first fact, in their order, that the level does not allow beside one before it, and that one.
+fn first_apart(facts: &[Fact], order: &[usize], level: Level) -> Option<(usize, usize)> {
+    let mut group: Option<Group<'_>> = None;
+    for place in order {
+        let fact = facts.get(*place)?;
+        group = match group {
+            Some(group) if group.lowest.1.dimensions == fact.dimensions => {
+                if let Some(other) = group.apart_from(fact, level) {
+                    return Some((other, *place));
+                }
+                Some(group.with(*place, fact))
+            }
+            _ => Some(Group::of(*place, fact)),
+        };
+    }
+    None
+}
+
+/// Of facts with the same dimensions, with their places: that whose interval ends first, and that
+/// whose interval begins last.
+#[derive(Clone, Copy)]
+struct Group<'f> {
+    lowest: (usize, &'f Fact),
+    highest: (usize, &'f Fact),
+}
+
+impl<'f> Group<'f> {
+    fn of(place: usize, fact: &'f Fact) -> Group<'f> {
+        Group {
+            lowest: (place, fact),
+            highest: (place, fact),
+        }
+    }
+
+    /// The place of a fact of these beside which the level does not allow this one.
+    fn apart_from(&self, fact: &Fact, level: Level) -> Option<usize> {
+        if !allows(level, self.lowest.1, fact) {
+            Some(self.lowest.0)
+        } else if !allows(level, self.highest.1, fact) {
+            Some(self.highest.0)
+        } else {
+            None
+        }
+    }
+
+    fn with(self, place: usize, fact: &'f Fact) -> Group<'f> {
+        Group {
+            lowest: if high(fact) < high(self.lowest.1) {
+                (place, fact)
+            } else {
+                self.lowest
+            },
+            highest: if low(fact) > low(self.highest.1) {
+                (place, fact)
+            } else {
+                self.highest
+            },
+        }
+    }
+}
+
+fn low(fact: &Fact) -> Option<i128> {
+    match &fact.value {
+        Said::Number(number, decimals) => Some(interval_of(*number, *decimals).low),
+        _ => None,
+    }
+}
+
+fn high(fact: &Fact) -> Option<i128> {
+    match &fact.value {
+        Said::Number(number, decimals) => Some(interval_of(*number, *decimals).high),
+        _ => None,
+    }
+}
+
+/// Whether a level allows two facts with the same dimensions.
+fn allows(level: Level, fact: &Fact, other: &Fact) -> bool {
+    match level {
+        Level::Unique => false,
+        Level::Complete => fact.value == other.value,
+        Level::Consistent => value_meets(&fact.value, &other.value),
+        Level::All => true,
+    }
+}

@@ -1,0 +1,293 @@
+use super::apart::two_apart;
+use super::escaped::push_escaped;
+use super::file_kind::{kind_of_bytes, kind_of_sheet, kind_of_tree};
+use super::found::{Found, push_text};
+use super::found_in_document::{found_in_document, info};
+use super::found_in_fact::found_in_fact;
+use super::named_in_fact::Names;
+use super::repeated::Repeated;
+use super::sentence::said_of;
+use oim_names::{Aliases, Reason};
+use oim_report::{Place, Refusal, Sheet, faults};
+use serde_json::Value;
+use std::alloc::{AllocError, Global};
+
+/// The lines of what is wrong with a file, and how many they are.
+#[derive(Drop)]
+pub(crate) struct Explained {
+    pub text: String,
+    pub faults: u64,
+}
+
+/// The lines of what is wrong with a report, read under a sheet from the file of this name: each
+/// fault, and each member that stands twice.
+///
+/// Errors: want of memory.
+pub(crate) fn explain(
+    alloc: Global,
+    sheet: &Sheet,
+    name: &str,
+    bytes: &[u8],
+) -> Result<Explained, AllocError> {
+    let mut file = String::new(alloc);
+    push_escaped(&mut file, name)?;
+    let found = faults(alloc, sheet, bytes)?;
+    let mut text = String::new(alloc);
+    if !found.as_slice().is_empty() {
+        push_faults(
+            alloc,
+            &mut text,
+            sheet,
+            file.as_str(),
+            bytes,
+            found.as_slice(),
+        )?;
+    }
+    let repeated = Repeated::of(alloc, file.as_str(), bytes)?;
+    text.push_str(repeated.text.as_str())?;
+    let faults = (found.as_slice().len() as u64).saturating_add(repeated.count);
+    Ok(Explained { text, faults })
+}
+
+fn push_faults(
+    alloc: Global,
+    text: &mut String,
+    sheet: &Sheet,
+    file: &str,
+    bytes: &[u8],
+    found: &[Refusal],
+) -> Result<(), AllocError> {
+    match Value::from_slice(alloc, without_mark(bytes)) {
+        Err(error) if error.is_memory() => Err(AllocError),
+        Err(error) => {
+            let words = format!(in alloc; "{error}")?;
+            push_start(text, file, Reason::NotJson)?;
+            text.push_str(said_of(Reason::NotJson).before)?;
+            push_escaped(text, words.as_str())?;
+            push_kind(text, kind_of_bytes(bytes))
+        }
+        Ok(mut tree) => push_of_tree(alloc, text, sheet, file, &mut tree, found),
+    }
+}
+
+fn without_mark(bytes: &[u8]) -> &[u8] {
+    match bytes.strip_prefix(b"\xef\xbb\xbf") {
+        Some(rest) => rest,
+        None => bytes,
+    }
+}
+
+fn push_start(text: &mut String, file: &str, reason: Reason) -> Result<(), AllocError> {
+    let (number, name) = (reason.number(), reason.name());
+    write!(text, "{file}: {number} {name}: ")
+}
+
+/// Ends a line, with what the file seems to be.
+fn push_kind(text: &mut String, kind: Option<&str>) -> Result<(), AllocError> {
+    match kind {
+        Some(kind) => write!(text, "; the file looks like {kind}\n"),
+        None => text.push_str("\n"),
+    }
+}
+
+fn push_of_tree(
+    alloc: Global,
+    text: &mut String,
+    sheet: &Sheet,
+    file: &str,
+    tree: &mut Value,
+    found: &[Refusal],
+) -> Result<(), AllocError> {
+    match found.first() {
+        Some(
+            Refusal {
+                place: Place::Fact(_),
+                ..
+            },
+        ) => push_of_facts(alloc, text, sheet, file, tree, found),
+        Some(
+            Refusal {
+                reason: Reason::DisallowedDuplicates,
+                ..
+            },
+        ) => push_apart(alloc, text, sheet, file, tree),
+        _ => push_of_document(alloc, text, file, tree, found),
+    }
+}
+
+fn push_of_document(
+    alloc: Global,
+    text: &mut String,
+    file: &str,
+    tree: &Value,
+    found: &[Refusal],
+) -> Result<(), AllocError> {
+    let mut kind = kind_of_tree(tree);
+    for refusal in found {
+        push_start(text, file, refusal.reason)?;
+        push_said(
+            alloc,
+            text,
+            refusal.reason,
+            found_in_document(tree, refusal.reason),
+        )?;
+        push_kind(text, kind)?;
+        kind = None;
+    }
+    Ok(())
+}
+
+/// Appends what is said of a fault.
+fn push_said(
+    alloc: Global,
+    text: &mut String,
+    reason: Reason,
+    found: Found<'_>,
+) -> Result<(), AllocError> {
+    let said = said_of(reason);
+    match found {
+        Found::Nothing => text.push_str(said.alone),
+        found => {
+            text.push_str(said.before)?;
+            found.push_to(alloc, text)?;
+            text.push_str(said.behind)
+        }
+    }
+}
+
+fn push_of_facts(
+    alloc: Global,
+    text: &mut String,
+    sheet: &Sheet,
+    file: &str,
+    tree: &Value,
+    found: &[Refusal],
+) -> Result<(), AllocError> {
+    let aliases = read_aliases(alloc, tree)?;
+    let names = Names {
+        sheet,
+        aliases: &aliases,
+    };
+    let facts = facts_of(alloc, tree)?;
+    for refusal in found {
+        if let Some((identifier, object)) = fact_at(facts.as_slice(), refusal.place) {
+            push_fact(
+                alloc,
+                text,
+                &names,
+                file,
+                identifier,
+                object,
+                refusal.reason,
+            )?;
+        }
+    }
+    Ok(())
+}
+
+fn push_fact(
+    alloc: Global,
+    text: &mut String,
+    names: &Names<'_>,
+    file: &str,
+    identifier: &str,
+    object: &Value,
+    reason: Reason,
+) -> Result<(), AllocError> {
+    let (number, name) = (reason.number(), reason.name());
+    write!(text, "{file}: fact ")?;
+    push_text(alloc, text, identifier)?;
+    write!(text, ": {number} {name}: ")?;
+    push_said(alloc, text, reason, found_in_fact(names, object, reason)?)?;
+    text.push_str("\n")
+}
+
+/// The line of two facts that the declared level does not allow.
+fn push_apart(
+    alloc: Global,
+    text: &mut String,
+    sheet: &Sheet,
+    file: &str,
+    tree: &mut Value,
+) -> Result<(), AllocError> {
+    let aliases = read_aliases(alloc, tree)?;
+    let said = said_of(Reason::DisallowedDuplicates);
+    let two = two_apart(alloc, sheet, &aliases, tree)?;
+    let facts = facts_of(alloc, tree)?;
+    push_start(text, file, Reason::DisallowedDuplicates)?;
+    match two_of(facts.as_slice(), two) {
+        Some((one, other)) => {
+            text.push_str(said.before)?;
+            push_text(alloc, text, one)?;
+            text.push_str(" and ")?;
+            push_text(alloc, text, other)?;
+            text.push_str(said.behind)?;
+        }
+        None => text.push_str(said.alone)?,
+    }
+    text.push_str("\n")
+}
+
+/// The identifiers at two places.
+fn two_of<'a>(
+    facts: &[(&'a str, &'a Value)],
+    two: Option<(usize, usize)>,
+) -> Option<(&'a str, &'a str)> {
+    let (one, other) = two?;
+    Some((facts.get(one)?.0, facts.get(other)?.0))
+}
+
+/// The facts, in byte order of their identifiers.
+fn facts_of(alloc: Global, tree: &Value) -> Result<Vec<(&str, &Value)>, AllocError> {
+    let mut facts = Vec::new(alloc);
+    if let Some(members) = tree.get("facts").and_then(Value::as_object) {
+        for (identifier, object) in members.iter() {
+            facts.push((identifier.as_str(), object))?;
+        }
+    }
+    Ok(facts)
+}
+
+fn fact_at<'a>(facts: &[(&'a str, &'a Value)], place: Place) -> Option<(&'a str, &'a Value)> {
+    let Place::Fact(number) = place else {
+        return None;
+    };
+    facts.get(number.checked_sub(1)? as usize).copied()
+}
+
+/// The prefixes of a report of whose document no condition holds.
+fn read_aliases(alloc: Global, tree: &Value) -> Result<Aliases, AllocError> {
+    let mut aliases = Aliases::new(alloc);
+    if let Some(entries) = info(tree, "namespaces").and_then(Value::as_object) {
+        for (prefix, uri) in entries.iter() {
+            let uri = uri.as_str().unwrap_or_default();
+            match aliases.add(prefix.as_str(), uri) {
+                Err(Reason::OutOfMemory) => return Err(AllocError),
+                _ => {}
+            }
+        }
+    }
+    Ok(aliases)
+}
+
+/// The line of why a sheet is refused, read from the file of this name.
+///
+/// Errors: want of memory.
+pub(crate) fn explain_sheet(
+    alloc: Global,
+    name: &str,
+    bytes: &[u8],
+    reason: Reason,
+) -> Result<String, AllocError> {
+    let mut text = String::new(alloc);
+    push_escaped(&mut text, name)?;
+    text.push_str(": ")?;
+    text.push_str(said_of(reason).alone)?;
+    let kind = match Value::from_slice(alloc, without_mark(bytes)) {
+        Ok(tree) => kind_of_sheet(&tree),
+        Err(error) if error.is_memory() => return Err(AllocError),
+        Err(_) => kind_of_bytes(bytes),
+    };
+    push_kind(&mut text, kind)?;
+    Ok(text)
+}

@@ -1,0 +1,76 @@
+use super::found_in_document::info;
+use serde_json::Value;
+
+/// What a file is that is no JSON text, where its first bytes show it.
+pub(crate) fn kind_of_bytes(bytes: &[u8]) -> Option<&'static str> {
+    if bytes.starts_with(b"\x1f\x8b") {
+        return Some("a gzip file: unpack it first");
+    }
+    if bytes.starts_with(b"PK\x03\x04") {
+        return Some("a ZIP file, as a report package is: unpack it first");
+    }
+    if bytes.starts_with(b"\xfe\xff") || bytes.starts_with(b"\xff\xfe") {
+        return Some("a text in UTF-16: write it as UTF-8");
+    }
+    kind_of_text(text_of(bytes))
+}
+
+/// The text of the first bytes, after a byte order mark and white space, as far as it is UTF-8.
+fn text_of(bytes: &[u8]) -> &str {
+    let rest = match bytes.strip_prefix(b"\xef\xbb\xbf") {
+        Some(rest) => rest,
+        None => bytes,
+    };
+    match str::from_utf8(rest) {
+        Ok(text) => text.trim_start(),
+        Err(_) => "",
+    }
+}
+
+fn kind_of_text(text: &str) -> Option<&'static str> {
+    let line = match text.split_once('\n') {
+        Some((line, _)) => line,
+        None => text,
+    };
+    if text.starts_with('<') {
+        if text.contains("http://www.xbrl.org/2013/inlineXBRL") {
+            Some("Inline XBRL: another program has to write it as xBRL-JSON")
+        } else {
+            Some("XML: another program has to write it as xBRL-JSON")
+        }
+    } else if !text.starts_with(['{', '[', '"']) && line.contains(',') {
+        Some("CSV: another program has to write it as xBRL-JSON")
+    } else {
+        None
+    }
+}
+
+/// What a JSON text is, where it is another file than a report.
+pub(crate) fn kind_of_tree(tree: &Value) -> Option<&'static str> {
+    if is_csv(tree) {
+        Some("the metadata of an xBRL-CSV report: another program has to write it as xBRL-JSON")
+    } else if tree.get("documentInfo").is_none() && tree.get("concepts").is_some() {
+        Some("a concept sheet, and no report")
+    } else {
+        None
+    }
+}
+
+fn is_csv(tree: &Value) -> bool {
+    let of_csv = match info(tree, "documentType").and_then(Value::as_str) {
+        Some(kind) => kind.ends_with("/xbrl-csv"),
+        None => false,
+    };
+    of_csv || tree.get("tableTemplates").is_some()
+}
+
+/// What a file is that is given as a concept sheet and is none.
+pub(crate) fn kind_of_sheet(tree: &Value) -> Option<&'static str> {
+    if is_csv(tree) {
+        Some("the metadata of an xBRL-CSV report, and no concept sheet")
+    } else if tree.get("documentInfo").is_some() {
+        Some("a report, and no concept sheet")
+    } else {
+        None
+    }
+}

@@ -1,0 +1,100 @@
+use super::found::{Found, unknown_key};
+use oim_names::Reason;
+use serde_json::{Map, Value};
+
+const INFO: &str = "documentInfo";
+
+/// The member of `documentInfo` at a key.
+pub(crate) fn info<'a>(tree: &'a Value, key: &str) -> Option<&'a Value> {
+    tree.get(INFO)?.get(key)
+}
+
+/// What is at fault in a document outside of its facts.
+pub(crate) fn found_in_document(tree: &Value, reason: Reason) -> Found<'_> {
+    match reason {
+        Reason::MemberForm => Found::Words(misshapen(tree)),
+        Reason::UnknownMember => Found::of_text(unknown(tree)),
+        Reason::DocumentType => Found::of(info(tree, "documentType")),
+        Reason::Namespace => unbound(info(tree, "namespaces").and_then(Value::as_object)),
+        Reason::BaseUrl => Found::of(info(tree, "baseURL")),
+        Reason::TaxonomyUrl => Found::of(info(tree, "taxonomy")),
+        Reason::Feature => Found::of(info(tree, "features")),
+        _ => Found::Nothing,
+    }
+}
+
+fn misshapen(tree: &Value) -> &'static str {
+    if !tree.is_object() {
+        return "the file is no object of \"documentInfo\" and \"facts\"";
+    }
+    match tree.get(INFO) {
+        None => return "\"documentInfo\" is missing",
+        Some(info) if !info.is_object() => return "\"documentInfo\" is no object",
+        Some(_) => {}
+    }
+    if is_no_object(info(tree, "namespaces")) {
+        return "\"namespaces\" is no object";
+    }
+    if is_no_object(info(tree, "features")) {
+        return "\"features\" is no object";
+    }
+    if is_no_object(tree.get("facts")) {
+        return "\"facts\" is no object";
+    }
+    "\"taxonomy\" is no array"
+}
+
+/// Whether there is a value, and it is no object.
+pub(crate) fn is_no_object(value: Option<&Value>) -> bool {
+    match value {
+        Some(value) => !value.is_object(),
+        None => false,
+    }
+}
+
+fn unknown(tree: &Value) -> Option<&str> {
+    let of_root = unknown_key(tree.as_object(), &[INFO, "facts"]);
+    if of_root.is_some() {
+        return of_root;
+    }
+    unknown_key(
+        tree.get(INFO).and_then(Value::as_object),
+        &[
+            "documentType",
+            "namespaces",
+            "taxonomy",
+            "baseURL",
+            "features",
+            "linkTypes",
+            "linkGroups",
+        ],
+    )
+}
+
+/// The first entry of `namespaces` that binds nothing.
+fn unbound(entries: Option<&Map<String, Value>>) -> Found<'_> {
+    let Some(entries) = entries else {
+        return Found::Nothing;
+    };
+    for (prefix, uri) in entries.iter() {
+        if !is_prefix(prefix.as_str()) || !is_uri(uri) {
+            return Found::Member(prefix.as_str(), uri);
+        }
+    }
+    Found::Nothing
+}
+
+fn is_prefix(text: &str) -> bool {
+    !text.is_empty() && !text.contains(':') && !text.bytes().any(|byte| is_white(byte))
+}
+
+fn is_white(byte: u8) -> bool {
+    matches!(byte, b'\t' | b'\n' | b'\r' | b' ')
+}
+
+fn is_uri(value: &Value) -> bool {
+    match value.as_str() {
+        Some(text) => !text.is_empty(),
+        None => false,
+    }
+}

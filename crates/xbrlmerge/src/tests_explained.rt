@@ -1,0 +1,247 @@
+use crate::asked_again::{joined, tell_refused};
+use crate::explaining::{explain, explain_sheet};
+use oim_names::Reason;
+use oim_report::Sheet;
+use std::alloc::AllocError;
+use std::test::Fail;
+
+// What is said of each fault. Where a request for memory is refused, the next one is not.
+
+const SHEET: &str =
+    r#"{"namespaces":{"eg":"http://example.org/t"},"concepts":{"eg:A":"numeric","eg:T":"text","eg:Q":"name"},"dimensions":{"eg:Reg":"explicit","eg:Sku":"typed"}}"#;
+
+// A report up to its facts, which may not be duplicates.
+const START: &str =
+    r#"{"documentInfo":{"documentType":"https://xbrl.org/2021/xbrl-json","namespaces":{"eg":"http://example.org/t","x":"http://example.org/u","zz":"http://example.org/t","xbrl":"https://xbrl.org/2021"},"features":{"xbrl:allowedDuplicates":"consistent"}},"facts":{"#;
+
+// A report up to what else stands in `documentInfo`.
+const TYPED: &str = r#"{"documentInfo":{"documentType":"https://xbrl.org/2021/xbrl-json""#;
+
+struct Table<'t> {
+    start: &'t str,
+    rows: &'t [(&'t str, &'t str)],
+    end: &'t str,
+}
+
+// 1 to 8, and what a file is
+const DOCUMENTS: [Table<'static>; 2] = [
+    Table {
+        start: "",
+        rows: &[
+            (
+                "{\"documentInfo\":\n}",
+                "r: 1 NotJson: the file is no JSON text: invalid JSON at line 2 column 1\n",
+            ),
+            (
+                "<?xml version=\"1.0\"?>",
+                "r: 1 NotJson: the file is no JSON text: invalid JSON at line 1 column 1; the file looks like XML: another program has to write it as xBRL-JSON\n",
+            ),
+            (
+                "<html xmlns:ix=\"http://www.xbrl.org/2013/inlineXBRL\">",
+                "r: 1 NotJson: the file is no JSON text: invalid JSON at line 1 column 1; the file looks like Inline XBRL: another program has to write it as xBRL-JSON\n",
+            ),
+            (
+                "concept,value\na,1\n",
+                "r: 1 NotJson: the file is no JSON text: invalid JSON at line 1 column 1; the file looks like CSV: another program has to write it as xBRL-JSON\n",
+            ),
+            (
+                "[]",
+                "r: 2 MemberForm: the file is no object of \"documentInfo\" and \"facts\"\n",
+            ),
+            (
+                SHEET,
+                "r: 2 MemberForm: \"documentInfo\" is missing; the file looks like a concept sheet, and no report\nr: 3 UnknownMember: the format has no member \"concepts\"\n",
+            ),
+            (
+                r#"{"documentInfo":{"documentType":"https://xbrl.org/2021/xbrl-csv"},"tables":{}}"#,
+                "r: 3 UnknownMember: the format has no member \"tables\"; the file looks like the metadata of an xBRL-CSV report: another program has to write it as xBRL-JSON\nr: 4 DocumentType: the document type is \"https://xbrl.org/2021/xbrl-csv\", but must be \"https://xbrl.org/2021/xbrl-json\"\n",
+            ),
+            (
+                r#"{"documentInfo":{}}"#,
+                "r: 4 DocumentType: there is no \"documentType\", which must be \"https://xbrl.org/2021/xbrl-json\"\n",
+            ),
+        ],
+        end: "",
+    },
+    Table {
+        start: TYPED,
+        rows: &[
+            (
+                r#"},"facts":[]}"#,
+                "r: 2 MemberForm: \"facts\" is no object\n",
+            ),
+            (
+                r#","colour":1}}"#,
+                "r: 3 UnknownMember: the format has no member \"colour\"\n",
+            ),
+            (
+                r#","namespaces":{"eg":""},"baseURL":"x","taxonomy":[2023]}}"#,
+                "r: 5 Namespace: the entry \"eg\": \"\" of \"namespaces\" is no prefix with its URI: neither may be empty, and a prefix has no colon and no white space\nr: 6 BaseUrl: the \"baseURL\" \"x\" is no http or https URL\nr: 7 TaxonomyUrl: in the \"taxonomy\" [2023] a reference is no text, is too long, or is no http or https URL against \"baseURL\"\n",
+            ),
+            (
+                r#","namespaces":{"xbrl":"https://xbrl.org/2021"},"features":{"xbrl:allowedDuplicates":"some"}}}"#,
+                "r: 8 Feature: the \"features\" {\"xbrl:allowedDuplicates\":\"some\"} must say of \"allowedDuplicates\" once \"none\", \"complete\", \"consistent\" or \"all\"\n",
+            ),
+        ],
+        end: "",
+    },
+];
+
+// 2, 3 and 9 to 31
+const FACTS: [Table<'static>; 1] = [Table {
+    start: START,
+    rows: &[
+        ("", ""),
+        (
+            r#""a":{"links":{"y":1}}"#,
+            "r: fact \"a\": 2 MemberForm: \"value\" is missing\nr: fact \"a\": 9 Links: the links {\"y\":1} cannot be merged\nr: fact \"a\": 11 DimensionsMissing: the fact has no \"dimensions\"\n",
+        ),
+        (
+            r#""a":{"value":"1","colour":1,"dimensions":{"noteId":"n"}}"#,
+            "r: fact \"a\": 3 UnknownMember: the format has no member \"colour\"\nr: fact \"a\": 10 Notes: the note \"n\" cannot be merged\nr: fact \"a\": 15 MissingConcept: the \"dimensions\" of the fact have no \"concept\"\n",
+        ),
+        (
+            r#""a":{"value":"1","dimensions":{"concept":"ifrs:Revenue","entity":"e","eg:Reg":"xbrl:a"}}"#,
+            "r: fact \"a\": 12 NameForm: \"e\" is no name: that is a prefix, a colon and a local part, without white space\nr: fact \"a\": 13 UnboundPrefix: the prefix of \"ifrs:Revenue\" is not bound\nr: fact \"a\": 14 ReservedNamespace: the prefix of \"xbrl:a\" is bound to https://xbrl.org/2021, in which no fact has a name\n",
+        ),
+        (
+            r#""a":{"value":"q:b","dimensions":{"concept":"eg:Q"}},"b":{"value":"1","dimensions":{"concept":"eg:A","unit":"x:a/q:b"}}"#,
+            "r: fact \"a\": 13 UnboundPrefix: the prefix of \"q:b\" is not bound\nr: fact \"b\": 13 UnboundPrefix: the prefix of \"q:b\" is not bound\n",
+        ),
+        (
+            r#""a":{"value":"1","dimensions":{"concept":"eg:Z","eg:Hue":"red","eg:Reg":null}}"#,
+            "r: fact \"a\": 16 UnknownConcept: the concept \"eg:Z\" is not in the sheet\nr: fact \"a\": 17 UnknownDimension: the dimension \"eg:Hue\" is not in the sheet\nr: fact \"a\": 18 DimensionValue: the dimension \"eg:Reg\": null has not the kind of value that the sheet gives it\n",
+        ),
+        (
+            r#""a":{"value":"1","dimensions":{"concept":"eg:A","eg:Sku":"b","zz:Sku":"b"}}"#,
+            "r: fact \"a\": 18 DimensionValue: a dimension stands twice, under two prefixes\n",
+        ),
+        (
+            r#""a":{"value":1,"decimals":"0","dimensions":{"concept":"eg:T","period":"2020","unit":"x:a/","language":"e n"}}"#,
+            "r: fact \"a\": 19 PeriodForm: the period \"2020\" is no date and time as 2024-12-31T00:00:00, nor two with / between them\nr: fact \"a\": 21 UnitForm: the unit \"x:a/\" is none as a:b, a:b*a:c or a:b/a:c\nr: fact \"a\": 22 UnitOnOther: the unit \"x:a/\" must not be there: by the sheet, the values of the concept are no numbers\nr: fact \"a\": 23 LanguageForm: the language \"e n\" is none as en or de-AT\nr: fact \"a\": 25 ValueForm: the value 1 is neither a text nor null: a number, too, stands in quotes\nr: fact \"a\": 28 DecimalsForm: the decimals \"0\" are no whole number without quotes\nr: fact \"a\": 30 DecimalsOnOther: the decimals \"0\" must not be there: by the sheet, the values of the concept are no numbers\n",
+        ),
+        (
+            r#""a":{"value":"x","decimals":19,"dimensions":{"concept":"eg:A","language":"en","period":"2020-01-02T00:00:00/2020-01-01T00:00:00"}}"#,
+            "r: fact \"a\": 20 PeriodOrder: the period \"2020-01-02T00:00:00/2020-01-01T00:00:00\" ends before it starts\nr: fact \"a\": 24 LanguageOnNumeric: the language \"en\" must not be there: by the sheet, the values of the concept are numbers\nr: fact \"a\": 26 NumberForm: the value \"x\" is no number, and by the sheet the values of the concept are numbers\nr: fact \"a\": 29 DecimalsRange: the decimals 19 are not from -18 to 18\n",
+        ),
+        (
+            r#""a":{"value":"1234567890123456789","dimensions":{"concept":"eg:A"}}"#,
+            "r: fact \"a\": 27 NumberDigits: the value \"1234567890123456789\" has more than 18 digits\n",
+        ),
+        (
+            r#""p":{"value":"1","decimals":0,"dimensions":{"concept":"eg:A"}},"q":{"value":"1.2","decimals":1,"dimensions":{"concept":"eg:A"}},"r":{"value":"3","dimensions":{"concept":"eg:A"}}"#,
+            "r: 31 DisallowedDuplicates: the facts \"q\" and \"r\" have the same dimensions, and the report's own \"allowedDuplicates\" does not allow both\n",
+        ),
+        // what stands twice is told, and nothing goes to a terminal that it would do
+        (
+            r#""a":{"value":"1","value":"2","dimensions":{"concept":"eg:A"}},"\u001b[2J":7,"a":{"value":"1","dimensions":{"concept":"eg:A","concept":"eg:A"}}"#,
+            "r: fact \"\\u001b[2J\": 2 MemberForm: the fact is no object\nr: fact \"a\" stands twice, and only the last one is read\nr: fact \"a\": \"value\" stands twice, and only the last one is read\nr: fact \"a\": \"concept\" stands twice, and only the last one is read\n",
+        ),
+        // what is long is cut
+        (
+            r#""a":{"value":"aaaaaaaaaaaaaaaaaaaaaaaaaaaaaaaaaaaaaaaaaaaaaaaaaaaaaaaaaaaaaaaaaaaaaaaaaaaaaaaaaaaaaaaa","dimensions":{"concept":"eg:A"}}"#,
+            "r: fact \"a\": 26 NumberForm: the value \"aaaaaaaaaaaaaaaaaaaaaaaaaaaaaaaaaaaaaaaaaaaaaaaaaaaaaaaaaaaaaaaaaaaaaaaaaaaaaaa.. is no number, and by the sheet the values of the concept are numbers\n",
+        ),
+    ],
+    end: "}}",
+}];
+
+const SHEETS: [(&str, Reason, &str); 3] = [
+    (
+        r#"{"documentInfo":{}}"#,
+        Reason::UnknownMember,
+        "s: a member is not of the format; the file looks like a report, and no concept sheet\n",
+    ),
+    (
+        r#"{"concepts":{"eg:A":"number"}}"#,
+        Reason::SheetKind,
+        "s: an entry of the sheet has an unknown kind, or a name stands there with two kinds\n",
+    ),
+    (
+        "<xml>",
+        Reason::NotJson,
+        "s: the file is no JSON text; the file looks like XML: another program has to write it as xBRL-JSON\n",
+    ),
+];
+
+fn sheet(rt: &HostRuntime) -> Result<Sheet, Reason> {
+    match Sheet::read(rt.alloc(), SHEET.as_bytes()) {
+        Err(Reason::OutOfMemory) => {
+            tell_refused(rt);
+            Sheet::read(rt.alloc(), SHEET.as_bytes())
+        }
+        read => read,
+    }
+}
+
+fn is_said_once(
+    rt: &HostRuntime,
+    sheet: &Sheet,
+    bytes: &[u8],
+    lines: &str,
+) -> Result<bool, AllocError> {
+    let said = explain(rt.alloc(), sheet, "r", bytes)?;
+    if said.text.as_str() != lines {
+        let found = said.text.as_str();
+        let _ = eprintln!(rt; "{found}");
+    }
+    let faults = lines.split('\n').count() - 1;
+    Ok(said.text.as_str() == lines && said.faults == faults as u64)
+}
+
+fn is_said(rt: &HostRuntime, sheet: &Sheet, bytes: &[u8], lines: &str) -> Result<bool, AllocError> {
+    match is_said_once(rt, sheet, bytes, lines) {
+        Err(_) => {
+            tell_refused(rt);
+            is_said_once(rt, sheet, bytes, lines)
+        }
+        said => said,
+    }
+}
+
+fn are_said(rt: &HostRuntime, tables: &[Table<'_>]) -> Result<bool, Fail> {
+    let sheet = sheet(rt)?;
+    let mut all = true;
+    for table in tables {
+        for (text, lines) in table.rows {
+            let report = joined(rt, &[table.start, text, table.end])?;
+            all = is_said(rt, &sheet, report.as_slice(), lines)? && all;
+        }
+    }
+    Ok(all)
+}
+
+fn is_said_of_sheet(
+    rt: &HostRuntime,
+    text: &str,
+    reason: Reason,
+    line: &str,
+) -> Result<bool, AllocError> {
+    match explain_sheet(rt.alloc(), "s", text.as_bytes(), reason) {
+        Err(_) => {
+            tell_refused(rt);
+            Ok(explain_sheet(rt.alloc(), "s", text.as_bytes(), reason)?.as_str() == line)
+        }
+        Ok(said) => Ok(said.as_str() == line),
+    }
+}
+
+#[test]
+fn faults_of_documents_are_said(rt: HostRuntime) -> Result<(), Fail> {
+    assert!(rt; are_said(&rt, &DOCUMENTS)?);
+    Ok(())
+}
+
+#[test]
+fn faults_of_facts_are_said(rt: HostRuntime) -> Result<(), Fail> {
+    assert!(rt; are_said(&rt, &FACTS)?);
+    Ok(())
+}
+
+#[test]
+fn refused_sheets_are_told_apart(rt: HostRuntime) -> Result<(), Fail> {
+    for (text, reason, line) in &SHEETS {
+        assert!(rt; is_said_of_sheet(&rt, text, *reason, line)?);
+    }
+    Ok(())
+}

@@ -1,0 +1,73 @@
+"""Tests of tools/contradictions with the lines of `sources`, on the examples."""
+import csv
+import os
+import unittest
+
+from test_contradictions import ToolTest, content
+
+EXAMPLES = os.path.join(os.path.dirname(os.path.abspath(__file__)), "..", "..", "examples")
+NAMES = "issuer,ledgerline,statfeed"
+
+
+def example(name):
+    return os.path.join(EXAMPLES, name)
+
+
+class Sources(ToolTest):
+    inputs = [example(name) for name in ("merged.json", "sheet.json", "verdicts.txt")]
+
+    def words(self, lines=example("sources.txt"), names=NAMES):
+        return ["--sources", lines, "--names", names]
+
+    def test_who_said_a_value_is_told_with_its_identifier(self):
+        page, cells = self.written(*self.inputs, *self.words())
+        told = {cell["fact"]: (cell["providers"], cell["identifiers"], cell["said_by"]) for cell in cells}
+        self.assertEqual(told["f018"], ("issuer", "issuer: f56", "1 of 3"))
+        self.assertEqual(told["f019"], ("statfeed", "statfeed: TS08780", "1 of 3"))
+        self.assertEqual(told["f066"], ("issuer, statfeed", "issuer: f33; statfeed: TS08474", "2 of 3"))
+        for text in ("<bdi>issuer f56</bdi>", "<bdi>statfeed TS08780</bdi>", "<dt>Said by<dd>2 of 3", "of these said by 1 of 3"):
+            self.assertIn(text, page)
+
+    def test_a_row_that_one_provider_reports_is_told_apart(self):
+        rows = os.path.join(self.room, "rows.csv")
+        self.written(*self.inputs, *self.words(), "--rows", rows)
+        with open(rows, encoding="utf-8-sig", newline="") as file:
+            listed = {row["row"]: row for row in csv.DictReader(file)}
+        self.assertEqual(len(listed), 64)
+        self.assertEqual((listed["10"]["verdict"], listed["10"]["said_by"]), ("complete", "2 of 3"))
+        self.assertEqual((listed["11"]["verdict"], listed["11"]["said_by"]), ("complete", "1 of 3"))
+        self.assertEqual((listed["11"]["first"], listed["11"]["providers"]), ("f017", "statfeed"))
+
+    def test_a_provider_may_have_several_reports(self):
+        _, cells = self.written(*self.inputs, *self.words(names="A,B,A"))
+        told = {cell["fact"]: (cell["identifiers"], cell["said_by"]) for cell in cells}
+        self.assertEqual(told["f066"], ("A: f33, TS08474", "1 of 2"))
+
+    def test_identifiers_are_texts(self):
+        lines = content(example("sources.txt")).replace('"f56"', '"=<b>\\n\\u0000"')
+        page, cells = self.written(*self.inputs, *self.words(self.write("lines", lines)))
+        self.assertEqual(next(cell["identifiers"] for cell in cells if cell["fact"] == "f018"), "issuer: =<b>\n\x00")
+        self.assertNotIn("=<b>", page)
+
+    def test_lines_of_other_reports_are_refused(self):
+        lines = content(example("sources.txt")).splitlines(keepends=True)
+        for other in (
+            lines[:-1] + [lines[-1].rstrip("\n")],
+            [it for it in lines if not it.startswith("f018 ")],
+            [*lines, lines[0]],
+            lines[::-1],
+            ['f001 4 "a"\n', *lines],
+            ['f001 0 "a"\n', *lines],
+            ["f001 1 a\n", *lines],
+            ['f001 1 "\\ud800"\n', *lines],
+            [],
+        ):
+            self.check_refused("lines", *self.inputs, *self.words(self.write("lines", "".join(other))))
+
+    def test_usage(self):
+        for words in (["--sources", "x"], ["--names", "a"], [f"a={self.inputs[0]}", *self.words()], self.words(names="a,,b")):
+            self.assertEqual(self.run_tool(*self.inputs, *words).returncode, 2, words)
+
+
+if __name__ == "__main__":
+    unittest.main()

@@ -1,0 +1,84 @@
+"""Who said the facts of a merged text, as the lines of `sources` tell."""
+import collections
+import json
+import re
+
+from contradicting.texts import using
+
+LINE = re.compile(r'(f\d+) ([1-9]\d*) (".*")\n')
+
+Holder = collections.namedtuple("Holder", "name identifiers")
+
+
+class Sources:
+    """The lines of `sources`, of reports whose providers have these names: those of a fact stand together, in its place."""
+
+    def __init__(self, path, names):
+        self.path, self.names = path, names
+        with using(path):
+            self.lines = open(path, encoding="utf-8", newline="\n")
+            self.advance()
+
+    def advance(self):
+        line = next(self.lines, None)
+        found = line and LINE.fullmatch(line)
+        if line is None:
+            self.lines.close()
+            self.head = None
+        elif not found or int(found[2]) > len(self.names):
+            raise ValueError(f"{line[:80]!r} is no line of the sources of {len(self.names)} reports")
+        else:
+            identifier = json.loads(found[3])
+            identifier.encode()  # refuses halves of characters, which can't be written
+            self.head = found[1], self.names[int(found[2]) - 1], identifier
+
+    def holders(self, name, tree):
+        """Returns who said a fact, by which identifiers; each has to be asked for once, in order."""
+        found = {}
+        with using(self.path):
+            while self.head and self.head[0] == name:
+                found.setdefault(self.head[1], []).append(self.head[2])
+                self.advance()
+            if not found:
+                raise ValueError(f"it tells nobody who said {name}, or not in its place")
+        return tuple(Holder(provider, tuple(identifiers)) for provider, identifiers in found.items())
+
+    def finish(self):
+        """Refuses lines of facts that are not there."""
+        with using(self.path):
+            if self.head:
+                raise ValueError(f"it tells of {self.head[0]}, which is not there, or not in its place")
+
+
+class OwnTexts:
+    """The merged text of each provider's own reports, which tells no identifiers."""
+
+    def __init__(self, providers):
+        self.providers, self.names = providers, [provider.name for provider in providers]
+
+    def holders(self, name, tree):
+        return tuple(Holder(provider.name, ()) for provider in self.providers if provider.said(tree))
+
+    def finish(self):
+        for provider in self.providers:
+            provider.finish()
+
+
+def names_of(holders):
+    """Returns the names of those who said the facts of a row."""
+    return {holder.name for each in holders.values() for holder in each}
+
+
+def providers(holders):
+    """Returns the names of those who said a fact, as a text."""
+    return ", ".join(holder.name for holder in holders)
+
+
+def identifiers(holders):
+    """Returns by which identifiers each of them said it, where that is known, as a text."""
+    return "; ".join(f"{holder.name}: {', '.join(holder.identifiers)}" for holder in holders if holder.identifiers)
+
+
+def told(holders):
+    """Returns both, as a text."""
+    return "; ".join(" ".join((holder.name, ", ".join(holder.identifiers))).strip() for holder in holders)
