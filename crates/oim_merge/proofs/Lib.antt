@@ -21,6 +21,7 @@ pub mod Agreement
 pub mod Afresh
 pub mod Schedules
 pub mod Steps
+pub mod KeptTexts
 pub mod Replays
 pub mod ByPlace
 pub mod PlacedFacts

@@ -1,5 +1,5 @@
 -- Lists that are related place by place.
-use Rattle.std.proofs.Common.{ℕ, zero, suc, List, [], ◌∷◌, ◌++◌, Option, Some, None}
+use Rattle.std.proofs.Common.{◌≡◌, ℕ, zero, suc, ◌<◌, List, [], ◌∷◌, ◌++◌, length, get_or, set, replicate, Option, Some, None, refl, ap, arith}
 use Rattle.std.specs.Prelude.{slice_get}
 use Rattle.std.specs.List.{AllZip}
 use Rattle.oim_merge.specs.Schedule.{numbered}
@@ -26,3 +26,27 @@ zip_push R [] [] x y h one = (one, tt)
 zip_push R [] (w ∷ ys) x y h one = absurd h
 zip_push R (z ∷ xs) [] x y h one = absurd h
 zip_push R (z ∷ xs) (w ∷ ys) x y h one = (h.0, zip_push R xs ys x y h.1 one)
+
+pub zip_at : {A B : Type 0} (R : A → B → Type 0) (xs : List A) (ys : List B) → AllZip R xs ys → (k : ℕ) (d : A) (e : B) → k < length xs → R (get_or xs k d) (get_or ys k e)
+zip_at R [] [] h k d e within = absurd (omega (arith, within))
+zip_at R [] (y ∷ ys) h k d e within = absurd h
+zip_at R (x ∷ xs) [] h k d e within = absurd h
+zip_at R (x ∷ xs) (y ∷ ys) h zero d e within = h.0
+zip_at R (x ∷ xs) (y ∷ ys) h (suc k) d e within = zip_at R xs ys h.1 k d e (omega (arith, within))
+
+pub zip_set : {A B : Type 0} (R : A → B → Type 0) (xs : List A) (ys : List B) → AllZip R xs ys → (k : ℕ) (d : A) (y : B) → R (get_or xs k d) y → AllZip R xs (set ys k y)
+zip_set R [] [] h k d y one = tt
+zip_set R [] (w ∷ ys) h k d y one = absurd h
+zip_set R (x ∷ xs) [] h k d y one = absurd h
+zip_set R (x ∷ xs) (w ∷ ys) h zero d y one = (one, h.1)
+zip_set R (x ∷ xs) (w ∷ ys) h (suc k) d y one = (h.0, zip_set R xs ys h.1 k d y one)
+
+pub zip_long : {A B : Type 0} (R : A → B → Type 0) (xs : List A) (ys : List B) → AllZip R xs ys → length ys ≡ length xs
+zip_long R [] [] h = refl
+zip_long R [] (y ∷ ys) h = absurd h
+zip_long R (x ∷ xs) [] h = absurd h
+zip_long R (x ∷ xs) (y ∷ ys) h = ap suc (zip_long R xs ys h.1)
+
+pub zip_same : {A B : Type 0} (R : A → B → Type 0) (xs : List A) (y : B) → ((x : A) → R x y) → AllZip R xs (replicate (length xs) y)
+zip_same R [] y each = tt
+zip_same R (x ∷ xs) y each = (each x, zip_same R xs y each)

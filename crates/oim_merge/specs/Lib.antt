@@ -18,4 +18,6 @@ pub mod EventLines
 pub mod EventParts
 pub mod Schedule
 pub mod Replicas
+pub mod Kept
 pub mod Replay
+pub mod Held

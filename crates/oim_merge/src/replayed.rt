@@ -1,7 +1,8 @@
 ghost use Rattle.std.specs.Prelude.{◌≡◌, MatchOption, None, Some};
-ghost use Rattle.oim_merge.specs.Replay.{world_of};
+ghost use Rattle.oim_merge.specs.Held.{AreWithin, texts_at, world_in};
 ghost use Rattle.oim_merge.specs.Schedule.{numbered};
 
+use crate::messages::Messages;
 use crate::refusals::Refusals;
 use crate::replicas::Replicas;
 use fact_base::Base;
@@ -12,7 +13,8 @@ use std::marker::Model;
 #[derive(Drop)]
 pub struct Replayed<'s> {
     bases: Vec<Base<'s>>,
-    sent: Vec<Encoded>,
+    texts: Vec<Encoded>,
+    sent: Vec<usize>,
     refused: Refusals,
 }
 
@@ -20,27 +22,34 @@ impl<'s> Model for Replayed<'s> {
     ghost use Rattle.std.specs.Prelude.{◌≡◌};
     ghost use Rattle.std.specs.Coded.{codes};
     ghost use Rattle.oim_report.specs.SheetCode.{sheet_code};
+    ghost use Rattle.oim_merge.specs.Held.{AreWithin, texts_at};
     ghost use Rattle.oim_merge.specs.Replay.{Replay, world_of};
 
     ghost Value = { Replay };
 
     ghost coded = { Prim.hlevel (codes, sheet_code) };
 
-    ghost view = { λ r. record { world = world_of r.bases.items r.sent.items; refused = r.refused } };
+    ghost view = { λ r. record { world = world_of r.bases.items (texts_at r.texts.items r.sent.items); refused = r.refused } };
+
+    ghost invariant = { λ r. AreWithin r.texts.items r.sent.items };
 }
 
 impl<'s> Replayed<'s> {
     pub(crate) fn new(replicas: Replicas<'s>) -> Replayed<'s>
-        ensures world { result.world ≡ world_of replicas.entry.bases.items replicas.entry.sent.items }
+        requires { AreWithin replicas.messages.texts.items replicas.messages.sent.items }
+        ensures world { result.world ≡ world_in replicas.entry }
         ensures refused { result.refused ≡ replicas.entry.refused }
     {
         let Replicas {
             bases,
-            sent,
+            messages,
             refused,
+            ..
         } = replicas;
+        let Messages { texts, sent, .. } = messages;
         Replayed {
             bases,
+            texts,
             sent,
             refused,
         }
@@ -69,10 +78,7 @@ impl<'s> Replayed<'s> {
         ensures { MatchOption result (numbered self.now.world.sent number ≡ None)
             (λ text. numbered self.now.world.sent number ≡ Some text.now) }
     {
-        match number.checked_sub(1) {
-            Some(place) => self.sent.get(place),
-            None => None,
-        }
+        text_numbered(self.texts.as_slice(), self.sent.as_slice(), number)
     }
 
     /// The refused takes in the order of the events, each by the number of its report.
@@ -88,4 +94,15 @@ impl<'s> Replayed<'s> {
     {
         self.refused
     }
+}
+
+/// The text whose place is the one of this number, from 1, among the places.
+fn text_numbered<'t>(texts: &'t [Encoded], places: &[usize], number: usize) -> Option<&'t Encoded>
+    requires { AreWithin texts.now places.now }
+    ensures { MatchOption result (numbered (texts_at texts.now places.now) number ≡ None)
+        (λ text. numbered (texts_at texts.now places.now) number ≡ Some text.now) }
+{
+    let place = number.checked_sub(1)?;
+    let held = places.get(place)?;
+    texts.get(*held)
 }

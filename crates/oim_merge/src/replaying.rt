@@ -10,10 +10,10 @@ use oim_write::Encoded;
 use std::alloc::Global;
 
 /// Runs a schedule on so many replicas, which begin with nothing. Replicas, reports and sent texts
-/// have numbers from 1; the line of an event is its place among the events, from 1. A replica that
-/// takes a report or receives a sent text reads it under the sheet, and one that is refused changes
-/// nothing; a refused take is told. So each replica has what the reports say that reached it since
-/// its last restart, by itself or through others.
+/// have numbers from 1; the line of an event is its place among the events, from 1. A report that is
+/// taken is read under the sheet, and so is a sent text that is received: once, since what was read is
+/// kept. One that is refused changes nothing; a refused take is told. So each replica has what the
+/// reports say that reached it since its last restart, by itself or through others.
 ///
 /// Errors: `BadEvent` with the line of the first event that names a replica, a report or a sent text
 /// that is not there; `OutOfMemory`.
@@ -27,7 +27,7 @@ pub fn replay<'s>(
     ensures ok { IfOk result (IsReplayOf sheet.now n reports.now events.now) }
     ensures err { IfErr result (ReplayStops n reports.now events.now) }
 {
-    let mut replicas = Replicas::new(alloc, sheet, n)?;
+    let mut replicas = Replicas::new(alloc, sheet, n, reports)?;
     let mut line = 0u64;
     for event in events.as_slice() {
         line += 1;

@@ -1,32 +1,41 @@
 ghost use Rattle.std.specs.Prelude.{◌≡◌, ◌<◌, false, IsTrue, ◌↔◌, ◌++◌, [], length, slice_set, IfOk, OnOk};
 ghost use Rattle.std.specs.List.{All, slice_index_or};
 ghost use Rattle.oim_merge.specs.Gathered.{base_of};
-ghost use Rattle.oim_merge.specs.Replay.{refused_by, world_of};
+ghost use Rattle.oim_merge.specs.Held.{KeepReadings, sent_texts, world_in};
+ghost use Rattle.oim_merge.specs.Replay.{refused_by};
 ghost use Rattle.oim_merge.specs.Replicas.{joined_with, wire};
 ghost use Rattle.oim_merge.specs.Schedule.{happens, is_outside, names_none, start};
 
 use crate::event::Event;
-use crate::reading::read;
+use crate::kept::{Kept, join_new, none_kept, take_at};
+use crate::messages::Messages;
 use crate::refusals::Refusals;
 use fact_base::Base;
 use oim_report::Sheet;
-use oim_write::{Encoded, text};
+use oim_write::Encoded;
 use std::alloc::{AllocError, Global};
 
-/// Replicas while a schedule runs, with the texts that they sent and the takes that were refused.
+/// Replicas while a schedule runs, with the texts that they sent, the takes that were refused, and
+/// what is kept of the reports.
 #[derive(Drop)]
 pub(crate) struct Replicas<'s> {
     pub bases: Vec<Base<'s>>,
-    pub sent: Vec<Encoded>,
+    pub messages: Messages<'s>,
     pub refused: Refusals,
+    pub reports: Vec<Kept<'s>>,
 }
 
 impl<'s> Replicas<'s> {
-    /// So many new ones, with nothing sent.
-    pub(crate) fn new(alloc: Global, sheet: &'s Sheet, n: usize) -> Result<Replicas<'s>, AllocError>
-        ensures world { IfOk result
-            (λ made. world_of made.bases.items made.sent.items ≡ start (wire sheet.now [] []) n) }
+    /// So many new ones, with nothing sent, and nothing kept of these reports.
+    pub(crate) fn new(
+        alloc: Global,
+        sheet: &'s Sheet,
+        n: usize,
+        reports: &[Encoded],
+    ) -> Result<Replicas<'s>, AllocError>
+        ensures world { IfOk result (λ made. world_in made ≡ start (wire sheet.now [] []) n) }
         ensures refused { IfOk result (λ made. made.refused ≡ []) }
+        ensures kept { IfOk result (KeepReadings sheet.now reports.now) }
     {
         let mut bases = Vec::new(alloc);
         for _made in 0..n {
@@ -34,17 +43,18 @@ impl<'s> Replicas<'s> {
         }
         Ok(Replicas {
             bases,
-            sent: Vec::new(alloc),
+            messages: Messages::new(alloc),
             refused: Refusals::new(alloc),
+            reports: none_kept(alloc, reports.len())?,
         })
     }
 
     /// Whether what the event names is there, among so many reports.
     pub(crate) fn has_named(&self, event: Event, reports: usize) -> bool
         ensures { IsTrue result ↔ (names_none (length self.now.bases.items) reports
-            (length self.now.sent.items) event ≡ false) }
+            (length (sent_texts self.now.messages)) event ≡ false) }
     {
-        let (replicas, sent) = (self.bases.len(), self.sent.len());
+        let (replicas, sent) = (self.bases.len(), self.messages.sent.len());
         match event {
             Event::Take(i, r) => is_there(i, replicas) && is_there(r, reports),
             Event::Join(i, j) => is_there(i, replicas) && is_there(j, replicas),
@@ -63,18 +73,17 @@ impl<'s> Replicas<'s> {
         event: Event,
     ) -> Result<(), AllocError>
         requires there { names_none (length self.old.bases.items) (length reports.now)
-            (length self.old.sent.items) event ≡ false }
+            (length (sent_texts self.old.messages)) event ≡ false }
         requires sheets { All (λ base. base.sheet ≡ sheet.now) self.old.bases.items }
-        ensures world { OnOk result (world_of self.new.bases.items self.new.sent.items
-            ≡ happens (wire sheet.now [] reports.now) (world_of self.old.bases.items self.old.sent.items) event) }
+        requires kept { KeepReadings sheet.now reports.now self.old }
+        ensures world { OnOk result
+            (world_in self.new ≡ happens (wire sheet.now [] reports.now) (world_in self.old) event) }
         ensures refused { OnOk result
             (self.new.refused ≡ self.old.refused ++ refused_by sheet.now reports.now event) }
+        ensures kept { OnOk result (KeepReadings sheet.now reports.now self.new) }
     {
         match event {
-            Event::Take(i, r) => match read(alloc, sheet, reports[r as usize - 1].as_bytes())? {
-                Ok(report) => self.bases[i as usize - 1].take(&report)?,
-                Err(refusal) => self.refused.push(u64::from(r), refusal)?,
-            },
+            Event::Take(i, r) => self.take(alloc, sheet, reports, i, r)?,
             Event::Join(i, j) => {
                 join_at(
                     alloc,
@@ -84,16 +93,39 @@ impl<'s> Replicas<'s> {
                     j as usize - 1,
                 )?
             }
-            Event::Send(i) => {
-                let text = text(alloc, &self.bases[i as usize - 1])?;
-                self.sent.push(text)?;
-            }
+            Event::Send(i) => self.messages.send(alloc, &self.bases[i as usize - 1])?,
             Event::Receive(i, k) => {
-                if let Ok(report) = read(alloc, sheet, self.sent[k as usize - 1].as_bytes())? {
-                    self.bases[i as usize - 1].take(&report)?;
-                }
+                let base = &mut self.bases[i as usize - 1];
+                self.messages.give(alloc, sheet, k as usize - 1, base)?;
             }
             Event::Restart(i) => self.bases[i as usize - 1] = Base::new(alloc, sheet),
+        }
+        Ok(())
+    }
+
+    /// The replica takes the report, or the refusal is told.
+    fn take(
+        &mut self,
+        alloc: Global,
+        sheet: &'s Sheet,
+        reports: &[Encoded],
+        i: u32,
+        r: u32,
+    ) -> Result<(), AllocError>
+        requires there { names_none (length self.old.bases.items) (length reports.now)
+            (length (sent_texts self.old.messages)) (Event.Take i r) ≡ false }
+        requires sheets { All (λ base. base.sheet ≡ sheet.now) self.old.bases.items }
+        requires kept { KeepReadings sheet.now reports.now self.old }
+        ensures world { OnOk result
+            (world_in self.new ≡ happens (wire sheet.now [] reports.now) (world_in self.old) (Event.Take i r)) }
+        ensures refused { OnOk result
+            (self.new.refused ≡ self.old.refused ++ refused_by sheet.now reports.now (Event.Take i r)) }
+        ensures kept { OnOk result (KeepReadings sheet.now reports.now self.new) }
+    {
+        let kept = self.reports.as_mut_slice();
+        let base = &mut self.bases[i as usize - 1];
+        if let Some(refusal) = take_at(alloc, sheet, reports, kept, r as usize - 1, base)? {
+            self.refused.push(u64::from(r), refusal)?;
         }
         Ok(())
     }
@@ -126,7 +158,7 @@ fn join_at<'s>(
         return Ok(());
     }
     let mut base = std::mem::replace(&mut bases[place], Base::new(alloc, sheet));
-    base.join(&bases[other])?;
+    join_new(&mut base, &bases[other])?;
     bases[place] = base;
     Ok(())
 }

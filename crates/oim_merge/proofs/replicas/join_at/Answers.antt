@@ -10,4 +10,4 @@ pub returns : goal.returns
 returns c =
     let fresh = base_of c.args.sheet.now [] in
     joins_other _ _ _ c.replace-base.new.dest _ c.index-2.result.now _ fresh c.if-place-other.false c.requires.other_within
-    (c.replace-base.ensures.value ∙ read_default _ _ _ fresh c.requires.place_within c.index_mut.ensures.value) c.index-2.ensures c.in_ok-join.ensures.ok
+    (c.replace-base.ensures.value ∙ read_default _ _ _ fresh c.requires.place_within c.index_mut.ensures.value) c.index-2.ensures c.in_ok-join_new.ensures

@@ -1,0 +1,50 @@
+-- Replicas that hold each different text once that was sent, and what was read of it and of the reports (own).
+use Rattle.std.specs.Prelude.{◌≡◌, ℕ, ◌<◌, List, [], length, map}
+use Rattle.std.specs.List.{All, slice_index_or}
+use Rattle.oim_report.specs.Sheet.{Sheet}
+use Rattle.fact_base.specs.Body.{Body}
+use Rattle.fact_base.specs.Contents.{Contents}
+use Rattle.fact_base.specs.Fits.{Fits}
+use Rattle.oim_write.specs.Bytes.{canonical}
+use Rattle.oim_merge.specs.Kept.{AreKept}
+use Rattle.oim_merge.specs.Replay.{world_of}
+use Rattle.oim_merge.specs.Schedule.{World}
+use Rattle.oim_merge.specs.declared.messages.Messages.{Messages}
+use Rattle.oim_merge.specs.declared.replicas.Replicas.{Replicas}
+
+-- these of the held texts, by their places
+abbrev pub texts_at : List (List ℕ) → List ℕ → List (List ℕ)
+texts_at texts places = map (λ place. slice_index_or texts place []) places
+
+-- each place is that of a text
+abbrev pub AreWithin : List (List ℕ) → List ℕ → Type 0
+AreWithin texts places = All (λ place. place < length texts) places
+
+-- this text stands at a place
+abbrev pub IsTextAt : List (List ℕ) → List ℕ → ℕ → Type 0
+IsTextAt texts text place = (place < length texts) × (slice_index_or texts place [] ≡ text)
+
+-- a text is written of a body that fits the sheet
+pub record IsWritten (sheet : Sheet) (text : List ℕ) : Type 0 where
+  pub body : Body
+  pub fits : Fits sheet body
+  pub written : text ≡ canonical body
+
+-- the sent texts, in their order
+abbrev pub sent_texts : Messages → List (List ℕ)
+sent_texts messages = texts_at messages.texts.items messages.sent.items
+
+-- each sent text is held; each held one is written of a body, and what is kept of it is what was read of it
+pub record AreHeld (sheet : Sheet) (messages : Messages) : Type 0 where
+  pub places : AreWithin messages.texts.items messages.sent.items
+  pub kept : AreKept sheet messages.texts.items messages.kept.items
+  pub written : All (IsWritten sheet) messages.texts.items
+
+-- what replicas have and have sent
+abbrev pub world_in : Replicas → World Contents (List ℕ)
+world_in replicas = world_of replicas.bases.items (sent_texts replicas.messages)
+
+-- what they keep of these reports and of what they sent is what was read of each
+pub record KeepReadings (sheet : Sheet) (reports : List (List ℕ)) (replicas : Replicas) : Type 0 where
+  pub taken : AreKept sheet reports replicas.reports.items
+  pub held : AreHeld sheet replicas.messages

@@ -1,0 +1,29 @@
+-- What is kept of texts that are read under a sheet (own).
+use Rattle.std.specs.Prelude.{◌≡◌, ℕ, List, [], ◌∷◌, Option, None, Some, Result, Ok, Err}
+use Rattle.std.specs.List.{AllZip}
+use Rattle.oim_report.specs.Document.{Document}
+use Rattle.oim_report.specs.Outcome.{outcome}
+use Rattle.oim_report.specs.Sheet.{Sheet}
+use Rattle.oim_report.specs.declared.refusal.Refusal.{Refusal}
+use Rattle.fact_base.specs.Contents.{Contents}
+use Rattle.oim_merge.specs.Gathered.{base_of}
+use Rattle.oim_merge.specs.Replicas.{joined_with}
+
+-- what an outcome comes to: the base of its document, or the refusal
+abbrev pub read_as : Sheet → Result Document Refusal → Result Contents Refusal
+read_as sheet (Ok d) = Ok (base_of sheet (d ∷ []))
+read_as sheet (Err refusal) = Err refusal
+
+-- a base that takes what was read; a refusal adds nothing
+abbrev pub with_read : Result Contents Refusal → Contents → Contents
+with_read (Ok read) base = joined_with base read
+with_read (Err refusal) base = base
+
+-- nothing is kept of these bytes, or what they are read as
+abbrev pub IsKept : Sheet → List ℕ → Option (Result Contents Refusal) → Type 0
+IsKept sheet bytes None = Unit {0}
+IsKept sheet bytes (Some read) = read ≡ read_as sheet (outcome sheet bytes)
+
+-- of each text, in its place
+abbrev pub AreKept : Sheet → List (List ℕ) → List (Option (Result Contents Refusal)) → Type 0
+AreKept sheet texts kept = AllZip (IsKept sheet) texts kept

@@ -1,0 +1,105 @@
+ghost use Rattle.std.specs.Prelude.{◌≡◌, ◌<◌, None, [], length, replicate, IfOk, OnOk};
+ghost use Rattle.std.specs.List.{slice_index_or};
+ghost use Rattle.std.specs.Result.{result_err};
+ghost use Rattle.oim_report.specs.Outcome.{outcome};
+ghost use Rattle.oim_merge.specs.Kept.{AreKept, read_as, with_read};
+ghost use Rattle.oim_merge.specs.Replicas.{joined_with, with_outcome};
+
+use crate::reading::read;
+use fact_base::Base;
+use oim_report::{Refusal, Sheet};
+use oim_write::Encoded;
+use std::alloc::{AllocError, Global};
+
+/// What is kept of a text that is read under a sheet: nothing until it is read; then a base of what
+/// it says, or its refusal.
+pub(crate) type Kept<'s> = Option<Result<Base<'s>, Refusal>>;
+
+/// What is kept of so many texts before any is read.
+pub(crate) fn none_kept<'s>(alloc: Global, texts: usize) -> Result<Vec<Kept<'s>>, AllocError>
+    ensures { IfOk result (λ made. made.items ≡ replicate texts None) }
+{
+    let mut kept = Vec::with_capacity(alloc, texts)?;
+    for _made in 0..texts {
+        kept.push(None)?;
+    }
+    Ok(kept)
+}
+
+/// Lets a base take what the text at a place says. A text of which nothing is kept is read, and what
+/// was read is kept. Of a text that is refused the base takes nothing, and the refusal is answered.
+///
+/// Errors: want of memory.
+pub(crate) fn take_at<'s>(
+    alloc: Global,
+    sheet: &'s Sheet,
+    texts: &[Encoded],
+    kept: &mut [Kept<'s>],
+    place: usize,
+    base: &mut Base<'s>,
+) -> Result<Option<Refusal>, AllocError>
+    requires place { place < length texts.now }
+    requires kept { AreKept sheet.now texts.now kept.old }
+    requires sheet { base.old.sheet ≡ sheet.now }
+    ensures kept { OnOk result (AreKept sheet.now texts.now kept.new) }
+    ensures base { OnOk result
+        (base.new ≡ with_outcome (outcome sheet.now (slice_index_or texts.now place [])) base.old) }
+    ensures refusal { IfOk result
+        (λ told. told ≡ result_err (outcome sheet.now (slice_index_or texts.now place []))) }
+{
+    if let Some(read) = &kept[place] {
+        return take_read(base, read);
+    }
+    let read = read_base(alloc, sheet, texts[place].as_bytes())?;
+    let told = take_read(base, &read)?;
+    kept[place] = Some(read);
+    Ok(told)
+}
+
+/// A base of what the bytes say under the sheet, or their refusal.
+fn read_base<'s>(
+    alloc: Global,
+    sheet: &'s Sheet,
+    bytes: &[u8],
+) -> Result<Result<Base<'s>, Refusal>, AllocError>
+    ensures { IfOk result (λ read. read ≡ read_as sheet.now (outcome sheet.now bytes.now)) }
+{
+    match read(alloc, sheet, bytes)? {
+        Ok(report) => {
+            let mut base = Base::new(alloc, sheet);
+            base.take(&report)?;
+            Ok(Ok(base))
+        }
+        Err(refusal) => Ok(Err(refusal)),
+    }
+}
+
+/// Lets a base take what was read of a text, or answers its refusal.
+fn take_read(
+    base: &mut Base<'_>,
+    read: &Result<Base<'_>, Refusal>,
+) -> Result<Option<Refusal>, AllocError>
+    requires { IfOk read.now (λ other. other.sheet ≡ base.old.sheet) }
+    ensures base { OnOk result (base.new ≡ with_read read.now base.old) }
+    ensures refusal { IfOk result (λ told. told ≡ result_err read.now) }
+{
+    match read {
+        Ok(other) => {
+            join_new(base, other)?;
+            Ok(None)
+        }
+        Err(refusal) => Ok(Some(*refusal)),
+    }
+}
+
+/// The base joins the other. Where both have the same it looks at each row once, and takes no memory.
+pub(crate) fn join_new(base: &mut Base<'_>, other: &Base<'_>) -> Result<(), AllocError>
+    requires { other.now.sheet ≡ base.old.sheet }
+    ensures { OnOk result (base.new ≡ joined_with base.old other.now) }
+{
+    if base.same_as(other) {
+        base.known();
+        return Ok(());
+    }
+    base.join(other)
+}
