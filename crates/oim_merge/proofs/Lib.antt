@@ -31,3 +31,5 @@ pub mod FlatLines
 pub mod SourceMentions
 pub mod SourceLaws
 pub mod SourceTexts
+pub mod Reordered
+pub mod SourceOrder

@@ -1,5 +1,5 @@
 -- Who said what: each fact object of the accepted reports, by the fact that it says (own). In bytes, a space is 32, a line end 10.
-use Rattle.std.specs.Prelude.{◌≡◌, ℕ, suc, Bool, Option, Some, None, List, [], ◌∷◌, ◌++◌, filter, flat_map, Contains, Result, Ok, Err}
+use Rattle.std.specs.Prelude.{◌≡◌, ℕ, suc, ◌-◌, Bool, Option, Some, None, List, [], ◌∷◌, ◌++◌, map, get_or, filter, flat_map, Contains, Result, Ok, Err}
 use Rattle.std.specs.Fmt.{decimal}
 use Rattle.std.specs.List.Sorted.{IsPermutation}
 use Rattle.std.specs.Ordering.{is_eq}
@@ -74,3 +74,21 @@ EachFactIsSaid = (sheet : Sheet) (reports : List (List ℕ)) (f : Fact) → Cont
 -- each fact object of an accepted report is told once, and nothing else is
 abbrev pub EachMentionIsTold : Type 0
 EachMentionIsTold = (sheet : Sheet) (reports : List (List ℕ)) → IsPermutation (mentions sheet reports) (mentions_by_fact sheet reports)
+
+-- what a mention says, with the bytes of its report in place of the number
+pub record Saying : Type 0 where
+  pub bytes : List ℕ
+  pub identifier : List ℕ
+  pub fact : Fact
+
+abbrev pub saying : List (List ℕ) → Mention → Saying
+saying reports m = record { bytes = get_or reports (m.report - 1) []; identifier = m.identifier; fact = m.fact }
+
+-- the same facts, and the same mentions of them but for the numbers, each of which is that of the report
+pub record TellTheSame (sheet : Sheet) (reports others : List (List ℕ)) : Type 0 where
+  pub facts : (merged sheet reports).facts ≡ (merged sheet others).facts
+  pub sayings : IsPermutation (map (saying reports) (mentions_by_fact sheet reports)) (map (saying others) (mentions_by_fact sheet others))
+
+-- so do reports in any two orders
+abbrev pub SourcesIgnoreOrder : Type 0
+SourcesIgnoreOrder = (sheet : Sheet) (reports others : List (List ℕ)) → IsPermutation reports others → TellTheSame sheet reports others

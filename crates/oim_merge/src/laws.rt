@@ -7,7 +7,7 @@ ghost use Rattle.oim_merge.specs.Lines.{LinesAreOne, LinesTellVerdicts};
 ghost use Rattle.oim_merge.specs.ReadBack.{CanonicalReadsBack, EarlierIsNotCanonical, EarlierReadsBack, LeastLevelIsDeclared, MergedTextsAreCanonical};
 ghost use Rattle.oim_merge.specs.Replicas.{EqualSetsWriteTheSame, ReplicasSayAsAfresh, ReplicasStay, WireAgrees};
 ghost use Rattle.oim_merge.specs.Run.{ReportsIgnoreOrder};
-ghost use Rattle.oim_merge.specs.Sources.{EachFactIsSaid, EachMentionIsTold};
+ghost use Rattle.oim_merge.specs.Sources.{EachFactIsSaid, EachMentionIsTold, SourcesIgnoreOrder};
 
 /// Reports under one sheet of which the accepted ones say the same documents, in any order and each
 /// as often as one likes, are written by the same bytes.
@@ -87,6 +87,12 @@ pub fn lines_tell_verdicts()
 pub fn sources_are_whole()
     ensures told { EachMentionIsTold }
     ensures said { EachFactIsSaid }
+{}
+
+/// Whatever the order of the reports, the lines of sources tell the same but for the numbers, each
+/// of which is that of the report.
+pub fn sources_ignore_order()
+    ensures { SourcesIgnoreOrder }
 {}
 
 /// Replicas that exchange their texts have, after every schedule without a bad event, the bases of

@@ -45,6 +45,14 @@ const DOCUMENTS: [Table<'static>; 2] = [
                 "r: 1 NotJson: the file is no JSON text: invalid JSON at line 1 column 1; the file looks like CSV: another program has to write it as xBRL-JSON\n",
             ),
             (
+                "\"concept\";\"value\"\n",
+                "r: 1 NotJson: the file is no JSON text: invalid JSON at line 1 column 10; the file looks like CSV: another program has to write it as xBRL-JSON\n",
+            ),
+            (
+                "{\0\"\0",
+                "r: 1 NotJson: the file is no JSON text: invalid JSON at line 1 column 2; the file looks like a text in UTF-16: write it as UTF-8\n",
+            ),
+            (
                 "[]",
                 "r: 2 MemberForm: the file is no object of \"documentInfo\" and \"facts\"\n",
             ),
@@ -76,16 +84,40 @@ const DOCUMENTS: [Table<'static>; 2] = [
             ),
             (
                 r#","namespaces":{"eg":""},"baseURL":"x","taxonomy":[2023]}}"#,
-                "r: 5 Namespace: the entry \"eg\": \"\" of \"namespaces\" is no prefix with its URI: neither may be empty, and a prefix has no colon and no white space\nr: 6 BaseUrl: the \"baseURL\" \"x\" is no http or https URL\nr: 7 TaxonomyUrl: in the \"taxonomy\" [2023] a reference is no text, is too long, or is no http or https URL against \"baseURL\"\n",
+                "r: 5 Namespace: the entry \"eg\": \"\" of \"namespaces\" is no prefix with its URI: neither may be empty, and a prefix has no colon and no white space\nr: 6 BaseUrl: the \"baseURL\" \"x\" is no http or https URL\nr: 7 TaxonomyUrl: a reference of \"taxonomy\" is no text, is too long, or is no http or https URL against \"baseURL\": 2023\n",
             ),
             (
                 r#","namespaces":{"xbrl":"https://xbrl.org/2021"},"features":{"xbrl:allowedDuplicates":"some"}}}"#,
-                "r: 8 Feature: the \"features\" {\"xbrl:allowedDuplicates\":\"some\"} must say of \"allowedDuplicates\" once \"none\", \"complete\", \"consistent\" or \"all\"\n",
+                "r: 8 Feature: \"allowedDuplicates\" must stand once in \"features\", as \"none\", \"complete\", \"consistent\" or \"all\": not as \"xbrl:allowedDuplicates\": \"some\"\n",
+            ),
+            // what is refused of many is shown, and all of them where two do not go together
+            (
+                r#","taxonomy":["http://example.org/a-long-way-to-a-schema-that-is-found-without-any-trouble-at-all.xsd","",["b"]]}}"#,
+                "r: 7 TaxonomyUrl: a reference of \"taxonomy\" is no text, is too long, or is no http or https URL against \"baseURL\": [\"b\"]\n",
+            ),
+            (
+                r#","namespaces":{"a":"https://xbrl.org/2021","b":"https://xbrl.org/2021"},"features":{"a:allowedDuplicates":"all","b:allowedDuplicates":"none"}}}"#,
+                "r: 8 Feature: \"allowedDuplicates\" must stand once in \"features\", as \"none\", \"complete\", \"consistent\" or \"all\": not as {\"a:allowedDuplicates\":\"all\",\"b:allowedDuplicates\":\"none\"}\n",
             ),
         ],
         end: "",
     },
 ];
+
+const TEN: &str =
+    r#""f01":{"value":"1","note":"restated","dimensions":{"concept":"eg:A"}},"f02":{"value":"1","dimensions":{"concept":"eg:A","entity":"lei:5299"}},"f03":{"value":"1","dimensions":{"period":"2024-01-01T00:00:00"}},"f04":{"value":"1","dimensions":{"concept":"eg:Sales"}},"f05":{"value":"1","dimensions":{"concept":"eg:A","eg:Axis":"eg:B"}},"f06":{"value":"1","dimensions":{"concept":"eg:A","period":"2024-12-31"}},"f07":{"value":"1","dimensions":{"concept":"eg:A","unit":"EUR"}},"f08":{"value":12,"dimensions":{"concept":"eg:A"}},"f09":{"value":"1,000","dimensions":{"concept":"eg:A"}},"f10":{"value":"1","decimals":20,"dimensions":{"concept":"eg:A"}}"#;
+
+const TOLD: &str = "r: fact \"f01\": 3 UnknownMember: the format has no member \"note\"
+r: fact \"f02\": 13 UnboundPrefix: the prefix of \"lei:5299\" is not bound
+r: fact \"f03\": 15 MissingConcept: the \"dimensions\" of the fact have no \"concept\"
+r: fact \"f04\": 16 UnknownConcept: the concept \"eg:Sales\" is not in the sheet
+r: fact \"f05\": 17 UnknownDimension: the dimension \"eg:Axis\" is not in the sheet
+r: fact \"f06\": 19 PeriodForm: the period \"2024-12-31\" is no date and time as 2024-12-31T00:00:00, nor two with / between them
+r: fact \"f07\": 12 NameForm: \"EUR\" is no name: that is a prefix, a colon and a local part, without white space
+r: fact \"f08\": 25 ValueForm: the value 12 is neither a text nor null: a number, too, stands in quotes
+r: fact \"f09\": 26 NumberForm: the value \"1,000\" is no number, and by the sheet the values of the concept are numbers
+r: fact \"f10\": 29 DecimalsRange: the decimals 20 are not from -18 to 18
+";
 
 // 2, 3 and 9 to 31
 const FACTS: [Table<'static>; 1] = [Table {
@@ -132,19 +164,50 @@ const FACTS: [Table<'static>; 1] = [Table {
             r#""p":{"value":"1","decimals":0,"dimensions":{"concept":"eg:A"}},"q":{"value":"1.2","decimals":1,"dimensions":{"concept":"eg:A"}},"r":{"value":"3","dimensions":{"concept":"eg:A"}}"#,
             "r: 31 DisallowedDuplicates: the facts \"q\" and \"r\" have the same dimensions, and the report's own \"allowedDuplicates\" does not allow both\n",
         ),
+        // ten faults of ten kinds
+        (TEN, TOLD),
         // what stands twice is told, and nothing goes to a terminal that it would do
         (
             r#""a":{"value":"1","value":"2","dimensions":{"concept":"eg:A"}},"\u001b[2J":7,"a":{"value":"1","dimensions":{"concept":"eg:A","concept":"eg:A"}}"#,
             "r: fact \"\\u001b[2J\": 2 MemberForm: the fact is no object\nr: fact \"a\" stands twice, and only the last one is read\nr: fact \"a\": \"value\" stands twice, and only the last one is read\nr: fact \"a\": \"concept\" stands twice, and only the last one is read\n",
         ),
-        // what is long is cut
+        // what is not seen, or turns the direction, is written as an escape
         (
-            r#""a":{"value":"aaaaaaaaaaaaaaaaaaaaaaaaaaaaaaaaaaaaaaaaaaaaaaaaaaaaaaaaaaaaaaaaaaaaaaaaaaaaaaaaaaaaaaaa","dimensions":{"concept":"eg:A"}}"#,
-            "r: fact \"a\": 26 NumberForm: the value \"aaaaaaaaaaaaaaaaaaaaaaaaaaaaaaaaaaaaaaaaaaaaaaaaaaaaaaaaaaaaaaaaaaaaaaaaaaaaaaa.. is no number, and by the sheet the values of the concept are numbers\n",
+            "\"a\\u061c\u{200b}\u{feff}\u{85}\u{202e}\":7",
+            "r: fact \"a\\u061c\\u200b\\ufeff\\u0085\\u202e\": 2 MemberForm: the fact is no object\n",
+        ),
+        // a text is cut behind 80 characters, and an identifier is not
+        (
+            r#""yyyyyyyyyyyyyyyyyyyyyyyyyyyyyyyyyyyyyyyyyyyyyyyyyyyyyyyyyyyyyyyyyyyyyyyyyyyyyyyyb":{"value":"ä\n9xxxxxxxxxxxxxxxxxxxxxxxxxxxxxxxxxxxxxxxxxxxxxxxxxxxxxxxxxxxxxxxxxxxxxxxxxxxxx","dimensions":{"concept":"eg:A"}},"yyyyyyyyyyyyyyyyyyyyyyyyyyyyyyyyyyyyyyyyyyyyyyyyyyyyyyyyyyyyyyyyyyyyyyyyyyyyyyyyc":{"value":"ä\n9xxxxxxxxxxxxxxxxxxxxxxxxxxxxxxxxxxxxxxxxxxxxxxxxxxxxxxxxxxxxxxxxxxxxxxxxxxxxx+","dimensions":{"concept":"eg:A"}}"#,
+            "r: fact \"yyyyyyyyyyyyyyyyyyyyyyyyyyyyyyyyyyyyyyyyyyyyyyyyyyyyyyyyyyyyyyyyyyyyyyyyyyyyyyyyb\": 26 NumberForm: the value \"ä\\n9xxxxxxxxxxxxxxxxxxxxxxxxxxxxxxxxxxxxxxxxxxxxxxxxxxxxxxxxxxxxxxxxxxxxxxxxxxxxx\" is no number, and by the sheet the values of the concept are numbers\nr: fact \"yyyyyyyyyyyyyyyyyyyyyyyyyyyyyyyyyyyyyyyyyyyyyyyyyyyyyyyyyyyyyyyyyyyyyyyyyyyyyyyyc\": 26 NumberForm: the value \"ä\\n9xxxxxxxxxxxxxxxxxxxxxxxxxxxxxxxxxxxxxxxxxxxxxxxxxxxxxxxxxxxxxxxxxxxxxxxxxxxxx.. is no number, and by the sheet the values of the concept are numbers\n",
         ),
     ],
     end: "}}",
 }];
+
+// Files that are no UTF-8, with what they are.
+const BYTES: [(&[u8], &str); 5] = [
+    (
+        b"\xff\xfe{\0",
+        "r: 1 NotJson: the file is no JSON text: invalid JSON at line 1 column 1; the file looks like a text in UTF-16: write it as UTF-8\n",
+    ),
+    (
+        b"\x1f\x8b\x08\0",
+        "r: 1 NotJson: the file is no JSON text: invalid JSON at line 1 column 2; the file looks like a gzip file: unpack it first\n",
+    ),
+    (
+        b"PK\x03\x04",
+        "r: 1 NotJson: the file is no JSON text: invalid JSON at line 1 column 1; the file looks like a ZIP file, as a report package is: unpack it first\n",
+    ),
+    (
+        b"<?xml version=\"1.0\" encoding=\"ISO-8859-1\"?><a>\xe4</a>",
+        "r: 1 NotJson: the file is no JSON text: invalid JSON at line 1 column 47; the file looks like XML: another program has to write it as xBRL-JSON\n",
+    ),
+    (
+        b"concept,value\nUms\xe4tze,1\n",
+        "r: 1 NotJson: the file is no JSON text: invalid JSON at line 2 column 4; the file looks like CSV: another program has to write it as xBRL-JSON\n",
+    ),
+];
 
 const SHEETS: [(&str, Reason, &str); 3] = [
     (
@@ -235,6 +298,15 @@ fn faults_of_documents_are_said(rt: HostRuntime) -> Result<(), Fail> {
 #[test]
 fn faults_of_facts_are_said(rt: HostRuntime) -> Result<(), Fail> {
     assert!(rt; are_said(&rt, &FACTS)?);
+    Ok(())
+}
+
+#[test]
+fn files_that_are_no_text_are_told_apart(rt: HostRuntime) -> Result<(), Fail> {
+    let sheet = sheet(&rt)?;
+    for (bytes, line) in &BYTES {
+        assert!(rt; is_said(&rt, &sheet, bytes, line)?);
+    }
     Ok(())
 }
 

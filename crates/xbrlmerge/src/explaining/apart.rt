@@ -1,12 +1,10 @@
-use super::found_in_document::info;
+use super::found_in_document::{info, is_declaration};
 use oim_dims::Fact;
-use oim_names::{Aliases, Reason};
+use oim_names::Reason;
 use oim_report::{Sheet, read_report};
 use oim_value::{Level, Value as Said, interval_of, value_meets};
 use serde_json::Value;
 use std::alloc::{AllocError, Global};
-
-const RESERVED: &str = "https://xbrl.org/2021";
 
 /// The places, from 0, of two facts of an otherwise accepted report that its declared level does
 /// not allow beside one another.
@@ -15,10 +13,9 @@ const RESERVED: &str = "https://xbrl.org/2021";
 pub(crate) fn two_apart(
     alloc: Global,
     sheet: &Sheet,
-    aliases: &Aliases,
     tree: &mut Value,
 ) -> Result<Option<(usize, usize)>, AllocError> {
-    let level = declared(aliases, tree);
+    let level = declared(tree);
     drop_features(tree);
     let text = tree.to_string(alloc)?;
     match read_report(alloc, sheet, text.as_bytes()) {
@@ -29,25 +26,16 @@ pub(crate) fn two_apart(
 }
 
 /// The level that is declared.
-fn declared(aliases: &Aliases, tree: &Value) -> Level {
+fn declared(tree: &Value) -> Level {
     let Some(features) = info(tree, "features").and_then(Value::as_object) else {
         return Level::All;
     };
     for (key, value) in features.iter() {
-        if is_declaration(aliases, key.as_str()) {
+        if is_declaration(tree, key.as_str()) {
             return value.as_str().and_then(Level::read).unwrap_or(Level::All);
         }
     }
     Level::All
-}
-
-fn is_declaration(aliases: &Aliases, key: &str) -> bool {
-    match key.split_once(':') {
-        Some((prefix, local)) => {
-            local == "allowedDuplicates" && aliases.uri(prefix) == Some(RESERVED)
-        }
-        None => false,
-    }
 }
 
 /// Without its features a report allows all duplicates.

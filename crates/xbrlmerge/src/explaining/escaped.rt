@@ -1,6 +1,6 @@
 use std::alloc::AllocError;
 
-/// How many characters are shown of a text at fault.
+/// How many characters are shown of a value at fault that is no text.
 const MOST_CHARACTERS: usize = 80;
 
 /// Appends a text, as it may go to a terminal.
@@ -32,11 +32,12 @@ fn push_character(line: &mut String, character: char) -> Result<(), AllocError> 
     }
 }
 
-/// Whether it is no control character, and none that turns the direction or ends the line.
+/// Whether it is no control character, and none that is not seen, turns the direction or ends the
+/// line.
 fn is_shown(character: char) -> bool {
     !character.is_control()
         && !matches!(
             character,
-            '\u{200e}' | '\u{200f}' | '\u{2028}'..='\u{202e}' | '\u{2066}'..='\u{2069}'
+            '\u{61c}' | '\u{200b}'..='\u{200f}' | '\u{2028}'..='\u{202e}' | '\u{2060}'..='\u{206f}' | '\u{feff}'
         )
 }

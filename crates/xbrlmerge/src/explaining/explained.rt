@@ -1,7 +1,7 @@
 use super::apart::two_apart;
 use super::escaped::push_escaped;
 use super::file_kind::{kind_of_bytes, kind_of_sheet, kind_of_tree};
-use super::found::{Found, push_text};
+use super::found::{Found, push_whole};
 use super::found_in_document::{found_in_document, info};
 use super::found_in_fact::found_in_fact;
 use super::named_in_fact::Names;
@@ -196,7 +196,7 @@ fn push_fact(
 ) -> Result<(), AllocError> {
     let (number, name) = (reason.number(), reason.name());
     write!(text, "{file}: fact ")?;
-    push_text(alloc, text, identifier)?;
+    push_whole(alloc, text, identifier)?;
     write!(text, ": {number} {name}: ")?;
     push_said(alloc, text, reason, found_in_fact(names, object, reason)?)?;
     text.push_str("\n")
@@ -210,17 +210,16 @@ fn push_apart(
     file: &str,
     tree: &mut Value,
 ) -> Result<(), AllocError> {
-    let aliases = read_aliases(alloc, tree)?;
     let said = said_of(Reason::DisallowedDuplicates);
-    let two = two_apart(alloc, sheet, &aliases, tree)?;
+    let two = two_apart(alloc, sheet, tree)?;
     let facts = facts_of(alloc, tree)?;
     push_start(text, file, Reason::DisallowedDuplicates)?;
     match two_of(facts.as_slice(), two) {
         Some((one, other)) => {
             text.push_str(said.before)?;
-            push_text(alloc, text, one)?;
+            push_whole(alloc, text, one)?;
             text.push_str(" and ")?;
-            push_text(alloc, text, other)?;
+            push_whole(alloc, text, other)?;
             text.push_str(said.behind)?;
         }
         None => text.push_str(said.alone)?,

@@ -1,6 +1,8 @@
 use super::found_in_document::info;
 use serde_json::Value;
 
+const UTF_16: [&[u8]; 6] = [b"\xfe\xff", b"\xff\xfe", b"{\0", b"\0{", b"<\0", b"\0<"];
+
 /// What a file is that is no JSON text, where its first bytes show it.
 pub(crate) fn kind_of_bytes(bytes: &[u8]) -> Option<&'static str> {
     if bytes.starts_with(b"\x1f\x8b") {
@@ -9,10 +11,20 @@ pub(crate) fn kind_of_bytes(bytes: &[u8]) -> Option<&'static str> {
     if bytes.starts_with(b"PK\x03\x04") {
         return Some("a ZIP file, as a report package is: unpack it first");
     }
-    if bytes.starts_with(b"\xfe\xff") || bytes.starts_with(b"\xff\xfe") {
+    if is_utf16(bytes) {
         return Some("a text in UTF-16: write it as UTF-8");
     }
     kind_of_text(text_of(bytes))
+}
+
+/// Whether the first bytes are a byte order mark of UTF-16, or JSON or XML in it without one.
+fn is_utf16(bytes: &[u8]) -> bool {
+    for start in UTF_16 {
+        if bytes.starts_with(start) {
+            return true;
+        }
+    }
+    false
 }
 
 /// The text of the first bytes, after a byte order mark and white space, as far as it is UTF-8.
@@ -21,9 +33,9 @@ fn text_of(bytes: &[u8]) -> &str {
         Some(rest) => rest,
         None => bytes,
     };
-    match str::from_utf8(rest) {
-        Ok(text) => text.trim_start(),
-        Err(_) => "",
+    match rest.utf8_chunks().next() {
+        Some(chunk) => chunk.valid().trim_start(),
+        None => "",
     }
 }
 
@@ -38,7 +50,7 @@ fn kind_of_text(text: &str) -> Option<&'static str> {
         } else {
             Some("XML: another program has to write it as xBRL-JSON")
         }
-    } else if !text.starts_with(['{', '[', '"']) && line.contains(',') {
+    } else if !text.starts_with(['{', '[']) && line.contains([',', ';', '\t']) {
         Some("CSV: another program has to write it as xBRL-JSON")
     } else {
         None

@@ -1,6 +1,9 @@
-use super::escaped::push_cut;
+use super::escaped::{push_cut, push_escaped};
 use serde_json::{Map, Value};
 use std::alloc::{AllocError, Global};
+
+/// How many characters are shown of a text at fault.
+const MOST_CHARACTERS: usize = 80;
 
 /// What is at fault.
 #[derive(Clone, Copy, Debug)]
@@ -50,14 +53,43 @@ impl<'a> Found<'a> {
     }
 }
 
-/// Appends a text as JSON, cut.
-pub(crate) fn push_text(alloc: Global, line: &mut String, text: &str) -> Result<(), AllocError> {
-    push_value(alloc, line, &Value::String(String::from_str(alloc, text)?))
+/// Appends a text as JSON, whole.
+pub(crate) fn push_whole(alloc: Global, line: &mut String, text: &str) -> Result<(), AllocError> {
+    let json = Value::String(String::from_str(alloc, text)?).to_string(alloc)?;
+    push_escaped(line, json.as_str())
+}
+
+/// Appends a text as JSON. Of a long one it is the first characters, with no quote behind them.
+fn push_text(alloc: Global, line: &mut String, text: &str) -> Result<(), AllocError> {
+    let front = front_of(alloc, text)?;
+    if front.len() == text.len() {
+        return push_whole(alloc, line, text);
+    }
+    let json = Value::String(front).to_string(alloc)?;
+    push_escaped(line, json.as_str().strip_suffix('"').unwrap_or_default())?;
+    line.push_str("..")
+}
+
+/// The first `MOST_CHARACTERS` characters of a text.
+fn front_of(alloc: Global, text: &str) -> Result<String, AllocError> {
+    let mut front = String::new(alloc);
+    for (place, character) in text.chars().enumerate() {
+        if place >= MOST_CHARACTERS {
+            break;
+        }
+        front.push(character)?;
+    }
+    Ok(front)
 }
 
 fn push_value(alloc: Global, line: &mut String, value: &Value) -> Result<(), AllocError> {
-    let text = value.to_string(alloc)?;
-    push_cut(line, text.as_str())
+    match value.as_str() {
+        Some(text) => push_text(alloc, line, text),
+        None => {
+            let text = value.to_string(alloc)?;
+            push_cut(line, text.as_str())
+        }
+    }
 }
 
 /// The first key that is none of these and has no colon.

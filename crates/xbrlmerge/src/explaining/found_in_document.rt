@@ -1,8 +1,14 @@
 use super::found::{Found, unknown_key};
 use oim_names::Reason;
+use oim_value::Level;
 use serde_json::{Map, Value};
 
 const INFO: &str = "documentInfo";
+
+const RESERVED: &str = "https://xbrl.org/2021";
+
+/// How many bytes a reference may have.
+const MOST_BYTES: usize = 65_536;
 
 /// The member of `documentInfo` at a key.
 pub(crate) fn info<'a>(tree: &'a Value, key: &str) -> Option<&'a Value> {
@@ -17,8 +23,8 @@ pub(crate) fn found_in_document(tree: &Value, reason: Reason) -> Found<'_> {
         Reason::DocumentType => Found::of(info(tree, "documentType")),
         Reason::Namespace => unbound(info(tree, "namespaces").and_then(Value::as_object)),
         Reason::BaseUrl => Found::of(info(tree, "baseURL")),
-        Reason::TaxonomyUrl => Found::of(info(tree, "taxonomy")),
-        Reason::Feature => Found::of(info(tree, "features")),
+        Reason::TaxonomyUrl => lost_reference(tree),
+        Reason::Feature => misdeclared(tree),
         _ => Found::Nothing,
     }
 }
@@ -97,4 +103,55 @@ fn is_uri(value: &Value) -> bool {
         Some(text) => !text.is_empty(),
         None => false,
     }
+}
+
+/// The first reference that is no text or is too long; else all of them.
+fn lost_reference(tree: &Value) -> Found<'_> {
+    let taxonomy = info(tree, "taxonomy");
+    if let Some(references) = taxonomy.and_then(Value::as_array) {
+        for reference in references {
+            if !is_reference(reference) {
+                return Found::Value(reference);
+            }
+        }
+    }
+    Found::of(taxonomy)
+}
+
+fn is_reference(value: &Value) -> bool {
+    match value.as_str() {
+        Some(text) => text.len() <= MOST_BYTES,
+        None => false,
+    }
+}
+
+/// The first declaration of a level that names none; else all features, of which two declare one.
+fn misdeclared(tree: &Value) -> Found<'_> {
+    let features = info(tree, "features");
+    if let Some(entries) = features.and_then(Value::as_object) {
+        for (key, value) in entries.iter() {
+            if is_declaration(tree, key.as_str()) && !is_level(value) {
+                return Found::Member(key.as_str(), value);
+            }
+        }
+    }
+    Found::of(features)
+}
+
+fn is_level(value: &Value) -> bool {
+    value.as_str().and_then(Level::read).is_some()
+}
+
+/// Whether this is the key of a feature that declares the level of the duplicates.
+pub(crate) fn is_declaration(tree: &Value, key: &str) -> bool {
+    match key.split_once(':') {
+        Some((prefix, local)) => local == "allowedDuplicates"
+            && uri(tree, prefix) == Some(RESERVED),
+        None => false,
+    }
+}
+
+/// What a prefix is bound to.
+fn uri<'a>(tree: &'a Value, prefix: &str) -> Option<&'a str> {
+    info(tree, "namespaces")?.get(prefix)?.as_str()
 }

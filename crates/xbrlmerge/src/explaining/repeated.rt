@@ -1,4 +1,4 @@
-use super::found::push_text;
+use super::found::push_whole;
 use json::{Error, Scratch, Value};
 use std::alloc::{AllocError, Global};
 
@@ -85,11 +85,11 @@ impl<'f> Repeated<'f> {
         self.text.push_str(": ")?;
         if let Some(fact) = fact {
             self.text.push_str("fact ")?;
-            push_text(self.alloc, &mut self.text, fact)?;
+            push_whole(self.alloc, &mut self.text, fact)?;
             self.text.push_str(": ")?;
         }
         self.text.push_str(kind)?;
-        push_text(self.alloc, &mut self.text, key)?;
+        push_whole(self.alloc, &mut self.text, key)?;
         self.text
             .push_str(" stands twice, and only the last one is read\n")?;
         self.count = self.count.saturating_add(1);

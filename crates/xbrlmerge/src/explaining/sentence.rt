@@ -44,13 +44,15 @@ pub(crate) fn said_of(reason: Reason) -> Sentence {
             "\"baseURL\" is no http or https URL",
         ),
         Reason::TaxonomyUrl => around(
-            "in the \"taxonomy\" ",
-            " a reference is no text, is too long, or is no http or https URL against \"baseURL\"",
+            "a reference of \"taxonomy\" is no text, is too long, or is no http or https URL against \
+             \"baseURL\": ",
+            "",
             "a reference of \"taxonomy\" cannot be kept",
         ),
         Reason::Feature => around(
-            "the \"features\" ",
-            " must say of \"allowedDuplicates\" once \"none\", \"complete\", \"consistent\" or \"all\"",
+            "\"allowedDuplicates\" must stand once in \"features\", as \"none\", \"complete\", \
+             \"consistent\" or \"all\": not as ",
+            "",
             "\"allowedDuplicates\" must be \"none\", \"complete\", \"consistent\" or \"all\"",
         ),
         Reason::DisallowedDuplicates => around(

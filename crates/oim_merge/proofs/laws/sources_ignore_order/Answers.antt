@@ -1,0 +1,5 @@
+use Rattle.oim_merge.proofs.SourceOrder.{sources_ignore_order}
+use Rattle.oim_merge.proofs.laws.sources_ignore_order.Goals as goal
+
+pub returns : goal.returns
+returns c = sources_ignore_order
