@@ -1,14 +1,14 @@
 -- What comes of the members of a list, one list behind another, comes of them in another order too.
-use Rattle.std.proofs.Common.{◌≡◌, ℕ, zero, suc, ◌<◌, List, [], ◌∷◌, ◌++◌, length, get_or, set, subst, append_assoc, arith}
+use Rattle.std.proofs.Common.{ℕ, zero, suc, ◌<◌, List, [], ◌∷◌, ◌++◌, length, get_or, set, subst, append_assoc, arith}
 use Rattle.std.specs.Prelude.{flat_map, swap}
 use Rattle.std.specs.List.Sorted.{IsPermutation}
 use Rattle.std.proofs.lemmas.List.Edits.{swap_is}
 use Rattle.std.proofs.lemmas.List.Sorted.{IsPermutation-append_comm, IsPermutation-append_left, IsPermutation-append_right, IsPermutation-keeps, IsPermutation-refl, IsPermutation-trans}
 
-exchanged : {B : Type 0} (as bs cs : List B) → IsPermutation (as ++ (bs ++ cs)) (bs ++ (as ++ cs))
-exchanged as bs cs =
-    let both : IsPermutation ((as ++ bs) ++ cs) ((bs ++ as) ++ cs) = IsPermutation-append_left cs (as ++ bs) (bs ++ as) (IsPermutation-append_comm as bs) in
-    subst (λ l. IsPermutation l (bs ++ (as ++ cs))) (append_assoc as bs cs) (subst (IsPermutation ((as ++ bs) ++ cs)) (append_assoc bs as cs) both)
+exchanged : {B : Type 0} (us vs ws : List B) → IsPermutation (us ++ (vs ++ ws)) (vs ++ (us ++ ws))
+exchanged us vs ws =
+    let both : IsPermutation ((us ++ vs) ++ ws) ((vs ++ us) ++ ws) = IsPermutation-append_left ws (us ++ vs) (vs ++ us) (IsPermutation-append_comm us vs) in
+    subst (λ l. IsPermutation l (vs ++ (us ++ ws))) (append_assoc us vs ws) (subst (IsPermutation ((us ++ vs) ++ ws)) (append_assoc vs us ws) both)
 
 module _ {A B : Type 0} (f : A → List B) where
   -- the first for one further on

@@ -1,6 +1,6 @@
 -- Reports in another order have the same mentions, but for the numbers.
-use Rattle.std.proofs.Common.{◌≡◌, ◌↔◌, ℕ, suc, ◌-◌, ◌+◌, List, [], ◌∷◌, ◌++◌, map, length, get_or, Option, Some, None, Result, Ok, Err, refl, sym, ap, ◌∙◌, subst, append_assoc, arith}
-use Rattle.std.specs.Prelude.{Contains, flat_map}
+use Rattle.std.proofs.Common.{◌≡◌, ℕ, suc, ◌-◌, ◌+◌, List, [], ◌∷◌, ◌++◌, map, length, get_or, Option, Some, None, Result, Ok, Err, refl, sym, ap, ◌∙◌, subst, append_assoc, arith}
+use Rattle.std.specs.Prelude.{flat_map}
 use Rattle.std.specs.List.Sorted.{IsPermutation}
 use Rattle.std.proofs.lemmas.List.{get_or-append-add, length-append, map-append}
 use Rattle.std.proofs.lemmas.List.Sorted.{Contains-permutation, IsPermutation-map, IsPermutation-sym, IsPermutation-trans}
@@ -65,5 +65,5 @@ sources_ignore_order sheet reports others moved =
     record {
       facts = ap (λ b. b.facts) (body_ignores_order (accepted sheet reports) (accepted sheet others) (same_members _ _ documents));
       sayings = IsPermutation-trans told these other (IsPermutation-sym these told (sayings sheet reports))
-      (IsPermutation-trans these those other (reordered (sayings_of sheet) reports others moved) (sayings sheet others));
+          (IsPermutation-trans these those other (reordered (sayings_of sheet) reports others moved) (sayings sheet others));
     }
