@@ -7,6 +7,7 @@ use crate::expecting::Expecting;
 use crate::fault::Fault;
 use crate::listing::verdict_lines;
 use crate::refusals::Refusals;
+use crate::source_listing::source_lines;
 use crate::tests_sinks::TOUCHING;
 use oim_names::Reason;
 use oim_report::{Refusal, Sheet};
@@ -130,7 +131,32 @@ fn refused_lines_have_their_front_in_the_sink(rt: HostRuntime) -> Result<(), Fai
     Ok(())
 }
 
-/// The same reports behind their sheet.
+/// The fact objects of the two reports of `THREE_SETS`.
+const TEN_SOURCES: &[u8] =
+    b"f1 2 \"a\"\nf1 3 \"a\"\nf2 2 \"b\"\nf2 3 \"b\"\nf3 2 \"c\"\nf3 3 \"c\"\nf4 2 \"d\"\nf4 3 \"d\"\nf5 2 \"e\"\nf5 3 \"e\"\n";
+
+fn traces_once(rt: &HostRuntime, sheet: &Sheet, reports: &[Encoded]) -> Option<bool> {
+    let mut sink = StdSink::new(Expecting::just(TEN_SOURCES));
+    let answer = source_lines(rt.alloc(), sheet, reports, &mut sink);
+    came_to(rt, answer, sink, TEN_SOURCES)
+}
+
+fn traces(rt: &HostRuntime, sheet: &Sheet, reports: &[Encoded]) -> bool {
+    match traces_once(rt, sheet, reports) {
+        None => traces_once(rt, sheet, reports) == Some(true),
+        Some(met) => met,
+    }
+}
+
+#[test]
+fn refused_sources_have_their_front_in_the_sink(rt: HostRuntime) -> Result<(), Fail> {
+    let sheet = read_sheet(&rt)?;
+    let reports = reports(&rt, THREE_SETS)?;
+    assert!(rt; traces(&rt, &sheet, reports.as_slice()));
+    Ok(())
+}
+
+/// A sheet, and behind it what is no report and one twice.
 const BUNDLE: [&str; 7] = [SHEET, "\n", "{\n\n", TOUCHING, "\n", TOUCHING, "\n"];
 
 fn consolidates_bundle_once(rt: &HostRuntime, bundle: &[u8], text: &[u8]) -> Option<bool> {

@@ -61,11 +61,16 @@ const TOO_LOW: Option<Refusal> = Some(Refusal {
     place: Place::Document,
 });
 
+const NO_MEMORY: Option<Refusal> = Some(Refusal {
+    reason: Reason::OutOfMemory,
+    place: Place::Document,
+});
+
 /// Whether just a level that is below that of the facts is refused, and at the document.
 fn is_held(rt: &HostRuntime, level: &str, facts: &str, refused: bool) -> Result<bool, Fail> {
     let expected = if refused { TOO_LOW } else { None };
     let mut found = refusal(rt.alloc(), rt, level, facts)?;
-    if found != expected {
+    if found == NO_MEMORY {
         tell_refused(rt);
         found = refusal(rt.alloc(), rt, level, facts)?;
     }
