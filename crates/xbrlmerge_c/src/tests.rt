@@ -212,7 +212,7 @@ fn a_report_is_checked(rt: HostRuntime) -> Result<(), Fail> {
 fn refusals_have_names(rt: HostRuntime) -> Result<(), Fail> {
     let mut out = [7; 14];
     assert!(rt; xbrlmerge_refusal_name(13, out.as_mut_slice()) == 13);
-    assert!(rt; out.as_slice() == b"UnboundPrefix\x07");
+    assert!(rt; out.as_slice() == b"UnboundPrefix\x07".as_slice());
     assert!(rt; xbrlmerge_refusal_name(33, out.as_mut_slice()) == 0);
     Ok(())
 }
