@@ -56,6 +56,7 @@ enum Call {
 }
 
 /// What a call left in its caller's memory.
+#[derive(Drop)]
 struct Left {
     status: u32,
     out: [u8; 400],
@@ -66,34 +67,54 @@ struct Left {
 
 /// Makes a call with room for so many bytes.
 fn called_once(alloc: Global, call: Call, sheet: &str, ends: &[usize], room: usize) -> Left {
-    let mut left = Left {
-        status: NO_MEMORY,
-        out: [7; 400],
-        needed: 7,
-        rows: [BEFORE; 2],
-        refused: 7,
+    let (mut out, mut rows) = ([7; 400], [BEFORE; 2]);
+    let (mut needed, mut refused) = (7, 7);
+    let (sheet, reports, told) = (sheet.as_bytes(), REPORTS.as_bytes(), rows.as_mut_slice());
+    let status = match (call, out.get_mut(..room)) {
+        (_, None) => NO_MEMORY,
+        (Call::Merge(allow), Some(out)) => xbrlmerge_merge(
+            alloc,
+            sheet,
+            reports,
+            ends,
+            allow,
+            out,
+            &mut needed,
+            told,
+            &mut refused,
+        ),
+        (Call::Verdicts, Some(out)) => {
+            xbrlmerge_verdicts(
+                alloc,
+                sheet,
+                reports,
+                ends,
+                out,
+                &mut needed,
+                told,
+                &mut refused,
+            )
+        }
+        (Call::Sources, Some(out)) => {
+            xbrlmerge_sources(
+                alloc,
+                sheet,
+                reports,
+                ends,
+                out,
+                &mut needed,
+                told,
+                &mut refused,
+            )
+        }
     };
-    let Left {
+    Left {
         status,
         out,
         needed,
         rows,
         refused,
-    } = &mut left;
-    let (sheet, reports, rows) = (sheet.as_bytes(), REPORTS.as_bytes(), rows.as_mut_slice());
-    let Some(out) = out.get_mut(..room) else {
-        return left;
-    };
-    *status = match call {
-        Call::Merge(allow) => xbrlmerge_merge(
-            alloc, sheet, reports, ends, allow, out, needed, rows, refused,
-        ),
-        Call::Verdicts => xbrlmerge_verdicts(
-            alloc, sheet, reports, ends, out, needed, rows, refused,
-        ),
-        Call::Sources => xbrlmerge_sources(alloc, sheet, reports, ends, out, needed, rows, refused),
-    };
-    left
+    }
 }
 
 /// The same, and once more where memory was refused.
