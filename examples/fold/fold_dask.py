@@ -1,11 +1,14 @@
 #!/usr/bin/env python3
-"""Folds reports in two levels on Dask: examples/fold/fold_dask.py SHEET OUT WIDTH FILE ..
+"""Folds reports in two levels on Dask: examples/fold/fold_dask.py [--calls] SHEET OUT WIDTH FILE ..
 
-WIDTH files go to a node. On a cluster, make a Client first, and set TMPDIR to a folder that all machines have.
+WIDTH files go to a node, which is a process that writes its text to a file. With --calls it is a call of the Python
+module xbrlmerge, and the texts go to the last node as bytes. On a cluster, make a Client first; set TMPDIR to a folder
+that all machines have, or with --calls install the module on each.
 Status 0: OUT has every file. 1: files were refused, as standard error says, and OUT has the rest; or a node
 failed, and OUT is as it was. 2: usage.
 """
 import os
+import shlex
 import subprocess
 import sys
 import tempfile
@@ -31,8 +34,45 @@ def fold(sheet, out, width, files):
         return max(dask.compute(*lower, merge(sheet, out, list(parts), 0, lower)))
 
 
-if __name__ == "__main__":
-    if len(sys.argv) < 5:
+@dask.delayed
+def merge_here(sheet, files):
+    """Merges files by a call, and returns the text, with a line for each refused file."""
+    import xbrlmerge
+
+    merged = xbrlmerge.merge(sheet, files)
+    return merged.text, [f"{it} in {shlex.quote(files[it.report - 1])}" for it in merged.refusals]
+
+
+@dask.delayed
+def join_here(sheet, lower):
+    """Merges the texts of nodes by a call. No text of a node is refused."""
+    import xbrlmerge
+
+    merged = xbrlmerge.merge(sheet, [text for text, _ in lower])
+    if merged.refusals:
+        raise SystemExit(f"a text is not whole: {merged.refusals[0]}")
+    return merged.text, [line for _, lines in lower for line in lines]
+
+
+def fold_by_calls(sheet, out, width, files):
+    lower = [merge_here(sheet, files[at : at + width]) for at in range(0, len(files), width)]
+    ((text, lines),) = dask.compute(join_here(sheet, lower))
+    part = f"{out}.part.{os.getpid()}"
+    with open(part, "wb") as file:
+        file.write(text)
+    os.replace(part, out)
+    sys.stderr.write("".join(f"{line}\n" for line in lines))
+    return 1 if lines else 0
+
+
+def main(words):
+    folds = fold_by_calls if words[:1] == ["--calls"] else fold
+    words = words[1:] if folds is fold_by_calls else words
+    if len(words) < 4:
         print(__doc__)
-        sys.exit(0 if sys.argv[1:] == ["--help"] else 2)
-    sys.exit(fold(*sys.argv[1:3], int(sys.argv[3]), sys.argv[4:]))
+        return 0 if words == ["--help"] else 2
+    return folds(*words[:2], int(words[2]), words[3:])
+
+
+if __name__ == "__main__":
+    sys.exit(main(sys.argv[1:]))

@@ -1,0 +1,44 @@
+-- What a sheet and reports come to, from their bytes (own).
+use Rattle.std.specs.Prelude.{◌≡◌, ℕ, List, Ok, Err}
+use Rattle.oim_names.specs.declared.reason.Reason.{Reason}
+use Rattle.oim_value.specs.declared.level.Level.{Level}
+use Rattle.oim_report.specs.Sheet.{Sheet, sheet_outcome}
+use Rattle.oim_report.specs.declared.refusal.Refusal.{Refusal}
+use Rattle.oim_write.specs.Bytes.{canonical}
+use Rattle.oim_merge.specs.Above.{IsFirstAbove, StaysWithin}
+use Rattle.oim_merge.specs.Lines.{AreLines}
+use Rattle.oim_merge.specs.Reports.{merged, refused}
+use Rattle.oim_merge.specs.Sources.{sources}
+
+-- the bytes of a sheet are refused
+abbrev pub IsSheetRefused : List ℕ → Reason → Type 0
+IsSheetRefused sheet reason = sheet_outcome sheet ≡ Err reason
+
+-- the canonical text of what the accepted reports say, no row of which is above the level, and the refused ones
+pub record Merges (sheet : List ℕ) (reports : List (List ℕ)) (level : Level) (text : List ℕ) (told : List (ℕ × Refusal)) : Type 0 where
+  pub listed : Sheet
+  pub read : sheet_outcome sheet ≡ Ok listed
+  pub within : StaysWithin level (merged listed reports)
+  pub text_is : text ≡ canonical (merged listed reports)
+  pub refusals_are : told ≡ refused listed reports
+
+-- the row of this number, from 1, is the first that is above the level
+pub record IsLoose (sheet : List ℕ) (reports : List (List ℕ)) (level : Level) (number : ℕ) (told : List (ℕ × Refusal)) : Type 0 where
+  pub listed : Sheet
+  pub read : sheet_outcome sheet ≡ Ok listed
+  pub first : IsFirstAbove level (merged listed reports) number
+  pub refusals_are : told ≡ refused listed reports
+
+-- the lines of the verdicts on what the accepted reports say, and the refused ones
+pub record Judges (sheet : List ℕ) (reports : List (List ℕ)) (text : List ℕ) (told : List (ℕ × Refusal)) : Type 0 where
+  pub listed : Sheet
+  pub read : sheet_outcome sheet ≡ Ok listed
+  pub lines : AreLines (merged listed reports) text
+  pub refusals_are : told ≡ refused listed reports
+
+-- the lines of who said what, and the refused reports
+pub record TellsSources (sheet : List ℕ) (reports : List (List ℕ)) (text : List ℕ) (told : List (ℕ × Refusal)) : Type 0 where
+  pub listed : Sheet
+  pub read : sheet_outcome sheet ≡ Ok listed
+  pub text_is : text ≡ sources listed reports
+  pub refusals_are : told ≡ refused listed reports

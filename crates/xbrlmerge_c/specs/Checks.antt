@@ -1,0 +1,39 @@
+-- What is told of one report (own).
+use Rattle.std.specs.Prelude.{◌≡◌, ℕ, List, Ok, Err, IsTrue, ◌↔◌}
+use Rattle.oim_names.specs.declared.reason.Reason.{Reason}
+use Rattle.oim_value.specs.Level.{level_entry}
+use Rattle.oim_report.specs.Outcome.{at, outcome}
+use Rattle.oim_report.specs.Sheet.{Sheet, sheet_outcome}
+use Rattle.oim_report.specs.declared.place.Place.TheVariants.{Document as AtDocument}
+use Rattle.oim_report.specs.declared.refusal.Refusal.{Refusal}
+use Rattle.oim_merge.specs.Checked.{IsChecked}
+use Rattle.oim_merge.specs.declared.checked.Checked.{Checked}
+use Rattle.xbrlmerge_c.specs.Rows.{row}
+use Rattle.xbrlmerge_c.specs.declared.checked_row.CheckedReport.{CheckedReport}
+use Rattle.xbrlmerge_c.specs.declared.row.RefusedReport.{RefusedReport}
+
+-- the numbers of what an accepted report comes to
+abbrev pub IsRowOf : Checked → CheckedReport → Type 0
+IsRowOf checked r = (r.facts ≡ checked.facts) × ((r.level ≡ (level_entry checked.level).place) × (r.canonical ≡ 1 ↔ IsTrue checked.canonical))
+
+-- under the sheet the report is accepted, and comes to this
+pub record Accepts (sheet report : List ℕ) (r : CheckedReport) : Type 0 where
+  pub listed : Sheet
+  pub read : sheet_outcome sheet ≡ Ok listed
+  pub checked : Checked
+  pub is_checked : IsChecked listed report checked
+  pub row_is : IsRowOf checked r
+
+-- it is refused, and is the report of number 1
+pub record Refuses (sheet report : List ℕ) (r : RefusedReport) : Type 0 where
+  pub listed : Sheet
+  pub read : sheet_outcome sheet ≡ Ok listed
+  pub refusal : Refusal
+  pub refused : outcome listed report ≡ Err refusal
+  pub row_is : r ≡ row 1 refusal
+
+-- the sheet is refused, and is the report of number 0
+pub record RefusesSheet (sheet : List ℕ) (r : RefusedReport) : Type 0 where
+  pub reason : Reason
+  pub refused : sheet_outcome sheet ≡ Err reason
+  pub row_is : r ≡ row 0 (at AtDocument reason)

@@ -1,0 +1,22 @@
+-- Reports that stand one behind another in bytes, by the place where each ends (own).
+use Rattle.std.specs.Prelude.{◌≤◌, ◌-◌, ℕ, List, [], ◌∷◌, length, take, drop}
+
+-- each end is no less than the one before it, the first no less than `from`, and none is beyond `count`
+abbrev pub AreEndsFrom : ℕ → ℕ → List ℕ → Type 0
+AreEndsFrom from count [] = Unit {0}
+AreEndsFrom from count (end ∷ ends) = (from ≤ end) × ((end ≤ count) × AreEndsFrom end count ends)
+
+abbrev pub AreEnds : List ℕ → List ℕ → Type 0
+AreEnds bytes ends = AreEndsFrom 0 (length bytes) ends
+
+-- the bytes from a place up to another
+abbrev pub between : ℕ → ℕ → List ℕ → List ℕ
+between from end bytes = take (end - from) (drop from bytes)
+
+-- each report, from the end of the one before it up to its own, where the first begins at `from`
+abbrev pub reports_from : ℕ → List ℕ → List ℕ → List (List ℕ)
+reports_from from bytes [] = []
+reports_from from bytes (end ∷ ends) = between from end bytes ∷ reports_from end bytes ends
+
+abbrev pub reports_at : List ℕ → List ℕ → List (List ℕ)
+reports_at bytes ends = reports_from 0 bytes ends

@@ -1,0 +1,22 @@
+-- Refusals as rows of numbers (own).
+use Rattle.std.specs.Prelude.{ℕ, List, map}
+use Rattle.oim_names.specs.Reasons.{entry_of}
+use Rattle.oim_report.specs.declared.place.Place.{Place}
+use Rattle.oim_report.specs.declared.place.Place.TheVariants.{Document, Fact}
+use Rattle.oim_report.specs.declared.refusal.Refusal.{Refusal}
+use Rattle.xbrlmerge_c.specs.declared.row.RefusedReport.{RefusedReport}
+
+-- facts are counted from 1, and the document is 0
+abbrev pub place_number : Place → ℕ
+place_number Document = 0
+place_number (Fact n) = n
+
+-- a refusal of the report of this number
+abbrev pub row : ℕ → Refusal → RefusedReport
+row n r = record { report = n; fact = place_number r.place; number = (entry_of r.reason).number }
+
+abbrev pub row_of : ℕ × Refusal → RefusedReport
+row_of told = row told.0 told.1
+
+abbrev pub rows_of : List (ℕ × Refusal) → List RefusedReport
+rows_of told = map row_of told

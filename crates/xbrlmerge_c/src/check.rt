@@ -1,0 +1,74 @@
+ghost use Rattle.std.specs.Prelude.{◌≡◌, ◌≢◌, ◌≤◌, Err, IfOk, MatchResult};
+ghost use Rattle.oim_report.specs.Outcome.{outcome};
+ghost use Rattle.oim_merge.specs.Checked.{IsChecked};
+ghost use Rattle.xbrlmerge_c.specs.Checks.{Accepts, Refuses, RefusesSheet};
+ghost use Rattle.xbrlmerge_c.specs.Statuses.{done, no_memory, refused_some, sheet_refused, too_loose, too_short};
+
+use crate::checked_row::CheckedReport;
+use crate::row::RefusedReport;
+use crate::sheet_reading::read_sheet;
+use crate::statuses::{DONE, NO_MEMORY, REFUSED, SHEET_REFUSED};
+use oim_merge::{Checked, Fault, check_report};
+use oim_names::Reason;
+use oim_report::{Refusal, Sheet};
+use std::alloc::{AllocError, Global};
+
+/// Checks one report, as `oim_merge::check_report` does: `checked` tells what an accepted one comes to,
+/// and `refusal` why it is refused, with the report number 1, or why the sheet is, with 0.
+///
+/// Errors, by the status: `REFUSED`; `SHEET_REFUSED`; `NO_MEMORY`, where all is as it was.
+#[unsafe(no_mangle)]
+pub extern "C" fn xbrlmerge_check(
+    alloc: Global,
+    sheet: &[u8],
+    report: &[u8],
+    checked: &mut CheckedReport,
+    refusal: &mut RefusedReport,
+) -> u32
+    ensures statuses { result ≤ no_memory }
+    ensures never { (result ≢ too_loose) × (result ≢ too_short) }
+    ensures done { result ≡ done → Accepts sheet.now report.now checked.new }
+    ensures refused { result ≡ refused_some → Refuses sheet.now report.now refusal.new }
+    ensures sheet { result ≡ sheet_refused → RefusesSheet sheet.now refusal.new }
+    ensures checked_kept { result ≢ done → checked.new ≡ checked.old }
+    ensures done_kept { result ≡ done → refusal.new ≡ refusal.old }
+    ensures kept { result ≡ no_memory → refusal.new ≡ refusal.old }
+{
+    let sheet = match read_sheet(alloc, sheet) {
+        Ok(sheet) => sheet,
+        Err(Fault::Sheet(reason)) => {
+            *refusal = RefusedReport::new(0, &Refusal::from(reason));
+            return SHEET_REFUSED;
+        }
+        Err(_) => return NO_MEMORY,
+    };
+    match checked_or_refused(alloc, &sheet, report) {
+        Ok(Ok(found)) => {
+            *checked = CheckedReport::new(&found);
+            DONE
+        }
+        Ok(Err(told)) => {
+            *refusal = RefusedReport::new(1, &told);
+            REFUSED
+        }
+        Err(_) => NO_MEMORY,
+    }
+}
+
+/// What the report comes to, or its refusal.
+///
+/// Errors: want of memory, which is no refusal here.
+fn checked_or_refused(
+    alloc: Global,
+    sheet: &Sheet,
+    bytes: &[u8],
+) -> Result<Result<Checked, Refusal>, AllocError>
+    ensures { IfOk result (λ found. MatchResult found
+        (IsChecked sheet.now bytes.now) (λ refusal. outcome sheet.now bytes.now ≡ Err refusal)) }
+{
+    match check_report(alloc, sheet, bytes) {
+        Ok(checked) => Ok(Ok(checked)),
+        Err(refusal) if refusal.reason == Reason::OutOfMemory => Err(AllocError),
+        Err(refusal) => Ok(Err(refusal)),
+    }
+}

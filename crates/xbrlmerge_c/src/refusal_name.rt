@@ -1,0 +1,71 @@
+ghost use Rattle.std.specs.Prelude.{◌≡◌, ◌≤◌, ◌<◌, ◌++◌, drop, length, slice_get};
+ghost use Rattle.oim_names.specs.Reasons.{reasons};
+ghost use Rattle.xbrlmerge_c.specs.Names.{name_numbered};
+
+use oim_names::Reason;
+
+/// Every refusal, each at the place of its number.
+const REASONS: [Reason; 33] = [
+    Reason::OutOfMemory,
+    Reason::NotJson,
+    Reason::MemberForm,
+    Reason::UnknownMember,
+    Reason::DocumentType,
+    Reason::Namespace,
+    Reason::BaseUrl,
+    Reason::TaxonomyUrl,
+    Reason::Feature,
+    Reason::Links,
+    Reason::Notes,
+    Reason::DimensionsMissing,
+    Reason::NameForm,
+    Reason::UnboundPrefix,
+    Reason::ReservedNamespace,
+    Reason::MissingConcept,
+    Reason::UnknownConcept,
+    Reason::UnknownDimension,
+    Reason::DimensionValue,
+    Reason::PeriodForm,
+    Reason::PeriodOrder,
+    Reason::UnitForm,
+    Reason::UnitOnOther,
+    Reason::LanguageForm,
+    Reason::LanguageOnNumeric,
+    Reason::ValueForm,
+    Reason::NumberForm,
+    Reason::NumberDigits,
+    Reason::DecimalsForm,
+    Reason::DecimalsRange,
+    Reason::DecimalsOnOther,
+    Reason::DisallowedDuplicates,
+    Reason::SheetKind,
+];
+
+/// Puts the name of the refusal of this number to the front of `out`, where it fits, and answers its
+/// length; 0 where no refusal has the number.
+#[unsafe(no_mangle)]
+pub extern "C" fn xbrlmerge_refusal_name(number: u32, out: &mut [u8]) -> usize
+    ensures length { result ≡ length (name_numbered number) }
+    ensures fits { result ≤ length out.old → out.new ≡ name_numbered number ++ drop result out.old }
+    ensures short { length out.old < result → out.new ≡ out.old }
+{
+    let Some(reason) = reason_numbered(number) else {
+        return 0;
+    };
+    let name = reason.name().as_bytes();
+    if name.len() <= out.len() {
+        out[..name.len()].copy_from_slice(name);
+    }
+    name.len()
+}
+
+fn reason_numbered(number: u32) -> Option<Reason>
+    ensures { result ≡ slice_get reasons number }
+{
+    let place = number as usize;
+    if place < REASONS.len() {
+        Some(REASONS[place])
+    } else {
+        None
+    }
+}

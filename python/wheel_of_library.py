@@ -1,0 +1,64 @@
+"""Builds the wheel: the module with the shared library of ./build --library, by the standard library alone."""
+import base64
+import glob
+import hashlib
+import os
+import re
+import zipfile
+
+HERE = os.path.dirname(os.path.abspath(__file__))
+LIBRARY = os.path.join(HERE, "..", "lib", "libxbrlmerge.so")
+# the C library, and what its linker is called: with these alone a manylinux tag is true
+SYSTEM = {b"libc.so.6", b"ld-linux-x86-64.so.2"}
+# the oldest that tags of this form name
+OLDEST = 5
+TIME = (1980, 1, 1, 0, 0, 0)
+
+
+def _project(key):
+    with open(os.path.join(HERE, "pyproject.toml"), encoding="utf-8") as file:
+        return re.search(rf'^{key} = "(.*)"$', file.read(), re.MULTILINE)[1]
+
+
+def _platform(library):
+    """Returns the tag of the machines that the library runs on, by the versions of the C library that it asks for."""
+    minors = [int(it) for it in re.findall(rb"GLIBC_2\.(\d+)", library)]
+    is_plain = set(re.findall(rb"\x00([\w+.-]*\.so[.\d]*)(?=\x00)", library)) - {b"libxbrlmerge.so"} <= SYSTEM
+    return f"manylinux_2_{max([OLDEST, *minors])}_x86_64" if is_plain and minors else "linux_x86_64"
+
+
+def _files(tag):
+    name, version = _project("name"), _project("version")
+    with open(LIBRARY, "rb") as file:
+        files = {f"{name}/libxbrlmerge.so": file.read()}
+    for path in sorted([*glob.glob(f"{HERE}/{name}/*.py"), f"{HERE}/{name}/py.typed"]):
+        with open(path, "rb") as file:
+            files[f"{name}/{os.path.basename(path)}"] = file.read()
+    told = f"Metadata-Version: 2.1\nName: {name}\nVersion: {version}\nSummary: {_project('description')}\n"
+    info = f"{name}-{version}.dist-info"
+    files[f"{info}/METADATA"] = (told + f"Requires-Python: {_project('requires-python')}\n").encode()
+    files[f"{info}/WHEEL"] = f"Wheel-Version: 1.0\nGenerator: {name}\nRoot-Is-Purelib: false\nTag: {tag}\n".encode()
+    return files, info
+
+
+def _record(files, info):
+    def line(path, content):
+        digest = base64.urlsafe_b64encode(hashlib.sha256(content).digest()).rstrip(b"=").decode()
+        return f"{path},sha256={digest},{len(content)}\n"
+
+    return "".join(line(*it) for it in files.items()) + f"{info}/RECORD,,\n"
+
+
+def build_wheel(wheel_directory, config_settings=None, metadata_directory=None):
+    """Makes the wheel in a folder, and returns its name (PEP 517)."""
+    with open(LIBRARY, "rb") as file:
+        tag = f"py3-none-{_platform(file.read())}"
+    files, info = _files(tag)
+    files[f"{info}/RECORD"] = _record(files, info).encode()
+    name = f"{_project('name')}-{_project('version')}-{tag}.whl"
+    with zipfile.ZipFile(os.path.join(wheel_directory, name), "w", zipfile.ZIP_DEFLATED) as wheel:
+        for path, content in files.items():
+            told = zipfile.ZipInfo(path, TIME)
+            told.external_attr = (0o755 if path.endswith(".so") else 0o644) << 16
+            wheel.writestr(told, content, zipfile.ZIP_DEFLATED)
+    return name

@@ -1,0 +1,208 @@
+"""xBRL-JSON reports of one entity as one canonical text, the verdicts on their duplicates, and who said what.
+
+    import xbrlmerge
+
+    merged = xbrlmerge.merge("sheet.json", ["issuer.json", "ledgerline.json"], allow="consistent")
+    merged.text           # the bytes that `xbrlmerge merge` writes
+    merged.refusals       # the refused reports; each prints as the program's line
+
+A sheet or a report is given as its bytes, or as the path of its file. Each call does what the program's command of
+its name does, with the same bytes and the same refusals, in this process; other threads go on meanwhile. Refused
+reports are answered, and raise nothing. SheetRefused, TooLoose and MemoryError are raised.
+"""
+import dataclasses
+import decimal
+import json
+import os
+from typing import Any, Dict, Iterable, List, Optional, Tuple, Union
+
+from . import _library
+
+__all__ = ["Checked", "Merged", "Refusal", "Row", "Rows", "SheetRefused", "Source", "Sources", "TooLoose",
+           "check", "merge", "sources", "verdicts"]
+
+Given = Union[bytes, bytearray, memoryview, str, "os.PathLike[str]"]
+
+#: The levels of duplicates that a dimension set may have, from the strictest on.
+LEVELS = ("none", "complete", "consistent", "all")
+_LINE_END, _SPACE = "\n", " "
+_CORE = ("concept", "entity", "period", "unit", "language")
+
+
+@dataclasses.dataclass(frozen=True)
+class Refusal:
+    """A refused report. It prints as the program's line."""
+
+    report: int  #: its number, from 1
+    number: int  #: the number of the refusal, as docs/REFUSALS.md lists them
+    name: str  #: its name, as UnboundPrefix
+    fact: Optional[int]  #: the fact's number, from 1 in byte order of identifiers; None for the document
+
+    def __str__(self) -> str:
+        place = "document" if self.fact is None else f"fact {self.fact}"
+        return f"report {self.report}: {self.number} {self.name} at {place}"
+
+
+class SheetRefused(ValueError):
+    """The sheet is refused. It prints as the program's line."""
+
+    def __init__(self, number: int) -> None:
+        self.number, self.name = number, _library.refusal_name(number)
+        super().__init__(f"sheet: {number} {self.name}")
+
+
+class TooLoose(ValueError):
+    """A row has duplicates above the level that is allowed; `row` is the number of the first, from 1."""
+
+    def __init__(self, row: int, refusals: List[Refusal]) -> None:
+        self.row, self.refusals = row, refusals
+        super().__init__(f"too loose: row {row}")
+
+
+@dataclasses.dataclass(frozen=True)
+class Merged:
+    """A merged text, and the reports that were refused."""
+
+    text: bytes
+    refusals: List[Refusal]
+
+    def rows(self) -> List[Dict[str, Any]]:
+        """Returns a plain record for each fact, as pandas.DataFrame takes them: its identifier, its value, its
+        decimals where it has some, and each of its dimensions under its name. Values are texts, as they are written."""
+        facts = json.loads(self.text)["facts"]
+        return [_record(identifier, fact) for identifier, fact in facts.items()]
+
+
+@dataclasses.dataclass(frozen=True)
+class Row:
+    """The verdict on a dimension set."""
+
+    number: int  #: from 1, in the order of the canonical text
+    first: str  #: the identifier of its first fact in the canonical text
+    last: str  #: that of its last one
+    verdict: str  #: complete, consistent or inconsistent
+    common: Optional[Tuple[decimal.Decimal, decimal.Decimal]] = None  #: what lies in every rounding interval
+    apart: Optional[Tuple[str, str]] = None  #: the identifiers of two facts that do not meet
+
+
+@dataclasses.dataclass(frozen=True)
+class Source:
+    """That a report says a fact."""
+
+    fact: str  #: the fact's identifier in the canonical text
+    report: int  #: the report's number, from 1
+    identifier: str  #: the fact's identifier in that report
+
+
+class Rows(List[Row]):
+    """The verdicts, in order; `text` has the program's lines, and `refusals` the reports that were refused."""
+
+    def __init__(self, rows: Iterable[Row], text: bytes, refusals: List[Refusal]) -> None:
+        super().__init__(rows)
+        self.text, self.refusals = text, refusals
+
+
+class Sources(List[Source]):
+    """Who said what, in order; `text` has the program's lines, and `refusals` the reports that were refused."""
+
+    def __init__(self, found: Iterable[Source], text: bytes, refusals: List[Refusal]) -> None:
+        super().__init__(found)
+        self.text, self.refusals = text, refusals
+
+
+@dataclasses.dataclass(frozen=True)
+class Checked:
+    """What an accepted report comes to. It prints as the program's line."""
+
+    facts: int  #: how many facts it has, repeats counted
+    level: str  #: the strictest level that allows its duplicates
+    canonical: bool  #: whether its bytes are the canonical text of what it says
+
+    def __str__(self) -> str:
+        return f"accepted {self.facts} {self.level} {'canonical' if self.canonical else 'other'}"
+
+
+def merge(sheet: Given, reports: Iterable[Given], allow: str = "all") -> Merged:
+    """Merges reports that are read under a sheet. Refused reports are left out, and answered.
+
+    Raises TooLoose where a dimension set has duplicates above the level `allow`, SheetRefused, and MemoryError.
+    """
+    if allow not in LEVELS:
+        raise ValueError(f"allow is one of {', '.join(LEVELS)}")
+    answer = _library.merge(_bytes(sheet), [_bytes(it) for it in reports], LEVELS.index(allow))
+    if answer.status == _library.TOO_LOOSE:
+        raise TooLoose(answer.number, _refusals(answer))
+    return Merged(_text(answer), _refusals(answer))
+
+
+def verdicts(sheet: Given, reports: Iterable[Given]) -> Rows:
+    """Returns the verdict on each dimension set of what the accepted reports say. Raises SheetRefused and MemoryError."""
+    answer = _library.verdicts(_bytes(sheet), [_bytes(it) for it in reports])
+    text = _text(answer)
+    return Rows(map(_row, _lines(text)), text, _refusals(answer))
+
+
+def sources(sheet: Given, reports: Iterable[Given]) -> Sources:
+    """Returns which accepted report says which fact, and by which identifier. Raises SheetRefused and MemoryError."""
+    answer = _library.sources(_bytes(sheet), [_bytes(it) for it in reports])
+    text = _text(answer)
+    return Sources(map(_source, _lines(text)), text, _refusals(answer))
+
+
+def check(sheet: Given, report: Given) -> Union[Checked, Refusal]:
+    """Returns what an accepted report comes to, or the refusal of one that is not. Raises SheetRefused and MemoryError."""
+    status, checked, row = _library.check(_bytes(sheet), _bytes(report))
+    if status == _library.SHEET_REFUSED:
+        raise SheetRefused(row[2])
+    if status == _library.REFUSED:
+        return _refusal(row)
+    facts, level, canonical = checked
+    return Checked(facts, LEVELS[level], canonical == 1)
+
+
+def _bytes(given: Given) -> bytes:
+    if isinstance(given, bytes):
+        return given
+    if isinstance(given, (bytearray, memoryview)):
+        return bytes(given)
+    with open(given, "rb") as file:
+        return file.read()
+
+
+def _refusal(row: _library.Row) -> Refusal:
+    report, fact, number = row
+    return Refusal(report, number, _library.refusal_name(number), fact or None)
+
+
+def _refusals(answer: _library.Answer) -> List[Refusal]:
+    return [_refusal(row) for row in answer.rows]
+
+
+def _text(answer: _library.Answer) -> bytes:
+    if answer.status == _library.SHEET_REFUSED:
+        raise SheetRefused(answer.number)
+    return answer.text
+
+
+def _lines(text: bytes) -> List[str]:
+    """Returns the lines. Each ends in a line end, and has no other, whatever other characters end lines elsewhere."""
+    return text.decode("utf-8").split(_LINE_END)[:-1]
+
+
+def _row(line: str) -> Row:
+    number, first, last, verdict, *shown = line.split(_SPACE)
+    common = (decimal.Decimal(shown[1]), decimal.Decimal(shown[2])) if verdict == "consistent" else None
+    apart = (shown[1], shown[2]) if verdict == "inconsistent" else None
+    return Row(int(number), first, last, verdict, common, apart)
+
+
+def _source(line: str) -> Source:
+    fact, report, identifier = line.split(_SPACE, 2)
+    return Source(fact, int(report), json.loads(identifier))
+
+
+def _record(identifier: str, fact: Dict[str, Any]) -> Dict[str, Any]:
+    dimensions = fact["dimensions"]
+    further = {name: member for name, member in dimensions.items() if name not in _CORE}
+    core = {name: dimensions.get(name) for name in _CORE}
+    return {"fact": identifier, "value": fact["value"], "decimals": fact.get("decimals"), **core, **further}

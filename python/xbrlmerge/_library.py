@@ -1,0 +1,122 @@
+"""The shared library, and its calls on bytes."""
+import array
+import ctypes
+import os
+import struct
+import sys
+from typing import Callable, List, NamedTuple, Sequence, Tuple
+
+DONE, REFUSED, TOO_LOOSE, TOO_SHORT, SHEET_REFUSED, NO_MEMORY, BAD_ENDS, BAD_LEVEL = range(8)
+NAME = "libxbrlmerge.so"
+# a row of refusals, and what a report comes to, as include/xbrlmerge.h has them
+ROW, CHECKED = struct.Struct("=QQI4x"), struct.Struct("=QII")
+# beyond this a text is rarely longer than the reports that it is made of
+MORE = 4096
+LONGEST_NAME = 64
+
+
+def _load() -> ctypes.CDLL:
+    """Loads the library that XBRLMERGE_LIBRARY names, that of the wheel, or that which ./build --library left."""
+    here = os.path.dirname(os.path.abspath(__file__))
+    places = (os.environ.get("XBRLMERGE_LIBRARY", ""), os.path.join(here, NAME), os.path.join(here, "..", "..", "lib", NAME))
+    found = next((place for place in places if place and os.path.exists(place)), None)
+    if found is None:
+        raise ImportError(f"xbrlmerge: there is no {NAME}: `./build --library` makes it, and XBRLMERGE_LIBRARY may name it")
+    if struct.calcsize("P") != 8 or sys.byteorder != "little":
+        raise ImportError("xbrlmerge: it needs a processor of 64 bits")
+    # a CDLL lets other threads of Python go on while it is called
+    return ctypes.CDLL(os.path.abspath(found))
+
+
+_LIBRARY = _load()
+_POINTER, _SIZE, _NUMBER = ctypes.c_void_p, ctypes.c_size_t, ctypes.c_uint32
+_SIZE_OUT = ctypes.POINTER(_SIZE)
+_GIVEN = [_POINTER, _SIZE, _POINTER, _SIZE, _POINTER, _SIZE]
+_TAKEN = [_POINTER, _SIZE, _SIZE_OUT, _POINTER, _SIZE, _SIZE_OUT]
+
+
+def _call(name: str, result: type, arguments: List[type]) -> Callable[..., int]:
+    found: Callable[..., int] = getattr(_LIBRARY, name)
+    found.restype, found.argtypes = result, arguments  # type: ignore[attr-defined]
+    return found
+
+
+_merge = _call("xbrlmerge_merge", _NUMBER, [*_GIVEN, _NUMBER, *_TAKEN])
+_verdicts = _call("xbrlmerge_verdicts", _NUMBER, [*_GIVEN, *_TAKEN])
+_sources = _call("xbrlmerge_sources", _NUMBER, [*_GIVEN, *_TAKEN])
+_check = _call("xbrlmerge_check", _NUMBER, [_POINTER, _SIZE, _POINTER, _SIZE, _POINTER, _POINTER])
+_refusal_name = _call("xbrlmerge_refusal_name", _SIZE, [_NUMBER, _POINTER, _SIZE])
+
+Row = Tuple[int, int, int]
+
+
+class Answer(NamedTuple):
+    """How a call ended: its status, the text, the number told in place of a text, and the refused reports' rows."""
+
+    status: int
+    text: bytes
+    number: int
+    rows: List[Row]
+
+
+def _room(size: int) -> Tuple[bytearray, ctypes.c_char]:
+    """Returns room of at least one byte, since no pointer may be null, and its first byte, which keeps it in place."""
+    held = bytearray(max(size, 1))
+    return held, ctypes.c_char.from_buffer(held)
+
+
+def _answered(call: Callable[..., int], sheet: bytes, reports: Sequence[bytes], *more: int) -> Answer:
+    """Calls with room that is mostly enough, and again where it is not."""
+    together, ends, end = b"".join(reports), array.array("Q"), 0
+    for report in reports:
+        end += len(report)
+        ends.append(end)
+    # an empty array has no address
+    places = (ends if ends else array.array("Q", (0,))).buffer_info()[0]
+    given = (sheet, len(sheet), together, len(together), places, len(ends), *more)
+    room, rows_room = len(together) + MORE, len(ends)
+    needed, refused = _SIZE(), _SIZE()
+    while True:
+        out, first = _room(room)
+        rows, first_row = _room(rows_room * ROW.size)
+        status = call(*given, ctypes.addressof(first), room, needed, ctypes.addressof(first_row), rows_room, refused)
+        if status != TOO_SHORT:
+            break
+        room, rows_room = max(room, needed.value), max(rows_room, refused.value)
+    if status == NO_MEMORY:
+        raise MemoryError
+    if status > NO_MEMORY:
+        raise ValueError(f"xbrlmerge: status {status}")
+    text = bytes(memoryview(out)[: needed.value]) if status <= REFUSED else b""
+    told = list(ROW.iter_unpack(memoryview(rows)[: refused.value * ROW.size]))
+    return Answer(status, text, needed.value, told)
+
+
+def merge(sheet: bytes, reports: Sequence[bytes], level: int) -> Answer:
+    return _answered(_merge, sheet, reports, level)
+
+
+def verdicts(sheet: bytes, reports: Sequence[bytes]) -> Answer:
+    return _answered(_verdicts, sheet, reports)
+
+
+def sources(sheet: bytes, reports: Sequence[bytes]) -> Answer:
+    return _answered(_sources, sheet, reports)
+
+
+def check(sheet: bytes, report: bytes) -> Tuple[int, Tuple[int, int, int], Row]:
+    """Returns the status, what the report comes to, and its refusal."""
+    checked, first = _room(CHECKED.size)
+    row, first_of_row = _room(ROW.size)
+    places = ctypes.addressof(first), ctypes.addressof(first_of_row)
+    status = _check(sheet, len(sheet), report, len(report), *places)
+    if status == NO_MEMORY:
+        raise MemoryError
+    return status, CHECKED.unpack_from(checked), ROW.unpack_from(row)
+
+
+def refusal_name(number: int) -> str:
+    """Returns the name of a refusal, or an empty text where none has the number."""
+    name, first = _room(LONGEST_NAME)
+    length = _refusal_name(number, ctypes.addressof(first), LONGEST_NAME)
+    return name[:length].decode("ascii")

@@ -1,0 +1,273 @@
+/* Calls the library for C as tests/c_abi asks it to: c_abi merge LEVEL SHEET REPORT ..; c_abi verdicts|sources SHEET
+   REPORT ..; c_abi check SHEET REPORT; c_abi edges SHEET. Texts go to standard output, the lines of refused reports to
+   standard error, as the program has them, and the status is the call's. Each call is made with rooms that are too short
+   first, and then with each request for memory refused in turn: these lines go to standard error too, at the end, where
+   a word `requests` begins them. Status 90 and a line: something is not as the header tells. */
+#include <stdio.h>
+#include <stdlib.h>
+#include <string.h>
+
+#include "xbrlmerge.h"
+
+#define MOST 64
+#define MARK 0xA5
+#define EXPECT(holds) ((holds) ? (void)0 : fail(__LINE__, #holds))
+
+static long chosen, made;
+static int inside;
+
+void *__real_malloc(size_t size);
+void *__real_realloc(void *block, size_t size);
+void *__real_calloc(size_t count, size_t size);
+
+static int is_refused(void) { return inside && ++made == chosen; }
+
+void *__wrap_malloc(size_t size) { return is_refused() ? NULL : __real_malloc(size); }
+void *__wrap_realloc(void *block, size_t size) { return size && is_refused() ? NULL : __real_realloc(block, size); }
+void *__wrap_calloc(size_t count, size_t size) { return is_refused() ? NULL : __real_calloc(count, size); }
+
+static void fail(int line, const char *told) {
+    fprintf(stderr, "c_abi.c:%d: not so: %s\n", line, told);
+    exit(90);
+}
+
+/* What is handed to a call, and its room, with marks that show what it wrote. */
+struct asked {
+    const char *command;
+    uint32_t allow;
+    uint8_t *sheet, *reports;
+    size_t sheet_length, reports_length, ends[MOST], count;
+};
+
+struct room {
+    uint8_t *out;
+    xbrlmerge_refusal *rows;
+    size_t out_length, rows_length, needed, refused;
+};
+
+static uint8_t *read_file(const char *name, size_t *length, uint8_t *before, size_t at) {
+    FILE *file = fopen(name, "rb");
+    EXPECT(file != NULL && fseek(file, 0, SEEK_END) == 0);
+    *length = (size_t)ftell(file);
+    rewind(file);
+    /* one byte more, so that nothing has the size 0; the address sanitizer sees what reads beyond it */
+    uint8_t *bytes = realloc(before, at + *length + 1);
+    EXPECT(bytes != NULL && fread(bytes + at, 1, *length, file) == *length);
+    fclose(file);
+    return bytes;
+}
+
+static struct room make_room(size_t out_length, size_t rows_length) {
+    struct room room = {malloc(out_length + 1), malloc((rows_length + 1) * sizeof(xbrlmerge_refusal)), out_length, rows_length, 77, 78};
+    memset(room.out, MARK, out_length + 1);
+    memset(room.rows, MARK, (rows_length + 1) * sizeof(xbrlmerge_refusal));
+    return room;
+}
+
+static void drop_room(struct room *room) {
+    free(room->out);
+    free(room->rows);
+}
+
+static int is_marked(const void *bytes, size_t from, size_t to) {
+    for (size_t place = from; place < to; place++)
+        if (((const uint8_t *)bytes)[place] != MARK) return 0;
+    return 1;
+}
+
+/* whether the bytes from a place on, and the rows, are as they were */
+static int is_kept(const struct room *room, size_t bytes, size_t rows) {
+    size_t size = sizeof(xbrlmerge_refusal);
+    return is_marked(room->out, bytes, room->out_length + 1) && is_marked(room->rows, rows * size, (room->rows_length + 1) * size);
+}
+
+static uint32_t call(const struct asked *asked, struct room *room) {
+    uint32_t status = 99;
+    inside = 1;
+    if (strcmp(asked->command, "merge") == 0)
+        status = xbrlmerge_merge(asked->sheet, asked->sheet_length, asked->reports, asked->reports_length, asked->ends, asked->count,
+                                 asked->allow, room->out, room->out_length, &room->needed, room->rows, room->rows_length, &room->refused);
+    else if (strcmp(asked->command, "verdicts") == 0)
+        status = xbrlmerge_verdicts(asked->sheet, asked->sheet_length, asked->reports, asked->reports_length, asked->ends, asked->count,
+                                    room->out, room->out_length, &room->needed, room->rows, room->rows_length, &room->refused);
+    else if (strcmp(asked->command, "sources") == 0)
+        status = xbrlmerge_sources(asked->sheet, asked->sheet_length, asked->reports, asked->reports_length, asked->ends, asked->count,
+                                   room->out, room->out_length, &room->needed, room->rows, room->rows_length, &room->refused);
+    inside = 0;
+    return status;
+}
+
+static void tell_refusal(const xbrlmerge_refusal *row) {
+    uint8_t name[20];
+    size_t length = xbrlmerge_refusal_name(row->number, name, sizeof name);
+    EXPECT(length > 0 && length <= sizeof name);
+    fprintf(stderr, "report %llu: %u %.*s at ", (unsigned long long)row->report, row->number, (int)length, (const char *)name);
+    if (row->fact == 0)
+        fprintf(stderr, "document\n");
+    else
+        fprintf(stderr, "fact %llu\n", (unsigned long long)row->fact);
+}
+
+/* Calls with no room and with one byte or row too few, and returns what just suffices. */
+static struct room short_rooms(const struct asked *asked) {
+    struct room none = make_room(0, 0);
+    uint32_t status = call(asked, &none);
+    size_t needed = none.needed, refused = none.refused;
+    EXPECT(is_kept(&none, 0, 0));
+    drop_room(&none);
+    if (status != XBRLMERGE_TOO_SHORT) return make_room(0, 0);
+    if (needed > 0) {
+        struct room room = make_room(needed - 1, refused);
+        EXPECT(call(asked, &room) == XBRLMERGE_TOO_SHORT && room.needed == needed && room.refused == refused && is_kept(&room, 0, 0));
+        drop_room(&room);
+    }
+    if (refused > 0) {
+        struct room room = make_room(needed, refused - 1);
+        EXPECT(call(asked, &room) == XBRLMERGE_TOO_SHORT && room.needed == needed && room.refused == refused && is_kept(&room, 0, 0));
+        drop_room(&room);
+    }
+    struct room ample = make_room(needed + 9, refused + 2), just = make_room(needed, refused);
+    EXPECT(call(asked, &ample) == call(asked, &just) && ample.needed == just.needed && ample.refused == just.refused);
+    size_t bytes = needed == ample.needed ? needed : 0; /* where a row is above the level there is no text */
+    EXPECT(is_kept(&ample, bytes, refused) && memcmp(ample.out, just.out, bytes) == 0);
+    EXPECT(memcmp(ample.rows, just.rows, refused * sizeof(xbrlmerge_refusal)) == 0);
+    drop_room(&just);
+    return ample;
+}
+
+/* Refuses each request in turn: all is as it was. One behind the last meets none. */
+static long refuse_each(const struct asked *asked, const struct room *whole, uint32_t wanted) {
+    struct room room = make_room(whole->out_length, whole->rows_length);
+    long number = 1;
+    for (;; number++) {
+        chosen = number, made = 0;
+        uint32_t status = call(asked, &room);
+        if (made < chosen) {
+            EXPECT(status == wanted && room.needed == whole->needed && room.refused == whole->refused);
+            break;
+        }
+        EXPECT(status == XBRLMERGE_NO_MEMORY && room.needed == 77 && room.refused == 78 && is_kept(&room, 0, 0));
+    }
+    chosen = 0;
+    drop_room(&room);
+    return number - 1;
+}
+
+static int texts(struct asked *asked) {
+    struct room whole = short_rooms(asked);
+    uint32_t status = call(asked, &whole);
+    if (status == XBRLMERGE_SHEET_REFUSED) {
+        EXPECT(whole.refused == 0 && is_kept(&whole, 0, 0));
+        fprintf(stderr, "sheet: %zu\n", whole.needed);
+    }
+    for (size_t row = 0; row < whole.refused; row++) tell_refusal(&whole.rows[row]);
+    if (status == XBRLMERGE_TOO_LOOSE) fprintf(stderr, "too loose: row %zu\n", whole.needed);
+    if (status <= XBRLMERGE_REFUSED) fwrite(whole.out, 1, whole.needed, stdout);
+    EXPECT(status != XBRLMERGE_DONE || whole.refused == 0);
+    fprintf(stderr, "requests: %ld refused in turn\n", refuse_each(asked, &whole, status));
+    drop_room(&whole);
+    return (int)status;
+}
+
+static int check(const struct asked *asked) {
+    xbrlmerge_checked checked = {1, 2, 3};
+    xbrlmerge_refusal row = {4, 5, 6};
+    uint32_t status = XBRLMERGE_NO_MEMORY;
+    long number = 0;
+    do {
+        chosen = ++number, made = 0, inside = 1;
+        status = xbrlmerge_check(asked->sheet, asked->sheet_length, asked->reports, asked->reports_length, &checked, &row);
+        inside = 0;
+        EXPECT(made < chosen || (status == XBRLMERGE_NO_MEMORY && checked.facts == 1 && row.report == 4));
+    } while (made >= chosen);
+    chosen = 0;
+    EXPECT((checked.facts == 1 && checked.level == 2 && checked.canonical == 3) || status == XBRLMERGE_DONE);
+    EXPECT((row.report == 4 && row.fact == 5 && row.number == 6) == (status == XBRLMERGE_DONE));
+    if (status == XBRLMERGE_DONE) {
+        static const char *const levels[] = {"none", "complete", "consistent", "all"};
+        EXPECT(checked.level <= XBRLMERGE_ALLOW_ALL && checked.canonical <= 1);
+        printf("accepted %llu %s %s\n", (unsigned long long)checked.facts, levels[checked.level], checked.canonical ? "canonical" : "other");
+    } else if (status == XBRLMERGE_REFUSED) {
+        EXPECT(row.report == 1);
+        tell_refusal(&row);
+    } else {
+        EXPECT(status == XBRLMERGE_SHEET_REFUSED && row.report == 0 && row.fact == 0);
+        fprintf(stderr, "sheet: %u\n", row.number);
+    }
+    fprintf(stderr, "requests: %ld refused in turn\n", number - 1);
+    return (int)status;
+}
+
+/* a call that ends in this status, with all as it was */
+static void ends_in(struct asked asked, uint32_t wanted, size_t count, size_t first, size_t second) {
+    static const char *const commands[] = {"merge", "verdicts", "sources"};
+    asked.count = count, asked.ends[0] = first, asked.ends[1] = second;
+    for (int place = 0; place < 3; place++) {
+        struct room room = make_room(40, 2);
+        asked.command = commands[place];
+        made = 0;
+        EXPECT(call(&asked, &room) == wanted && room.needed == 77 && room.refused == 78 && is_kept(&room, 0, 0));
+        EXPECT(made == 0);
+        drop_room(&room);
+    }
+}
+
+static int edges(struct asked *asked) {
+    asked->reports = realloc(asked->reports, 8);
+    memcpy(asked->reports, "{}[]null", 8);
+    asked->reports_length = 8;
+    ends_in(*asked, XBRLMERGE_BAD_ENDS, 1, 9, 0);
+    ends_in(*asked, XBRLMERGE_BAD_ENDS, 2, 4, 2);
+    ends_in(*asked, XBRLMERGE_BAD_ENDS, 2, 0, SIZE_MAX);
+    ends_in(*asked, XBRLMERGE_BAD_ENDS, 1, SIZE_MAX, 0);
+    struct room room = make_room(40, 4);
+    asked->command = "merge", asked->count = 0;
+    for (asked->allow = 4; asked->allow != 0; asked->allow = asked->allow == 4 ? UINT32_MAX : 0)
+        EXPECT(call(asked, &room) == XBRLMERGE_BAD_LEVEL && room.needed == 77 && room.refused == 78 && is_kept(&room, 0, 0));
+    /* three reports, the second of which is empty, and bytes behind the last */
+    asked->command = "verdicts", asked->count = 3, asked->ends[0] = 2, asked->ends[1] = 2, asked->ends[2] = 4;
+    EXPECT(call(asked, &room) == XBRLMERGE_REFUSED && room.needed == 0 && room.refused == 3 && is_kept(&room, 0, 3));
+    EXPECT(room.rows[1].report == 2 && room.rows[1].number == 1 && room.rows[1].fact == 0 && room.rows[2].report == 3);
+    /* lengths of 0, with pointers that lead to something */
+    uint8_t byte = MARK;
+    size_t end = 0, needed = 77, refused = 78;
+    xbrlmerge_refusal row = {4, 5, 6};
+    EXPECT(xbrlmerge_verdicts(asked->sheet, asked->sheet_length, &byte, 0, &end, 0, &byte, 0, &needed, &row, 0, &refused) == XBRLMERGE_DONE);
+    EXPECT(needed == 0 && refused == 0 && byte == MARK && row.report == 4);
+    EXPECT(xbrlmerge_sources(asked->sheet, asked->sheet_length, &byte, 0, &end, 0, &byte, 0, &needed, &row, 0, &refused) == XBRLMERGE_DONE);
+    EXPECT(xbrlmerge_merge(asked->sheet, asked->sheet_length, &byte, 0, &end, 0, 0, &byte, 0, &needed, &row, 0, &refused) == XBRLMERGE_TOO_SHORT);
+    EXPECT(needed > 0 && refused == 0 && byte == MARK);
+    EXPECT(xbrlmerge_merge(&byte, 0, &byte, 0, &end, 0, 0, &byte, 0, &needed, &row, 0, &refused) == XBRLMERGE_SHEET_REFUSED && needed == 1);
+    xbrlmerge_checked checked = {1, 2, 3};
+    EXPECT(xbrlmerge_check(asked->sheet, asked->sheet_length, &byte, 0, &checked, &row) == XBRLMERGE_REFUSED && row.number == 1);
+    EXPECT(xbrlmerge_check(&byte, 0, &byte, 0, &checked, &row) == XBRLMERGE_SHEET_REFUSED && row.number == 1 && checked.facts == 1);
+    /* names */
+    uint8_t name[24];
+    memset(name, MARK, sizeof name);
+    EXPECT(xbrlmerge_refusal_name(33, name, sizeof name) == 0 && xbrlmerge_refusal_name(UINT32_MAX, name, sizeof name) == 0);
+    EXPECT(xbrlmerge_refusal_name(13, name, 12) == 13 && is_marked(name, 0, sizeof name));
+    EXPECT(xbrlmerge_refusal_name(13, &byte, 0) == 13 && byte == MARK);
+    EXPECT(xbrlmerge_refusal_name(13, name, 13) == 13 && memcmp(name, "UnboundPrefix", 13) == 0 && is_marked(name, 13, sizeof name));
+    drop_room(&room);
+    return 0;
+}
+
+int main(int count, char **words) {
+    struct asked asked = {0};
+    int at = 2;
+    EXPECT(count >= 3 && count < MOST);
+    asked.command = words[1];
+    if (strcmp(asked.command, "merge") == 0) asked.allow = (uint32_t)strtoul(words[at++], NULL, 10);
+    asked.sheet = read_file(words[at++], &asked.sheet_length, NULL, 0);
+    asked.reports = malloc(1);
+    for (; at < count; at++) {
+        size_t length;
+        asked.reports = read_file(words[at], &length, asked.reports, asked.reports_length);
+        asked.reports_length += length;
+        asked.ends[asked.count++] = asked.reports_length;
+    }
+    int status = strcmp(asked.command, "check") == 0 ? check(&asked) : strcmp(asked.command, "edges") == 0 ? edges(&asked) : texts(&asked);
+    free(asked.sheet);
+    free(asked.reports);
+    return status;
+}
