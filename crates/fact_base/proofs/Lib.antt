@@ -11,6 +11,7 @@ pub mod NeverComplete
 pub mod Verdicts
 pub mod RowsOf
 pub mod Fitting
+mod Given
 pub mod Puts
 pub mod Pushes
 pub mod Stored

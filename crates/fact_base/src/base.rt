@@ -6,7 +6,7 @@ ghost use Rattle.fact_base.specs.Shown.{rows_left};
 ghost use Rattle.fact_base.specs.Verdict.{IsEvidence, verdict};
 ghost use Rattle.oim_report.specs.Duplicates.{level_of};
 
-use crate::entries::{count_of, entries_of, level_of, same_rows};
+use crate::entries::{count_of, entries_from, entries_of, level_of, same_rows};
 use crate::evidence::Evidence;
 use crate::judging::{evidence_of, verdict_of};
 use crate::references::{replace, with_all};
@@ -86,6 +86,23 @@ impl<'s> Base<'s> {
         let entries = entries_of(self.alloc, report.facts(), report.order())?;
         self.entries.absorb(entries)?;
         replace(&mut self.references, references);
+        Ok(())
+    }
+
+    /// The same where the report is given up: its facts are moved.
+    ///
+    /// Errors: want of memory; the base is then as before, and the report is lost.
+    pub fn absorb_report(&mut self, report: Report<'_>) -> Result<(), AllocError>
+        requires { report.sheet ≡ self.old.sheet }
+        ensures ok { OnOk result (self.new ≡ record self.old { body = union self.old.body (body (report.entry.document ∷ [])) }) }
+        ensures err { OnErr result (self.new ≡ self.old) }
+    {
+        report.known();
+        let wider = with_all(self.alloc, &self.references, report.taxonomy())?;
+        let (facts, order) = report.into_facts();
+        let moved = entries_from(self.alloc, facts, order.as_slice())?;
+        self.entries.absorb(moved)?;
+        replace(&mut self.references, wider);
         Ok(())
     }
 

@@ -1,4 +1,4 @@
-ghost use Rattle.std.specs.Prelude.{map, ◌≡◌, ◌↔◌, length, IsTrue, IfOk, OnOk, slice_get};
+ghost use Rattle.std.specs.Prelude.{map, ◌≡◌, ◌↔◌, Some, length, IsTrue, IfOk, OnOk, slice_get};
 ghost use Rattle.std.specs.List.{All};
 ghost use Rattle.std.specs.Option.{option_map};
 ghost use Rattle.fact_base.specs.Entries.{AreEntriesOf, NoneAbove, entry_of, facts_of_entries, with_fact, with_value};
@@ -40,6 +40,53 @@ pub(crate) fn entries_of(
     Ok(SortedMap::of_rising(entries))
 }
 
+/// The same where the facts are given up: each is moved.
+pub(crate) fn entries_from(
+    alloc: Global,
+    facts: Vec<Fact>,
+    order: &[usize],
+) -> Result<Entries, AllocError>
+    requires { IsOrderOf facts.items order.now }
+    ensures { IfOk result (AreEntriesOf facts.items) }
+{
+    let mut given = given_of(alloc, facts)?;
+    let mut entries = Vec::with_capacity(alloc, given.len())?;
+    for place in order {
+        if let Some(fact) = given[*place].take() {
+            push_given(alloc, &mut entries, fact)?;
+        }
+    }
+    Ok(SortedMap::of_rising(entries))
+}
+
+// The facts in room from which each can be taken away.
+fn given_of(alloc: Global, facts: Vec<Fact>) -> Result<Vec<Option<Fact>>, AllocError>
+    ensures { IfOk result (λ given. given.items ≡ map Some facts.items) }
+{
+    let mut given = Vec::with_capacity(alloc, facts.len())?;
+    for fact in facts {
+        given.push(Some(fact))?;
+    }
+    Ok(given)
+}
+
+// The same as `push` where the fact is given up.
+fn push_given(alloc: Global, entries: &mut Vec<Entry>, fact: Fact) -> Result<(), AllocError>
+    requires rise { IsRising dimensions_cmp entry_key entries.old.items }
+    requires below { NoneAbove fact.dimensions entries.old.items }
+    ensures { OnOk result (entries.new.items ≡ with_fact fact entries.old.items) }
+{
+    match entries.len().checked_sub(1) {
+        Some(last) if entries[last].0 == fact.dimensions => {
+            add(alloc, &mut entries[last].1, &fact.value)
+        }
+        _ => {
+            entries.push(entry_given(alloc, fact))?;
+            Ok(())
+        }
+    }
+}
+
 fn push(alloc: Global, entries: &mut Vec<Entry>, fact: &Fact) -> Result<(), AllocError>
     requires rise { IsRising dimensions_cmp entry_key entries.old.items }
     requires below { NoneAbove fact.now.dimensions entries.old.items }
@@ -68,16 +115,19 @@ fn add(
     kept.1.merge(alloc, &Summary::of(value))
 }
 
-// The entry of a dimension set with one value. Most have no more, so there is room for it alone.
+// The entry of a dimension set with one value. Most have no more.
 fn entry_of(alloc: Global, fact: &Fact) -> Result<Entry, AllocError>
     ensures { IfOk result (λ entry. entry ≡ entry_of fact.now) }
 {
-    let mut values = Vec::with_capacity(alloc, 1)?;
-    values.push_reserved(fact.value.copied(alloc)?);
-    Ok((
-        fact.dimensions.copied(alloc)?,
-        (SortedSet::of_rising(values), Summary::of(&fact.value)),
-    ))
+    Ok(entry_given(alloc, fact.copied(alloc)?))
+}
+
+fn entry_given(alloc: Global, fact: Fact) -> Entry
+    ensures { result ≡ entry_of fact }
+{
+    let Fact { dimensions, value } = fact;
+    let summary = Summary::of(&value);
+    (dimensions, (SortedSet::of_one(alloc, value), summary))
 }
 
 /// How many facts the entries have.

@@ -1,4 +1,5 @@
 pub mod Ends
+pub mod Few
 pub mod Insertions
 pub mod Items
 pub mod Members

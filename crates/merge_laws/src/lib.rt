@@ -2,6 +2,7 @@
 #![tactic(auto)]
 
 mod changes;
+mod few;
 mod insertion;
 pub mod laws;
 mod merge;

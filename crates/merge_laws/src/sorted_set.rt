@@ -1,9 +1,9 @@
-ghost use Rattle.std.specs.Prelude.{◌≡◌, [], not, IfOk, OnOk, OnErr};
+ghost use Rattle.std.specs.Prelude.{◌≡◌, [], ◌∷◌, not, IfOk, OnOk, OnErr};
 ghost use Rattle.merge_laws.specs.Insertions.{new_items};
 ghost use Rattle.merge_laws.specs.Sorted.{IsSet, has_key, itself};
 ghost use Rattle.merge_laws.specs.Union.{set_union, set_with};
 
-use crate::insertion::insert_new;
+use crate::few::Few;
 use crate::merge::Merge;
 use crate::search::{find, find_from};
 use oim_names::{Copied, Key};
@@ -13,7 +13,7 @@ use std::marker::Model;
 /// A set. Contracts see its items in order, each once.
 #[derive(Drop)]
 pub struct SortedSet<T: Key> {
-    items: Vec<T>,
+    items: Few<T>,
 }
 
 impl<T: Key> Model for SortedSet<T> {
@@ -22,9 +22,9 @@ impl<T: Key> Model for SortedSet<T> {
 
     ghost Value = { List T };
 
-    ghost view = { λ a. a.items.items };
+    ghost view = { λ a. a.items };
 
-    ghost invariant = { λ a. IsSet T.cmp a.items.items };
+    ghost invariant = { λ a. IsSet T.cmp a.items };
 }
 
 impl<T: Key> SortedSet<T> {
@@ -33,7 +33,16 @@ impl<T: Key> SortedSet<T> {
         ensures { result ≡ [] }
     {
         SortedSet {
-            items: Vec::new(alloc),
+            items: Few::many(Vec::new(alloc)),
+        }
+    }
+
+    /// The set of one item, which takes no memory beside its own place.
+    pub fn of_one(alloc: Global, item: T) -> Self
+        ensures { result ≡ item ∷ [] }
+    {
+        SortedSet {
+            items: Few::one(alloc, item),
         }
     }
 
@@ -42,7 +51,9 @@ impl<T: Key> SortedSet<T> {
         requires { IsSet T.cmp items.items }
         ensures { result ≡ items.items }
     {
-        SortedSet { items }
+        SortedSet {
+            items: Few::many(items),
+        }
     }
 
     /// Adds a copy of the item, and answers whether it is new.
@@ -56,7 +67,7 @@ impl<T: Key> SortedSet<T> {
         match find(self.items.as_slice(), item) {
             Ok(_) => Ok(false),
             Err(place) => {
-                let copy = item.copied(*self.items.allocator())?;
+                let copy = item.copied(self.items.allocator())?;
                 self.items.insert(place, copy)?;
                 Ok(true)
             }
@@ -70,13 +81,13 @@ impl<T: Key> SortedSet<T> {
         ensures ok { OnOk result (self.new ≡ set_union T.cmp self.old other) }
         ensures err { OnErr result (self.new ≡ self.old) }
     {
-        if self.items.is_empty() {
+        if self.items.as_slice().is_empty() {
             self.items = other.items;
             return Ok(());
         }
-        let alloc = *self.items.allocator();
-        let moved = new_of(alloc, self.items.as_slice(), other.items)?;
-        insert_new(&mut self.items, moved)
+        let others = other.items.into_list()?;
+        let moved = new_of(self.items.allocator(), self.items.as_slice(), others)?;
+        self.items.insert_new(moved)
     }
 
     /// The items in order, each once.
@@ -91,19 +102,9 @@ impl<T: Key> SortedSet<T> {
 impl<T: Key> Copied for SortedSet<T> {
     fn copied(&self, alloc: Global) -> Result<Self, AllocError> {
         Ok(SortedSet {
-            items: copies_of(alloc, self.items.as_slice())?,
+            items: self.items.copied(alloc)?,
         })
     }
-}
-
-fn copies_of<T: Copied>(alloc: Global, items: &[T]) -> Result<Vec<T>, AllocError>
-    ensures { IfOk result (λ copies. copies.items ≡ items.now) }
-{
-    let mut copies = Vec::with_capacity(alloc, items.len())?;
-    for item in items {
-        copies.push_reserved(item.copied(alloc)?);
-    }
-    Ok(copies)
 }
 
 // Copies of the others that are not among the items, each with the place before which it goes.
@@ -170,7 +171,7 @@ impl<T: Key> Merge for SortedSet<T> {
 
     fn merge(&mut self, alloc: Global, other: &Self) -> Result<(), AllocError> {
         let news = new_among(alloc, self.items.as_slice(), other.items.as_slice())?;
-        insert_new(&mut self.items, news)
+        self.items.insert_new(news)
     }
 
     fn known(&self) {

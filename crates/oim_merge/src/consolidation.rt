@@ -3,7 +3,6 @@ ghost use Rattle.oim_merge.specs.Above.{IsFirstAbove, StaysWithin, some_above};
 ghost use Rattle.oim_merge.specs.Run.{Consolidates, ConsolidationStops, Stops, Writes, failures_after_run};
 
 use crate::fault::Fault;
-use crate::merged::Merged;
 use crate::merging::Consolidation;
 use crate::refusals::Refusals;
 use fact_base::{Base, Verdict};
@@ -39,23 +38,23 @@ pub fn consolidate<S: Sink>(
 /// Writes the base, where no dimension set is above the level.
 pub(crate) fn write_within<S: Sink>(
     alloc: Global,
-    merged: Merged<'_>,
+    base: &Base<'_>,
+    refusals: Refusals,
     allow: Level,
     out: &mut S,
 ) -> Result<Refusals, Fault>
     requires { S.failures out.old < 2 ^ 64 - 1 }
-    ensures ok { IfOk result (Writes allow merged.entry.base.body merged.entry.refusals (S.told out.old) (S.told out.new)) }
-    ensures err { IfErr result (Stops allow merged.entry.base.body merged.entry.refusals (S.told out.old) (S.told out.new)) }
+    ensures ok { IfOk result (Writes allow base.now.body refusals (S.told out.old) (S.told out.new)) }
+    ensures err { IfErr result (Stops allow base.now.body refusals (S.told out.old) (S.told out.new)) }
     ensures failures { S.failures out.new ≡ failures_after_run result (S.failures out.old) }
 {
-    let Merged { base, refusals } = merged;
-    if let Some(row) = first_above(&base, allow) {
+    if let Some(row) = first_above(base, allow) {
         return Err(Fault::TooLoose {
             row,
             refused: refusals,
         });
     }
-    match write_to(alloc, &base, out) {
+    match write_to(alloc, base, out) {
         Ok(()) => Ok(refusals),
         Err(fault) => Err(Fault::from(fault)),
     }

@@ -15,18 +15,18 @@ pub(crate) fn take<'s>(
     alloc: Global,
     bases: &mut Vec<Base<'s>>,
     last: &mut Base<'s>,
-    report: &Report<'_>,
+    report: Report<'_>,
 ) -> Result<(), AllocError>
-    requires { report.now.sheet ≡ last.old.sheet }
+    requires { report.sheet ≡ last.old.sheet }
     ensures ok { (docs : List Document) → AreBasesOf last.old.sheet docs (bases.old.items ++ last.old ∷ []) →
-        OnOk result (AreBasesOf last.old.sheet (docs ++ report.now.document ∷ []) (bases.new.items ++ last.new ∷ [])) }
+        OnOk result (AreBasesOf last.old.sheet (docs ++ report.entry.document ∷ []) (bases.new.items ++ last.new ∷ [])) }
     ensures err { OnErr result (bases.new.items ++ last.new ∷ [] ≡ bases.old.items ++ last.old ∷ []) }
 {
-    if size_of(last) / 2 <= size_of_report(report) {
-        return last.take(report);
+    if size_of(last) / 2 <= size_of_report(&report) {
+        return last.absorb_report(report);
     }
     let mut base = Base::new(alloc, last.sheet());
-    base.take(report)?;
+    base.absorb_report(report)?;
     bases.reserve(1)?;
     bases.push_reserved(mem::replace(last, base));
     Ok(())

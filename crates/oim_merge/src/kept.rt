@@ -67,7 +67,7 @@ fn read_base<'s>(
     match read(alloc, sheet, bytes)? {
         Ok(report) => {
             let mut base = Base::new(alloc, sheet);
-            base.take(&report)?;
+            base.absorb_report(report)?;
             Ok(Ok(base))
         }
         Err(refusal) => Ok(Err(refusal)),

@@ -8,7 +8,6 @@ ghost use Rattle.oim_merge.specs.Named.{IsLineBy};
 ghost use Rattle.oim_merge.specs.Run.{failures_after_run};
 
 use crate::fault::Fault;
-use crate::merged::Merged;
 use crate::merging::Consolidation;
 use crate::refusals::Refusals;
 use crate::verdict_line::{Identifiers, line_of};
@@ -42,16 +41,16 @@ pub fn verdict_lines<S: Sink>(
 /// Appends the lines of the base, and answers the refusals.
 pub(crate) fn write_verdicts<S: Sink>(
     alloc: Global,
-    merged: Merged<'_>,
+    base: &Base<'_>,
+    refusals: Refusals,
     out: &mut S,
 ) -> Result<Refusals, Fault>
     requires { S.failures out.old < 2 ^ 64 - 1 }
-    ensures ok { IfOk result (Lists merged.entry.base.body merged.entry.refusals (S.told out.old) (S.told out.new)) }
-    ensures err { IfErr result (ListStops merged.entry.base.body (S.told out.old) (S.told out.new)) }
+    ensures ok { IfOk result (Lists base.now.body refusals (S.told out.old) (S.told out.new)) }
+    ensures err { IfErr result (ListStops base.now.body (S.told out.old) (S.told out.new)) }
     ensures failures { S.failures out.new ≡ failures_after_run result (S.failures out.old) }
 {
-    let Merged { base, refusals } = merged;
-    match write_lines(alloc, &base, out) {
+    match write_lines(alloc, base, out) {
         Ok(()) => Ok(refusals),
         Err(fault) => Err(Fault::from(fault)),
     }

@@ -16,6 +16,7 @@ use oim_value::Level;
 use oim_write::{Encoded, Sink};
 use std::alloc::{AllocError, Global};
 use std::marker::Model;
+use std::mem;
 
 /// Reports that are merged one at a time: what the accepted ones say in all, the refused ones, and
 /// how many came. Of the bytes of a report it keeps nothing. It borrows the sheet under which the
@@ -90,7 +91,7 @@ impl<'s> Consolidation<'s> {
     {
         let number = self.reports + 1;
         match read(self.alloc, self.sheet, bytes)? {
-            Ok(report) => take(self.alloc, &mut self.bases, &mut self.last, &report)?,
+            Ok(report) => take(self.alloc, &mut self.bases, &mut self.last, report)?,
             Err(refusal) => self.refusals.push(number, refusal)?,
         }
         self.reports = number;
@@ -109,10 +110,29 @@ impl<'s> Consolidation<'s> {
         ensures failures { S.failures out.new ≡ failures_after_run result (S.failures out.old) }
     {
         let alloc = self.alloc;
-        let Ok(merged) = self.into_merged() else {
+        let Ok(Merged { base, refusals }) = self.into_merged() else {
             return Err(Fault::OutOfMemory(0));
         };
-        write_within(alloc, merged, allow, out)
+        write_within(alloc, &base, refusals, allow, out)
+    }
+
+    /// The same for a program that ends behind it: what the reports say is left in memory, since to
+    /// give back each piece takes time and serves nobody.
+    ///
+    /// Errors: as of `finish`.
+    pub fn finish_last<S: Sink>(self, allow: Level, out: &mut S) -> Result<Refusals, Fault>
+        requires { S.failures out.old < 2 ^ 64 - 1 }
+        ensures ok { IfOk result (Writes allow self.entry.body self.entry.refusals (S.told out.old) (S.told out.new)) }
+        ensures err { IfErr result (Stops allow self.entry.body self.entry.refusals (S.told out.old) (S.told out.new)) }
+        ensures failures { S.failures out.new ≡ failures_after_run result (S.failures out.old) }
+    {
+        let alloc = self.alloc;
+        let Ok(Merged { base, refusals }) = self.into_merged() else {
+            return Err(Fault::OutOfMemory(0));
+        };
+        let written = write_within(alloc, &base, refusals, allow, out);
+        mem::forget(base);
+        written
     }
 
     /// Appends one line for each dimension set of what the accepted reports say to the sink, as
@@ -126,10 +146,28 @@ impl<'s> Consolidation<'s> {
         ensures failures { S.failures out.new ≡ failures_after_run result (S.failures out.old) }
     {
         let alloc = self.alloc;
-        let Ok(merged) = self.into_merged() else {
+        let Ok(Merged { base, refusals }) = self.into_merged() else {
             return Err(Fault::OutOfMemory(0));
         };
-        write_verdicts(alloc, merged, out)
+        write_verdicts(alloc, &base, refusals, out)
+    }
+
+    /// The same for a program that ends behind it, as `finish_last` is.
+    ///
+    /// Errors: as of `finish_lines`.
+    pub fn finish_lines_last<S: Sink>(self, out: &mut S) -> Result<Refusals, Fault>
+        requires { S.failures out.old < 2 ^ 64 - 1 }
+        ensures ok { IfOk result (Lists self.entry.body self.entry.refusals (S.told out.old) (S.told out.new)) }
+        ensures err { IfErr result (ListStops self.entry.body (S.told out.old) (S.told out.new)) }
+        ensures failures { S.failures out.new ≡ failures_after_run result (S.failures out.old) }
+    {
+        let alloc = self.alloc;
+        let Ok(Merged { base, refusals }) = self.into_merged() else {
+            return Err(Fault::OutOfMemory(0));
+        };
+        let written = write_verdicts(alloc, &base, refusals, out);
+        mem::forget(base);
+        written
     }
 
     /// Joins all that came.

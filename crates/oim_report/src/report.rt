@@ -109,6 +109,15 @@ impl<'s> Report<'s> {
         self.order.as_slice()
     }
 
+    /// Gives up its facts, as `facts` shows them, and their order.
+    pub fn into_facts(self) -> (Vec<Fact>, Vec<usize>)
+        ensures facts { result.0.items ≡ self.entry.document.facts }
+        ensures order { result.1.items ≡ self.entry.order }
+    {
+        let Report { facts, order, .. } = self;
+        (facts, order)
+    }
+
     /// Does nothing, and tells that each fact fits the sheet, each reference is its own kept text,
     /// and the order is one of the facts.
     pub fn known(&self)

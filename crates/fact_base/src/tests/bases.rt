@@ -1,4 +1,4 @@
-use super::{base_between, base_of, judged, read_sheet, tell_refused};
+use super::{FACT, OF_A, base_between, base_of, joined, judged, read, read_sheet, tell_refused};
 use crate::Base;
 use oim_report::Sheet;
 use std::test::Fail;
@@ -160,6 +160,62 @@ fn is_counted_once(rt: &HostRuntime, sheet: &Sheet) -> bool {
 fn what_is_absorbed_is_counted_once(rt: HostRuntime) -> Result<(), Fail> {
     let sheet = read_sheet(&rt)?;
     assert!(rt; is_counted_once(&rt, &sheet));
+    Ok(())
+}
+
+// Has a base absorb a report of one value, and answers whether it did; where a request is refused, the
+// report is lost.
+fn absorb_value(rt: &HostRuntime, base: &mut Base<'_>, value: &str) -> Option<bool> {
+    let text = joined(rt, FACT, value, OF_A).ok()?;
+    let report = read(rt, base.sheet(), text.as_str())?;
+    if !base.same_sheet(report.sheet()) {
+        return None;
+    }
+    Some(base.absorb_report(report).is_ok())
+}
+
+// The same again where a request is refused and the base is then as before.
+fn absorbs_value(rt: &HostRuntime, base: &mut Base<'_>, value: &str, before: &Base<'_>) -> bool {
+    match absorb_value(rt, base, value) {
+        Some(false) if base.same_as(before) => {
+            tell_refused(rt);
+            absorb_value(rt, base, value) == Some(true)
+        }
+        absorbed => absorbed == Some(true),
+    }
+}
+
+// Whether a base of two values that absorbs one has all, and has all where that comes again.
+fn has_what_is_given_up(rt: &HostRuntime, before: &Base<'_>, all: &Base<'_>) -> bool {
+    match base_of(rt, all.sheet(), &[NINE, ONE]) {
+        Some(mut base) => {
+            absorbs_value(rt, &mut base, TWO, before)
+                && base.same_as(all)
+                && absorbs_value(rt, &mut base, TWO, all)
+                && base.same_as(all)
+        }
+        None => false,
+    }
+}
+
+fn is_given_up(rt: &HostRuntime, all: &Base<'_>) -> bool {
+    match base_of(rt, all.sheet(), &[NINE, ONE]) {
+        Some(before) => has_what_is_given_up(rt, &before, all),
+        None => false,
+    }
+}
+
+fn is_given_up_under(rt: &HostRuntime, sheet: &Sheet) -> bool {
+    match base_of(rt, sheet, &[TWO, ONE, NINE]) {
+        Some(all) => is_given_up(rt, &all),
+        None => false,
+    }
+}
+
+#[test]
+fn a_report_that_is_given_up_is_taken(rt: HostRuntime) -> Result<(), Fail> {
+    let sheet = read_sheet(&rt)?;
+    assert!(rt; is_given_up_under(&rt, &sheet));
     Ok(())
 }
 

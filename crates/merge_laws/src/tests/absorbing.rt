@@ -61,6 +61,22 @@ fn an_empty_set_absorbs_all(rt: HostRuntime) {
     assert!(rt; absorbs_to(&rt, &mut items, &[], &["a", "c"]));
 }
 
+// Whether a set of one item takes in others, and is taken in.
+fn one_is_a_set(rt: &HostRuntime, mut one: Items) -> bool {
+    has_just(&one, &["b"])
+        && absorbs_copy_to(rt, &mut SortedSet::new(rt.alloc()), &one, &["b"])
+        && is_there(rt, &mut one, "b")
+        && is_new(rt, &mut one, "a")
+        && absorbs_to(rt, &mut one, &["c", "a"], &ALL)
+}
+
+#[test]
+fn a_set_of_one_is_a_set(rt: HostRuntime) -> Result<(), Fail> {
+    let item = text(&rt, "b")?;
+    assert!(rt; one_is_a_set(&rt, SortedSet::of_one(rt.alloc(), item)));
+    Ok(())
+}
+
 fn absorb_rows(
     rt: &HostRuntime,
     map: &mut ItemsAt,

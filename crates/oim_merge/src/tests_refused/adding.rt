@@ -50,6 +50,47 @@ fn three<'s>(
     Ok(consolidation)
 }
 
+fn finishes_last_once(rt: &HostRuntime, sheet: &Sheet, text: &[u8]) -> Option<bool> {
+    let Ok(consolidation) = three(rt, sheet, TOUCHING, TOUCHING) else {
+        return Some(false);
+    };
+    let mut sink = StdSink::new(Expecting::just(text));
+    let answer = consolidation.finish_last(Level::Consistent, &mut sink);
+    came_to(rt, answer, sink, text)
+}
+
+fn lists_last_once(rt: &HostRuntime, sheet: &Sheet) -> Option<bool> {
+    let Ok(consolidation) = three(rt, sheet, THREE_SETS, ONE_OF_THREE) else {
+        return Some(false);
+    };
+    let mut sink = StdSink::new(Expecting::just(THREE_LINES));
+    let answer = consolidation.finish_lines_last(&mut sink);
+    came_to(rt, answer, sink, THREE_LINES)
+}
+
+#[test]
+fn what_is_left_in_memory_is_written_alike(rt: HostRuntime) -> Result<(), Fail> {
+    let sheet = read_sheet(&rt)?;
+    let text = joined(&rt, &BOTH)?;
+    let mut answer = finishes_last_once(&rt, &sheet, &text);
+    if answer.is_none() {
+        answer = finishes_last_once(&rt, &sheet, &text);
+    }
+    assert!(rt; answer == Some(true));
+    Ok(())
+}
+
+#[test]
+fn what_is_left_in_memory_is_judged_alike(rt: HostRuntime) -> Result<(), Fail> {
+    let sheet = read_sheet(&rt)?;
+    let mut answer = lists_last_once(&rt, &sheet);
+    if answer.is_none() {
+        answer = lists_last_once(&rt, &sheet);
+    }
+    assert!(rt; answer == Some(true));
+    Ok(())
+}
+
 fn finishes_once(rt: &HostRuntime, sheet: &Sheet, text: &[u8]) -> Option<bool> {
     let Ok(consolidation) = three(rt, sheet, TOUCHING, TOUCHING) else {
         return Some(false);

@@ -91,7 +91,12 @@ fn are_of(facts: &[Fact], concepts: &[&str]) -> bool {
     facts.len() == concepts.len()
 }
 
-fn is_so_read(report: &Report, answer: &Answer) -> bool {
+fn gives_up(report: Report, concepts: &[&str], order: &[usize]) -> bool {
+    let (facts, places) = report.into_facts();
+    are_of(facts.as_slice(), concepts) && places.as_slice() == order
+}
+
+fn is_so_read(report: Report, answer: &Answer) -> bool {
     match answer {
         InDocument(_) | InFact(..) => false,
         Read => true,
@@ -102,13 +107,17 @@ fn is_so_read(report: &Report, answer: &Answer) -> bool {
         }
         Declares(level) => report.declared() == *level,
         Keeps(texts) => are_spelled(report.taxonomy(), texts),
-        Sorts(concepts, order) => are_of(report.facts(), concepts) && report.order() == *order,
+        Sorts(concepts, order) => {
+            are_of(report.facts(), concepts)
+                && report.order() == *order
+                && gives_up(report, concepts, order)
+        }
     }
 }
 
 fn is_answer(rt: &HostRuntime, sheet: &Sheet, bytes: &[u8], answer: &Answer) -> bool {
     match read(rt, sheet, bytes) {
-        Ok(report) => report.sheet().same_as(sheet) && is_so_read(&report, answer),
+        Ok(report) => report.sheet().same_as(sheet) && is_so_read(report, answer),
         Err(refusal) => is_so_refused(refusal, answer),
     }
 }

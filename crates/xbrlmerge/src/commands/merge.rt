@@ -78,7 +78,7 @@ impl<'w> Merge<'w> {
     /// Reads the files, adds each as it is read, and writes the merged text to `out`. It answers the
     /// refused reports, by their places among the names, from 1.
     ///
-    /// Errors: those of the files, of the sheet and of `Consolidation::finish`.
+    /// Errors: those of the files, of the sheet and of `Consolidation::finish_last`.
     pub(crate) fn run<F: Files, E: Write, S: Sink>(
         &self,
         alloc: Global,
@@ -92,6 +92,6 @@ impl<'w> Merge<'w> {
         let sheet = read_sheet(alloc, files, self.sheet)?;
         let mut consolidation = Consolidation::new(alloc, &sheet);
         add_reports(alloc, files, names, progress, &mut consolidation)?;
-        Ok(consolidation.finish(self.allow, out)?)
+        Ok(consolidation.finish_last(self.allow, out)?)
     }
 }

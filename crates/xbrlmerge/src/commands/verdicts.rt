@@ -67,7 +67,7 @@ impl<'w> Verdicts<'w> {
     /// Reads the files, adds each as it is read, and writes the line of each row to `out`. It answers
     /// the refused reports, by their places among the names, from 1.
     ///
-    /// Errors: those of the files, of the sheet and of `Consolidation::finish_lines`.
+    /// Errors: those of the files, of the sheet and of `Consolidation::finish_lines_last`.
     pub(crate) fn run<F: Files, E: Write, S: Sink>(
         &self,
         alloc: Global,
@@ -81,6 +81,6 @@ impl<'w> Verdicts<'w> {
         let sheet = read_sheet(alloc, files, self.sheet)?;
         let mut consolidation = Consolidation::new(alloc, &sheet);
         add_reports(alloc, files, names, progress, &mut consolidation)?;
-        Ok(consolidation.finish_lines(out)?)
+        Ok(consolidation.finish_lines_last(out)?)
     }
 }

@@ -1,4 +1,4 @@
-use Rattle.std.proofs.Common.{◌≡◌, OnOk, vec_len, sym, subst, ◌∙◌}
+use Rattle.std.proofs.Common.{rules, ◌≡◌, OnOk, length, sym, subst, ◌∙◌}
 use Rattle.std.specs.Prelude.{reverse}
 use Rattle.merge_laws.specs.Insertions.{IsFirstLeast, inserted, new_items}
 use Rattle.merge_laws.specs.Sorted.{itself}
@@ -10,18 +10,18 @@ use Rattle.merge_laws.proofs.sorted_set.SortedSetMerge.merge.Goals as goal
 
 pub insert_new-requires : goal.insert_new-requires
 insert_new-requires g c =
-    let news = c.in_ok-news.ensures ∙ (λ i. new_items g.T.Ord.cmp itself (c.as_slice.ensures.value i) (c.as_slice-2.ensures.value i)) in
-    subst (IsFirstLeast (vec_len c.self.inside.items)) (sym news) (first_least itself g.met.T.Ord.total (vec_len c.self.inside.items) c.self.inside.items.items c.other.inside.items.items c.other.invariant)
+    let news = c.in_ok-news.ensures ∙ (λ i. new_items g.T.Ord.cmp itself (c.as_slice.ensures i) (c.as_slice-2.ensures i)) in
+    (search rules, subst (IsFirstLeast (length c.self.inside.items)) (sym news) (first_least itself g.met.T.Ord.total (length c.self.inside.items) c.self.inside.items c.other.inside.items c.other.invariant))
 
-made : (g : _) (c : goal.After-insert_new g) → OnOk c.insert_new.result (c.insert_new.new.items.items ≡ set_union g.T.Ord.cmp c.self.inside.items.items c.other.inside.items.items)
+made : (g : _) (c : goal.After-insert_new g) → OnOk c.insert_new.result (c.insert_new.new.self ≡ set_union g.T.Ord.cmp c.self.inside.items c.other.inside.items)
 made g c = on_ok c.insert_new.result (λ done.
     done
-    ∙ (λ i. inserted c.self.inside.items.items (reverse (c.in_ok-news.ensures i)))
-    ∙ (λ i. inserted c.self.inside.items.items (reverse (new_items g.T.Ord.cmp itself (c.as_slice.ensures.value i) (c.as_slice-2.ensures.value i))))
-    ∙ set_taken g.met.T.Ord.total c.self.inside.items.items c.other.inside.items.items c.self.invariant c.other.invariant) c.insert_new.ensures.ok
+    ∙ (λ i. inserted c.self.inside.items (reverse (c.in_ok-news.ensures i)))
+    ∙ (λ i. inserted c.self.inside.items (reverse (new_items g.T.Ord.cmp itself (c.as_slice.ensures i) (c.as_slice-2.ensures i))))
+    ∙ set_taken g.met.T.Ord.total c.self.inside.items c.other.inside.items c.self.invariant c.other.invariant) c.insert_new.ensures.ok
 
 pub invariant_of-self : goal.invariant_of-self
-invariant_of-self g c = set_stays g.met.T.Ord.total c.insert_new.result c.self.inside.items.items c.other.inside.items.items c.insert_new.new.items.items c.self.invariant c.other.invariant (made g c) c.insert_new.ensures.err
+invariant_of-self g c = set_stays g.met.T.Ord.total c.insert_new.result c.self.inside.items c.other.inside.items c.insert_new.new.self c.self.invariant c.other.invariant (made g c) c.insert_new.ensures.err
 
 pub returns-clause-ok : goal.returns-clause-ok
 returns-clause-ok g c = on_ok c.insert_new.result (λ done. done ∙ (λ i. set_union g.T.Ord.cmp (c.self.view_is i) (c.other.view_is i))) (made g c)

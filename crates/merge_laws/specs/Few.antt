@@ -1,0 +1,8 @@
+-- Where items stand, one alone or many (own). No public clause cites this module.
+use Rattle.std.specs.Prelude.{List}
+use Rattle.merge_laws.specs.declared.few.Room.{Room}
+use Rattle.merge_laws.specs.declared.few.Room.TheVariants.{One, Many}
+
+abbrev pub items_of : {T : Type 0} → Room T → List T
+items_of (One alloc items) = items
+items_of (Many items) = items.items
