@@ -9,11 +9,11 @@ ghost use Rattle.oim_merge.specs.Sources.{mentions, mentions_by_fact, mentions_i
 
 use crate::fact_list::{LentFact, facts_of, place_of};
 use crate::placed_mention::PlacedMention;
-use crate::reading::read;
+use crate::reading::read_with_identifiers;
 use fact_base::Base;
 use oim_dims::Fact;
 use oim_names::{Copied, Text};
-use oim_report::{Sheet, fact_identifiers};
+use oim_report::Sheet;
 use oim_write::Encoded;
 use std::alloc::{AllocError, Global};
 
@@ -75,10 +75,9 @@ fn add_report(
     ensures { OnOk result (mentions.new.items ≡ mentions.old.items ++ all_placed (map lent facts.now)
         (mentions_of number (identifiers bytes.now) (outcome sheet.now bytes.now))) }
 {
-    let Ok(report) = read(alloc, sheet, bytes)? else {
+    let Ok((report, identifiers)) = read_with_identifiers(alloc, sheet, bytes)? else {
         return Ok(());
     };
-    let identifiers = identifiers_of(alloc, bytes)?;
     add_facts(
         alloc,
         facts,
@@ -87,16 +86,6 @@ fn add_report(
         report.facts(),
         mentions,
     )
-}
-
-/// The identifiers of the facts of an accepted report, whose bytes are JSON.
-fn identifiers_of(alloc: Global, bytes: &[u8]) -> Result<Vec<Text>, AllocError>
-    ensures { IfOk result (λ is. identifiers bytes.now ≡ Some is.items) }
-{
-    match fact_identifiers(alloc, bytes) {
-        Ok(identifiers) => Ok(identifiers),
-        Err(_) => Err(AllocError),
-    }
 }
 
 /// Adds those of a report whose identifiers and facts these are.

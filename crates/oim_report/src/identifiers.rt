@@ -1,9 +1,15 @@
-ghost use Rattle.std.specs.Prelude.{◌≡◌, ◌⊎◌, Some, None, IfOk, IfErr};
+ghost use Rattle.std.specs.Prelude.{◌≡◌, ◌⊎◌, Some, None, Ok, Err, IfOk, IfErr};
 ghost use Rattle.serde_json.specs.View.{view, members_view};
 ghost use Rattle.oim_report.specs.Identifiers.{identifiers, identifiers_in, keyed, tree_identifiers};
 ghost use Rattle.oim_report.specs.Json.{json};
+ghost use Rattle.oim_report.specs.Outcome.{at, outcome};
 
 use crate::json_tree::{object_at, read_json};
+use crate::place::Place;
+use crate::reader::read_document;
+use crate::refusal::Refusal;
+use crate::report::Report;
+use crate::sheet::Sheet;
 use oim_names::{Reason, Text};
 use serde_json::{Map, Value};
 use std::alloc::Global;
@@ -20,6 +26,28 @@ pub fn fact_identifiers(alloc: Global, bytes: &[u8]) -> Result<Vec<Text>, Reason
 {
     let tree = read_json(alloc, bytes)?;
     identifiers_of(alloc, &tree)
+}
+
+/// What a report's bytes say under a sheet, as `read_report` answers it, with the identifiers of its
+/// facts, as `fact_identifiers` does; the bytes are read once (xBRL-JSON 1.0; the profile is own).
+///
+/// Errors: those of `read_report`.
+#[tactic(auto, unfolding(crate::specs::Outcome::outcome))]
+pub fn read_identified<'s>(
+    alloc: Global,
+    sheet: &'s Sheet,
+    bytes: &[u8],
+) -> Result<(Report<'s>, Vec<Text>), Refusal>
+    ensures ok { IfOk result (λ read. outcome sheet.now bytes.now ≡ Ok read.0.document) }
+    ensures sheet { IfOk result (λ read. read.0.sheet ≡ sheet.now) }
+    ensures identifiers { IfOk result (λ read. identifiers bytes.now ≡ Some read.1.items) }
+    ensures errors { IfErr result
+        (λ r. (r ≡ at Place.Document Reason.OutOfMemory) ⊎ (outcome sheet.now bytes.now ≡ Err r)) }
+{
+    let tree = read_json(alloc, bytes)?;
+    let report = read_document(alloc, sheet, &tree)?;
+    let identifiers = identifiers_of(alloc, &tree)?;
+    Ok((report, identifiers))
 }
 
 fn identifiers_of(alloc: Global, tree: &Value) -> Result<Vec<Text>, Reason>

@@ -58,7 +58,7 @@ pub use concept_kind::ConceptKind;
 pub use dimension_kind::DimensionKind;
 pub use fault_list::Faults;
 pub use faults_reader::faults;
-pub use identifiers::fact_identifiers;
+pub use identifiers::{fact_identifiers, read_identified};
 pub use place::Place;
 pub use reader::read_report;
 pub use refusal::Refusal;

@@ -1,6 +1,7 @@
-use super::tell_refused;
-use crate::fact_identifiers;
+use super::{SHEET, read_sheet, tell_refused};
+use crate::{Refusal, Report, Sheet, fact_identifiers, read_identified};
 use oim_names::{Reason, Text};
+use oim_value::Value;
 use std::test::Fail;
 
 fn identifiers(rt: &HostRuntime, text: &str) -> Result<Vec<Text>, Reason> {
@@ -45,4 +46,51 @@ fn without_fact_objects_there_is_no_identifier(rt: HostRuntime) -> Result<(), Fa
 fn what_is_no_json_has_no_identifiers(rt: HostRuntime) {
     let found = identifiers(&rt, r#"{"facts":{"f1":{}}"#);
     assert!(rt; matches!(&found, Err(Reason::NotJson)));
+}
+
+const TWO: &str = r#"{"documentInfo":{"documentType":"https://xbrl.org/2021/xbrl-json","namespaces":{"eg":"http://example.org/t"}},"facts":{"b":{"value":"last","dimensions":{"concept":"eg:T"}},"a":{"value":"first","dimensions":{"concept":"eg:T"}}}}"#;
+
+/// A report with the identifiers of its facts; where a request is refused, it is asked once more.
+fn identified<'s>(
+    rt: &HostRuntime,
+    sheet: &'s Sheet,
+    text: &str,
+) -> Result<(Report<'s>, Vec<Text>), Refusal> {
+    match read_identified(rt.alloc(), sheet, text.as_bytes()) {
+        Err(refusal) if refusal == Refusal::from(Reason::OutOfMemory) => {
+            tell_refused(rt);
+            read_identified(rt.alloc(), sheet, text.as_bytes())
+        }
+        answer => answer,
+    }
+}
+
+/// Whether the fact object of this identifier says this text.
+fn says(read: &(Report<'_>, Vec<Text>), place: usize, identifier: &str, text: &str) -> bool {
+    let (report, identifiers) = read;
+    match (report.facts().get(place), identifiers.get(place)) {
+        (Some(fact), Some(found)) => {
+            found.as_str() == identifier
+                && matches!(&fact.value, Value::Text(said) if said.as_str() == text)
+        }
+        _ => false,
+    }
+}
+
+#[test]
+fn a_report_is_read_with_its_identifiers(rt: HostRuntime) -> Result<(), Fail> {
+    let sheet = read_sheet(&rt, SHEET)?;
+    let read = identified(&rt, &sheet, TWO)?;
+    assert!(rt; says(&read, 0, "a", "first"));
+    assert!(rt; says(&read, 1, "b", "last"));
+    assert!(rt; !says(&read, 2, "b", "last"));
+    Ok(())
+}
+
+#[test]
+fn a_refused_report_has_no_identifiers(rt: HostRuntime) -> Result<(), Fail> {
+    let sheet = read_sheet(&rt, SHEET)?;
+    let read = identified(&rt, &sheet, "{}");
+    assert!(rt; matches!(&read, Err(refusal) if *refusal == Refusal::from(Reason::MemberForm)));
+    Ok(())
 }
