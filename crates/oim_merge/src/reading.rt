@@ -39,7 +39,7 @@ pub(crate) fn read_with_identifiers<'s>(
 {
     match read_identified(alloc, sheet, bytes) {
         Ok(read) => Ok(Ok(read)),
-        Err(refusal) if refusal.reason == Reason::OutOfMemory => Err(AllocError),
+        Err(why) if why.reason == Reason::OutOfMemory => Err(AllocError),
         Err(refusal) => Ok(Err(refusal)),
     }
 }
