@@ -1,4 +1,4 @@
-use Rattle.std.proofs.Common.{◌≡◌, false, nat_cmp, is_ge, ◌∷◌, ◌++◌, [], refl, sym, ap, subst, ◌∙◌}
+use Rattle.std.proofs.Common.{◌≡◌, false, nat_cmp, is_ge, ◌∷◌, ◌++◌, [], refl, sym, ap, subst, ◌∙◌, arith}
 use Rattle.std.specs.Cmp.Lexicographic.{slice_cmp}
 use Rattle.std.specs.declared.cmp.Ordering.{Ordering}
 use Rattle.std.specs.declared.cmp.Ordering.TheVariants.{Less, Equal, Greater}
@@ -13,10 +13,10 @@ lesser Equal t = absurd (true≢false t)
 lesser Greater t = absurd (true≢false t)
 
 pub of_rising-requires : goal.of_rising-requires
-of_rising-requires c = subst (IsSet (slice_cmp nat_cmp)) (sym c.in_ok-items.ensures.items) (none_rise (slice_cmp nat_cmp) itself)
+of_rising-requires c = (omega arith, subst (IsSet (slice_cmp nat_cmp)) (sym c.in_ok-items.ensures.items) (none_rise (slice_cmp nat_cmp) itself))
 
 pub of_rising-requires-2 : goal.of_rising-requires-2
 of_rising-requires-2 c =
     let R = slice_cmp nat_cmp in
     let both = c.push_reserved-2.ensures.items ∙ ap (λ es. es ++ c.args.second ∷ []) (c.push_reserved.ensures.items ∙ ap (λ es. es ++ c.args.first ∷ []) c.in_ok-items.ensures.items) in
-    subst (IsSet R) (sym both) (rises_behind R itself (c.args.first ∷ []) c.args.second (one_rises R itself c.args.first) (sym c.cmp.ensures ∙ lesser c.cmp.result (sym c.is_ge.ensures ∙ c.if-is_ge.false), tt))
+    (omega arith, subst (IsSet R) (sym both) (rises_behind R itself (c.args.first ∷ []) c.args.second (one_rises R itself c.args.first) (sym c.cmp.ensures ∙ lesser c.cmp.result (sym c.is_ge.ensures ∙ c.if-is_ge.false), tt)))
