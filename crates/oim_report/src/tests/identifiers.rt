@@ -48,7 +48,8 @@ fn what_is_no_json_has_no_identifiers(rt: HostRuntime) {
     assert!(rt; matches!(&found, Err(Reason::NotJson)));
 }
 
-const TWO: &str = r#"{"documentInfo":{"documentType":"https://xbrl.org/2021/xbrl-json","namespaces":{"eg":"http://example.org/t"}},"facts":{"b":{"value":"last","dimensions":{"concept":"eg:T"}},"a":{"value":"first","dimensions":{"concept":"eg:T"}}}}"#;
+const TWO: &str =
+    r#"{"documentInfo":{"documentType":"https://xbrl.org/2021/xbrl-json","namespaces":{"eg":"http://example.org/t"}},"facts":{"b":{"value":"last","dimensions":{"concept":"eg:T"}},"a":{"value":"first","dimensions":{"concept":"eg:T"}}}}"#;
 
 /// A report with the identifiers of its facts; where a request is refused, it is asked once more.
 fn identified<'s>(
