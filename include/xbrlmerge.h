@@ -4,7 +4,7 @@
 
    Memory. It stays the caller's: a call keeps no pointer once it has returned, and hands out none. Room for a text and
    for the rows of refused reports is the caller's too. Where one of them is too short, the call tells how much is
-   needed and leaves both as they were: make more room, and call again. A call that has room enough at once makes its
+   needed and leaves both as they were: make more room of that one, and call again. A call that has room enough at once makes its
    text once. What a call needs for itself it takes from malloc and gives back before it returns.
 
    Pointers. None may be null, also where the length with it is 0: there, pass the address of any variable of its type.
@@ -14,7 +14,8 @@
 
    Reports. They stand one behind another in `reports`, and `ends` has the place where each of them ends, counted from the
    beginning: reports of 3 and 4 bytes have the ends 3 and 7. Bytes behind the last end are no report's. Where an end is
-   less than the one before it, or beyond `reports_length`, the call answers XBRLMERGE_BAD_ENDS and reads nothing.
+   less than the one before it, or beyond `reports_length`, the call answers XBRLMERGE_BAD_ENDS and reads nothing
+   (XBRLMERGE_BAD_LEVEL, where `allow` is no level either).
 
    Threads. There is no state between calls: any threads may call at once. No call is made from a signal handler, or in
    the child of a fork of a process that had several threads.
@@ -34,8 +35,10 @@ extern "C" {
 enum {
     XBRLMERGE_DONE = 0,          /* all is done, and every report was accepted */
     XBRLMERGE_REFUSED = 1,       /* all is done, and some reports were refused: it is of the others */
-    XBRLMERGE_TOO_LOOSE = 2,     /* a row has duplicates above `allow`: `needed` is the number of the first, from 1 */
-    XBRLMERGE_TOO_SHORT = 3,     /* `out` has fewer than `needed` bytes, or `refusals` fewer than `refused` rows */
+    XBRLMERGE_TOO_LOOSE = 2,     /* facts with the same dimensions are duplicates above `allow`: `needed` is the number
+                                    of the first such line of xbrlmerge_verdicts, from 1 */
+    XBRLMERGE_TOO_SHORT = 3,     /* `out` has fewer than `needed` bytes, or `refusals` fewer than `refused` rows. `needed`
+                                    is 0 where duplicates are above `allow`: then the rows alone are too short */
     XBRLMERGE_SHEET_REFUSED = 4, /* the sheet is refused: `needed` is the number of its refusal */
     XBRLMERGE_NO_MEMORY = 5,     /* memory was refused: all is as it was */
     XBRLMERGE_BAD_ENDS = 6,      /* `ends` fall, or one is beyond the reports: all is as it was */

@@ -1,5 +1,5 @@
 -- What is told of one report (own).
-use Rattle.std.specs.Prelude.{◌≡◌, ℕ, List, Ok, Err, IsTrue, ◌↔◌}
+use Rattle.std.specs.Prelude.{◌≡◌, ◌≤◌, ℕ, List, Ok, Err, IsTrue, ◌↔◌}
 use Rattle.oim_names.specs.declared.reason.Reason.{Reason}
 use Rattle.oim_value.specs.Level.{level_entry}
 use Rattle.oim_report.specs.Outcome.{at, outcome}
@@ -14,7 +14,7 @@ use Rattle.xbrlmerge_c.specs.declared.row.RefusedReport.{RefusedReport}
 
 -- the numbers of what an accepted report comes to
 abbrev pub IsRowOf : Checked → CheckedReport → Type 0
-IsRowOf checked r = (r.facts ≡ checked.facts) × ((r.level ≡ (level_entry checked.level).place) × (r.canonical ≡ 1 ↔ IsTrue checked.canonical))
+IsRowOf checked r = (r.facts ≡ checked.facts) × ((r.level ≡ (level_entry checked.level).place) × ((r.canonical ≡ 1 ↔ IsTrue checked.canonical) × (r.canonical ≤ 1)))
 
 -- under the sheet the report is accepted, and comes to this
 pub record Accepts (sheet report : List ℕ) (r : CheckedReport) : Type 0 where

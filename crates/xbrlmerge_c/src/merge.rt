@@ -1,4 +1,4 @@
-ghost use Rattle.std.specs.Prelude.{◌≡◌, ◌⊎◌, ◌<◌, ◌≤◌, None, Some, IfErr, IfOk, slice_get};
+ghost use Rattle.std.specs.Prelude.{◌≡◌, ◌⊎◌, ◌↔◌, ◌<◌, ◌≤◌, None, Some, IfErr, IfOk, slice_get};
 ghost use Rattle.oim_value.specs.Level.{levels};
 ghost use Rattle.oim_value.specs.declared.level.Level.{Level as Allowed};
 ghost use Rattle.xbrlmerge_c.specs.Answers.{StopsBy};
@@ -57,7 +57,7 @@ pub extern "C" fn xbrlmerge_merge(
     ensures sheet { result ≡ sheet_refused → Rejects (IsSheetRefused sheet.now)
         (room out.old needed.old refusals.old refused.old) (room out.new needed.new refusals.new refused.new) }
     ensures bad_ends { result ≡ bad_ends → AreEnds reports.now ends.now → ⊥ }
-    ensures bad_level { result ≡ bad_level → slice_get levels allow ≡ None }
+    ensures bad_level { result ≡ bad_level ↔ slice_get levels allow ≡ None }
     ensures kept { no_memory ≤ result → room out.new needed.new refusals.new refused.new
         ≡ room out.old needed.old refusals.old refused.old }
 {

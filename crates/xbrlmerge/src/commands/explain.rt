@@ -24,8 +24,8 @@ const MORE: &str =
     "Each line describes one fault of one report: the file, the fact where it lies in one, the number
 and the name of the refusal, and what is wrong, with the text at fault up to 80 characters. Where
 the other commands tell a report's first fault, this one tells each: those of the document, or else
-those of its facts, or else that it repeats facts as it says that it does not. Faults that only show
-once others are mended come then.
+those of its facts, or else that it repeats facts although it declares that it does not. Faults that
+only show once others are mended come then.
 
 It also tells each member that stands twice in the file, as a fact whose identifier another fact
 has: of these only the last one is read, here and by `merge`, which accepts such a report. Run

@@ -1,4 +1,5 @@
-use Rattle.std.proofs.Common.{◌≤◌, ap, subst, ◌∙◌, arith}
+use Rattle.std.proofs.Common.{◌≤◌, ap, subst, sym, ◌∙◌, arith}
+use Rattle.std.proofs.lemmas.Option.{none-some}
 use Rattle.std.specs.Option.{unwrap_or}
 use Rattle.std.specs.Prelude.{IfErr, IfOk}
 use Rattle.xbrlmerge_c.specs.Answers.{StopsBy}
@@ -53,9 +54,9 @@ returns-clause-bad_ends c = λ is ends.
     omega (arith, low, is)
 
 pub returns-clause-bad_level : goal.returns-clause-bad_level
-returns-clause-bad_level c = λ is.
+returns-clause-bad_level c =
     let low : c.answer.result ≤ 5 = answered.within c.merged-made.result _ _ _ c.answer.ensures in
-    absurd (omega (arith, low, is))
+    ((λ is. absurd (omega (arith, low, is))), (λ none. absurd (none-some _ (sym (c.in-Some.ensures ∙ none)))))
 
 pub returns-clause-kept : goal.returns-clause-kept
 returns-clause-kept c = λ high. answered.kept c.merged-made.result _ _ _ c.answer.ensures high
