@@ -5,7 +5,7 @@ WIDTH files go to a node, which is a process that writes its text to a file. Wit
 module xbrlmerge, and the texts go to the last node as bytes. On a cluster, make a Client first; set TMPDIR to a folder
 that all machines have, or with --calls install the module on each.
 Status 0: OUT has every file. 1: files were refused, as standard error says, and OUT has the rest; or a node
-failed, and OUT is as it was. 2: usage.
+failed: then do not use OUT, which may be missing or in part (with --calls it is as it was). 2: usage.
 """
 import os
 import shlex

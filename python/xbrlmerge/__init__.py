@@ -8,7 +8,8 @@
 
 A sheet or a report is given as its bytes, or as the path of its file. Each call does what the program's command of
 its name does, with the same bytes and the same refusals, in this process; other threads go on meanwhile. Refused
-reports are answered, and raise nothing. SheetRefused, TooLoose and MemoryError are raised.
+reports are answered, and raise nothing. Raised are SheetRefused and TooLoose, both a ValueError; MemoryError; OSError
+where a file cannot be read; and ValueError where `allow` is none of "none", "complete", "consistent", "all".
 """
 import dataclasses
 import decimal
@@ -50,6 +51,9 @@ class SheetRefused(ValueError):
         self.number, self.name = number, _library.refusal_name(number)
         super().__init__(f"sheet: {number} {self.name}")
 
+    def __reduce__(self) -> Tuple[Any, ...]:
+        return SheetRefused, (self.number,)
+
 
 class TooLoose(ValueError):
     """A row has duplicates above the level that is allowed; `row` is the number of the first, from 1."""
@@ -57,6 +61,9 @@ class TooLoose(ValueError):
     def __init__(self, row: int, refusals: List[Refusal]) -> None:
         self.row, self.refusals = row, refusals
         super().__init__(f"too loose: row {row}")
+
+    def __reduce__(self) -> Tuple[Any, ...]:
+        return TooLoose, (self.row, self.refusals)
 
 
 @dataclasses.dataclass(frozen=True)
@@ -68,7 +75,9 @@ class Merged:
 
     def rows(self) -> List[Dict[str, Any]]:
         """Returns a plain record for each fact, as pandas.DataFrame takes them: its identifier, its value, its
-        decimals where it has some, and each of its dimensions under its name. Values are texts, as they are written."""
+        decimals and core dimensions, None where it has none, and its other dimensions under their names. A value is a
+        text as it is written, None of a nil fact. Names have the prefixes of this text, n1, n2 and so on, which its
+        documentInfo binds; another text may bind them to other namespaces."""
         facts = json.loads(self.text)["facts"]
         return [_record(identifier, fact) for identifier, fact in facts.items()]
 
@@ -125,7 +134,8 @@ class Checked:
 def merge(sheet: Given, reports: Iterable[Given], allow: str = "all") -> Merged:
     """Merges reports that are read under a sheet. Refused reports are left out, and answered.
 
-    Raises TooLoose where a dimension set has duplicates above the level `allow`, SheetRefused, and MemoryError.
+    `allow` is the level of duplicates that a dimension set may have: none, complete, consistent or all. Raises TooLoose
+    where one has duplicates above it, SheetRefused, and MemoryError.
     """
     if allow not in LEVELS:
         raise ValueError(f"allow is one of {', '.join(LEVELS)}")

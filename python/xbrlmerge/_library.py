@@ -4,7 +4,7 @@ import ctypes
 import os
 import struct
 import sys
-from typing import Callable, List, NamedTuple, Sequence, Tuple
+from typing import Any, Callable, List, NamedTuple, Sequence, Tuple
 
 DONE, REFUSED, TOO_LOOSE, TOO_SHORT, SHEET_REFUSED, NO_MEMORY, BAD_ENDS, BAD_LEVEL = range(8)
 NAME = "libxbrlmerge.so"
@@ -31,14 +31,15 @@ def _load() -> ctypes.CDLL:
 _LIBRARY = _load()
 _POINTER, _SIZE, _NUMBER = ctypes.c_void_p, ctypes.c_size_t, ctypes.c_uint32
 _SIZE_OUT = ctypes.POINTER(_SIZE)
-_GIVEN = [_POINTER, _SIZE, _POINTER, _SIZE, _POINTER, _SIZE]
-_TAKEN = [_POINTER, _SIZE, _SIZE_OUT, _POINTER, _SIZE, _SIZE_OUT]
+_GIVEN: List[Any] = [_POINTER, _SIZE, _POINTER, _SIZE, _POINTER, _SIZE]
+_TAKEN: List[Any] = [_POINTER, _SIZE, _SIZE_OUT, _POINTER, _SIZE, _SIZE_OUT]
 
 
-def _call(name: str, result: type, arguments: List[type]) -> Callable[..., int]:
-    found: Callable[..., int] = getattr(_LIBRARY, name)
-    found.restype, found.argtypes = result, arguments  # type: ignore[attr-defined]
-    return found
+def _call(name: str, result: Any, arguments: List[Any]) -> Callable[..., int]:
+    found: Any = getattr(_LIBRARY, name)
+    found.restype, found.argtypes = result, arguments
+    call: Callable[..., int] = found
+    return call
 
 
 _merge = _call("xbrlmerge_merge", _NUMBER, [*_GIVEN, _NUMBER, *_TAKEN])
@@ -57,6 +58,11 @@ class Answer(NamedTuple):
     text: bytes
     number: int
     rows: List[Row]
+
+
+def _row(fields: Tuple[Any, ...]) -> Row:
+    report, fact, number = fields
+    return report, fact, number
 
 
 def _room(size: int) -> Tuple[bytearray, ctypes.c_char]:
@@ -88,7 +94,7 @@ def _answered(call: Callable[..., int], sheet: bytes, reports: Sequence[bytes], 
     if status > NO_MEMORY:
         raise ValueError(f"xbrlmerge: status {status}")
     text = bytes(memoryview(out)[: needed.value]) if status <= REFUSED else b""
-    told = list(ROW.iter_unpack(memoryview(rows)[: refused.value * ROW.size]))
+    told = [_row(fields) for fields in ROW.iter_unpack(memoryview(rows)[: refused.value * ROW.size])]
     return Answer(status, text, needed.value, told)
 
 
@@ -112,7 +118,8 @@ def check(sheet: bytes, report: bytes) -> Tuple[int, Tuple[int, int, int], Row]:
     status = _check(sheet, len(sheet), report, len(report), *places)
     if status == NO_MEMORY:
         raise MemoryError
-    return status, CHECKED.unpack_from(checked), ROW.unpack_from(row)
+    facts, level, canonical = CHECKED.unpack_from(checked)
+    return status, (facts, level, canonical), _row(ROW.unpack_from(row))
 
 
 def refusal_name(number: int) -> str:
