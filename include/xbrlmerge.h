@@ -20,7 +20,8 @@
    Threads. There is no state between calls: any threads may call at once. No call is made from a signal handler, or in
    the child of a fork of a process that had several threads.
 
-   Stack. A call needs 128 kB of it at most, for JSON that nests 126 deep; what nests deeper than 127 is refused. */
+   Stack. As measured, and not proved, a call needs at most 128 kB of it for JSON that nests 126 deep. The deepest that
+   is read nests 127 deep: leave some room. */
 #ifndef XBRLMERGE_H
 #define XBRLMERGE_H
 
