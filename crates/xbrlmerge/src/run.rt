@@ -11,7 +11,7 @@ use crate::stop::Stop;
 use crate::task::{Asked, Task};
 use crate::terminals::Terminals;
 use crate::words::read_words;
-use oim_merge::{Fault, ReadFault};
+use oim_merge::{Fault, ReadFault, Refusals};
 use oim_write::{Sink, StdSink};
 use std::alloc::Global;
 use std::convert::AsStr;
@@ -175,21 +175,25 @@ fn work<'w, F: Files, R: Read + Drop, E: Write, S: Sink>(
     requires { S.failures out.old < 2 ^ 64 - 1 }
 {
     match task {
-        Task::Bundle => Ok(Ended::Refused(merge_bundle(alloc, input, out)?)),
-        Task::Show(asked) => Ok(Ended::Refused(show(alloc, asked, out)?)),
-        Task::Merge(merge) => Ok(Ended::Refused(merge.run(alloc, files, names, progress, out)?)),
-        Task::Verdicts(verdicts) => Ok(Ended::Refused(verdicts.run(
-            alloc, files, names, progress, out,
-        )?)),
-        Task::Sources(sources) => Ok(Ended::Refused(sources.run(
-            alloc, files, names, progress, out,
-        )?)),
-        Task::Check(check) => Ok(Ended::Refused(check.run(alloc, files, out)?)),
-        Task::Explain(explain) => Ok(Ended::Found(explain.run(
-            alloc, files, names, progress, out,
-        )?)),
-        Task::Replay(replay) => Ok(Ended::Refused(replay.run(alloc, files, names, progress, out)?)),
+        Task::Bundle => refused(merge_bundle(alloc, input, out)),
+        Task::Show(asked) => refused(show(alloc, asked, out)),
+        Task::Merge(merge) => refused(merge.run(alloc, files, names, progress, out)),
+        Task::Verdicts(verdicts) => refused(verdicts.run(alloc, files, names, progress, out)),
+        Task::Sources(sources) => refused(sources.run(alloc, files, names, progress, out)),
+        Task::Check(check) => refused(check.run(alloc, files, out)),
+        Task::Explain(explain) => found(explain.run(alloc, files, names, progress, out)),
+        Task::Replay(replay) => refused(replay.run(alloc, files, names, progress, out)),
     }
+}
+
+/// How a task ended that answers the refused reports.
+fn refused(answered: Result<Refusals, Stop<'_>>) -> Result<Ended, Stop<'_>> {
+    Ok(Ended::Refused(answered?))
+}
+
+/// How a task ended that answers how many faults it found.
+fn found(answered: Result<u64, Stop<'_>>) -> Result<Ended, Stop<'_>> {
+    Ok(Ended::Found(answered?))
 }
 
 /// Flushes standard output, unless the program stopped. Where that fails it has stopped. A fault of

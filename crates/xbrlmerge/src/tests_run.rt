@@ -295,21 +295,18 @@ fn an_output_that_failed_is_not_flushed(rt: HostRuntime) -> Result<(), Fail> {
     Ok(())
 }
 
+/// The status with which the program ends on a bundle.
+fn status_of(rt: &HostRuntime, bundle: &[u8], out: &mut TestWriter, err: &mut TestWriter) -> u8 {
+    let input = TestReader::new(bundle, Step::All, Then::Ends);
+    run(rt.alloc(), rt, NO_WORDS, Terminals::NONE, input, out, err)
+}
+
 #[test]
 fn a_failing_standard_error_is_passed_over(rt: HostRuntime) -> Result<(), Fail> {
     let bundle = joined(&rt, &[SHEET, "\n{}"])?;
     let mut out = writer(&rt, ROOM)?;
     let mut err = writer(&rt, 3)?;
-    let input = TestReader::new(&bundle, Step::All, Then::Ends);
-    let status = run(
-        rt.alloc(),
-        &rt,
-        NO_WORDS,
-        Terminals::NONE,
-        input,
-        &mut out,
-        &mut err,
-    );
+    let status = status_of(&rt, &bundle, &mut out, &mut err);
     if err.held() == b"out".as_slice() {
         tell_refused(&rt);
         return Ok(());

@@ -194,12 +194,25 @@ fn push_fact(
     object: &Value,
     reason: Reason,
 ) -> Result<(), AllocError> {
-    let (number, name) = (reason.number(), reason.name());
-    write!(text, "{file}: fact ")?;
-    push_whole(alloc, text, identifier)?;
-    write!(text, ": {number} {name}: ")?;
-    push_said(alloc, text, reason, found_in_fact(names, object, reason)?)?;
+    push_start_of_fact(alloc, text, file, identifier, reason)?;
+    let found = found_in_fact(names, object, reason)?;
+    push_said(alloc, text, reason, found)?;
     text.push_str("\n")
+}
+
+/// Begins the line of a fault of a fact.
+fn push_start_of_fact(
+    alloc: Global,
+    text: &mut String,
+    file: &str,
+    identifier: &str,
+    reason: Reason,
+) -> Result<(), AllocError> {
+    text.push_str(file)?;
+    text.push_str(": fact ")?;
+    push_whole(alloc, text, identifier)?;
+    let (number, name) = (reason.number(), reason.name());
+    write!(text, ": {number} {name}: ")
 }
 
 /// The line of two facts that the declared level does not allow.
