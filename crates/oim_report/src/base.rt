@@ -9,7 +9,7 @@ use std::marker::Model;
 use url::{ParseError, ParseResult, Url};
 
 /// The URL of a report against which its taxonomy references are resolved. Contracts see its parts.
-#[derive(Debug, Drop)]
+#[derive(Drop)]
 pub(crate) struct Base {
     url: Url,
 }

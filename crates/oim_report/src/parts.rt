@@ -11,7 +11,7 @@ use serde_json::{Map, Value};
 use std::alloc::{AllocError, Global};
 
 /// What the members of a fact's `dimensions` are.
-#[derive(Debug, Drop)]
+#[derive(Drop)]
 pub(crate) struct DimensionParts<'a> {
     pub(crate) concept: Given<'a>,
     pub(crate) entity: Given<'a>,
@@ -79,7 +79,7 @@ impl<'a> DimensionParts<'a> {
 }
 
 /// What the members of a fact object are.
-#[derive(Debug, Drop)]
+#[derive(Drop)]
 pub(crate) struct FactParts<'a> {
     pub(crate) value: Given<'a>,
     pub(crate) decimals: Given<'a>,

@@ -127,52 +127,29 @@ fn show(rt: &HostRuntime, rows: &[(&str, &str)]) -> Result<bool, Fail> {
     Ok(all)
 }
 
-/// Whether the commands that read reports answer them.
-fn reports_are_answered(rt: &HostRuntime) -> Result<bool, Fail> {
-    let merged = are_met(rt, MERGED.as_slice())?;
-    let judged = are_met(rt, JUDGED.as_slice())?;
-    let checked = are_met(rt, CHECKED.as_slice())?;
-    let explained = are_met(rt, EXPLAINED.as_slice())? && holds(rt, "said", SAID)?;
-    let replayed = are_met(rt, REPLAYED.as_slice())?;
-    Ok(merged && judged && checked && explained && replayed)
-}
-
-/// Whether files of names are read, a terminal is shown how far it is, and files are written.
-fn names_and_files_are_served(rt: &HostRuntime) -> Result<bool, Fail> {
-    let listed = are_met(rt, LISTED.as_slice())?;
-    let shown = show(rt, SHOWN.as_slice())?;
-    let written = are_met(rt, WRITTEN.as_slice())? && holds(rt, "out", ONE)?;
-    Ok(listed && shown && written)
-}
-
-/// Whether what cannot go on stops with its line.
-fn faults_stop_the_run(rt: &HostRuntime) -> Result<bool, Fail> {
-    let stopped = are_met(rt, STOPPED.as_slice())?;
-    let replays = are_met(rt, replayed::STOPPED.as_slice())?;
-    let full = stop_when_full(rt, FULL.as_slice())?;
-    let explained = stop_when_full(rt, explained::FULL.as_slice())?;
-    let replayed = stop_when_full(rt, replayed::FULL.as_slice())?;
-    Ok(stopped && replays && full && explained && replayed)
-}
-
-/// Whether standard output that is not flushed stops the run, and standard error that is full does
-/// not.
-fn outputs_may_fail(rt: &HostRuntime) -> Result<bool, Fail> {
-    let unflushed = stop_unflushed(rt, UNFLUSHED.as_slice())?;
-    let replayed = stop_unflushed(rt, replayed::UNFLUSHED.as_slice())?;
-    let unheard = are_unheard(rt, UNHEARD.as_slice())?;
-    let replays = are_unheard(rt, replayed::UNHEARD.as_slice())?;
-    Ok(unflushed && replayed && unheard && replays)
-}
-
 // One test makes the files, since tests may run side by side.
 #[test]
 fn files_are_read_and_answered(rt: HostRuntime) -> Result<(), Fail> {
     made(&rt)?;
-    assert!(rt; reports_are_answered(&rt)?);
-    assert!(rt; names_and_files_are_served(&rt)?);
-    assert!(rt; faults_stop_the_run(&rt)?);
-    assert!(rt; outputs_may_fail(&rt)?);
+    assert!(rt; are_met(&rt, MERGED.as_slice())?);
+    assert!(rt; are_met(&rt, JUDGED.as_slice())?);
+    assert!(rt; are_met(&rt, CHECKED.as_slice())?);
+    assert!(rt; are_met(&rt, EXPLAINED.as_slice())?);
+    assert!(rt; holds(&rt, "said", SAID)?);
+    assert!(rt; stop_when_full(&rt, explained::FULL.as_slice())?);
+    assert!(rt; are_met(&rt, REPLAYED.as_slice())?);
+    assert!(rt; are_met(&rt, LISTED.as_slice())?);
+    assert!(rt; show(&rt, SHOWN.as_slice())?);
+    assert!(rt; are_met(&rt, WRITTEN.as_slice())?);
+    assert!(rt; holds(&rt, "out", ONE)?);
+    assert!(rt; are_met(&rt, STOPPED.as_slice())?);
+    assert!(rt; are_met(&rt, replayed::STOPPED.as_slice())?);
+    assert!(rt; stop_when_full(&rt, FULL.as_slice())?);
+    assert!(rt; stop_when_full(&rt, replayed::FULL.as_slice())?);
+    assert!(rt; stop_unflushed(&rt, UNFLUSHED.as_slice())?);
+    assert!(rt; stop_unflushed(&rt, replayed::UNFLUSHED.as_slice())?);
+    assert!(rt; are_unheard(&rt, UNHEARD.as_slice())?);
+    assert!(rt; are_unheard(&rt, replayed::UNHEARD.as_slice())?);
     env::set_current_dir(&rt, "../..")?;
     let _ = fs::remove_dir_all(&rt, FOLDER);
     Ok(())
