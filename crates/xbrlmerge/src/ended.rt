@@ -1,7 +1,7 @@
 use oim_merge::Refusals;
 
 /// What a task that was done tells.
-#[derive(Debug, Drop)]
+#[derive(Drop)]
 pub(crate) enum Ended {
     /// These reports were refused.
     Refused(Refusals),

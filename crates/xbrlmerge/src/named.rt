@@ -9,7 +9,7 @@ use std::io::Read;
 use std::rt::Files;
 
 /// Which reports are named.
-#[derive(Debug, Drop)]
+#[derive(Drop)]
 pub(crate) struct Named<'w> {
     /// Those that words name, which come first.
     words: Vec<&'w str>,
@@ -18,7 +18,7 @@ pub(crate) struct Named<'w> {
 }
 
 /// A file of names.
-#[derive(Clone, Copy, Debug)]
+#[derive(Clone, Copy)]
 struct List<'w> {
     file: &'w str,
     /// What each name ends with; behind the last one it may be missing.

@@ -188,12 +188,12 @@ fn work<'w, F: Files, R: Read + Drop, E: Write, S: Sink>(
 
 /// How a task ended that answers the refused reports.
 fn refused(answered: Result<Refusals, Stop<'_>>) -> Result<Ended, Stop<'_>> {
-    Ok(Ended::Refused(answered?))
+    answered.map(Ended::Refused)
 }
 
 /// How a task ended that answers how many faults it found.
 fn found(answered: Result<u64, Stop<'_>>) -> Result<Ended, Stop<'_>> {
-    Ok(Ended::Found(answered?))
+    answered.map(Ended::Found)
 }
 
 /// Flushes standard output, unless the program stopped. Where that fails it has stopped. A fault of

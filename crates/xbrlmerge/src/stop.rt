@@ -1,10 +1,10 @@
 use clap::Error;
-use oim_merge::{Fault, ReadFault, ReplayFault};
+use oim_merge::{Fault, ReadFault, Refusals, ReplayFault};
 use oim_names::Reason;
 use std::alloc::{AllocError, AllocFailed};
 
 /// Why the program stopped before its work was done.
-#[derive(Debug, Drop)]
+#[derive(Drop)]
 pub(crate) enum Stop<'w> {
     /// The words are not those of a command. The error has clap's text for the user.
     Words(Error),
@@ -51,4 +51,9 @@ impl<T: Drop> From<AllocFailed<T>> for Stop<'_> {
     fn from(_: AllocFailed<T>) -> Self {
         Stop::Run(Fault::OutOfMemory(0))
     }
+}
+
+/// The answer of a call whose fault stops the run.
+pub(crate) fn or_stop<'w>(answered: Result<Refusals, Fault>) -> Result<Refusals, Stop<'w>> {
+    Ok(answered?)
 }

@@ -8,7 +8,7 @@ use crate::named::Named;
 use clap::Error;
 
 /// What the words ask for.
-#[derive(Debug, Drop)]
+#[derive(Drop)]
 pub(crate) struct Asked<'w> {
     pub task: Task<'w>,
     pub reports: Named<'w>,
@@ -19,7 +19,7 @@ pub(crate) struct Asked<'w> {
 }
 
 /// What is to be done.
-#[derive(Debug, Drop)]
+#[derive(Drop)]
 pub(crate) enum Task<'w> {
     /// To merge the bundle on standard input.
     Bundle,

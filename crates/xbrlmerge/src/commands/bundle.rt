@@ -1,7 +1,7 @@
 ghost use Rattle.std.specs.Prelude.{◌-◌, ◌^◌, ◌<◌};
 
 use crate::files::read_input;
-use crate::stop::Stop;
+use crate::stop::{Stop, or_stop};
 use oim_merge::{Refusals, consolidate_bundle};
 use oim_write::Sink;
 use std::alloc::Global;
@@ -18,5 +18,5 @@ pub(crate) fn merge_bundle<R: Read + Drop, S: Sink>(
     requires { S.failures out.old < 2 ^ 64 - 1 }
 {
     let bytes = read_input(alloc, input)?;
-    Ok(consolidate_bundle(alloc, bytes.as_bytes(), out)?)
+    or_stop(consolidate_bundle(alloc, bytes.as_bytes(), out))
 }

@@ -3,10 +3,11 @@ ghost use Rattle.std.specs.Prelude.{◌-◌, ◌^◌, ◌<◌};
 use crate::arguments::{REPORT, SHEET, output_argument, report_argument, sheet_argument};
 use crate::files::{read_file, read_sheet};
 use crate::lines::put_checked;
-use crate::stop::Stop;
+use crate::stop::{Stop, or_stop};
 use clap::{ArgMatches, Command};
-use oim_merge::{Fault, Refusals, check_report};
+use oim_merge::{Checked, Fault, Refusals, check_report};
 use oim_names::Reason;
+use oim_report::Refusal;
 use oim_write::Sink;
 use std::alloc::{AllocError, Global};
 use std::rt::Files;
@@ -43,7 +44,7 @@ Status:
      or out of memory";
 
 /// The report of this file is checked under the sheet of that file.
-#[derive(Debug, Drop)]
+#[derive(Drop)]
 pub(crate) struct Check<'w> {
     sheet: &'w str,
     report: &'w str,
@@ -81,14 +82,38 @@ impl<'w> Check<'w> {
     {
         let sheet = read_sheet(alloc, files, self.sheet)?;
         let bytes = read_file(alloc, files, self.report)?;
-        let mut refusals = Refusals::new(alloc);
-        match check_report(alloc, &sheet, bytes.as_bytes()) {
-            Ok(checked) => put_checked(alloc, out, &checked)?,
-            Err(refusal) if refusal.reason == Reason::OutOfMemory => {
-                return Err(Stop::Run(Fault::OutOfMemory(0)));
-            }
-            Err(refusal) => refusals.push(1, refusal)?,
+        let answer = check_report(alloc, &sheet, bytes.as_bytes());
+        or_stop(put_answer(alloc, out, answer))
+    }
+}
+
+/// Puts the line of an accepted report on standard output, and answers a refused one as report 1.
+///
+/// Errors: want of memory, and `Device`.
+fn put_answer<S: Sink>(
+    alloc: Global,
+    out: &mut S,
+    answer: Result<Checked, Refusal>,
+) -> Result<Refusals, Fault>
+    requires { S.failures out.old < 2 ^ 64 - 1 }
+{
+    match answer {
+        Ok(checked) => {
+            put_checked(alloc, out, &checked)?;
+            Ok(Refusals::new(alloc))
         }
-        Ok(refusals)
+        Err(refusal) if refusal.reason == Reason::OutOfMemory => Err(Fault::OutOfMemory(0)),
+        Err(refusal) => refused(alloc, refusal),
+    }
+}
+
+/// The one report, refused.
+///
+/// Errors: want of memory.
+fn refused(alloc: Global, refusal: Refusal) -> Result<Refusals, Fault> {
+    let mut refusals = Refusals::new(alloc);
+    match refusals.push(1, refusal) {
+        Ok(()) => Ok(refusals),
+        Err(_) => Err(Fault::OutOfMemory(0)),
     }
 }

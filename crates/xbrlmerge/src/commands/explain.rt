@@ -44,7 +44,7 @@ Status:
      failed, or out of memory";
 
 /// Reports are explained under the sheet of this file.
-#[derive(Debug, Drop)]
+#[derive(Drop)]
 pub(crate) struct Explain<'w> {
     sheet: &'w str,
 }
@@ -106,7 +106,7 @@ impl<'w> Explain<'w> {
 }
 
 /// How many reports have a fault, and how many faults they have.
-#[derive(Clone, Copy, Debug)]
+#[derive(Clone, Copy)]
 struct Told {
     reports: u64,
     faults: u64,

@@ -3,7 +3,7 @@ ghost use Rattle.std.specs.Prelude.{◌-◌, ◌^◌, ◌<◌};
 use crate::arguments::{SHEET, sheet_argument, with_reports};
 use crate::files::{add_reports, read_sheet};
 use crate::progress::Progress;
-use crate::stop::Stop;
+use crate::stop::{Stop, or_stop};
 use clap::builder::ValueParser;
 use clap::{Arg, ArgMatches, Command};
 use oim_merge::{Consolidation, Refusals};
@@ -45,7 +45,7 @@ Status:
      or a device failed, or out of memory";
 
 /// Reports are merged under the sheet of this file.
-#[derive(Debug, Drop)]
+#[derive(Drop)]
 pub(crate) struct Merge<'w> {
     sheet: &'w str,
     allow: Level,
@@ -92,6 +92,6 @@ impl<'w> Merge<'w> {
         let sheet = read_sheet(alloc, files, self.sheet)?;
         let mut consolidation = Consolidation::new(alloc, &sheet);
         add_reports(alloc, files, names, progress, &mut consolidation)?;
-        Ok(consolidation.finish_last(self.allow, out)?)
+        or_stop(consolidation.finish_last(self.allow, out))
     }
 }

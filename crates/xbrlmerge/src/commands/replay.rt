@@ -4,11 +4,11 @@ use crate::arguments::{SHEET, sheet_argument, with_reports};
 use crate::files::{read_file, read_reports, read_sheet};
 use crate::lines::put_text;
 use crate::progress::Progress;
-use crate::stop::Stop;
+use crate::stop::{Stop, or_stop};
 use clap::builder::ValueParser;
 use clap::{Arg, ArgMatches, Command};
 use fact_base::Base;
-use oim_merge::{Fault, Refusals, read_events, replay};
+use oim_merge::{Events, Fault, Refusals, Replayed, read_events, replay};
 use oim_write::{Sink, write_to};
 use std::alloc::{AllocError, Global};
 use std::io::Write;
@@ -55,7 +55,7 @@ Status:
 
 /// The schedule in this file is run on so many replicas, which take reports under the sheet of that
 /// file.
-#[derive(Debug, Drop)]
+#[derive(Drop)]
 pub(crate) struct Replay<'w> {
     sheet: &'w str,
     replicas: usize,
@@ -103,13 +103,33 @@ impl<'w> Replay<'w> {
         requires { S.failures out.old < 2 ^ 64 - 1 }
     {
         let sheet = read_sheet(alloc, files, self.sheet)?;
-        let lines = read_file(alloc, files, self.events)?;
-        let events = read_events(alloc, lines.as_bytes())?;
+        let events = self.read_schedule(alloc, files)?;
         let reports = read_reports(alloc, files, names, progress)?;
         let replayed = replay(alloc, &sheet, self.replicas, reports.as_slice(), &events)?;
-        put_replicas(alloc, out, replayed.replicas())?;
-        Ok(replayed.into_refused())
+        or_stop(put_replayed(alloc, out, replayed))
     }
+
+    /// The events of the schedule.
+    ///
+    /// Errors: `Stop::File`; `Stop::Event` where a line is no event; want of memory.
+    fn read_schedule<F: Files>(&self, alloc: Global, files: &F) -> Result<Events, Stop<'w>> {
+        let lines = read_file(alloc, files, self.events)?;
+        Ok(read_events(alloc, lines.as_bytes())?)
+    }
+}
+
+/// Puts the text of each replica on standard output, and answers the refused takes.
+///
+/// Errors: those of `put_replicas`.
+fn put_replayed<S: Sink>(
+    alloc: Global,
+    out: &mut S,
+    replayed: Replayed<'_>,
+) -> Result<Refusals, Fault>
+    requires { S.failures out.old < 2 ^ 64 - 1 }
+{
+    put_replicas(alloc, out, replayed.replicas())?;
+    Ok(replayed.into_refused())
 }
 
 /// How many replicas there are, required.

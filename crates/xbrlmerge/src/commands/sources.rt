@@ -3,7 +3,7 @@ ghost use Rattle.std.specs.Prelude.{◌-◌, ◌^◌, ◌<◌};
 use crate::arguments::{SHEET, sheet_argument, with_reports};
 use crate::files::{read_reports, read_sheet};
 use crate::progress::Progress;
-use crate::stop::Stop;
+use crate::stop::{Stop, or_stop};
 use clap::{ArgMatches, Command};
 use oim_merge::{Refusals, source_lines};
 use oim_write::Sink;
@@ -40,7 +40,7 @@ Status:
      or a device failed, or out of memory";
 
 /// The facts of reports are traced under the sheet of this file.
-#[derive(Debug, Drop)]
+#[derive(Drop)]
 pub(crate) struct Sources<'w> {
     sheet: &'w str,
 }
@@ -77,6 +77,6 @@ impl<'w> Sources<'w> {
     {
         let sheet = read_sheet(alloc, files, self.sheet)?;
         let reports = read_reports(alloc, files, names, progress)?;
-        Ok(source_lines(alloc, &sheet, reports.as_slice(), out)?)
+        or_stop(source_lines(alloc, &sheet, reports.as_slice(), out))
     }
 }

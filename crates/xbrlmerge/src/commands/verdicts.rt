@@ -3,7 +3,7 @@ ghost use Rattle.std.specs.Prelude.{◌-◌, ◌^◌, ◌<◌};
 use crate::arguments::{SHEET, sheet_argument, with_reports};
 use crate::files::{add_reports, read_sheet};
 use crate::progress::Progress;
-use crate::stop::Stop;
+use crate::stop::{Stop, or_stop};
 use clap::{ArgMatches, Command};
 use oim_merge::{Consolidation, Refusals};
 use oim_write::Sink;
@@ -43,7 +43,7 @@ Status:
      or a device failed, or out of memory";
 
 /// The facts of reports are judged under the sheet of this file.
-#[derive(Debug, Drop)]
+#[derive(Drop)]
 pub(crate) struct Verdicts<'w> {
     sheet: &'w str,
 }
@@ -81,6 +81,6 @@ impl<'w> Verdicts<'w> {
         let sheet = read_sheet(alloc, files, self.sheet)?;
         let mut consolidation = Consolidation::new(alloc, &sheet);
         add_reports(alloc, files, names, progress, &mut consolidation)?;
-        Ok(consolidation.finish_lines_last(out)?)
+        or_stop(consolidation.finish_lines_last(out))
     }
 }

@@ -3,7 +3,7 @@ use oim_dims::Fact;
 use oim_names::Reason;
 use oim_report::{Sheet, read_report};
 use oim_value::{Level, Value as Said, interval_of, value_meets};
-use serde_json::Value;
+use serde_json::{Map, Value};
 use std::alloc::{AllocError, Global};
 
 /// The places, from 0, of two facts of an otherwise accepted report that its declared level does
@@ -30,12 +30,25 @@ fn declared(tree: &Value) -> Level {
     let Some(features) = info(tree, "features").and_then(Value::as_object) else {
         return Level::All;
     };
+    level_of(declaration(tree, features))
+}
+
+/// The value of the first feature that declares a level.
+fn declaration<'t>(tree: &Value, features: &'t Map<String, Value>) -> Option<&'t Value> {
     for (key, value) in features.iter() {
         if is_declaration(tree, key.as_str()) {
-            return value.as_str().and_then(Level::read).unwrap_or(Level::All);
+            return Some(value);
         }
     }
-    Level::All
+    None
+}
+
+/// The level of this text; all duplicates are allowed where it is none.
+fn level_of(value: Option<&Value>) -> Level {
+    value
+        .and_then(Value::as_str)
+        .and_then(Level::read)
+        .unwrap_or(Level::All)
 }
 
 /// Without its features a report allows all duplicates.

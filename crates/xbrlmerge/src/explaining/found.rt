@@ -6,7 +6,7 @@ use std::alloc::{AllocError, Global};
 const MOST_CHARACTERS: usize = 80;
 
 /// What is at fault.
-#[derive(Clone, Copy, Debug)]
+#[derive(Clone, Copy)]
 pub(crate) enum Found<'a> {
     /// Nothing that can be shown.
     Nothing,

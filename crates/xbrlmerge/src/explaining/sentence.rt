@@ -2,7 +2,7 @@ use oim_names::Reason;
 
 /// What is said of a fault: what stands before and behind the text at fault, or all that is said
 /// where there is no such text.
-#[derive(Clone, Copy, Debug)]
+#[derive(Clone, Copy)]
 pub(crate) struct Sentence {
     pub before: &'static str,
     pub behind: &'static str,
