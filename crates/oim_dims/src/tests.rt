@@ -3,7 +3,9 @@ mod refused;
 mod sets;
 mod units;
 
-use crate::{Dimensions, Period, Unit, read_language, read_period, read_unit, write_period};
+use crate::{
+    Dimensions, Member, Period, Unit, read_language, read_period, read_unit, write_period,
+};
 use oim_names::{Aliases, Copied, Name, Reason, Text};
 use std::alloc::AllocError;
 
@@ -125,4 +127,28 @@ fn unit(rt: &HostRuntime, aliases: &Aliases, spelled: &str) -> Result<Option<Uni
 
 fn dimensions(rt: &HostRuntime, aliases: &Aliases, concept: &str) -> Result<Dimensions, Reason> {
     Ok(Dimensions::new(rt.alloc(), name(rt, aliases, concept)?))
+}
+
+const ROOM: usize = 4;
+
+fn room(rt: &HostRuntime) -> Result<Vec<(Name, Member)>, AllocError> {
+    match Vec::with_capacity(rt.alloc(), ROOM) {
+        Err(_) => {
+            let _ = eprintln!(rt; "refused here");
+            Vec::with_capacity(rt.alloc(), ROOM)
+        }
+        room => room,
+    }
+}
+
+fn rises<T: PartialOrd>(low: &T, high: &T) -> bool {
+    low < high && high > low && low != high
+}
+
+// Whether two values were made that rise.
+fn do_rise<T: PartialOrd + Drop>(low: Result<T, Reason>, high: Result<T, Reason>) -> bool {
+    match (low, high) {
+        (Ok(low), Ok(high)) => rises(&low, &high),
+        _ => false,
+    }
 }

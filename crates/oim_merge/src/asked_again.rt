@@ -1,4 +1,4 @@
-use std::alloc::AllocError;
+use std::alloc::{AllocError, Global};
 
 // Where a request for memory is refused, the next one is not: what asked for it is asked again. The
 // line on standard error tells of it, and whether the request was the test's own.
@@ -22,6 +22,18 @@ pub(crate) fn tell_refused(rt: &HostRuntime) {
 
 pub(crate) fn tell_refused_here(rt: &HostRuntime) {
     let _ = eprintln!(rt; "refused here");
+}
+
+/// Whether a call answers true.
+pub(crate) fn holds<F: Fn(Global) -> Result<bool, AllocError>>(rt: &HostRuntime, call: F) -> bool
+    requires { F.IsAlwaysCallable call }
+{
+    let mut answer = call(rt.alloc());
+    if answer.is_err() {
+        tell_refused(rt);
+        answer = call(rt.alloc());
+    }
+    answer == Ok(true)
 }
 
 /// The parts, one after another.

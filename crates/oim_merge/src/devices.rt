@@ -162,6 +162,13 @@ impl<'a> ComparingWriter<'a> {
     pub fn is_met(&self) -> bool {
         self.left.is_empty() && !self.differs
     }
+
+    fn compare(&mut self, bytes: &[u8]) {
+        match self.left.strip_prefix(bytes) {
+            Some(rest) => self.left = rest,
+            None => self.differs = true,
+        }
+    }
 }
 
 impl Write for ComparingWriter<'_> {
@@ -174,10 +181,7 @@ impl Write for ComparingWriter<'_> {
         }
         let n = bytes.len().min(self.step.most(bytes.len())).min(self.room);
         self.room -= n;
-        match self.left.strip_prefix(&bytes[..n]) {
-            Some(rest) => self.left = rest,
-            None => self.differs = true,
-        }
+        self.compare(&bytes[..n]);
         Ok(n)
     }
 

@@ -1,4 +1,4 @@
-use crate::asked_again::{INFO, tell_refused};
+use crate::asked_again::{INFO, holds, tell_refused};
 use crate::canonical_parts::END;
 use crate::checked::{Checked, check_report};
 use crate::consolidation::consolidate;
@@ -65,17 +65,9 @@ fn tells_second(refused: &Refusals) -> bool {
 }
 
 /// Whether row 1 is above the level, and nothing is written.
-fn is_too_loose(alloc: Global) -> Result<bool, AllocError> {
-    let sheet = sheet(alloc)?;
-    let reports = reports(alloc, [HUNDRED, UNBOUND, ABOVE].as_slice())?;
+fn are_too_loose(alloc: Global, sheet: &Sheet, reports: &[Encoded]) -> Result<bool, AllocError> {
     let mut sink = StdSink::new(Expecting::just(b""));
-    match consolidate(
-        alloc,
-        &sheet,
-        reports.as_slice(),
-        Level::Consistent,
-        &mut sink,
-    ) {
+    match consolidate(alloc, sheet, reports, Level::Consistent, &mut sink) {
         Err(Fault::OutOfMemory(_)) => Err(AllocError),
         Err(Fault::TooLoose { row, refused }) => Ok(
             row == 1 && tells_second(&refused) && sink.taken() == 0,
@@ -84,19 +76,40 @@ fn is_too_loose(alloc: Global) -> Result<bool, AllocError> {
     }
 }
 
+fn is_too_loose(alloc: Global) -> Result<bool, AllocError> {
+    let sheet = sheet(alloc)?;
+    let reports = reports(alloc, [HUNDRED, UNBOUND, ABOVE].as_slice())?;
+    are_too_loose(alloc, &sheet, &reports)
+}
+
+/// Whether the verdicts on the reports, of which the second or none is refused, have this line.
+fn have_line(
+    alloc: Global,
+    sheet: &Sheet,
+    reports: &[Encoded],
+    is_second_refused: bool,
+    line: &[u8],
+) -> Result<bool, AllocError> {
+    let mut sink = StdSink::new(Expecting::just(line));
+    let refused = match verdict_lines(alloc, sheet, reports, &mut sink) {
+        Err(Fault::OutOfMemory(_)) => return Err(AllocError),
+        Ok(refused) => refused,
+        Err(_) => return Ok(false),
+    };
+    let is_told = if is_second_refused {
+        tells_second(&refused)
+    } else {
+        refused.as_slice().is_empty()
+    };
+    Ok(is_told && sink.into_inner().is_met())
+}
+
 /// Whether the ends of the common interval are written.
 fn tells_ends(alloc: Global) -> Result<bool, AllocError> {
     let sheet = sheet(alloc)?;
-    let reports = reports(
-        alloc,
-        [TWELVE_DECIMALS, UNBOUND, ELEVEN_DECIMALS].as_slice(),
-    )?;
-    let mut sink = StdSink::new(Expecting::just(COMMON));
-    match verdict_lines(alloc, &sheet, reports.as_slice(), &mut sink) {
-        Err(Fault::OutOfMemory(_)) => Err(AllocError),
-        Ok(refused) => Ok(tells_second(&refused) && sink.into_inner().is_met()),
-        Err(_) => Ok(false),
-    }
+    let facts = [TWELVE_DECIMALS, UNBOUND, ELEVEN_DECIMALS];
+    let reports = reports(alloc, facts.as_slice())?;
+    have_line(alloc, &sheet, &reports, true, COMMON)
 }
 
 /// Two facts with the greatest or the least decimals, and the line on them.
@@ -135,12 +148,7 @@ const FARTHEST: [([&str; 2], &[u8]); 4] = [
 fn has_line(alloc: Global, facts: &[&str], line: &[u8]) -> Result<bool, AllocError> {
     let sheet = sheet(alloc)?;
     let reports = reports(alloc, facts)?;
-    let mut sink = StdSink::new(Expecting::just(line));
-    match verdict_lines(alloc, &sheet, reports.as_slice(), &mut sink) {
-        Err(Fault::OutOfMemory(_)) => Err(AllocError),
-        Ok(refused) => Ok(refused.as_slice().is_empty() && sink.into_inner().is_met()),
-        Err(_) => Ok(false),
-    }
+    have_line(alloc, &sheet, &reports, false, line)
 }
 
 #[test]
@@ -174,34 +182,16 @@ fn counts_repeats(alloc: Global) -> Result<bool, AllocError> {
 }
 
 #[test]
-fn a_merge_is_held_to_a_level(rt: HostRuntime) -> Result<(), Fail> {
-    let mut answer = is_too_loose(rt.alloc());
-    if answer.is_err() {
-        tell_refused(&rt);
-        answer = is_too_loose(rt.alloc());
-    }
-    assert!(rt; answer == Ok(true));
-    Ok(())
+fn a_merge_is_held_to_a_level(rt: HostRuntime) {
+    assert!(rt; holds(&rt, is_too_loose));
 }
 
 #[test]
-fn ends_of_intervals_are_told(rt: HostRuntime) -> Result<(), Fail> {
-    let mut answer = tells_ends(rt.alloc());
-    if answer.is_err() {
-        tell_refused(&rt);
-        answer = tells_ends(rt.alloc());
-    }
-    assert!(rt; answer == Ok(true));
-    Ok(())
+fn ends_of_intervals_are_told(rt: HostRuntime) {
+    assert!(rt; holds(&rt, tells_ends));
 }
 
 #[test]
-fn repeats_are_counted(rt: HostRuntime) -> Result<(), Fail> {
-    let mut answer = counts_repeats(rt.alloc());
-    if answer.is_err() {
-        tell_refused(&rt);
-        answer = counts_repeats(rt.alloc());
-    }
-    assert!(rt; answer == Ok(true));
-    Ok(())
+fn repeats_are_counted(rt: HostRuntime) {
+    assert!(rt; holds(&rt, counts_repeats));
 }

@@ -150,28 +150,40 @@ fn sources_are_read_to_their_end(rt: HostRuntime) -> Result<(), Fail> {
     Ok(())
 }
 
+const LONG: u32 = 200_000;
+
+/// How often an endless source is asked that gives some bytes a time; none where it is read.
+fn calls_of_endless(rt: &HostRuntime) -> Option<u64> {
+    let reader = TestReader::new(b"", Step::Few(30_000), Then::GoesOn);
+    let (answer, calls, _) = read(rt, reader, LONG);
+    if matches!(answer, Err(ReadFault::TooLong)) {
+        Some(calls)
+    } else {
+        None
+    }
+}
+
+/// What is read of a source that gives one byte so many times, and how often it failed.
+fn read_repeated(rt: &HostRuntime) -> (Result<Encoded, ReadFault>, u64) {
+    let mut source = StdSource::new(io::repeat(7).take(u64::from(LONG)));
+    let mut answer = read_all(rt.alloc(), &mut source, LONG);
+    if let Err(ReadFault::OutOfMemory) = answer {
+        tell_refused(rt);
+        source = StdSource::new(io::repeat(7).take(u64::from(LONG)));
+        answer = read_all(rt.alloc(), &mut source, LONG);
+    }
+    (answer, source.failures())
+}
+
+fn are_sevens(bytes: &[u8]) -> bool {
+    bytes.len() == LONG as usize && bytes.iter().all(|byte| *byte == 7)
+}
+
 #[test]
 fn long_sources_are_read_in_chunks(rt: HostRuntime) -> Result<(), Fail> {
-    let limit = 200_000;
-    let (answer, calls, _) = read(
-        &rt,
-        TestReader::new(b"", Step::Few(30_000), Then::GoesOn),
-        limit,
-    );
-    assert!(rt; matches!(answer, Err(ReadFault::TooLong)));
-    assert!(rt; calls < 20, "{calls} calls");
-    let mut source = StdSource::new(io::repeat(7).take(200_000));
-    let answer = match read_all(rt.alloc(), &mut source, limit) {
-        Err(ReadFault::OutOfMemory) => {
-            tell_refused(&rt);
-            source = StdSource::new(io::repeat(7).take(200_000));
-            read_all(rt.alloc(), &mut source, limit)
-        }
-        answer => answer,
-    };
-    let encoded = answer?;
-    assert_eq!(rt; encoded.as_bytes().len(), 200_000);
-    assert!(rt; encoded.as_bytes().iter().all(|b| *b == 7));
-    assert_eq!(rt; source.failures(), 0);
+    assert!(rt; matches!(calls_of_endless(&rt), Some(0..20)));
+    let (answer, failures) = read_repeated(&rt);
+    assert!(rt; are_sevens(answer?.as_bytes()));
+    assert_eq!(rt; failures, 0);
     Ok(())
 }

@@ -1,4 +1,4 @@
-use crate::asked_again::tell_refused;
+use crate::asked_again::holds;
 use crate::drawn::report_of;
 use crate::round_trip::read_back;
 use crate::tests_sinks::{EVERY_DIMENSION, TOUCHING, base_of, sheet};
@@ -6,7 +6,6 @@ use fact_base::Base;
 use oim_report::Sheet;
 use oim_write::text;
 use std::alloc::{AllocError, Global};
-use std::test::Fail;
 
 // Where a request for memory is refused, the next one is not: what asked for it is asked again.
 
@@ -47,23 +46,11 @@ fn drawn_come_back(alloc: Global) -> Result<bool, AllocError> {
 }
 
 #[test]
-fn texts_are_read_as_their_bases(rt: HostRuntime) -> Result<(), Fail> {
-    let mut answer = reports_come_back(rt.alloc());
-    if answer.is_err() {
-        tell_refused(&rt);
-        answer = reports_come_back(rt.alloc());
-    }
-    assert!(rt; answer == Ok(true));
-    Ok(())
+fn texts_are_read_as_their_bases(rt: HostRuntime) {
+    assert!(rt; holds(&rt, reports_come_back));
 }
 
 #[test]
-fn drawn_bodies_come_back(rt: HostRuntime) -> Result<(), Fail> {
-    let mut answer = drawn_come_back(rt.alloc());
-    if answer.is_err() {
-        tell_refused(&rt);
-        answer = drawn_come_back(rt.alloc());
-    }
-    assert!(rt; answer == Ok(true));
-    Ok(())
+fn drawn_bodies_come_back(rt: HostRuntime) {
+    assert!(rt; holds(&rt, drawn_come_back));
 }

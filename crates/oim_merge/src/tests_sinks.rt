@@ -1,6 +1,7 @@
-use crate::asked_again::{SHEET, tell_refused};
+use crate::asked_again::{SHEET, holds, tell_refused};
 use crate::devices::{Step, TestWriter, Then};
 use fact_base::Base;
+use oim_names::Aliases;
 use oim_report::{Sheet, read_report};
 use oim_write::{StdSink, WriteFault, prefixes, write_to};
 use std::alloc::{AllocError, Global};
@@ -55,15 +56,16 @@ fn takes_seven(alloc: Global, then: Then) -> Result<bool, AllocError> {
     Ok(ended == Err(WriteFault::Device(7)) && sink.into_inner().held() == br#"{"docum"#.as_slice())
 }
 
+fn are_two(aliases: &Aliases) -> bool {
+    aliases.uri("n2") == Some("http://example.org/u")
+        && aliases.prefix_of("http://example.org/t") == Some("n1")
+        && aliases.uri("n3") == None
+}
+
 fn has_two_prefixes(alloc: Global) -> Result<bool, AllocError> {
     let sheet = sheet(alloc)?;
     let base = base_of(alloc, &sheet, EVERY_DIMENSION)?;
-    let aliases = prefixes(alloc, &base)?;
-    Ok(
-        aliases.uri("n2") == Some("http://example.org/u")
-            && aliases.prefix_of("http://example.org/t") == Some("n1")
-            && aliases.uri("n3") == None,
-    )
+    Ok(are_two(&prefixes(alloc, &base)?))
 }
 
 #[test]
@@ -80,12 +82,6 @@ fn a_sink_that_takes_seven_bytes_holds_these(rt: HostRuntime) -> Result<(), Fail
 }
 
 #[test]
-fn prefixes_are_those_of_the_text(rt: HostRuntime) -> Result<(), Fail> {
-    let mut answer = has_two_prefixes(rt.alloc());
-    if answer.is_err() {
-        tell_refused(&rt);
-        answer = has_two_prefixes(rt.alloc());
-    }
-    assert!(rt; answer == Ok(true));
-    Ok(())
+fn prefixes_are_those_of_the_text(rt: HostRuntime) {
+    assert!(rt; holds(&rt, has_two_prefixes));
 }

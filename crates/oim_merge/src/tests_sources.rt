@@ -1,11 +1,12 @@
-use crate::asked_again::tell_refused;
+use crate::asked_again::{holds, tell_refused};
 use crate::devices::{Step, TestWriter, Then};
 use crate::expecting::Expecting;
 use crate::fault::Fault;
 use crate::source_listing::source_lines;
 use crate::tests_calls::{AT_FIRST_FACT, HUNDRED, UNBOUND, reports};
 use crate::tests_sinks::sheet;
-use oim_write::StdSink;
+use oim_report::Sheet;
+use oim_write::{Encoded, StdSink};
 use std::alloc::{AllocError, Global};
 use std::test::Fail;
 
@@ -18,11 +19,9 @@ const TWO: &str =
 const LINES: &[u8] = b"f1 1 \"b\"\nf1 3 \"a\"\nf2 1 \"\\n\"\n";
 
 /// Whether each fact object of the accepted reports has its line, and the other report is told.
-fn tells_each_source(alloc: Global) -> Result<bool, AllocError> {
-    let sheet = sheet(alloc)?;
-    let reports = reports(alloc, [TWO, UNBOUND, HUNDRED].as_slice())?;
+fn are_told(alloc: Global, sheet: &Sheet, reports: &[Encoded]) -> Result<bool, AllocError> {
     let mut sink = StdSink::new(Expecting::just(LINES));
-    match source_lines(alloc, &sheet, reports.as_slice(), &mut sink) {
+    match source_lines(alloc, sheet, reports, &mut sink) {
         Err(Fault::OutOfMemory(_)) => Err(AllocError),
         Ok(refused) => Ok(
             refused.as_slice() == [(2, AT_FIRST_FACT)].as_slice() && sink.into_inner().is_met(),
@@ -31,12 +30,21 @@ fn tells_each_source(alloc: Global) -> Result<bool, AllocError> {
     }
 }
 
-/// Whether a sink that takes so many bytes holds just these of the lines, and the fault tells so.
-fn holds_front(alloc: Global, room: usize) -> Result<bool, AllocError> {
+fn tells_each_source(alloc: Global) -> Result<bool, AllocError> {
     let sheet = sheet(alloc)?;
     let reports = reports(alloc, [TWO, UNBOUND, HUNDRED].as_slice())?;
+    are_told(alloc, &sheet, &reports)
+}
+
+/// Whether a sink that takes so many bytes holds just these of the lines, and the fault tells so.
+fn holds_front(
+    alloc: Global,
+    sheet: &Sheet,
+    reports: &[Encoded],
+    room: usize,
+) -> Result<bool, AllocError> {
     let mut sink = StdSink::new(TestWriter::new(alloc, Step::Few(1), room, Then::Fails)?);
-    match source_lines(alloc, &sheet, reports.as_slice(), &mut sink) {
+    match source_lines(alloc, sheet, reports, &mut sink) {
         Err(Fault::OutOfMemory(_)) => Err(AllocError),
         Err(Fault::Device(written)) => Ok(
             written == room as u64 && Some(sink.into_inner().held()) == LINES.get(..room),
@@ -45,24 +53,24 @@ fn holds_front(alloc: Global, room: usize) -> Result<bool, AllocError> {
     }
 }
 
+fn is_written_up_to(alloc: Global, room: usize) -> Result<bool, AllocError> {
+    let sheet = sheet(alloc)?;
+    let reports = reports(alloc, [TWO, UNBOUND, HUNDRED].as_slice())?;
+    holds_front(alloc, &sheet, &reports, room)
+}
+
 #[test]
-fn each_fact_object_has_its_line(rt: HostRuntime) -> Result<(), Fail> {
-    let mut answer = tells_each_source(rt.alloc());
-    if answer.is_err() {
-        tell_refused(&rt);
-        answer = tells_each_source(rt.alloc());
-    }
-    assert!(rt; answer == Ok(true));
-    Ok(())
+fn each_fact_object_has_its_line(rt: HostRuntime) {
+    assert!(rt; holds(&rt, tells_each_source));
 }
 
 #[test]
 fn sources_are_written_up_to_a_place(rt: HostRuntime) -> Result<(), Fail> {
     for room in [0, 9, 26] {
-        let mut answer = holds_front(rt.alloc(), room);
+        let mut answer = is_written_up_to(rt.alloc(), room);
         if answer.is_err() {
             tell_refused(&rt);
-            answer = holds_front(rt.alloc(), room);
+            answer = is_written_up_to(rt.alloc(), room);
         }
         assert!(rt; answer == Ok(true));
     }

@@ -123,11 +123,26 @@ fn read_each<F: Files, E: Write>(
     Ok(all)
 }
 
+/// The reports of these names, read under a sheet in their order, each added and let go.
+///
+/// Errors: `Stop::Report`, and want of memory.
+pub(crate) fn read_under<'s, F: Files, E: Write>(
+    alloc: Global,
+    sheet: &'s Sheet,
+    files: &F,
+    names: &[&str],
+    progress: &mut Progress<E>,
+) -> Result<Consolidation<'s>, Stop<'static>> {
+    let mut reports = Consolidation::new(alloc, sheet);
+    add_reports(alloc, files, names, progress, &mut reports)?;
+    Ok(reports)
+}
+
 /// Reads the reports of these names, in their order, adds each and lets it go, and shows how far it
 /// is. The first that is not read ends it.
 ///
 /// Errors: `Stop::Report`, and want of memory.
-pub(crate) fn add_reports<F: Files, E: Write>(
+fn add_reports<F: Files, E: Write>(
     alloc: Global,
     files: &F,
     names: &[&str],

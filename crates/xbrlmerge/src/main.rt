@@ -13,7 +13,6 @@ mod devices;
 mod ended;
 #[cfg(test)]
 mod expecting;
-mod explaining;
 mod files;
 mod lines;
 mod named;

@@ -1,5 +1,5 @@
 use crate::asked_again::{joined, tell_refused};
-use crate::explaining::{explain, explain_sheet};
+use oim_explain::{explain, explain_sheet};
 use oim_names::Reason;
 use oim_report::Sheet;
 use std::alloc::AllocError;

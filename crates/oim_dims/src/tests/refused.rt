@@ -1,91 +1,28 @@
 // Calls whose request for memory may be refused, on dimension sets with every part. What such a call
 // changes is left as it was.
 
-use super::sets::{equals_its_copy, fact};
-use super::{copied, dimensions, example, language, name, period, tell_refused, text, unit};
-use crate::{Dimensions, Fact, Member, Period};
-use oim_names::{Aliases, Name, Reason};
+use super::sets::{Kind, Part, equals_its_copy, fact, is_copied, member, with};
+use super::{example, name};
+use crate::{Dimensions, Fact, Period};
+use oim_names::{Aliases, Reason};
 use oim_value::Value;
 use std::test::Fail;
 
-const UNIT: &str = "x:b*x:a/x:d*x:c";
+// Every part, and more members than a list has room for at first, of every kind.
+const EVERY: [Part; 10] = [
+    Part::Entity("x:529900"),
+    Part::Period("2020-01-01T00:00:00/2020-12-31T24:00:00"),
+    Part::Unit("x:b*x:a/x:d*x:c"),
+    Part::Language("en-GB"),
+    Part::Member("x:c", Kind::Name),
+    Part::Member("x:a", Kind::Text),
+    Part::Member("eg:b", Kind::Nil),
+    Part::Member("x:b", Kind::Name),
+    Part::Member("eg:a", Kind::Text),
+    Part::Member("eg:c", Kind::Nil),
+];
 
-const YEAR: &str = "2020-01-01T00:00:00/2020-12-31T24:00:00";
-
-// More than a list has room for at first, and of every kind.
-const NAMES: [&str; 6] = ["x:c", "x:a", "eg:b", "x:b", "eg:a", "eg:c"];
-
-fn member(rt: &HostRuntime, aliases: &Aliases, place: usize) -> Result<Member, Reason> {
-    Ok(match place % 3 {
-        0 => Member::Name(name(rt, aliases, "eg:North")?),
-        1 => Member::Text(text(rt, "a b")?),
-        _ => Member::Nil,
-    })
-}
-
-// Adds a member; both are given up, so copies come where the call is made again.
-fn add_to(
-    rt: &HostRuntime,
-    set: &mut Dimensions,
-    before: &Dimensions,
-    name: &Name,
-    member: &Member,
-) -> Result<(), Reason> {
-    match set.add(copied(rt, name)?, copied(rt, member)?) {
-        Err(Reason::OutOfMemory) if *set == *before => {
-            tell_refused(rt);
-            set.add(copied(rt, name)?, copied(rt, member)?)
-        }
-        answer => answer,
-    }
-}
-
-fn add_member(
-    rt: &HostRuntime,
-    set: &mut Dimensions,
-    before: &Dimensions,
-    aliases: &Aliases,
-    place: usize,
-) -> Result<(), Reason> {
-    let member = member(rt, aliases, place)?;
-    add_to(
-        rt,
-        set,
-        before,
-        &name(rt, aliases, NAMES[place % 6])?,
-        &member,
-    )
-}
-
-fn add_at(
-    rt: &HostRuntime,
-    set: &mut Dimensions,
-    aliases: &Aliases,
-    place: usize,
-) -> Result<(), Reason> {
-    let before = copied(rt, set)?;
-    add_member(rt, set, &before, aliases, place)
-}
-
-fn set_parts(rt: &HostRuntime, set: &mut Dimensions, aliases: &Aliases) -> Result<(), Reason> {
-    set.set_entity(name(rt, aliases, "x:529900")?);
-    set.set_period(period(rt, YEAR)?);
-    set.set_unit(unit(rt, aliases, UNIT)?);
-    set.set_language(language(rt, "en-GB")?);
-    Ok(())
-}
-
-// The dimensions of eg:A with every other part.
-fn full(rt: &HostRuntime, aliases: &Aliases) -> Result<Dimensions, Reason> {
-    let mut set = dimensions(rt, aliases, "eg:A")?;
-    set_parts(rt, &mut set, aliases)?;
-    for place in 0..NAMES.len() {
-        add_at(rt, &mut set, aliases, place)?;
-    }
-    Ok(set)
-}
-
-fn is_full(set: &Dimensions) -> bool {
+fn has_every_part(set: &Dimensions) -> bool {
     let has_sides = match set.unit() {
         Some(unit) => unit.numerators().len() == 2 && unit.denominators().len() == 2,
         None => false,
@@ -94,15 +31,7 @@ fn is_full(set: &Dimensions) -> bool {
         && set.entity().is_some()
         && set.language().is_some()
         && set.period() != Period::Forever
-        && set.members().len() == NAMES.len()
-}
-
-// Whether a set has every part, and its copies have them too.
-fn is_copied(rt: &HostRuntime, aliases: &Aliases) -> bool {
-    match full(rt, aliases) {
-        Ok(set) => is_full(&set) && equals_its_copy(rt, &set) && is_unit_copied(rt, &set),
-        Err(_) => false,
-    }
+        && set.members().len() == 6
 }
 
 fn is_unit_copied(rt: &HostRuntime, set: &Dimensions) -> bool {
@@ -112,49 +41,51 @@ fn is_unit_copied(rt: &HostRuntime, set: &Dimensions) -> bool {
     }
 }
 
+// Whether a set has every part, and its copies have them too.
+fn are_parts_copied(rt: &HostRuntime, aliases: &Aliases) -> bool {
+    match with(rt, aliases, "eg:A", &EVERY) {
+        Ok(set) => has_every_part(&set) && equals_its_copy(rt, &set) && is_unit_copied(rt, &set),
+        Err(_) => false,
+    }
+}
+
 #[test]
 fn a_set_of_every_part_is_copied(rt: HostRuntime) -> Result<(), Fail> {
     let aliases = example(&rt)?;
-    assert!(rt; is_copied(&rt, &aliases));
+    assert!(rt; are_parts_copied(&rt, &aliases));
     Ok(())
 }
 
-fn is_member_copied(rt: &HostRuntime, aliases: &Aliases, place: usize) -> bool {
-    match member(rt, aliases, place) {
-        Ok(member) => equals_its_copy(rt, &member),
-        Err(_) => false,
-    }
+const KINDS: [Kind; 3] = [Kind::Name, Kind::Text, Kind::Nil];
+
+fn is_member_copied(rt: &HostRuntime, aliases: &Aliases, kind: &Kind) -> bool {
+    is_copied(rt, member(rt, aliases, kind))
 }
 
 #[test]
 fn members_of_every_kind_are_copied(rt: HostRuntime) -> Result<(), Fail> {
     let aliases = example(&rt)?;
-    for place in 0..3usize {
-        assert!(rt; is_member_copied(&rt, &aliases, place));
+    for kind in &KINDS {
+        assert!(rt; is_member_copied(&rt, &aliases, kind));
     }
     Ok(())
 }
 
 fn full_fact(rt: &HostRuntime, aliases: &Aliases) -> Result<Fact, Reason> {
+    let value = Value::Name(name(rt, aliases, "eg:a")?);
     Ok(Fact {
-        dimensions: full(rt, aliases)?,
-        value: Value::Name(name(rt, aliases, "eg:a")?),
+        dimensions: with(rt, aliases, "eg:A", &EVERY)?,
+        value,
     })
 }
 
 fn is_fact_copied(rt: &HostRuntime, aliases: &Aliases) -> bool {
-    match full_fact(rt, aliases) {
-        Ok(fact) => equals_its_copy(rt, &fact),
-        Err(_) => false,
-    }
+    is_copied(rt, full_fact(rt, aliases))
 }
 
 // Whether the copy of a fact of nil is the same.
 fn is_nil_copied(rt: &HostRuntime, aliases: &Aliases) -> bool {
-    match fact(rt, aliases, "eg:B", Value::Nil) {
-        Ok(fact) => equals_its_copy(rt, &fact),
-        Err(_) => false,
-    }
+    is_copied(rt, fact(rt, aliases, "eg:B", Value::Nil))
 }
 
 #[test]

@@ -1,72 +1,101 @@
-use super::{copied, dimensions, example, language, name, period, tell_refused, text, unit};
+use super::{
+    copied, dimensions, do_rise, example, language, name, period, room, tell_refused, text, unit,
+};
 use crate::{Dimensions, Fact, Member, Period};
 use oim_names::{Aliases, Copied, Name, Reason};
 use oim_value::Value;
-use std::alloc::AllocError;
 use std::test::Fail;
 
-// The dimensions of eg:A with one other part.
-
-fn with_entity(rt: &HostRuntime, aliases: &Aliases) -> Result<Dimensions, Reason> {
-    let mut set = dimensions(rt, aliases, "eg:A")?;
-    set.set_entity(name(rt, aliases, "x:529900")?);
-    Ok(set)
+pub(super) enum Kind {
+    Name,
+    Text,
+    Nil,
 }
 
-fn with_period(rt: &HostRuntime, aliases: &Aliases) -> Result<Dimensions, Reason> {
-    let mut set = dimensions(rt, aliases, "eg:A")?;
-    set.set_period(period(rt, "0001-01-01T00:00:00")?);
-    Ok(set)
+// What a set has beside its concept, as it is spelled; of a member the dimension.
+pub(super) enum Part {
+    Entity(&'static str),
+    Period(&'static str),
+    Unit(&'static str),
+    Language(&'static str),
+    Member(&'static str, Kind),
 }
 
-fn with_unit(rt: &HostRuntime, aliases: &Aliases, spelled: &str) -> Result<Dimensions, Reason> {
-    let mut set = dimensions(rt, aliases, "eg:A")?;
-    set.set_unit(unit(rt, aliases, spelled)?);
-    Ok(set)
+pub(super) fn member(rt: &HostRuntime, aliases: &Aliases, kind: &Kind) -> Result<Member, Reason> {
+    Ok(match kind {
+        Kind::Name => Member::Name(name(rt, aliases, "eg:North")?),
+        Kind::Text => Member::Text(text(rt, "a b")?),
+        Kind::Nil => Member::Nil,
+    })
 }
 
-fn with_language(rt: &HostRuntime, aliases: &Aliases) -> Result<Dimensions, Reason> {
-    let mut set = dimensions(rt, aliases, "eg:A")?;
-    set.set_language(language(rt, "en")?);
-    Ok(set)
+// Adds a member; both are given up, so they are made anew where the call is made again.
+fn add_made(
+    rt: &HostRuntime,
+    set: &mut Dimensions,
+    aliases: &Aliases,
+    spelled: &str,
+    kind: &Kind,
+) -> Result<(), Reason> {
+    let name = name(rt, aliases, spelled)?;
+    set.add(name, member(rt, aliases, kind)?)
 }
 
-// Adds a nil member; a call that wants memory leaves the dimensions as they were.
-fn add(rt: &HostRuntime, set: &mut Dimensions, name: &Name) -> Result<(), Reason> {
-    let count = set.members().len();
-    match set.add(copied(rt, name)?, Member::Nil) {
-        Err(Reason::OutOfMemory) if set.members().len() == count => {
+// Adds a member; a call that wants memory leaves the dimensions as they were.
+fn add(
+    rt: &HostRuntime,
+    set: &mut Dimensions,
+    aliases: &Aliases,
+    spelled: &str,
+    kind: &Kind,
+) -> Result<(), Reason> {
+    let before = copied(rt, set)?;
+    match add_made(rt, set, aliases, spelled, kind) {
+        Err(Reason::OutOfMemory) if *set == before => {
             tell_refused(rt);
-            set.add(copied(rt, name)?, Member::Nil)
+            add_made(rt, set, aliases, spelled, kind)
         }
         answer => answer,
     }
 }
 
-fn add_named(
+fn put_part(
     rt: &HostRuntime,
     set: &mut Dimensions,
     aliases: &Aliases,
-    spelled: &str,
+    part: &Part,
 ) -> Result<(), Reason> {
-    add(rt, set, &name(rt, aliases, spelled)?)
-}
-
-fn add_all(
-    rt: &HostRuntime,
-    set: &mut Dimensions,
-    aliases: &Aliases,
-    names: &[&str],
-) -> Result<(), Reason> {
-    for spelled in names {
-        add_named(rt, set, aliases, spelled)?;
+    match part {
+        Part::Entity(spelled) => set.set_entity(name(rt, aliases, spelled)?),
+        Part::Period(spelled) => set.set_period(period(rt, spelled)?),
+        Part::Unit(spelled) => set.set_unit(unit(rt, aliases, spelled)?),
+        Part::Language(spelled) => set.set_language(language(rt, spelled)?),
+        Part::Member(spelled, kind) => add(rt, set, aliases, spelled, kind)?,
     }
     Ok(())
 }
 
-fn with_members(rt: &HostRuntime, aliases: &Aliases, names: &[&str]) -> Result<Dimensions, Reason> {
-    let mut set = dimensions(rt, aliases, "eg:A")?;
-    add_all(rt, &mut set, aliases, names)?;
+fn put_all(
+    rt: &HostRuntime,
+    set: &mut Dimensions,
+    aliases: &Aliases,
+    parts: &[Part],
+) -> Result<(), Reason> {
+    for part in parts {
+        put_part(rt, set, aliases, part)?;
+    }
+    Ok(())
+}
+
+// The dimensions of a concept with other parts.
+pub(super) fn with(
+    rt: &HostRuntime,
+    aliases: &Aliases,
+    concept: &str,
+    parts: &[Part],
+) -> Result<Dimensions, Reason> {
+    let mut set = dimensions(rt, aliases, concept)?;
+    put_all(rt, &mut set, aliases, parts)?;
     Ok(set)
 }
 
@@ -95,16 +124,25 @@ fn a_concept_alone_holds_forever(rt: HostRuntime) -> Result<(), Fail> {
     Ok(())
 }
 
-fn has_entity(rt: &HostRuntime, aliases: &Aliases) -> bool {
-    match with_entity(rt, aliases) {
-        Ok(set) => set.entity().is_some(),
-        Err(_) => false,
-    }
+// Whether a set has an entity, a unit and a language just where one is wanted.
+fn has_just(set: &Dimensions, entity: bool, unit: bool, language: bool) -> bool {
+    set.entity().is_some() == entity
+        && set.unit().is_some() == unit
+        && set.language().is_some() == language
 }
 
-fn has_language(rt: &HostRuntime, aliases: &Aliases) -> bool {
-    match with_language(rt, aliases) {
-        Ok(set) => set.language().is_some(),
+const ENTITY: [Part; 1] = [Part::Entity("x:529900")];
+
+const LANGUAGE: [Part; 1] = [Part::Language("en")];
+
+const UNIT: [Part; 1] = [Part::Unit("x:a")];
+
+const PURE: [Part; 1] = [Part::Unit("xbrli:pure")];
+
+// The same of the set of eg:A with one other part.
+fn is_set(rt: &HostRuntime, aliases: &Aliases, part: &[Part], wanted: (bool, bool, bool)) -> bool {
+    match with(rt, aliases, "eg:A", part) {
+        Ok(set) => has_just(&set, wanted.0, wanted.1, wanted.2),
         Err(_) => false,
     }
 }
@@ -112,42 +150,40 @@ fn has_language(rt: &HostRuntime, aliases: &Aliases) -> bool {
 #[test]
 fn parts_are_set(rt: HostRuntime) -> Result<(), Fail> {
     let aliases = example(&rt)?;
-    assert!(rt; has_entity(&rt, &aliases) && has_language(&rt, &aliases));
+    assert!(rt; is_set(&rt, &aliases, &ENTITY, (true, false, false)));
+    assert!(rt; is_set(&rt, &aliases, &LANGUAGE, (false, false, true)));
     Ok(())
-}
-
-// Whether a set has a unit, or where none is wanted, has none.
-fn is_unit_set(rt: &HostRuntime, aliases: &Aliases, spelled: &str, wanted: bool) -> bool {
-    match with_unit(rt, aliases, spelled) {
-        Ok(set) => set.unit().is_some() == wanted,
-        Err(_) => false,
-    }
 }
 
 #[test]
 fn a_unit_may_be_none(rt: HostRuntime) -> Result<(), Fail> {
     let aliases = example(&rt)?;
-    assert!(rt; is_unit_set(&rt, &aliases, "x:a", true));
-    assert!(rt; is_unit_set(&rt, &aliases, "xbrli:pure", false));
+    assert!(rt; is_set(&rt, &aliases, &UNIT, (false, true, false)));
+    assert!(rt; is_set(&rt, &aliases, &PURE, (false, false, false)));
     Ok(())
 }
 
-// Whether the members have just these names, whose URI rises after the first two.
-fn are_named(members: &[(Name, Member)], locals: &[&str; 4]) -> bool {
-    if members.len() != locals.len() {
-        return false;
-    }
-    for (member, local) in members.iter().zip(locals) {
-        if member.0.local() != *local {
-            return false;
-        }
-    }
-    members[1].0.uri() < members[2].0.uri()
+// Whether the members are named a, b, a and b, and their URI rises after the first two.
+fn are_in_order(set: &Dimensions) -> bool {
+    let members = set.members();
+    members.len() == 4
+        && members[0].0.local() == "a"
+        && members[1].0.local() == "b"
+        && members[2].0.local() == "a"
+        && members[3].0.local() == "b"
+        && members[1].0.uri() < members[2].0.uri()
 }
 
+const MIXED: [Part; 4] = [
+    Part::Member("x:a", Kind::Nil),
+    Part::Member("eg:b", Kind::Nil),
+    Part::Member("x:b", Kind::Nil),
+    Part::Member("eg:a", Kind::Nil),
+];
+
 fn are_sorted(rt: &HostRuntime, aliases: &Aliases) -> bool {
-    match with_members(rt, aliases, &["x:a", "eg:b", "x:b", "eg:a"]) {
-        Ok(set) => are_named(set.members(), &["a", "b", "a", "b"]),
+    match with(rt, aliases, "eg:A", &MIXED) {
+        Ok(set) => are_in_order(&set),
         Err(_) => false,
     }
 }
@@ -159,11 +195,18 @@ fn members_stay_in_the_order_of_names(rt: HostRuntime) -> Result<(), Fail> {
     Ok(())
 }
 
+const TWICE: [Part; 2] = [
+    Part::Member("eg:b", Kind::Nil),
+    Part::Member("eg:a", Kind::Nil),
+];
+
+const NIL: [Part; 1] = [Part::Member("eg:b", Kind::Nil)];
+
 // Whether a dimension that is there is refused, and the members stay as they were.
 fn is_kept_once(rt: &HostRuntime, aliases: &Aliases) -> bool {
-    match with_members(rt, aliases, &["eg:b", "eg:a"]) {
+    match with(rt, aliases, "eg:A", &TWICE) {
         Ok(mut set) => {
-            add_named(rt, &mut set, aliases, "eg:b") == Err(Reason::DimensionValue)
+            put_all(rt, &mut set, aliases, &NIL) == Err(Reason::DimensionValue)
                 && set.members().len() == 2
         }
         Err(_) => false,
@@ -175,18 +218,6 @@ fn a_dimension_stands_once(rt: HostRuntime) -> Result<(), Fail> {
     let aliases = example(&rt)?;
     assert!(rt; is_kept_once(&rt, &aliases));
     Ok(())
-}
-
-const ROOM: usize = 4;
-
-fn room(rt: &HostRuntime) -> Result<Vec<(Name, Member)>, AllocError> {
-    match Vec::with_capacity(rt.alloc(), ROOM) {
-        Err(_) => {
-            let _ = eprintln!(rt; "refused here");
-            Vec::with_capacity(rt.alloc(), ROOM)
-        }
-        room => room,
-    }
 }
 
 // Nil members of these names, as they come.
@@ -217,13 +248,15 @@ fn takes(rt: &HostRuntime, aliases: &Aliases, set: &mut Dimensions, names: &[&st
     }
 }
 
+const LAST: [Part; 1] = [Part::Member("eg:c", Kind::Nil)];
+
 // Whether members stand in the order of names, however they come, and stay where others are refused.
 fn are_put_in_order(rt: &HostRuntime, aliases: &Aliases) -> bool {
-    match with_members(rt, aliases, &["eg:c"]) {
+    match with(rt, aliases, "eg:A", &LAST) {
         Ok(mut set) => {
             takes(rt, aliases, &mut set, &["x:a", "eg:b", "x:b", "eg:a"])
                 && !takes(rt, aliases, &mut set, &["x:a", "eg:a", "x:a"])
-                && are_named(set.members(), &["a", "b", "a", "b"])
+                && are_in_order(&set)
         }
         Err(_) => false,
     }
@@ -243,11 +276,16 @@ pub(super) fn equals_its_copy<T: Copied + PartialEq>(rt: &HostRuntime, value: &T
     }
 }
 
-fn set_equals_its_copy(rt: &HostRuntime, aliases: &Aliases) -> bool {
-    match with_members(rt, aliases, &["eg:b"]) {
-        Ok(set) => equals_its_copy(rt, &set),
+// Whether a value was made, and equals its copy.
+pub(super) fn is_copied<T: Copied + PartialEq>(rt: &HostRuntime, made: Result<T, Reason>) -> bool {
+    match made {
+        Ok(value) => equals_its_copy(rt, &value),
         Err(_) => false,
     }
+}
+
+fn set_equals_its_copy(rt: &HostRuntime, aliases: &Aliases) -> bool {
+    is_copied(rt, with(rt, aliases, "eg:A", &NIL))
 }
 
 #[test]
@@ -282,46 +320,41 @@ fn kinds_of_members_are_ordered(rt: HostRuntime) -> Result<(), Fail> {
     Ok(())
 }
 
-fn rises(low: &Dimensions, high: &Dimensions) -> bool {
-    low < high && high > low && low != high
-}
+// A concept, and what a set of it has beside it.
+type Row = (&'static str, &'static [Part]);
 
 // Sets that rise: absent parts come first, so a part that is there outweighs those after it, and a
 // list comes before one that it begins.
-fn set_at(rt: &HostRuntime, aliases: &Aliases, place: u8) -> Result<Dimensions, Reason> {
-    match place {
-        0 => with_members(rt, aliases, &[]),
-        1 => with_members(rt, aliases, &["eg:a"]),
-        2 => with_members(rt, aliases, &["eg:a", "eg:b"]),
-        3 => with_language(rt, aliases),
-        4 => with_unit(rt, aliases, "x:a"),
-        5 => with_unit(rt, aliases, "x:a/x:b"),
-        6 => with_unit(rt, aliases, "x:a*x:b"),
-        7 => with_period(rt, aliases),
-        8 => with_entity(rt, aliases),
-        _ => dimensions(rt, aliases, "eg:B"),
-    }
-}
+const RISING: [Row; 10] = [
+    ("eg:A", &[]),
+    ("eg:A", &[Part::Member("eg:a", Kind::Nil)]),
+    (
+        "eg:A",
+        &[
+            Part::Member("eg:a", Kind::Nil),
+            Part::Member("eg:b", Kind::Nil),
+        ],
+    ),
+    ("eg:A", &LANGUAGE),
+    ("eg:A", &UNIT),
+    ("eg:A", &[Part::Unit("x:a/x:b")]),
+    ("eg:A", &[Part::Unit("x:a*x:b")]),
+    ("eg:A", &[Part::Period("0001-01-01T00:00:00")]),
+    ("eg:A", &ENTITY),
+    ("eg:B", &[]),
+];
 
-fn rises_to(rt: &HostRuntime, aliases: &Aliases, low: &Dimensions, place: u8) -> bool {
-    match set_at(rt, aliases, place) {
-        Ok(high) => rises(low, &high),
-        Err(_) => false,
-    }
-}
-
-fn rises_at(rt: &HostRuntime, aliases: &Aliases, low: u8, high: u8) -> bool {
-    match set_at(rt, aliases, low) {
-        Ok(low) => rises_to(rt, aliases, &low, high),
-        Err(_) => false,
-    }
+fn rises_at(rt: &HostRuntime, aliases: &Aliases, low: &Row, high: &Row) -> bool {
+    let low = with(rt, aliases, low.0, low.1);
+    do_rise(low, with(rt, aliases, high.0, high.1))
 }
 
 #[test]
 fn sets_are_ordered_part_by_part(rt: HostRuntime) -> Result<(), Fail> {
     let aliases = example(&rt)?;
-    for place in 0..9u8 {
-        assert!(rt; rises_at(&rt, &aliases, place, place + 1), "{place}");
+    for place in 0..9usize {
+        let (low, high) = (&RISING[place], &RISING[place + 1]);
+        assert!(rt; rises_at(&rt, &aliases, low, high), "{place}");
     }
     Ok(())
 }
@@ -344,24 +377,19 @@ fn text_fact(rt: &HostRuntime, aliases: &Aliases) -> Result<Fact, Reason> {
     fact(rt, aliases, "eg:A", value)
 }
 
-// Whether a fact equals its copy, and is below that of another concept with nil.
-fn is_below_nil(rt: &HostRuntime, aliases: &Aliases, low: &Fact) -> bool {
-    match fact(rt, aliases, "eg:B", Value::Nil) {
-        Ok(high) => *low < high && equals_its_copy(rt, low),
-        Err(_) => false,
-    }
+// Whether a fact is below that of another concept with nil.
+fn is_below_nil(rt: &HostRuntime, aliases: &Aliases) -> bool {
+    let low = text_fact(rt, aliases);
+    do_rise(low, fact(rt, aliases, "eg:B", Value::Nil))
 }
 
-fn do_facts_rise(rt: &HostRuntime, aliases: &Aliases) -> bool {
-    match text_fact(rt, aliases) {
-        Ok(low) => is_below_nil(rt, aliases, &low),
-        Err(_) => false,
-    }
+fn is_text_copied(rt: &HostRuntime, aliases: &Aliases) -> bool {
+    is_copied(rt, text_fact(rt, aliases))
 }
 
 #[test]
 fn facts_are_ordered_by_dimensions_first(rt: HostRuntime) -> Result<(), Fail> {
     let aliases = example(&rt)?;
-    assert!(rt; do_facts_rise(&rt, &aliases));
+    assert!(rt; is_below_nil(&rt, &aliases) && is_text_copied(&rt, &aliases));
     Ok(())
 }

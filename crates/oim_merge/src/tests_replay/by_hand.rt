@@ -1,5 +1,5 @@
 use super::{HUNDRED_ONE, NINE_EVENTS, played, with_memory};
-use crate::asked_again::{joined as put_together, tell_refused};
+use crate::asked_again::{holds, joined as put_together, tell_refused};
 use crate::canonical_parts::{
     EARLIER_HEAD, EARLIER_MIDDLE, END, ONE_URI, WRITTEN_BOTH, WRITTEN_HUNDRED,
 };
@@ -147,11 +147,38 @@ fn have_the_same(
     )
 }
 
+fn serve(
+    alloc: Global,
+    sheet: &Sheet,
+    reports: &[Encoded],
+    one: &[u8],
+    two: &[u8],
+) -> Result<bool, AllocError> {
+    match with_memory(played(alloc, sheet, 3, THREE, NINE_EVENTS))? {
+        Ok(replayed) => have_the_same(alloc, &replayed, reports, one, two),
+        Err(_) => Ok(false),
+    }
+}
+
 fn earlier_texts_serve(alloc: Global, one: &[u8], two: &[u8]) -> Result<bool, AllocError> {
     let sheet = sheet(alloc)?;
     let reports = reports(alloc, THREE)?;
-    match with_memory(played(alloc, &sheet, 3, THREE, NINE_EVENTS))? {
-        Ok(replayed) => have_the_same(alloc, &replayed, &reports, one, two),
+    serve(alloc, &sheet, &reports, one, two)
+}
+
+/// Whether an earlier writer's texts serve; it is asked once more where memory was refused.
+fn do_serve(rt: &HostRuntime, one: &[u8], two: &[u8]) -> bool {
+    let mut answer = earlier_texts_serve(rt.alloc(), one, two);
+    if answer.is_err() {
+        tell_refused(rt);
+        answer = earlier_texts_serve(rt.alloc(), one, two);
+    }
+    answer == Ok(true)
+}
+
+fn leave_the_same(alloc: Global, sheet: &Sheet, reports: &[Encoded]) -> Result<bool, AllocError> {
+    match with_memory(played(alloc, sheet, 3, THREE, NINE_EVENTS))? {
+        Ok(replayed) => are_driven(alloc, sheet, &replayed, reports),
         Err(_) => Ok(false),
     }
 }
@@ -159,10 +186,7 @@ fn earlier_texts_serve(alloc: Global, one: &[u8], two: &[u8]) -> Result<bool, Al
 fn calls_leave_the_same(alloc: Global) -> Result<bool, AllocError> {
     let sheet = sheet(alloc)?;
     let reports = reports(alloc, THREE)?;
-    match with_memory(played(alloc, &sheet, 3, THREE, NINE_EVENTS))? {
-        Ok(replayed) => are_driven(alloc, &sheet, &replayed, &reports),
-        Err(_) => Ok(false),
-    }
+    leave_the_same(alloc, &sheet, &reports)
 }
 
 fn encoded(alloc: Global, texts: &[&[u8]]) -> Result<Vec<Encoded>, AllocError> {
@@ -213,36 +237,19 @@ fn sent_texts_are_reports(alloc: Global) -> Result<bool, AllocError> {
 }
 
 #[test]
-fn the_calls_leave_what_a_replay_leaves(rt: HostRuntime) -> Result<(), Fail> {
-    let mut answer = calls_leave_the_same(rt.alloc());
-    if answer.is_err() {
-        tell_refused(&rt);
-        answer = calls_leave_the_same(rt.alloc());
-    }
-    assert!(rt; answer == Ok(true));
-    Ok(())
+fn the_calls_leave_what_a_replay_leaves(rt: HostRuntime) {
+    assert!(rt; holds(&rt, calls_leave_the_same));
 }
 
 #[test]
 fn an_earlier_writer_leaves_the_same(rt: HostRuntime) -> Result<(), Fail> {
     let one = put_together(&rt, EARLIER_ONE)?;
     let two = put_together(&rt, EARLIER_BOTH)?;
-    let mut answer = earlier_texts_serve(rt.alloc(), &one, &two);
-    if answer.is_err() {
-        tell_refused(&rt);
-        answer = earlier_texts_serve(rt.alloc(), &one, &two);
-    }
-    assert!(rt; answer == Ok(true));
+    assert!(rt; do_serve(&rt, &one, &two));
     Ok(())
 }
 
 #[test]
-fn sent_texts_are_taken_as_reports(rt: HostRuntime) -> Result<(), Fail> {
-    let mut answer = sent_texts_are_reports(rt.alloc());
-    if answer.is_err() {
-        tell_refused(&rt);
-        answer = sent_texts_are_reports(rt.alloc());
-    }
-    assert!(rt; answer == Ok(true));
-    Ok(())
+fn sent_texts_are_taken_as_reports(rt: HostRuntime) {
+    assert!(rt; holds(&rt, sent_texts_are_reports));
 }

@@ -1,10 +1,9 @@
 use super::with_memory;
-use crate::asked_again::tell_refused;
+use crate::asked_again::holds;
 use crate::event::Event;
 use crate::events_reader::read_events;
 use crate::replay_fault::ReplayFault;
 use std::alloc::{AllocError, Global};
-use std::test::Fail;
 
 /// Bytes, and the first of their lines that is no event.
 const BAD: &[(&[u8], u64)] = &[
@@ -116,23 +115,11 @@ fn are_read(alloc: Global) -> Result<bool, AllocError> {
 }
 
 #[test]
-fn other_lines_are_bad_events(rt: HostRuntime) -> Result<(), Fail> {
-    let mut answer = are_refused(rt.alloc());
-    if answer.is_err() {
-        tell_refused(&rt);
-        answer = are_refused(rt.alloc());
-    }
-    assert!(rt; answer == Ok(true));
-    Ok(())
+fn other_lines_are_bad_events(rt: HostRuntime) {
+    assert!(rt; holds(&rt, are_refused));
 }
 
 #[test]
-fn lines_are_events(rt: HostRuntime) -> Result<(), Fail> {
-    let mut answer = are_read(rt.alloc());
-    if answer.is_err() {
-        tell_refused(&rt);
-        answer = are_read(rt.alloc());
-    }
-    assert!(rt; answer == Ok(true));
-    Ok(())
+fn lines_are_events(rt: HostRuntime) {
+    assert!(rt; holds(&rt, are_read));
 }

@@ -1,5 +1,5 @@
 use super::{HUNDRED_ONE, NINE_EVENTS, are_parts, played, with_memory, writes};
-use crate::asked_again::tell_refused;
+use crate::asked_again::holds;
 use crate::canonical_parts::{
     CONSISTENT_HEAD, CONTRADICTING_HEAD, END, HEAD, MIDDLE, MIDDLE_ALONE, ONE_URI, WRITTEN_BOTH,
     WRITTEN_HUNDRED,
@@ -11,7 +11,6 @@ use crate::tests_sinks::sheet;
 use fact_base::{Base, Evidence};
 use oim_report::Sheet;
 use std::alloc::{AllocError, Global};
-use std::test::Fail;
 
 /// A text in parts.
 type Parts = &'static [&'static str];
@@ -242,34 +241,16 @@ fn missing_are_refused(alloc: Global) -> Result<bool, AllocError> {
 }
 
 #[test]
-fn replicas_have_what_reached_them(rt: HostRuntime) -> Result<(), Fail> {
-    let mut answer = all_leave_their_texts(rt.alloc());
-    if answer.is_err() {
-        tell_refused(&rt);
-        answer = all_leave_their_texts(rt.alloc());
-    }
-    assert!(rt; answer == Ok(true));
-    Ok(())
+fn replicas_have_what_reached_them(rt: HostRuntime) {
+    assert!(rt; holds(&rt, all_leave_their_texts));
 }
 
 #[test]
-fn a_replica_judges_what_reached_it(rt: HostRuntime) -> Result<(), Fail> {
-    let mut answer = tells_what_is_apart(rt.alloc());
-    if answer.is_err() {
-        tell_refused(&rt);
-        answer = tells_what_is_apart(rt.alloc());
-    }
-    assert!(rt; answer == Ok(true));
-    Ok(())
+fn a_replica_judges_what_reached_it(rt: HostRuntime) {
+    assert!(rt; holds(&rt, tells_what_is_apart));
 }
 
 #[test]
-fn events_that_name_what_is_not_there_are_bad(rt: HostRuntime) -> Result<(), Fail> {
-    let mut answer = missing_are_refused(rt.alloc());
-    if answer.is_err() {
-        tell_refused(&rt);
-        answer = missing_are_refused(rt.alloc());
-    }
-    assert!(rt; answer == Ok(true));
-    Ok(())
+fn events_that_name_what_is_not_there_are_bad(rt: HostRuntime) {
+    assert!(rt; holds(&rt, missing_are_refused));
 }

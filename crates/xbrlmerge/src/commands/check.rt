@@ -7,7 +7,7 @@ use crate::stop::{Stop, or_stop};
 use clap::{ArgMatches, Command};
 use oim_merge::{Checked, Fault, Refusals, check_report};
 use oim_names::Reason;
-use oim_report::Refusal;
+use oim_report::{Refusal, Sheet};
 use oim_write::Sink;
 use std::alloc::{AllocError, Global};
 use std::rt::Files;
@@ -81,9 +81,21 @@ impl<'w> Check<'w> {
         requires { S.failures out.old < 2 ^ 64 - 1 }
     {
         let sheet = read_sheet(alloc, files, self.sheet)?;
-        let bytes = read_file(alloc, files, self.report)?;
-        let answer = check_report(alloc, &sheet, bytes.as_bytes());
+        let answer = self.check_under(alloc, &sheet, files)?;
         or_stop(put_answer(alloc, out, answer))
+    }
+
+    /// What is to be said of the report under a sheet that is read.
+    ///
+    /// Errors: those of the file.
+    fn check_under<F: Files>(
+        &self,
+        alloc: Global,
+        sheet: &Sheet,
+        files: &F,
+    ) -> Result<Result<Checked, Refusal>, Stop<'w>> {
+        let bytes = read_file(alloc, files, self.report)?;
+        Ok(check_report(alloc, sheet, bytes.as_bytes()))
     }
 }
 

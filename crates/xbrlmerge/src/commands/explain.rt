@@ -1,12 +1,12 @@
 ghost use Rattle.std.specs.Prelude.{◌≡◌, ◌-◌, ◌^◌, ◌<◌, OnOk};
 
 use crate::arguments::{SHEET, sheet_argument, with_reports};
-use crate::explaining::{explain, explain_sheet};
 use crate::files::{read_file, read_report};
 use crate::lines::put_text;
 use crate::progress::Progress;
 use crate::stop::Stop;
 use clap::{ArgMatches, Command};
+use oim_explain::{explain, explain_sheet};
 use oim_merge::Fault;
 use oim_names::Reason;
 use oim_report::Sheet;

@@ -1,12 +1,13 @@
 ghost use Rattle.std.specs.Prelude.{◌-◌, ◌^◌, ◌<◌};
 
 use crate::arguments::{SHEET, sheet_argument, with_reports};
-use crate::files::{add_reports, read_sheet};
+use crate::files::{read_sheet, read_under};
 use crate::progress::Progress;
 use crate::stop::{Stop, or_stop};
 use clap::builder::ValueParser;
 use clap::{Arg, ArgMatches, Command};
-use oim_merge::{Consolidation, Refusals};
+use oim_merge::Refusals;
+use oim_report::Sheet;
 use oim_value::Level;
 use oim_write::Sink;
 use std::alloc::{AllocError, Global};
@@ -90,8 +91,22 @@ impl<'w> Merge<'w> {
         requires { S.failures out.old < 2 ^ 64 - 1 }
     {
         let sheet = read_sheet(alloc, files, self.sheet)?;
-        let mut consolidation = Consolidation::new(alloc, &sheet);
-        add_reports(alloc, files, names, progress, &mut consolidation)?;
-        or_stop(consolidation.finish_last(self.allow, out))
+        self.merge_under(alloc, &sheet, files, names, progress, out)
+    }
+
+    /// The same under a sheet that is read.
+    fn merge_under<F: Files, E: Write, S: Sink>(
+        &self,
+        alloc: Global,
+        sheet: &Sheet,
+        files: &F,
+        names: &[&str],
+        progress: &mut Progress<E>,
+        out: &mut S,
+    ) -> Result<Refusals, Stop<'w>>
+        requires { S.failures out.old < 2 ^ 64 - 1 }
+    {
+        let reports = read_under(alloc, sheet, files, names, progress)?;
+        or_stop(reports.finish_last(self.allow, out))
     }
 }

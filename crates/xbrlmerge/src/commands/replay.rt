@@ -9,6 +9,7 @@ use clap::builder::ValueParser;
 use clap::{Arg, ArgMatches, Command};
 use fact_base::Base;
 use oim_merge::{Events, Fault, Refusals, Replayed, read_events, replay};
+use oim_report::Sheet;
 use oim_write::{Sink, write_to};
 use std::alloc::{AllocError, Global};
 use std::io::Write;
@@ -103,10 +104,24 @@ impl<'w> Replay<'w> {
         requires { S.failures out.old < 2 ^ 64 - 1 }
     {
         let sheet = read_sheet(alloc, files, self.sheet)?;
+        let replayed = self.replay_under(alloc, &sheet, files, names, progress)?;
+        or_stop(put_replayed(alloc, out, replayed))
+    }
+
+    /// The replicas after the schedule, under a sheet that is read.
+    ///
+    /// Errors: those of `run`, but for the sheet's and the device's.
+    fn replay_under<'s, F: Files, E: Write>(
+        &self,
+        alloc: Global,
+        sheet: &'s Sheet,
+        files: &F,
+        names: &[&str],
+        progress: &mut Progress<E>,
+    ) -> Result<Replayed<'s>, Stop<'w>> {
         let events = self.read_schedule(alloc, files)?;
         let reports = read_reports(alloc, files, names, progress)?;
-        let replayed = replay(alloc, &sheet, self.replicas, reports.as_slice(), &events)?;
-        or_stop(put_replayed(alloc, out, replayed))
+        Ok(replay(alloc, sheet, self.replicas, reports.as_slice(), &events)?)
     }
 
     /// The events of the schedule.
@@ -128,8 +143,10 @@ fn put_replayed<S: Sink>(
 ) -> Result<Refusals, Fault>
     requires { S.failures out.old < 2 ^ 64 - 1 }
 {
-    put_replicas(alloc, out, replayed.replicas())?;
-    Ok(replayed.into_refused())
+    let put = put_replicas(alloc, out, replayed.replicas());
+    let refused = replayed.into_refused();
+    put?;
+    Ok(refused)
 }
 
 /// How many replicas there are, required.

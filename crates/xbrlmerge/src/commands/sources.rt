@@ -6,6 +6,7 @@ use crate::progress::Progress;
 use crate::stop::{Stop, or_stop};
 use clap::{ArgMatches, Command};
 use oim_merge::{Refusals, source_lines};
+use oim_report::Sheet;
 use oim_write::Sink;
 use std::alloc::{AllocError, Global};
 use std::io::Write;
@@ -76,7 +77,21 @@ impl<'w> Sources<'w> {
         requires { S.failures out.old < 2 ^ 64 - 1 }
     {
         let sheet = read_sheet(alloc, files, self.sheet)?;
-        let reports = read_reports(alloc, files, names, progress)?;
-        or_stop(source_lines(alloc, &sheet, reports.as_slice(), out))
+        trace_under(alloc, &sheet, files, names, progress, out)
     }
+}
+
+/// The same under a sheet that is read.
+fn trace_under<'w, F: Files, E: Write, S: Sink>(
+    alloc: Global,
+    sheet: &Sheet,
+    files: &F,
+    names: &[&str],
+    progress: &mut Progress<E>,
+    out: &mut S,
+) -> Result<Refusals, Stop<'w>>
+    requires { S.failures out.old < 2 ^ 64 - 1 }
+{
+    let reports = read_reports(alloc, files, names, progress)?;
+    or_stop(source_lines(alloc, sheet, reports.as_slice(), out))
 }

@@ -1,11 +1,12 @@
 ghost use Rattle.std.specs.Prelude.{◌-◌, ◌^◌, ◌<◌};
 
 use crate::arguments::{SHEET, sheet_argument, with_reports};
-use crate::files::{add_reports, read_sheet};
+use crate::files::{read_sheet, read_under};
 use crate::progress::Progress;
 use crate::stop::{Stop, or_stop};
 use clap::{ArgMatches, Command};
-use oim_merge::{Consolidation, Refusals};
+use oim_merge::Refusals;
+use oim_report::Sheet;
 use oim_write::Sink;
 use std::alloc::{AllocError, Global};
 use std::io::Write;
@@ -79,8 +80,21 @@ impl<'w> Verdicts<'w> {
         requires { S.failures out.old < 2 ^ 64 - 1 }
     {
         let sheet = read_sheet(alloc, files, self.sheet)?;
-        let mut consolidation = Consolidation::new(alloc, &sheet);
-        add_reports(alloc, files, names, progress, &mut consolidation)?;
-        or_stop(consolidation.finish_lines_last(out))
+        judge_under(alloc, &sheet, files, names, progress, out)
     }
+}
+
+/// The same under a sheet that is read.
+fn judge_under<'w, F: Files, E: Write, S: Sink>(
+    alloc: Global,
+    sheet: &Sheet,
+    files: &F,
+    names: &[&str],
+    progress: &mut Progress<E>,
+    out: &mut S,
+) -> Result<Refusals, Stop<'w>>
+    requires { S.failures out.old < 2 ^ 64 - 1 }
+{
+    let reports = read_under(alloc, sheet, files, names, progress)?;
+    or_stop(reports.finish_lines_last(out))
 }

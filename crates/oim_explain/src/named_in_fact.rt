@@ -31,6 +31,14 @@ impl<'n> Names<'n> {
         }
     }
 
+    /// Whether a text is a name, of which the sheet lists no dimension.
+    fn is_unlisted(&self, key: &str) -> Result<bool, AllocError> {
+        match self.name(key)? {
+            Some(name) => Ok(self.sheet.dimension(&name).is_none()),
+            None => Ok(false),
+        }
+    }
+
     /// Whether the sheet lists the concept of a fact as one of names.
     fn has_names(&self, object: &Value) -> Result<bool, AllocError> {
         let Some(text) = dimension(object, "concept").and_then(Value::as_str) else {
@@ -137,10 +145,8 @@ pub(crate) fn unknown_dimension<'a>(
         return Ok(Found::Nothing);
     };
     for (key, _value) in members.iter() {
-        if let Some(name) = names.name(key.as_str())? {
-            if names.sheet.dimension(&name).is_none() {
-                return Ok(Found::Text(key.as_str()));
-            }
+        if names.is_unlisted(key.as_str())? {
+            return Ok(Found::Text(key.as_str()));
         }
     }
     Ok(Found::Nothing)

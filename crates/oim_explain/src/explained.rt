@@ -12,18 +12,20 @@ use oim_report::{Place, Refusal, Sheet, faults};
 use serde_json::Value;
 use std::alloc::{AllocError, Global};
 
-/// The lines of what is wrong with a file, and how many they are.
+/// The lines of what is wrong with a file, each with its line end, and how many they are (own).
 #[derive(Drop)]
-pub(crate) struct Explained {
+pub struct Explained {
     pub text: String,
     pub faults: u64,
 }
 
 /// The lines of what is wrong with a report, read under a sheet from the file of this name: each
-/// fault, and each member that stands twice.
+/// fault that `faults` of `oim_report` tells, in its order, and then each member that stands twice in
+/// an object (RFC 8259, section 4), of which only the last one is read. A line begins with the name;
+/// no character of it turns or ends a terminal's line.
 ///
 /// Errors: want of memory.
-pub(crate) fn explain(
+pub fn explain(
     alloc: Global,
     sheet: &Sheet,
     name: &str,
@@ -223,11 +225,21 @@ fn push_apart(
     file: &str,
     tree: &mut Value,
 ) -> Result<(), AllocError> {
-    let said = said_of(Reason::DisallowedDuplicates);
     let two = two_apart(alloc, sheet, tree)?;
     let facts = facts_of(alloc, tree)?;
+    push_two(alloc, text, file, two_of(facts.as_slice(), two))
+}
+
+/// The line of facts with these identifiers, where they are known.
+fn push_two(
+    alloc: Global,
+    text: &mut String,
+    file: &str,
+    two: Option<(&str, &str)>,
+) -> Result<(), AllocError> {
+    let said = said_of(Reason::DisallowedDuplicates);
     push_start(text, file, Reason::DisallowedDuplicates)?;
-    match two_of(facts.as_slice(), two) {
+    match two {
         Some((one, other)) => {
             text.push_str(said.before)?;
             push_whole(alloc, text, one)?;
@@ -282,10 +294,11 @@ fn read_aliases(alloc: Global, tree: &Value) -> Result<Aliases, AllocError> {
     Ok(aliases)
 }
 
-/// The line of why a sheet is refused, read from the file of this name.
+/// The line of why a sheet is refused, read from the file of this name, with what the file is where
+/// its first bytes or members show it (own).
 ///
 /// Errors: want of memory.
-pub(crate) fn explain_sheet(
+pub fn explain_sheet(
     alloc: Global,
     name: &str,
     bytes: &[u8],
