@@ -9,7 +9,8 @@
 A sheet or a report is given as its bytes, or as the path of its file. Each call does what the program's command of
 its name does, with the same bytes and the same refusals, in this process; other threads go on meanwhile. Refused
 reports are answered, and raise nothing. Raised are SheetRefused and TooLoose, both a ValueError; MemoryError; OSError
-where a file cannot be read; and ValueError where `allow` is none of "none", "complete", "consistent", "all".
+where a file cannot be read; TypeError where `reports` is one file or one report's bytes, not a list of them; and
+ValueError where `allow` is none of "none", "complete", "consistent", "all".
 """
 import dataclasses
 import decimal
@@ -139,7 +140,7 @@ def merge(sheet: Given, reports: Iterable[Given], allow: str = "all") -> Merged:
     """
     if allow not in LEVELS:
         raise ValueError(f"allow is one of {', '.join(LEVELS)}")
-    answer = _library.merge(_bytes(sheet), [_bytes(it) for it in reports], LEVELS.index(allow))
+    answer = _library.merge(_bytes(sheet), _each(reports), LEVELS.index(allow))
     if answer.status == _library.TOO_LOOSE:
         raise TooLoose(answer.number, _refusals(answer))
     return Merged(_text(answer), _refusals(answer))
@@ -147,14 +148,14 @@ def merge(sheet: Given, reports: Iterable[Given], allow: str = "all") -> Merged:
 
 def verdicts(sheet: Given, reports: Iterable[Given]) -> Rows:
     """Returns the verdict on each dimension set of what the accepted reports say. Raises SheetRefused and MemoryError."""
-    answer = _library.verdicts(_bytes(sheet), [_bytes(it) for it in reports])
+    answer = _library.verdicts(_bytes(sheet), _each(reports))
     text = _text(answer)
     return Rows(map(_row, _lines(text)), text, _refusals(answer))
 
 
 def sources(sheet: Given, reports: Iterable[Given]) -> Sources:
     """Returns which accepted report says which fact, and by which identifier. Raises SheetRefused and MemoryError."""
-    answer = _library.sources(_bytes(sheet), [_bytes(it) for it in reports])
+    answer = _library.sources(_bytes(sheet), _each(reports))
     text = _text(answer)
     return Sources(map(_source, _lines(text)), text, _refusals(answer))
 
@@ -175,8 +176,16 @@ def _bytes(given: Given) -> bytes:
         return given
     if isinstance(given, (bytearray, memoryview)):
         return bytes(given)
-    with open(given, "rb") as file:
+    # a number is no path, and open would take it for a file that is open already
+    with open(os.fspath(given), "rb") as file:
         return file.read()
+
+
+def _each(reports: Iterable[Given]) -> List[bytes]:
+    """Returns the bytes of each report. A text and bytes have members too, so one alone would be taken for a list."""
+    if isinstance(reports, (str, bytes, bytearray, memoryview, os.PathLike)):
+        raise TypeError("reports is a list of files or bytes, not one of them")
+    return [_bytes(it) for it in reports]
 
 
 def _refusal(row: _library.Row) -> Refusal:
