@@ -7,7 +7,7 @@
    needed and leaves both as they were: make more room of that one, and call again. A call that has room enough at once makes its
    text once. What a call needs for itself it takes from malloc and gives back before it returns.
 
-   Pointers. None may be null, also where the length with it is 0: there, pass the address of any variable of its type.
+   Pointers. None may be null, not even with a length of 0: there, pass the address of any variable of its type.
    (The data() of an empty std::vector may be null.) What a call writes to (`out`, `needed`, `refusals`, `refused`, `checked`,
    `refusal`) overlaps nothing else that is handed to it, nobody else reads or writes it meanwhile, and nobody writes to
    what it reads. Room need not be set beforehand. A pointer to numbers is aligned as C aligns them.

@@ -228,7 +228,7 @@ static int edges(struct asked *asked) {
     asked->command = "verdicts", asked->count = 3, asked->ends[0] = 2, asked->ends[1] = 2, asked->ends[2] = 4;
     EXPECT(call(asked, &room) == XBRLMERGE_REFUSED && room.needed == 0 && room.refused == 3 && is_kept(&room, 0, 3));
     EXPECT(room.rows[1].report == 2 && room.rows[1].number == 1 && room.rows[1].fact == 0 && room.rows[2].report == 3);
-    /* lengths of 0, with pointers that lead to something */
+    /* lengths of 0, with pointers that lead to something: none may be null */
     uint8_t byte = MARK;
     size_t end = 0, needed = 77, refused = 78;
     xbrlmerge_refusal row = {4, 5, 6};
