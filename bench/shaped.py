@@ -1,0 +1,307 @@
+"""The shapes of input that bench/shapes measures: the words of a command and the files that it reads."""
+import json
+import random
+
+DOCUMENT_TYPE = "https://xbrl.org/2021/xbrl-json"
+URI = "http://example.org/t"
+SCHEME = "http://example.org/lei"
+MONTHS = 12
+YEARS = 9_000
+REPLICAS = 8
+FACTS = 1_000
+
+
+# ---- the parts of an input
+
+def sheet(concepts=None, dimensions=None, namespaces=None):
+    return {"namespaces": namespaces or {"eg": URI}, "concepts": concepts or {"eg:C": "text", "eg:N": "numeric"}, "dimensions": dimensions or {}}
+
+
+def report(facts, namespaces=None, **others):
+    head = {"documentType": DOCUMENT_TYPE, "namespaces": namespaces or {"eg": URI, "lei": SCHEME}, **others}
+    return {"documentInfo": head, "facts": facts}
+
+
+def fact(value="v", concept="eg:C", **dimensions):
+    return {"value": value, "dimensions": {"concept": concept, **dimensions}}
+
+
+def numeric(value, **dimensions):
+    return fact(value, "eg:N", **dimensions)
+
+
+def numbered(facts):
+    return {f"f{place:07}": one for place, one in enumerate(facts)}
+
+
+def period(n):
+    """The start of a month, no two the same."""
+    return f"{n // MONTHS % YEARS + 1:04}-{n % MONTHS + 1:02}-01T00:00:00"
+
+
+def prefixes(n):
+    """Prefixes that rise, and their URIs, which rise too."""
+    return {f"p{place:07}": f"{URI}/{place:07}" for place in range(n)}
+
+
+def falling(n):
+    """Prefixes that rise, and their URIs, which fall."""
+    return {f"p{place:07}": f"{URI}/{n - place:07}" for place in range(n)}
+
+
+def merging(a_sheet, *reports):
+    """The words of the command, and the files that they name."""
+    files = {"sheet.json": a_sheet, **{f"report{place}.json": one for place, one in enumerate(reports)}}
+    return ["merge", "--sheet", *files], files
+
+
+def drawn_events(chance, n):
+    """So many events, of which each kind but a restart is as likely; a replica restarts once in fifty."""
+    replica, sent = lambda: chance.randint(1, REPLICAS), 0
+    yield f"send {replica()}"
+    for _ in range(n - 1):
+        kind = "restart" if chance.random() < 0.02 else chance.choice(["take", "join", "send", "receive"])
+        numbers = {"take": [replica()], "join": [replica()], "receive": [chance.randint(1, sent + 1)]}.get(kind, [])
+        sent += kind == "send"
+        yield " ".join(map(str, [kind, replica(), *numbers]))
+
+
+def replaying(replicas, events, *reports):
+    words, files = merging(sheet(), *reports)
+    words = ["replay", "--replicas", str(replicas), "--events", "events.txt", *words[1:]]
+    return words, {**files, "events.txt": "".join(f"{event}\n" for event in events)}
+
+
+# ---- the shapes, each with the smaller number of what is long in it
+
+def namespaces_of_a_report(n):
+    return merging(sheet(), report(numbered([fact()]), {"eg": URI, **prefixes(n)}))
+
+
+def namespaces_of_a_sheet(n):
+    return merging(sheet(namespaces={"eg": URI, **prefixes(n)}), report(numbered([fact()])))
+
+
+def namespaces_written(n):
+    names = prefixes(n)
+    concepts = {f"{prefix}:C": "text" for prefix in names}
+    return merging(sheet(concepts, namespaces=names), report(numbered(fact(concept=name) for name in concepts), names))
+
+
+def namespaces_written_that_fall(n):
+    names = {"eg": URI, **falling(n)}
+    facts = [fact(period=period(place), **{"eg:D": f"p{place:07}:m"}) for place in range(n)]
+    return merging(sheet(dimensions={"eg:D": "explicit"}), report(numbered(facts), names))
+
+
+def references(n):
+    return merging(sheet(), report(numbered([fact()]), taxonomy=[f"{URI}/{place:07}.xsd" for place in range(n)]))
+
+
+def references_that_fall(n):
+    return merging(sheet(), report(numbered([fact()]), taxonomy=[f"{URI}/{n - place:07}.xsd" for place in range(n)]))
+
+
+def references_of_many_reports(n):
+    return merging(sheet(), *(report(numbered([fact()]), taxonomy=[f"{URI}/{place:07}.xsd"]) for place in range(n)))
+
+
+def features(n):
+    return merging(sheet(), report(numbered([fact()]), features={f"eg:f{place:07}": True for place in range(n)}))
+
+
+def dimensions_of_one_fact(n):
+    names = [f"eg:D{place:07}" for place in range(n)]
+    return merging(sheet(dimensions={name: "typed" for name in names}), report(numbered([fact(**{name: "m" for name in names})])))
+
+
+def dimensions_whose_names_fall(n):
+    names = falling(n)
+    dimensions = [f"{prefix}:D" for prefix in names]
+    bound = {"eg": URI, **names}
+    return merging(sheet(dimensions={name: "typed" for name in dimensions}, namespaces=bound), report(numbered([fact(**{name: "m" for name in dimensions})]), bound))
+
+
+def measures_of_a_unit(n):
+    return merging(sheet(), report(numbered([numeric("1", unit="*".join(f"eg:m{n - place:07}" for place in range(n)))])))
+
+
+def text_of_one_value(n):
+    return merging(sheet(), report(numbered([fact("ab\"\\\u00e9\n" * n)])))
+
+
+def identifier_of_an_entity(n):
+    return merging(sheet(), report(numbered([fact(entity="lei:" + "e" * n)])))
+
+
+def name_of_a_member(n):
+    return merging(sheet(dimensions={"eg:D": "explicit"}), report(numbered([fact(**{"eg:D": "eg:" + "m" * n})])))
+
+
+def zeros_in_front_of_digits(n):
+    return merging(sheet(), report(numbered([numeric("0" * n + "1")])))
+
+
+def zeros_behind_a_point(n):
+    return merging(sheet(), report(numbered([numeric("1." + "0" * n)])))
+
+
+def extension_members_of_a_report(n):
+    extended = report(numbered([fact()]))
+    return merging(sheet(), {**extended, **{f"x:e{place:07}": place for place in range(n)}})
+
+
+def extension_members_of_a_fact(n):
+    return merging(sheet(), report(numbered([{**fact(), **{f"x:e{place:07}": [place] for place in range(n)}}])))
+
+
+def concepts(n):
+    return merging(sheet({"eg:C": "text", **{f"eg:C{place:07}": "numeric" for place in range(n)}}), report(numbered([fact()])))
+
+
+def dimensions_of_a_sheet(n):
+    return merging(sheet(dimensions={f"eg:D{place:07}": "typed" for place in range(n)}), report(numbered([fact()])))
+
+
+def facts(n):
+    return merging(sheet(), report(numbered(numeric(str(place), period=period(place)) for place in range(n))))
+
+
+def reports(n):
+    return merging(sheet(), *(report(numbered([numeric(str(place), period=period(place))])) for place in range(n)))
+
+
+def facts_of_one_dimension_set(n):
+    return merging(sheet(), report(numbered(fact(f"v{n - place:07}") for place in range(n))))
+
+
+def numbers_of_one_dimension_set(n):
+    return merging(sheet(), report(numbered({**numeric(str(n - place)), "decimals": place % 37 - 18} for place in range(n))))
+
+
+def verdicts_on_one_dimension_set(n):
+    words, files = numbers_of_one_dimension_set(n)
+    return ["verdicts", *words[1:]], files
+
+
+def check_of_one_dimension_set(n):
+    words, files = numbers_of_one_dimension_set(n)
+    return ["check", *words[1:]], files
+
+
+def reports_of_one_dimension_set(n):
+    return merging(sheet(), *(report(numbered([numeric(str(n - place))])) for place in range(n)))
+
+
+def sources_of_one_dimension_set(n):
+    words, files = facts_of_one_dimension_set(n)
+    return ["sources", *words[1:]], files
+
+
+def sources_of_one_fact(n):
+    words, files = merging(sheet(), report(numbered(fact() for _ in range(n))))
+    return ["sources", *words[1:]], files
+
+
+def explaining(*files):
+    words, files = merging(sheet(), *files)
+    return ["explain", *words[1:]], files
+
+
+def faults_of_facts(n):
+    return explaining(report(numbered(fact("1,5", concept=f"q{place}:N", unit=f"q{place}:u") for place in range(n))))
+
+
+def faults_of_one_fact(n):
+    return explaining(report(numbered([fact(**{f"eg:D{n - place:07}": 1 for place in range(n)}, unit="*".join(f"q{place}:u" for place in range(n)))])))
+
+
+def duplicates_that_are_denied(n):
+    """So many numbers that agree within rounding, and the last does not."""
+    numbers = [{**numeric(str(n - place)), "decimals": -18} for place in range(n)] + [numeric("9" * 18)]
+    level = {"namespaces": {"eg": URI, "xbrl": "https://xbrl.org/2021"}, "features": {"xbrl:allowedDuplicates": "consistent"}}
+    return explaining(report(numbered(numbers), **level))
+
+
+def members_that_stand_twice(n):
+    text = json.dumps(report(numbered(fact(f"v{place}") for place in range(n))), separators=(",", ":"))
+    facts = text.partition('"facts":{')[2].removesuffix("}}")
+    return explaining(text.removesuffix("}}") + f",{facts}}}}}")
+
+
+def members_that_stand_twice_in_one_fact(n):
+    """A fact with an identifier of so many characters, and a tenth as many members, each twice."""
+    twice = ",".join(f'"x:e{place:07}":1' for place in range(n // 10) for _ in range(2))
+    text = json.dumps(report({"f" * n: fact()}), separators=(",", ":"))
+    return explaining(text.removesuffix("}}}") + f",{twice}}}}}}}")
+
+
+def lines_that_join(n):
+    events = ["take 1 1", "take 2 2", *(f"join {1 + place % 2} {2 - place % 2}" for place in range(n))]
+    return replaying(2, events, report(numbered([numeric("1")])), report(numbered([numeric("2")])))
+
+
+def lines_that_take(n):
+    return replaying(2, (f"take {1 + place % 2} {1 + place % 2}" for place in range(n)), report(numbered([numeric("1")])), report(numbered([numeric("2")])))
+
+
+def texts_sent_and_received(n):
+    events = ["take 1 1", "take 2 2"]
+    for place in range(1, n // 2 + 1):
+        events += [f"send {1 + place % 2}", f"receive {2 - place % 2} {place}"]
+    return replaying(2, events, report(numbered([numeric("1")])), report(numbered([numeric("2")])))
+
+
+def takes_of_different_reports(n):
+    return replaying(1, (f"take 1 {place}" for place in range(1, n + 1)), *(report(numbered([numeric(str(place), period=period(place))])) for place in range(n)))
+
+
+def events_of_eight_replicas(n):
+    """Drawn events on replicas of 1,000 facts, of which each report leaves out an eighth."""
+    chance = random.Random(1)
+    facts = [numeric(str(place), entity="lei:e", period=period(place), unit="eg:EUR") for place in range(FACTS)]
+    reports = [report({f"f{place}": one for place, one in enumerate(facts) if place % REPLICAS != left_out}) for left_out in range(REPLICAS)]
+    return replaying(REPLICAS, drawn_events(chance, n), *reports)
+
+
+SHAPES = {
+    namespaces_of_a_report: 5_000,
+    namespaces_of_a_sheet: 5_000,
+    namespaces_written: 5_000,
+    namespaces_written_that_fall: 5_000,
+    references: 5_000,
+    references_that_fall: 5_000,
+    references_of_many_reports: 500,
+    features: 5_000,
+    dimensions_of_one_fact: 5_000,
+    dimensions_whose_names_fall: 5_000,
+    measures_of_a_unit: 5_000,
+    text_of_one_value: 100_000,
+    identifier_of_an_entity: 500_000,
+    name_of_a_member: 500_000,
+    zeros_in_front_of_digits: 500_000,
+    zeros_behind_a_point: 500_000,
+    extension_members_of_a_report: 5_000,
+    extension_members_of_a_fact: 5_000,
+    concepts: 5_000,
+    dimensions_of_a_sheet: 5_000,
+    facts: 5_000,
+    reports: 500,
+    facts_of_one_dimension_set: 5_000,
+    numbers_of_one_dimension_set: 5_000,
+    verdicts_on_one_dimension_set: 5_000,
+    check_of_one_dimension_set: 5_000,
+    reports_of_one_dimension_set: 500,
+    sources_of_one_dimension_set: 5_000,
+    sources_of_one_fact: 5_000,
+    faults_of_facts: 5_000,
+    faults_of_one_fact: 5_000,
+    duplicates_that_are_denied: 5_000,
+    members_that_stand_twice: 5_000,
+    members_that_stand_twice_in_one_fact: 50_000,
+    lines_that_join: 5_000,
+    lines_that_take: 1_000,
+    texts_sent_and_received: 1_000,
+    takes_of_different_reports: 500,
+    events_of_eight_replicas: 500,
+}
