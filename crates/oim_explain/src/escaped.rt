@@ -1,43 +1,66 @@
-use std::alloc::AllocError;
+use std::fmt;
 
-/// How many characters are shown of a value at fault that is no text.
+/// How many characters are shown of what is at fault.
 const MOST_CHARACTERS: usize = 80;
 
-/// Appends a text, as it may go to a terminal.
-pub(crate) fn push_escaped(line: &mut String, text: &str) -> Result<(), AllocError> {
-    for character in text.chars() {
-        push_character(line, character)?;
-    }
-    Ok(())
-}
+/// A text as it may go to a terminal: each character that is not seen, turns the direction or ends
+/// the line is written as JSON escapes it, and so is each control character.
+#[derive(Clone, Copy)]
+pub struct Escaped<'t>(pub &'t str);
 
-/// Appends the first `MOST_CHARACTERS` characters of a text, as they may go to a terminal.
-pub(crate) fn push_cut(line: &mut String, text: &str) -> Result<(), AllocError> {
-    for (place, character) in text.chars().enumerate() {
-        if place >= MOST_CHARACTERS {
-            return line.push_str("..");
+impl fmt::Display for Escaped<'_> {
+    fn fmt<W: fmt::Write>(&self, f: &mut fmt::Formatter<W>) -> fmt::Result {
+        // what stands between two escapes is written at once, as the whole of an ordinary text
+        let mut from = 0;
+        for (place, character) in self.0.char_indices() {
+            if !is_shown(character) {
+                f.write_str(self.0.get(from..place).unwrap_or_default())?;
+                write_escape(f, character)?;
+                from = place.saturating_add(character.len_utf8());
+            }
         }
-        push_character(line, character)?;
-    }
-    Ok(())
-}
-
-/// Appends a character, or its escape in JSON where a terminal would not show but do it.
-fn push_character(line: &mut String, character: char) -> Result<(), AllocError> {
-    if is_shown(character) {
-        line.push(character)
-    } else {
-        let number = character as u32;
-        write!(line, "\\u{number:04x}")
+        f.write_str(self.0.get(from..).unwrap_or_default())
     }
 }
 
-/// Whether it is no control character, and none that is not seen, turns the direction or ends the
-/// line.
+/// Writes the escape of a character in JSON: one of 16 bits, or two.
+fn write_escape<W: fmt::Write>(f: &mut fmt::Formatter<W>, character: char) -> fmt::Result {
+    let number = character as u32;
+    if number < 0x1_0000 {
+        return write!(f, "\\u{number:04x}");
+    }
+    let rest = number - 0x1_0000;
+    let (high, low) = (0xd800 | (rest >> 10), 0xdc00 | (rest & 0x3ff));
+    write!(f, "\\u{high:04x}\\u{low:04x}")
+}
+
 fn is_shown(character: char) -> bool {
     !character.is_control()
         && !matches!(
             character,
-            '\u{61c}' | '\u{200b}'..='\u{200f}' | '\u{2028}'..='\u{202e}' | '\u{2060}'..='\u{206f}' | '\u{feff}'
+            '\u{ad}'
+                | '\u{61c}'
+                | '\u{115f}'..='\u{1160}'
+                | '\u{17b4}'..='\u{17b5}'
+                | '\u{180b}'..='\u{180f}'
+                | '\u{200b}'..='\u{200f}'
+                | '\u{2028}'..='\u{202e}'
+                | '\u{2060}'..='\u{206f}'
+                | '\u{3164}'
+                | '\u{fe00}'..='\u{fe0f}'
+                | '\u{feff}'
+                | '\u{ffa0}'
+                | '\u{fff9}'..='\u{fffb}'
+                | '\u{e0000}'..='\u{e0fff}'
         )
+}
+
+/// The first `MOST_CHARACTERS` characters of a text, or all where it has no more.
+pub(crate) fn front_of(text: &str) -> &str {
+    for (count, (place, _)) in text.char_indices().enumerate() {
+        if count >= MOST_CHARACTERS {
+            return text.get(..place).unwrap_or_default();
+        }
+    }
+    text
 }

@@ -1,15 +1,16 @@
 use super::apart::two_apart;
-use super::escaped::push_escaped;
-use super::file_kind::{kind_of_bytes, kind_of_sheet, kind_of_tree};
-use super::found::{Found, push_whole};
+use super::escaped::Escaped;
+use super::file_kind::{kind_of_bytes, kind_of_tree};
+use super::found::{Found, push_text};
 use super::found_in_document::{found_in_document, info};
 use super::found_in_fact::found_in_fact;
+use super::named::read_aliases;
 use super::named_in_fact::Names;
-use super::repeated::Repeated;
+use super::repeated::{Repeated, Role};
 use super::sentence::said_of;
-use oim_names::{Aliases, Reason};
+use oim_names::Reason;
 use oim_report::{Place, Refusal, Sheet, faults};
-use serde_json::Value;
+use serde_json::{Error, Value};
 use std::alloc::{AllocError, Global};
 
 /// The lines of what is wrong with a file, each with its line end, and how many they are (own).
@@ -22,7 +23,8 @@ pub struct Explained {
 /// The lines of what is wrong with a report, read under a sheet from the file of this name: each
 /// fault that `faults` of `oim_report` tells, in its order, and then each member that stands twice in
 /// an object (RFC 8259, section 4), of which only the last one is read. A line begins with the name;
-/// no character of it turns or ends a terminal's line.
+/// no character of it turns or ends a terminal's line, and of no text in the file are more than 80
+/// characters shown.
 ///
 /// Errors: want of memory.
 pub fn explain(
@@ -31,8 +33,7 @@ pub fn explain(
     name: &str,
     bytes: &[u8],
 ) -> Result<Explained, AllocError> {
-    let mut file = String::new(alloc);
-    push_escaped(&mut file, name)?;
+    let file = format!(in alloc; "{}", Escaped(name))?;
     let found = faults(alloc, sheet, bytes)?;
     let mut text = String::new(alloc);
     if !found.as_slice().is_empty() {
@@ -45,7 +46,7 @@ pub fn explain(
             found.as_slice(),
         )?;
     }
-    let repeated = Repeated::of(alloc, file.as_str(), bytes)?;
+    let repeated = Repeated::of(alloc, file.as_str(), Role::Report, bytes)?;
     text.push_str(repeated.text.as_str())?;
     let faults = (found.as_slice().len() as u64).saturating_add(repeated.count);
     Ok(Explained { text, faults })
@@ -62,17 +63,34 @@ fn push_faults(
     match Value::from_slice(alloc, without_mark(bytes)) {
         Err(error) if error.is_memory() => Err(AllocError),
         Err(error) => {
-            let words = format!(in alloc; "{error}")?;
             push_start(text, file, Reason::NotJson)?;
-            text.push_str(said_of(Reason::NotJson).before)?;
-            push_escaped(text, words.as_str())?;
-            push_kind(text, kind_of_bytes(bytes))
+            push_unread(alloc, text, &error, bytes)
         }
         Ok(mut tree) => push_of_tree(alloc, text, sheet, file, &mut tree, found),
     }
 }
 
-fn without_mark(bytes: &[u8]) -> &[u8] {
+/// Appends why a file is no JSON text, with what it seems to be.
+///
+/// Errors: want of memory.
+pub(crate) fn push_unread(
+    alloc: Global,
+    text: &mut String,
+    error: &Error,
+    bytes: &[u8],
+) -> Result<(), AllocError> {
+    let words = format!(in alloc; "{error}")?;
+    write!(
+        text,
+        "{}{}",
+        said_of(Reason::NotJson).before,
+        Escaped(words.as_str())
+    )?;
+    push_kind(text, kind_of_bytes(bytes))
+}
+
+/// The bytes behind a byte order mark.
+pub(crate) fn without_mark(bytes: &[u8]) -> &[u8] {
     match bytes.strip_prefix(b"\xef\xbb\xbf") {
         Some(rest) => rest,
         None => bytes,
@@ -85,7 +103,7 @@ fn push_start(text: &mut String, file: &str, reason: Reason) -> Result<(), Alloc
 }
 
 /// Ends a line, with what the file seems to be.
-fn push_kind(text: &mut String, kind: Option<&str>) -> Result<(), AllocError> {
+pub(crate) fn push_kind(text: &mut String, kind: Option<&str>) -> Result<(), AllocError> {
     match kind {
         Some(kind) => write!(text, "; the file looks like {kind}\n"),
         None => text.push_str("\n"),
@@ -127,34 +145,12 @@ fn push_of_document(
     let mut kind = kind_of_tree(tree);
     for refusal in found {
         push_start(text, file, refusal.reason)?;
-        push_said(
-            alloc,
-            text,
-            refusal.reason,
-            found_in_document(tree, refusal.reason),
-        )?;
+        let found = found_in_document(alloc, tree, refusal.reason)?;
+        found.push_said(alloc, text, refusal.reason)?;
         push_kind(text, kind)?;
         kind = None;
     }
     Ok(())
-}
-
-/// Appends what is said of a fault.
-fn push_said(
-    alloc: Global,
-    text: &mut String,
-    reason: Reason,
-    found: Found<'_>,
-) -> Result<(), AllocError> {
-    let said = said_of(reason);
-    match found {
-        Found::Nothing => text.push_str(said.alone),
-        found => {
-            text.push_str(said.before)?;
-            found.push_to(alloc, text)?;
-            text.push_str(said.behind)
-        }
-    }
 }
 
 fn push_of_facts(
@@ -165,7 +161,7 @@ fn push_of_facts(
     tree: &Value,
     found: &[Refusal],
 ) -> Result<(), AllocError> {
-    let aliases = read_aliases(alloc, tree)?;
+    let aliases = read_aliases(alloc, info(tree, "namespaces"))?;
     let names = Names {
         sheet,
         aliases: &aliases,
@@ -197,8 +193,8 @@ fn push_fact(
     reason: Reason,
 ) -> Result<(), AllocError> {
     push_start_of_fact(alloc, text, file, identifier, reason)?;
-    let found = found_in_fact(names, object, reason)?;
-    push_said(alloc, text, reason, found)?;
+    let found = found_in_fact(alloc, names, object, reason)?;
+    found.push_said(alloc, text, reason)?;
     text.push_str("\n")
 }
 
@@ -212,7 +208,7 @@ fn push_start_of_fact(
 ) -> Result<(), AllocError> {
     text.push_str(file)?;
     text.push_str(": fact ")?;
-    push_whole(alloc, text, identifier)?;
+    push_text(alloc, text, identifier)?;
     let (number, name) = (reason.number(), reason.name());
     write!(text, ": {number} {name}: ")
 }
@@ -227,28 +223,9 @@ fn push_apart(
 ) -> Result<(), AllocError> {
     let two = two_apart(alloc, sheet, tree)?;
     let facts = facts_of(alloc, tree)?;
-    push_two(alloc, text, file, two_of(facts.as_slice(), two))
-}
-
-/// The line of facts with these identifiers, where they are known.
-fn push_two(
-    alloc: Global,
-    text: &mut String,
-    file: &str,
-    two: Option<(&str, &str)>,
-) -> Result<(), AllocError> {
-    let said = said_of(Reason::DisallowedDuplicates);
     push_start(text, file, Reason::DisallowedDuplicates)?;
-    match two {
-        Some((one, other)) => {
-            text.push_str(said.before)?;
-            push_whole(alloc, text, one)?;
-            text.push_str(" and ")?;
-            push_whole(alloc, text, other)?;
-            text.push_str(said.behind)?;
-        }
-        None => text.push_str(said.alone)?,
-    }
+    let found = Found::of_two(two_of(facts.as_slice(), two));
+    found.push_said(alloc, text, Reason::DisallowedDuplicates)?;
     text.push_str("\n")
 }
 
@@ -277,42 +254,4 @@ fn fact_at<'a>(facts: &[(&'a str, &'a Value)], place: Place) -> Option<(&'a str,
         return None;
     };
     facts.get(number.checked_sub(1)? as usize).copied()
-}
-
-/// The prefixes of a report of whose document no condition holds.
-fn read_aliases(alloc: Global, tree: &Value) -> Result<Aliases, AllocError> {
-    let mut aliases = Aliases::new(alloc);
-    if let Some(entries) = info(tree, "namespaces").and_then(Value::as_object) {
-        for (prefix, uri) in entries.iter() {
-            let uri = uri.as_str().unwrap_or_default();
-            match aliases.add(prefix.as_str(), uri) {
-                Err(Reason::OutOfMemory) => return Err(AllocError),
-                _ => {}
-            }
-        }
-    }
-    Ok(aliases)
-}
-
-/// The line of why a sheet is refused, read from the file of this name, with what the file is where
-/// its first bytes or members show it (own).
-///
-/// Errors: want of memory.
-pub fn explain_sheet(
-    alloc: Global,
-    name: &str,
-    bytes: &[u8],
-    reason: Reason,
-) -> Result<String, AllocError> {
-    let mut text = String::new(alloc);
-    push_escaped(&mut text, name)?;
-    text.push_str(": ")?;
-    text.push_str(said_of(reason).alone)?;
-    let kind = match Value::from_slice(alloc, without_mark(bytes)) {
-        Ok(tree) => kind_of_sheet(&tree),
-        Err(error) if error.is_memory() => return Err(AllocError),
-        Err(_) => kind_of_bytes(bytes),
-    };
-    push_kind(&mut text, kind)?;
-    Ok(text)
 }

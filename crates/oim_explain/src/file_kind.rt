@@ -27,14 +27,10 @@ fn is_utf16(bytes: &[u8]) -> bool {
     false
 }
 
-/// The text of the first bytes, after a byte order mark and white space, as far as it is UTF-8.
+/// The text of the first bytes, after byte order marks and white space, as far as it is UTF-8.
 fn text_of(bytes: &[u8]) -> &str {
-    let rest = match bytes.strip_prefix(b"\xef\xbb\xbf") {
-        Some(rest) => rest,
-        None => bytes,
-    };
-    match rest.utf8_chunks().next() {
-        Some(chunk) => chunk.valid().trim_start(),
+    match bytes.utf8_chunks().next() {
+        Some(chunk) => chunk.valid().trim_start_matches('\u{feff}').trim_start(),
         None => "",
     }
 }
@@ -50,11 +46,22 @@ fn kind_of_text(text: &str) -> Option<&'static str> {
         } else {
             Some("XML: another program has to write it as xBRL-JSON")
         }
-    } else if !text.starts_with(['{', '[']) && line.contains([',', ';', '\t']) {
+    } else if !text.starts_with('[') && is_row(line) {
         Some("CSV: another program has to write it as xBRL-JSON")
     } else {
         None
     }
+}
+
+/// Whether a line is one of a table: it has a separator, and neither the braces and colons of JSON
+/// nor the white space behind its separators that prose has.
+fn is_row(line: &str) -> bool {
+    line.contains([',', ';', '\t'])
+        && !line.contains(['{', '}'])
+        && !line.contains("\":")
+        && !line.contains("\" :")
+        && !line.contains(", ")
+        && !line.contains("; ")
 }
 
 /// What a JSON text is, where it is another file than a report.

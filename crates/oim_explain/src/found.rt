@@ -1,9 +1,8 @@
-use super::escaped::{push_cut, push_escaped};
+use super::escaped::{Escaped, front_of};
+use super::sentence::{Sentence, of_entity, of_pair, said_of};
+use oim_names::Reason;
 use serde_json::{Map, Value};
 use std::alloc::{AllocError, Global};
-
-/// How many characters are shown of a text at fault.
-const MOST_CHARACTERS: usize = 80;
 
 /// What is at fault.
 #[derive(Clone, Copy)]
@@ -14,6 +13,12 @@ pub(crate) enum Found<'a> {
     Words(&'static str),
     /// This text.
     Text(&'a str),
+    /// This text in the place that these words tell.
+    Within(&'a str, &'static str),
+    /// This text of an entity.
+    Entity(&'a str),
+    /// These two texts.
+    Pair(&'a str, &'a str),
     /// This value.
     Value(&'a Value),
     /// The member of this key.
@@ -37,12 +42,58 @@ impl<'a> Found<'a> {
         }
     }
 
+    /// Two texts, where they are there.
+    pub(crate) fn of_two(two: Option<(&'a str, &'a str)>) -> Found<'a> {
+        match two {
+            Some((one, other)) => Found::Pair(one, other),
+            None => Found::Nothing,
+        }
+    }
+
+    /// What is said of it.
+    fn said(self, reason: Reason) -> Sentence {
+        match self {
+            Found::Entity(_) => of_entity(reason),
+            Found::Pair(_, _) => of_pair(reason),
+            _ => said_of(reason),
+        }
+    }
+
+    /// Appends what is said of it, with what is at fault.
+    ///
+    /// Errors: want of memory.
+    pub(crate) fn push_said(
+        self,
+        alloc: Global,
+        line: &mut String,
+        reason: Reason,
+    ) -> Result<(), AllocError> {
+        let said = self.said(reason);
+        match self {
+            Found::Nothing => line.push_str(said.alone),
+            found => {
+                line.push_str(said.before)?;
+                found.push_to(alloc, line)?;
+                line.push_str(said.behind)
+            }
+        }
+    }
+
     /// Appends it as JSON, cut.
-    pub(crate) fn push_to(self, alloc: Global, line: &mut String) -> Result<(), AllocError> {
+    fn push_to(self, alloc: Global, line: &mut String) -> Result<(), AllocError> {
         match self {
             Found::Nothing => Ok(()),
             Found::Words(words) => line.push_str(words),
-            Found::Text(text) => push_text(alloc, line, text),
+            Found::Text(text) | Found::Entity(text) => push_text(alloc, line, text),
+            Found::Within(text, place) => {
+                push_text(alloc, line, text)?;
+                write!(line, " in {place}")
+            }
+            Found::Pair(one, other) => {
+                push_text(alloc, line, one)?;
+                line.push_str(" and ")?;
+                push_text(alloc, line, other)
+            }
             Found::Value(value) => push_value(alloc, line, value),
             Found::Member(key, value) => {
                 push_text(alloc, line, key)?;
@@ -53,43 +104,31 @@ impl<'a> Found<'a> {
     }
 }
 
-/// Appends a text as JSON, whole.
-pub(crate) fn push_whole(alloc: Global, line: &mut String, text: &str) -> Result<(), AllocError> {
-    let json = Value::String(String::from_str(alloc, text)?).to_string(alloc)?;
-    push_escaped(line, json.as_str())
-}
-
 /// Appends a text as JSON. Of a long one it is the first characters, with no quote behind them.
-fn push_text(alloc: Global, line: &mut String, text: &str) -> Result<(), AllocError> {
-    let front = front_of(alloc, text)?;
+///
+/// Errors: want of memory.
+pub(crate) fn push_text(alloc: Global, line: &mut String, text: &str) -> Result<(), AllocError> {
+    let front = front_of(text);
+    let json = Value::String(String::from_str(alloc, front)?).to_string(alloc)?;
     if front.len() == text.len() {
-        return push_whole(alloc, line, text);
+        return write!(line, "{}", Escaped(json.as_str()));
     }
-    let json = Value::String(front).to_string(alloc)?;
-    push_escaped(line, json.as_str().strip_suffix('"').unwrap_or_default())?;
-    line.push_str("..")
-}
-
-/// The first `MOST_CHARACTERS` characters of a text.
-fn front_of(alloc: Global, text: &str) -> Result<String, AllocError> {
-    let mut front = String::new(alloc);
-    for (place, character) in text.chars().enumerate() {
-        if place >= MOST_CHARACTERS {
-            break;
-        }
-        front.push(character)?;
-    }
-    Ok(front)
+    let open = json.as_str().strip_suffix('"').unwrap_or_default();
+    write!(line, "{}..", Escaped(open))
 }
 
 fn push_value(alloc: Global, line: &mut String, value: &Value) -> Result<(), AllocError> {
     match value.as_str() {
         Some(text) => push_text(alloc, line, text),
-        None => {
-            let text = value.to_string(alloc)?;
-            push_cut(line, text.as_str())
-        }
+        None => push_json(line, value.to_string(alloc)?.as_str()),
     }
+}
+
+/// Appends the first characters of a JSON text.
+fn push_json(line: &mut String, json: &str) -> Result<(), AllocError> {
+    let front = front_of(json);
+    let end = if front.len() == json.len() { "" } else { ".." };
+    write!(line, "{}{end}", Escaped(front))
 }
 
 /// The first key that is none of these and has no colon.
@@ -106,7 +145,8 @@ pub(crate) fn unknown_key<'a>(
     None
 }
 
-fn is_one_of(key: &str, known: &[&str]) -> bool {
+/// Whether a text is one of these.
+pub(crate) fn is_one_of(key: &str, known: &[&str]) -> bool {
     for name in known {
         if *name == key {
             return true;

@@ -1,14 +1,24 @@
 use super::found::{Found, unknown_key};
+use super::found_reference::lost_reference;
 use oim_names::Reason;
 use oim_value::Level;
 use serde_json::{Map, Value};
+use std::alloc::{AllocError, Global};
 
 const INFO: &str = "documentInfo";
 
-const RESERVED: &str = "https://xbrl.org/2021";
+/// What `documentInfo` may have besides extensions.
+const INFO_MEMBERS: [&str; 7] = [
+    "documentType",
+    "namespaces",
+    "taxonomy",
+    "baseURL",
+    "features",
+    "linkTypes",
+    "linkGroups",
+];
 
-/// How many bytes a reference may have.
-const MOST_BYTES: usize = 65_536;
+const RESERVED: &str = "https://xbrl.org/2021";
 
 /// The member of `documentInfo` at a key.
 pub(crate) fn info<'a>(tree: &'a Value, key: &str) -> Option<&'a Value> {
@@ -16,17 +26,23 @@ pub(crate) fn info<'a>(tree: &'a Value, key: &str) -> Option<&'a Value> {
 }
 
 /// What is at fault in a document outside of its facts.
-pub(crate) fn found_in_document(tree: &Value, reason: Reason) -> Found<'_> {
-    match reason {
+///
+/// Errors: want of memory.
+pub(crate) fn found_in_document(
+    alloc: Global,
+    tree: &Value,
+    reason: Reason,
+) -> Result<Found<'_>, AllocError> {
+    Ok(match reason {
         Reason::MemberForm => Found::Words(misshapen(tree)),
-        Reason::UnknownMember => Found::of_text(unknown(tree)),
+        Reason::UnknownMember => unknown(tree),
         Reason::DocumentType => Found::of(info(tree, "documentType")),
         Reason::Namespace => unbound(info(tree, "namespaces").and_then(Value::as_object)),
         Reason::BaseUrl => Found::of(info(tree, "baseURL")),
-        Reason::TaxonomyUrl => lost_reference(tree),
+        Reason::TaxonomyUrl => lost_reference(alloc, tree)?,
         Reason::Feature => misdeclared(tree),
         _ => Found::Nothing,
-    }
+    })
 }
 
 fn misshapen(tree: &Value) -> &'static str {
@@ -58,27 +74,18 @@ pub(crate) fn is_no_object(value: Option<&Value>) -> bool {
     }
 }
 
-fn unknown(tree: &Value) -> Option<&str> {
-    let of_root = unknown_key(tree.as_object(), &[INFO, "facts"]);
-    if of_root.is_some() {
-        return of_root;
+fn unknown(tree: &Value) -> Found<'_> {
+    if let Some(key) = unknown_key(tree.as_object(), &[INFO, "facts"]) {
+        return Found::Text(key);
     }
-    unknown_key(
-        tree.get(INFO).and_then(Value::as_object),
-        &[
-            "documentType",
-            "namespaces",
-            "taxonomy",
-            "baseURL",
-            "features",
-            "linkTypes",
-            "linkGroups",
-        ],
-    )
+    match unknown_key(tree.get(INFO).and_then(Value::as_object), &INFO_MEMBERS) {
+        Some(key) => Found::Within(key, "\"documentInfo\""),
+        None => Found::Nothing,
+    }
 }
 
 /// The first entry of `namespaces` that binds nothing.
-fn unbound(entries: Option<&Map<String, Value>>) -> Found<'_> {
+pub(crate) fn unbound(entries: Option<&Map<String, Value>>) -> Found<'_> {
     let Some(entries) = entries else {
         return Found::Nothing;
     };
@@ -101,26 +108,6 @@ fn is_white(byte: u8) -> bool {
 fn is_uri(value: &Value) -> bool {
     match value.as_str() {
         Some(text) => !text.is_empty(),
-        None => false,
-    }
-}
-
-/// The first reference that is no text or is too long; else all of them.
-fn lost_reference(tree: &Value) -> Found<'_> {
-    let taxonomy = info(tree, "taxonomy");
-    if let Some(references) = taxonomy.and_then(Value::as_array) {
-        for reference in references {
-            if !is_reference(reference) {
-                return Found::Value(reference);
-            }
-        }
-    }
-    Found::of(taxonomy)
-}
-
-fn is_reference(value: &Value) -> bool {
-    match value.as_str() {
-        Some(text) => text.len() <= MOST_BYTES,
         None => false,
     }
 }

@@ -3,7 +3,7 @@ use super::found_in_document::is_no_object;
 use super::named_in_fact::{Names, found_name, misfit, unknown_dimension};
 use oim_names::Reason;
 use serde_json::Value;
-use std::alloc::AllocError;
+use std::alloc::{AllocError, Global};
 
 const CORE: [&str; 6] = ["concept", "entity", "period", "unit", "language", "noteId"];
 
@@ -11,18 +11,19 @@ const CORE: [&str; 6] = ["concept", "entity", "period", "unit", "language", "not
 ///
 /// Errors: want of memory.
 pub(crate) fn found_in_fact<'a>(
+    alloc: Global,
     names: &Names<'_>,
     object: &'a Value,
     reason: Reason,
 ) -> Result<Found<'a>, AllocError> {
     Ok(match reason {
         Reason::MemberForm => Found::Words(misshapen(object)),
-        Reason::UnknownMember => Found::of_text(unknown(object)),
+        Reason::UnknownMember => unknown(object),
         Reason::NameForm | Reason::UnboundPrefix | Reason::ReservedNamespace => {
             found_name(names, object, reason)?
         }
         Reason::UnknownDimension => unknown_dimension(names, object)?,
-        Reason::DimensionValue => misfit(names, object)?,
+        Reason::DimensionValue => misfit(alloc, names, object)?,
         _ => found_at(object, reason),
     })
 }
@@ -41,12 +42,21 @@ fn found_at(object: &Value, reason: Reason) -> Found<'_> {
         Reason::PeriodForm | Reason::PeriodOrder => dimension(object, "period"),
         Reason::UnitForm | Reason::UnitOnOther => dimension(object, "unit"),
         Reason::LanguageForm | Reason::LanguageOnNumeric => dimension(object, "language"),
-        Reason::ValueForm | Reason::NumberForm | Reason::NumberDigits => object.get("value"),
+        Reason::ValueForm | Reason::NumberForm | Reason::NumberDigits => spelled(object, "value"),
         Reason::DecimalsForm | Reason::DecimalsRange | Reason::DecimalsOnOther => {
-            object.get("decimals")
+            spelled(object, "decimals")
         }
         _ => None,
     })
+}
+
+/// The member of a fact at a key, but for a number that is no whole one: as it was read, it would be
+/// shown otherwise than it stands in the file.
+fn spelled<'a>(object: &'a Value, key: &str) -> Option<&'a Value> {
+    match object.get(key) {
+        Some(value) if value.is_f64() => None,
+        value => value,
+    }
 }
 
 fn misshapen(object: &Value) -> &'static str {
@@ -88,16 +98,14 @@ fn is_no_text(value: Option<&Value>) -> bool {
     }
 }
 
-fn unknown(object: &Value) -> Option<&str> {
-    let of_fact = unknown_key(
-        object.as_object(),
-        &["value", "decimals", "dimensions", "links"],
-    );
-    if of_fact.is_some() {
-        return of_fact;
+fn unknown(object: &Value) -> Found<'_> {
+    let known = ["value", "decimals", "dimensions", "links"];
+    if let Some(key) = unknown_key(object.as_object(), &known) {
+        return Found::Text(key);
     }
-    unknown_key(
-        object.get("dimensions").and_then(Value::as_object),
-        CORE.as_slice(),
-    )
+    let dimensions = object.get("dimensions").and_then(Value::as_object);
+    match unknown_key(dimensions, CORE.as_slice()) {
+        Some(key) => Found::Within(key, "\"dimensions\""),
+        None => Found::Nothing,
+    }
 }

@@ -5,12 +5,18 @@
 mod apart;
 mod escaped;
 mod explained;
+mod explained_sheet;
 mod file_kind;
 mod found;
 mod found_in_document;
 mod found_in_fact;
+mod found_in_sheet;
+mod found_reference;
+mod named;
 mod named_in_fact;
 mod repeated;
 mod sentence;
 
-pub use explained::{Explained, explain, explain_sheet};
+pub use escaped::Escaped;
+pub use explained::{Explained, explain};
+pub use explained_sheet::{explain_repeated, explain_sheet};

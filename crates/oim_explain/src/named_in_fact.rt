@@ -1,10 +1,11 @@
 use super::found::Found;
 use super::found_in_fact::dimension;
+use super::named::two_of_one_name;
 use oim_dims::is_unit_text;
 use oim_names::{Aliases, Name, Reason};
 use oim_report::{ConceptKind, DimensionKind, Sheet};
-use serde_json::Value;
-use std::alloc::AllocError;
+use serde_json::{Map, Value};
+use std::alloc::{AllocError, Global};
 
 /// What the names of a report stand for.
 #[derive(Clone, Copy)]
@@ -79,7 +80,7 @@ pub(crate) fn found_name<'a>(
     }
     if let Some(text) = dimension(object, "entity").and_then(Value::as_str) {
         if names.aliases.entity_refusal(text) == Some(reason) {
-            return Ok(Found::Text(text));
+            return Ok(Found::Entity(text));
         }
     }
     if let Some(text) = found_in_defined(names, object, reason)? {
@@ -152,10 +153,14 @@ pub(crate) fn unknown_dimension<'a>(
     Ok(Found::Nothing)
 }
 
-/// The first dimension with a value that is none of its kind.
+/// The first dimension with a value that is none of its kind; else two keys of one dimension.
 ///
 /// Errors: want of memory.
-pub(crate) fn misfit<'a>(names: &Names<'_>, object: &'a Value) -> Result<Found<'a>, AllocError> {
+pub(crate) fn misfit<'a>(
+    alloc: Global,
+    names: &Names<'_>,
+    object: &'a Value,
+) -> Result<Found<'a>, AllocError> {
     let Some(members) = object.get("dimensions").and_then(Value::as_object) else {
         return Ok(Found::Nothing);
     };
@@ -169,5 +174,19 @@ pub(crate) fn misfit<'a>(names: &Names<'_>, object: &'a Value) -> Result<Found<'
             return Ok(Found::Member(key.as_str(), value));
         }
     }
-    Ok(Found::Nothing)
+    Ok(Found::of_two(two_keys(alloc, names, members)?))
+}
+
+/// Two keys of one dimension.
+fn two_keys<'a>(
+    alloc: Global,
+    names: &Names<'_>,
+    members: &'a Map<String, Value>,
+) -> Result<Option<(&'a str, &'a str)>, AllocError> {
+    let mut keys: Vec<(&'a str, &'a str)> = Vec::new(alloc);
+    for (key, _value) in members.iter() {
+        // no two keys are the same, so that each may stand for its kind
+        keys.push((key.as_str(), key.as_str()))?;
+    }
+    two_of_one_name(alloc, names.aliases, keys.as_slice())
 }

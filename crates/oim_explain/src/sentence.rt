@@ -20,13 +20,64 @@ fn around(before: &'static str, behind: &'static str, alone: &'static str) -> Se
 /// What is said of this reason.
 pub(crate) fn said_of(reason: Reason) -> Sentence {
     match reason {
-        Reason::NotJson => around("the file is no JSON text: ", "", "the file is no JSON text"),
+        Reason::NotJson => around(
+            "the file is no JSON text, or nests deeper than 127: ",
+            "",
+            "the file is no JSON text, or nests deeper than 127",
+        ),
         Reason::MemberForm => around("", "", "a member is missing, or has another kind of value"),
         Reason::UnknownMember => around(
             "the format has no member ",
             "",
             "a member is not of the format",
         ),
+        Reason::SheetKind => around(
+            "the entry ",
+            " of the sheet has an unknown kind: a concept is \"numeric\", \"text\" or \"name\", a \
+             dimension \"explicit\" or \"typed\"",
+            "an entry of the sheet has an unknown kind, or a name stands there with two kinds",
+        ),
+        Reason::DisallowedDuplicates => around(
+            "",
+            "",
+            "two facts have the same dimensions, and the report's own \"allowedDuplicates\" does not \
+             allow both",
+        ),
+        _ => of_info(reason),
+    }
+}
+
+/// What is said of two texts that do not go together.
+pub(crate) fn of_pair(reason: Reason) -> Sentence {
+    match reason {
+        Reason::DisallowedDuplicates => around(
+            "the facts ",
+            " have the same dimensions, and the report's own \"allowedDuplicates\" does not allow both",
+            "",
+        ),
+        Reason::SheetKind => around(
+            "the entries ",
+            " of the sheet are one name with two kinds",
+            "",
+        ),
+        _ => around("the keys ", " are one dimension", ""),
+    }
+}
+
+/// What is said of the text of an entity.
+pub(crate) fn of_entity(reason: Reason) -> Sentence {
+    match reason {
+        Reason::NameForm => around(
+            "",
+            " is no entity: that is a prefix, a colon and an identifier",
+            "",
+        ),
+        _ => said_of(reason),
+    }
+}
+
+fn of_info(reason: Reason) -> Sentence {
+    match reason {
         Reason::DocumentType => around(
             "the document type is ",
             ", but must be \"https://xbrl.org/2021/xbrl-json\"",
@@ -40,13 +91,13 @@ pub(crate) fn said_of(reason: Reason) -> Sentence {
         ),
         Reason::BaseUrl => around(
             "the \"baseURL\" ",
-            " is no http or https URL",
-            "\"baseURL\" is no http or https URL",
+            " is no http or https URL of at most 65,536 bytes",
+            "\"baseURL\" is no http or https URL of at most 65,536 bytes",
         ),
         Reason::TaxonomyUrl => around(
-            "a reference of \"taxonomy\" is no text, is too long, or is no http or https URL against \
-             \"baseURL\": ",
-            "",
+            "the reference ",
+            " of \"taxonomy\" is no text, has more than 65,536 bytes itself or as a URL, or is no http \
+             or https URL against \"baseURL\"",
             "a reference of \"taxonomy\" cannot be kept",
         ),
         Reason::Feature => around(
@@ -55,29 +106,16 @@ pub(crate) fn said_of(reason: Reason) -> Sentence {
             "",
             "\"allowedDuplicates\" must be \"none\", \"complete\", \"consistent\" or \"all\"",
         ),
-        Reason::DisallowedDuplicates => around(
-            "the facts ",
-            " have the same dimensions, and the report's own \"allowedDuplicates\" does not allow both",
-            "two facts have the same dimensions, and the report's own \"allowedDuplicates\" does not \
-             allow both",
-        ),
-        Reason::SheetKind => around(
-            "",
-            "",
-            "an entry of the sheet has an unknown kind, or a name stands there with two kinds",
-        ),
-        _ => of_fact(reason),
+        _ => of_name(reason),
     }
 }
 
-fn of_fact(reason: Reason) -> Sentence {
+fn of_name(reason: Reason) -> Sentence {
     match reason {
-        Reason::Links => around("the links ", " cannot be merged", "links cannot be merged"),
-        Reason::Notes => around("the note ", " cannot be merged", "a note cannot be merged"),
-        Reason::DimensionsMissing => around("", "", "the fact has no \"dimensions\""),
         Reason::NameForm => around(
             "",
-            " is no name: that is a prefix, a colon and a local part, without white space",
+            " is no name: that is a prefix, a colon and a local part, without white space and without a \
+             second colon",
             "a name has not the form of one",
         ),
         Reason::UnboundPrefix => around(
@@ -90,6 +128,15 @@ fn of_fact(reason: Reason) -> Sentence {
             " is bound to https://xbrl.org/2021, in which no fact has a name",
             "the prefix of a name is bound to https://xbrl.org/2021, in which no fact has a name",
         ),
+        _ => of_fact(reason),
+    }
+}
+
+fn of_fact(reason: Reason) -> Sentence {
+    match reason {
+        Reason::Links => around("the links ", " cannot be merged", "links cannot be merged"),
+        Reason::Notes => around("the note ", " cannot be merged", "a note cannot be merged"),
+        Reason::DimensionsMissing => around("", "", "the fact has no \"dimensions\""),
         Reason::MissingConcept => around(
             "",
             "",
@@ -108,17 +155,18 @@ fn of_fact(reason: Reason) -> Sentence {
         Reason::DimensionValue => around(
             "the dimension ",
             " has not the kind of value that the sheet gives it",
-            "a dimension stands twice, under two prefixes",
+            "two keys are one dimension, or a dimension has not the kind of value that the sheet gives it",
         ),
-        _ => of_value(reason),
+        _ => of_core(reason),
     }
 }
 
-fn of_value(reason: Reason) -> Sentence {
+fn of_core(reason: Reason) -> Sentence {
     match reason {
         Reason::PeriodForm => around(
             "the period ",
-            " is no date and time as 2024-12-31T00:00:00, nor two with / between them",
+            " is no date and time that exists, such as 2024-12-31T00:00:00, without zone and fraction \
+             of a second, nor two of these with / between them",
             "the period is no date and time",
         ),
         Reason::PeriodOrder => around(
@@ -128,7 +176,7 @@ fn of_value(reason: Reason) -> Sentence {
         ),
         Reason::UnitForm => around(
             "the unit ",
-            " is none as a:b, a:b*a:c or a:b/a:c",
+            " is no unit such as a:b, a:b*a:c or a:b/a:c",
             "the unit has not the form of one",
         ),
         Reason::UnitOnOther => around(
@@ -138,7 +186,7 @@ fn of_value(reason: Reason) -> Sentence {
         ),
         Reason::LanguageForm => around(
             "the language ",
-            " is none as en or de-AT",
+            " is no language such as en or de-AT",
             "the language has not the form of one",
         ),
         Reason::LanguageOnNumeric => around(
@@ -146,20 +194,21 @@ fn of_value(reason: Reason) -> Sentence {
             " must not be there: by the sheet, the values of the concept are numbers",
             "a language must not be there",
         ),
-        _ => of_number(reason),
+        _ => of_value(reason),
     }
 }
 
-fn of_number(reason: Reason) -> Sentence {
+fn of_value(reason: Reason) -> Sentence {
     match reason {
         Reason::ValueForm => around(
             "the value ",
             " is neither a text nor null: a number, too, stands in quotes",
-            "the value is neither a text nor null",
+            "the value is neither a text nor null: a number, too, stands in quotes",
         ),
         Reason::NumberForm => around(
             "the value ",
-            " is no number, and by the sheet the values of the concept are numbers",
+            " is no plain number such as -1234.5, without exponent, thousands separator or white space, \
+             and by the sheet the values of the concept are numbers",
             "the value is no number",
         ),
         Reason::NumberDigits => around(
@@ -170,7 +219,7 @@ fn of_number(reason: Reason) -> Sentence {
         Reason::DecimalsForm => around(
             "the decimals ",
             " are no whole number without quotes",
-            "the decimals are no whole number without quotes",
+            "the decimals are no whole number without quotes, point or exponent",
         ),
         Reason::DecimalsRange => around(
             "the decimals ",
@@ -180,7 +229,7 @@ fn of_number(reason: Reason) -> Sentence {
         Reason::DecimalsOnOther => around(
             "the decimals ",
             " must not be there: by the sheet, the values of the concept are no numbers",
-            "decimals must not be there",
+            "decimals must not be there: by the sheet, the values of the concept are no numbers",
         ),
         _ => around("", "", "memory was refused"),
     }

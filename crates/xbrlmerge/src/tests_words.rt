@@ -170,7 +170,7 @@ const ANSWERED: [(&str, &str); 17] = [
     ("verdicts --help", "Prints a verdict for each set"),
     ("help sources", "Tells which report says which fact"),
     ("help check", "Counts the facts of one report"),
-    ("help explain", "Tells everything that is wrong"),
+    ("help explain", "Tells what is wrong with reports"),
     ("check -h", "Counts the facts of one report"),
     ("help replay", "Runs a schedule"),
     ("replay --help", "Runs a schedule"),

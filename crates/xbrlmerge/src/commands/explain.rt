@@ -6,7 +6,7 @@ use crate::lines::put_text;
 use crate::progress::Progress;
 use crate::stop::Stop;
 use clap::{ArgMatches, Command};
-use oim_explain::{explain, explain_sheet};
+use oim_explain::{Explained, explain, explain_repeated, explain_sheet};
 use oim_merge::Fault;
 use oim_names::Reason;
 use oim_report::Sheet;
@@ -18,28 +18,29 @@ use std::rt::Files;
 /// The word of this command.
 pub(crate) const NAME: &str = "explain";
 
-const ABOUT: &str = "Tells everything that is wrong with reports, in plain words";
+const ABOUT: &str = "Tells what is wrong with reports, in plain words";
 
 const MORE: &str =
     "Each line describes one fault of one report: the file, the fact where it lies in one, the number
-and the name of the refusal, and what is wrong, with the text at fault up to 80 characters. Where
-the other commands tell a report's first fault, this one tells each: those of the document, or else
-those of its facts, or else that it repeats facts although it declares that it does not. Faults that
-only show once others are mended come then.
+and the name of the refusal, and what is wrong, with the text at fault. Of an identifier or a text
+at fault 80 characters are shown. Where the other commands tell a report's first fault, this one
+tells more: those of the document, or else those of its facts, or else that its duplicates go beyond
+what it declares. Of several names or members in one place with the same fault the first is told.
+Faults that only show once others are mended come then.
 
-It also tells each member that stands twice in the file, as a fact whose identifier another fact
-has: of these only the last one is read, here and by `merge`, which accepts such a report. Run
-`explain` first on files whose maker you do not know.
+It also tells each member that stands twice in a report or in the sheet, as a fact whose identifier
+another fact has: of these only the last one is read, here and by `merge`, which accepts such a
+file. Run `explain` first on files whose maker you do not know.
 
 The last line tells how many reports were read, how many of them have a fault, and how many
-faults they have.
+faults there are.
 
 Example:
   xbrlmerge explain --sheet examples/sheet.json examples/issuer.json examples/statfeed.json
 
 Status:
-  0  no report has a fault
-  1  a report has a fault
+  0  there is no fault
+  1  a report has a fault, or a member stands twice in the sheet
   3  not every report was read: invalid arguments, the sheet is refused, a file or a device
      failed, or out of memory";
 
@@ -79,8 +80,8 @@ impl<'w> Explain<'w> {
     ) -> Result<u64, Stop<'w>>
         requires { S.failures out.old < 2 ^ 64 - 1 }
     {
-        let sheet = self.read_sheet(alloc, files)?;
-        let told = put_each(alloc, &sheet, files, names, progress, out)?;
+        let bytes = read_file(alloc, files, self.sheet)?;
+        let told = self.put_under(alloc, bytes.as_bytes(), files, names, progress, out)?;
         let (reports, faulty, faults) = (names.len(), told.reports, told.faults);
         let line = format!(in alloc;
             "reports: {reports}, with faults: {faulty}, faults: {faults}\n"
@@ -89,23 +90,42 @@ impl<'w> Explain<'w> {
         Ok(faults)
     }
 
-    /// The sheet.
+    /// Puts the lines of the sheet with these bytes and of the reports of these names.
     ///
-    /// Errors: `Stop::File`; `Stop::Sheet` with what is said of it; want of memory.
-    fn read_sheet<F: Files>(&self, alloc: Global, files: &F) -> Result<Sheet, Stop<'w>> {
-        let bytes = read_file(alloc, files, self.sheet)?;
-        match Sheet::read(alloc, bytes.as_bytes()) {
+    /// Errors: `Stop::Report`, `Stop::Sheet`, want of memory, and `Fault::Device`.
+    fn put_under<F: Files, E: Write, S: Sink>(
+        &self,
+        alloc: Global,
+        bytes: &[u8],
+        files: &F,
+        names: &[&str],
+        progress: &mut Progress<E>,
+        out: &mut S,
+    ) -> Result<Told, Stop<'w>>
+        requires { S.failures out.old < 2 ^ 64 - 1 }
+        ensures { OnOk result (S.failures out.new ≡ S.failures out.old) }
+    {
+        let sheet = self.read_sheet(alloc, bytes)?;
+        let repeated = put_repeated(alloc, self.sheet, bytes, out)?;
+        put_each(alloc, &sheet, files, names, progress, out, repeated)
+    }
+
+    /// The sheet with these bytes.
+    ///
+    /// Errors: `Stop::Sheet` with what is said of it; want of memory.
+    fn read_sheet(&self, alloc: Global, bytes: &[u8]) -> Result<Sheet, Stop<'w>> {
+        match Sheet::read(alloc, bytes) {
             Ok(sheet) => Ok(sheet),
             Err(Reason::OutOfMemory) => Err(Stop::Run(Fault::OutOfMemory(0))),
             Err(reason) => {
-                let words = explain_sheet(alloc, self.sheet, bytes.as_bytes(), reason)?;
+                let words = explain_sheet(alloc, self.sheet, bytes, reason)?;
                 Err(Stop::Sheet(reason, words))
             }
         }
     }
 }
 
-/// How many reports have a fault, and how many faults they have.
+/// How many reports have a fault, and how many faults there are.
 #[derive(Clone, Copy)]
 struct Told {
     reports: u64,
@@ -122,8 +142,37 @@ impl Told {
     }
 }
 
+/// Puts a line for each member that stands twice in a sheet, and answers how many they are.
+///
+/// Errors: want of memory, and `Fault::Device`.
+fn put_repeated<S: Sink>(alloc: Global, name: &str, bytes: &[u8], out: &mut S) -> Result<u64, Fault>
+    requires { S.failures out.old < 2 ^ 64 - 1 }
+    ensures { OnOk result (S.failures out.new ≡ S.failures out.old) }
+{
+    put_explained(out, explain_repeated(alloc, name, bytes))
+}
+
+/// Puts lines on standard output, and answers how many they are.
+///
+/// Errors: want of memory, and `Fault::Device`.
+fn put_explained<S: Sink>(
+    out: &mut S,
+    explained: Result<Explained, AllocError>,
+) -> Result<u64, Fault>
+    requires { S.failures out.old < 2 ^ 64 - 1 }
+    ensures { OnOk result (S.failures out.new ≡ S.failures out.old) }
+{
+    match explained {
+        Ok(explained) => {
+            put_text(out, explained.text.as_str())?;
+            Ok(explained.faults)
+        }
+        Err(_) => Err(Fault::OutOfMemory(0)),
+    }
+}
+
 /// Reads the reports of these names, one after another, and puts the lines of each on standard
-/// output.
+/// output, after so many faults.
 ///
 /// Errors: `Stop::Report`, want of memory, and `Fault::Device`.
 fn put_each<F: Files, E: Write, S: Sink>(
@@ -133,21 +182,20 @@ fn put_each<F: Files, E: Write, S: Sink>(
     names: &[&str],
     progress: &mut Progress<E>,
     out: &mut S,
+    faults: u64,
 ) -> Result<Told, Stop<'static>>
     requires { S.failures out.old < 2 ^ 64 - 1 }
     ensures { OnOk result (S.failures out.new ≡ S.failures out.old) }
 {
-    let mut told = Told {
-        reports: 0,
-        faults: 0,
-    };
+    let mut told = Told { reports: 0, faults };
+    let mut bytes: u64 = 0;
     for (place, name) in names.iter().enumerate() {
-        progress.show(place, names.len(), 0);
-        let bytes = read_report(alloc, files, place, name);
+        progress.show(place, names.len(), bytes);
+        let read = read_report(alloc, files, place, name);
         progress.clear();
-        let explained = explain(alloc, sheet, name, bytes?.as_bytes())?;
-        put_text(out, explained.text.as_str())?;
-        told = told.with(explained.faults);
+        let report = read?;
+        bytes = bytes.saturating_add(report.as_bytes().len() as u64);
+        told = told.with(put_explained(out, explain(alloc, sheet, name, report.as_bytes()))?);
     }
     Ok(told)
 }

@@ -5,7 +5,7 @@ const UNBOUND: &[&str] = &[
     "reports: 2, with faults: 1, faults: 1\n",
 ];
 
-pub(super) const EXPLAINED: [Row; 7] = [
+pub(super) const EXPLAINED: [Row; 8] = [
     (
         "explain --sheet sheet",
         0,
@@ -34,7 +34,16 @@ pub(super) const EXPLAINED: [Row; 7] = [
         "explain --sheet 100 100",
         3,
         &[],
-        "sheet: 3 UnknownMember\n100: a member is not of the format; the file looks like a report, and no concept sheet\n",
+        "sheet: 3 UnknownMember\n100: the format has no member \"documentInfo\" in a concept sheet; the file looks like a report, and no concept sheet\n",
+    ),
+    (
+        "explain --sheet doubled 100",
+        1,
+        &[
+            "doubled: \"eg:A\" stands twice in \"concepts\", and only the last one is read\n",
+            "reports: 1, with faults: 0, faults: 1\n",
+        ],
+        "",
     ),
     ("explain --sheet sheet unbound -o said", 1, &[], ""),
 ];

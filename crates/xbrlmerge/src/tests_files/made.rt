@@ -10,8 +10,13 @@ const OTHER_INFO: &str =
     r#"{"documentInfo":{"documentType":"https://xbrl.org/2021/xbrl-json","namespaces":{"zz":"http://example.org/t"}},"facts":{"#;
 
 /// Each file's name and text, which is in two parts. `zz` says what `100` says, by another prefix.
-const FILES: [(&str, &str, &str); 21] = [
+const FILES: [(&str, &str, &str); 22] = [
     ("sheet", "", SHEET),
+    (
+        "doubled",
+        r#"{"namespaces":{"eg":"http://example.org/t"},"#,
+        r#""concepts":{"eg:A":"text","eg:A":"numeric"}}"#,
+    ),
     ("empty", "", ""),
     ("list", "", "[]"),
     ("names", "101\n", "\n100\n"),

@@ -1,0 +1,73 @@
+use super::found::Found;
+use super::found_in_document::info;
+use serde_json::Value;
+use std::alloc::{AllocError, Global};
+use url::{ParseError, ParseResult, Url};
+
+/// How many bytes a reference may have.
+const MOST_BYTES: usize = 65_536;
+
+/// The first reference of `taxonomy` that cannot be kept.
+///
+/// Errors: want of memory.
+pub(crate) fn lost_reference(alloc: Global, tree: &Value) -> Result<Found<'_>, AllocError> {
+    let base = base_of(alloc, tree)?;
+    if let Some(references) = info(tree, "taxonomy").and_then(Value::as_array) {
+        for reference in references {
+            if !is_kept(alloc, base.as_ref(), reference)? {
+                return Ok(Found::Value(reference));
+            }
+        }
+    }
+    Ok(Found::Nothing)
+}
+
+/// The URL that references are resolved against, where there is one and it is accepted.
+fn base_of(alloc: Global, tree: &Value) -> Result<Option<Url>, AllocError> {
+    match info(tree, "baseURL").and_then(Value::as_str) {
+        Some(text) if text.len() <= MOST_BYTES => {
+            Ok(read(Url::parse(alloc, text))?.filter(|url| is_web(url)))
+        }
+        _ => Ok(None),
+    }
+}
+
+/// What was read, or None where it is no URL.
+fn read(parsed: ParseResult<Url>) -> Result<Option<Url>, AllocError> {
+    match parsed {
+        Ok(url) => Ok(Some(url)),
+        Err(ParseError::OutOfMemory | ParseError::Overflow) => Err(AllocError),
+        Err(_) => Ok(None),
+    }
+}
+
+fn is_web(url: &Url) -> bool {
+    matches!(url.scheme(), "http" | "https")
+}
+
+/// Whether a reference is kept: one that is a URL by itself, or that is one of the web against the
+/// base, and each where there is no base.
+fn is_kept(alloc: Global, base: Option<&Url>, reference: &Value) -> Result<bool, AllocError> {
+    let Some(text) = reference.as_str() else {
+        return Ok(false);
+    };
+    if text.len() > MOST_BYTES {
+        return Ok(false);
+    }
+    match (read(Url::parse(alloc, text))?, base) {
+        (Some(url), _) => Ok(!is_web(&url) || is_short(&url)),
+        (None, None) => Ok(true),
+        (None, Some(base)) => is_kept_against(base, text),
+    }
+}
+
+fn is_kept_against(base: &Url, text: &str) -> Result<bool, AllocError> {
+    match read(base.join(text))? {
+        Some(url) => Ok(is_web(&url) && is_short(&url)),
+        None => Ok(false),
+    }
+}
+
+fn is_short(url: &Url) -> bool {
+    url.as_str().len() <= MOST_BYTES
+}

@@ -1,0 +1,56 @@
+use oim_names::{Aliases, Reason};
+use serde_json::Value;
+use std::alloc::{AllocError, Global};
+
+/// The prefixes of a document in whose `namespaces` no condition holds.
+///
+/// Errors: want of memory.
+pub(crate) fn read_aliases(
+    alloc: Global,
+    namespaces: Option<&Value>,
+) -> Result<Aliases, AllocError> {
+    let mut aliases = Aliases::new(alloc);
+    if let Some(entries) = namespaces.and_then(Value::as_object) {
+        for (prefix, uri) in entries.iter() {
+            let uri = uri.as_str().unwrap_or_default();
+            match aliases.add(prefix.as_str(), uri) {
+                Err(Reason::OutOfMemory) => return Err(AllocError),
+                _ => {}
+            }
+        }
+    }
+    Ok(aliases)
+}
+
+/// Of keys with their kinds, two that are one name and have two kinds: the first by their names.
+///
+/// Errors: want of memory.
+pub(crate) fn two_of_one_name<'a>(
+    alloc: Global,
+    aliases: &Aliases,
+    keys: &[(&'a str, &'a str)],
+) -> Result<Option<(&'a str, &'a str)>, AllocError> {
+    // sorted, so that many keys cost no more than their order
+    let mut named = Vec::with_capacity(alloc, keys.len())?;
+    for (place, (key, kind)) in keys.iter().enumerate() {
+        if let Ok((uri, local)) = aliases.resolve(key) {
+            named.push((uri, local, *kind, place))?;
+        }
+    }
+    named.sort_unstable();
+    let mut last: Option<(&str, &str, &str, usize)> = None;
+    for one in named {
+        if let Some(other) = last {
+            if other.0 == one.0 && other.1 == one.1 && other.2 != one.2 {
+                return Ok(two_at(keys, other.3.min(one.3), other.3.max(one.3)));
+            }
+        }
+        last = Some(one);
+    }
+    Ok(None)
+}
+
+/// The keys at two places.
+fn two_at<'a>(keys: &[(&'a str, &'a str)], one: usize, other: usize) -> Option<(&'a str, &'a str)> {
+    Some((keys.get(one)?.0, keys.get(other)?.0))
+}
