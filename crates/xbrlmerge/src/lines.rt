@@ -2,6 +2,7 @@ ghost use Rattle.std.specs.Prelude.{◌≡◌, ◌-◌, ◌^◌, ◌<◌, OnOk};
 
 use crate::files::STANDARD_INPUT;
 use crate::stop::Stop;
+use oim_explain::Escaped;
 use oim_merge::{Checked, Fault, ReadFault, Refusals};
 use oim_names::Reason;
 use oim_report::{Place, Refusal};
@@ -9,7 +10,8 @@ use oim_write::{Sink, put_all};
 use std::alloc::Global;
 use std::io::Write;
 
-// What is printed. On standard error a fault in writing is passed over.
+// What is printed. On standard error a fault in writing is passed over, and a file's name is escaped:
+// with a line end in it, it could feign a line of its own.
 
 /// Puts a text on standard output.
 ///
@@ -83,10 +85,10 @@ pub(crate) fn print_stop<E: Write>(err: &mut E, names: &[&str], stop: &Stop<'_>)
         }
         Stop::Input(fault) => print_read_fault(err, STANDARD_INPUT, *fault),
         Stop::NoNames(file) => {
-            let _ = writeln!(err, "file {file}: names no report");
+            let _ = writeln!(err, "file {}: names no report", Escaped(file));
         }
         Stop::Unwritten(file) => {
-            let _ = writeln!(err, "file {file}: cannot be written");
+            let _ = writeln!(err, "file {}: cannot be written", Escaped(file));
         }
         Stop::Event(line) => {
             let _ = writeln!(err, "event {line}: refused");
@@ -103,8 +105,8 @@ pub(crate) fn print_stop<E: Write>(err: &mut E, names: &[&str], stop: &Stop<'_>)
 pub(crate) fn print_read_fault<E: Write>(err: &mut E, file: &str, fault: ReadFault) {
     let _ = match fault {
         ReadFault::OutOfMemory => writeln!(err, "out of memory"),
-        ReadFault::Device(_) => writeln!(err, "file {file}: cannot be read"),
-        ReadFault::TooLong => writeln!(err, "file {file}: too long"),
+        ReadFault::Device(_) => writeln!(err, "file {}: cannot be read", Escaped(file)),
+        ReadFault::TooLong => writeln!(err, "file {}: too long", Escaped(file)),
     };
 }
 

@@ -240,7 +240,7 @@ pub(super) const LISTED: [Row; 8] = [
         "merge --sheet sheet --reports-from ended",
         3,
         &[],
-        "file 101\0100: cannot be read\n",
+        "file 101\\u0000100: cannot be read\n",
     ),
     (
         "verdicts --sheet sheet --reports-from none",
