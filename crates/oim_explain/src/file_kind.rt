@@ -46,7 +46,7 @@ fn kind_of_text(text: &str) -> Option<&'static str> {
         } else {
             Some("XML: another program has to write it as xBRL-JSON")
         }
-    } else if !text.starts_with('[') && is_row(line) {
+    } else if !text.starts_with(['[', '/']) && is_row(line) {
         Some("CSV: another program has to write it as xBRL-JSON")
     } else {
         None

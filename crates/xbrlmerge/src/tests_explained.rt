@@ -48,7 +48,11 @@ const DOCUMENTS: [Table<'static>; 2] = [
                 "\"concept\";\"value\"\n",
                 "r: 1 NotJson: the file is no JSON text, or nests deeper than 127: invalid JSON at line 1 column 10; the file looks like CSV: another program has to write it as xBRL-JSON\n",
             ),
-            // neither prose nor a part of JSON is CSV
+            // neither prose nor a part of JSON nor a comment before it is CSV
+            (
+                "//a,b\n{}",
+                "r: 1 NotJson: the file is no JSON text, or nests deeper than 127: invalid JSON at line 1 column 1\n",
+            ),
             (
                 "Dear reader, here is the report\n",
                 "r: 1 NotJson: the file is no JSON text, or nests deeper than 127: invalid JSON at line 1 column 1\n",
