@@ -15,6 +15,7 @@ mod Given
 pub mod Puts
 pub mod Pushes
 pub mod Stored
+pub mod Gathers
 pub mod Derived
 pub mod Walks
 pub mod Passed

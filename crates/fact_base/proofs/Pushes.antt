@@ -2,12 +2,13 @@
 use Rattle.std.proofs.Common.{◌≡◌, ℕ, zero, suc, ◌<◌, ◌+◌, length, get_or, set, false, List, [], ◌∷◌, ◌++◌, refl, sym, ap, subst, ◌∙◌, arith, Some, slice_get}
 use mathlib.Core.Bool.{true≢false}
 use Rattle.std.specs.List.{All, AllByRecursion}
-use Rattle.std.specs.List.Sorted.{IsStrictlySortedBy}
+use Rattle.std.specs.List.Sorted.{IsSorted, IsStrictlySortedBy}
 use Rattle.std.specs.Cmp.{tied_itself}
 use Rattle.std.specs.Option.{option_cmp}
 use Rattle.std.specs.Ordering.{is_eq, is_gt, is_lt, match_ordering, ordering_reverse, ordering_then}
 use Rattle.std.specs.declared.cmp.Ordering.{Ordering}
 use Rattle.std.specs.declared.cmp.Ordering.TheVariants.{Less, Equal, Greater}
+use Rattle.std.proofs.lemmas.List.{get_or_default}
 use Rattle.std.proofs.lemmas.Option.{slice_get-get_or}
 use Rattle.merge_laws.specs.Sorted.{IsRising, entry_key}
 use Rattle.merge_laws.specs.Union.{merged_entries}
@@ -135,3 +136,22 @@ none_reached facts places f within is k d low = absurd (omega (arith, low))
 pub next_reached : (facts : List Fact) (places : List ℕ) (i : ℕ) (f : Fact) (es : List Entry) → IsOrderOf facts places → i < length places → f ≡ get_or facts (get_or places i 0) f → Reached facts places i es → Reached facts places (i + 1) (with_fact f es)
 next_reached facts places i f es order within is reached g further there =
     none_above_next es f g (reached f within is) (dimensions_rise facts places i f g order further is there)
+
+-- ---- and in a list of facts that do not fall
+
+rise_in : (facts : List Fact) (i : ℕ) (f g : Fact) → IsSorted fact_cmp facts → i + 1 < length facts → f ≡ get_or facts i f → g ≡ get_or facts (i + 1) g → is_gt (dimensions_cmp f.dimensions g.dimensions) ≡ false
+rise_in facts i f g sorted within here there =
+    let next : get_or facts (i + 1) f ≡ g = get_or_default facts (i + 1) f g within ∙ sym there in
+    let ordered : is_lt (fact_cmp g f) ≡ false = (λ k. is_lt (fact_cmp (sym next k) (here k))) ∙ sorted i f (omega arith) within in
+    first_up (dimensions_cmp f.dimensions g.dimensions) (value_cmp f.value g.value) (ap is_gt (fact_cmp_total.antisymm f g) ∙ turned_up (fact_cmp g f) ordered)
+
+-- no entry is above the i-th fact, where there is one
+abbrev pub ReachedIn : List Fact → ℕ → List Entry → Type 0
+ReachedIn facts i es = (f : Fact) → i < length facts → f ≡ get_or facts i f → NoneAbove f.dimensions es
+
+pub none_reached_in : (facts : List Fact) → ReachedIn facts 0 []
+none_reached_in facts f within is k d low = absurd (omega (arith, low))
+
+pub next_reached_in : (facts : List Fact) (i : ℕ) (f : Fact) (es : List Entry) → IsSorted fact_cmp facts → i < length facts → f ≡ get_or facts i f → ReachedIn facts i es → ReachedIn facts (i + 1) (with_fact f es)
+next_reached_in facts i f es sorted within is reached g further there =
+    none_above_next es f g (reached f within is) (rise_in facts i f g sorted further is there)

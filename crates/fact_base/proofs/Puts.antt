@@ -115,7 +115,7 @@ from_place facts place f at = by_place (slice_get facts place) refl at
     by_place None is h = none_there f h
     by_place (Some g) is h = ⊎_elim (λ same. subst (Contains facts) same (place, slice_get_within facts place g is, get_or_from_slice_get facts place g g is)) (none_there f) (first_or_later g [] f h)
 
-all_of_order : (facts : List Fact) (places : List ℕ) → IsOrderOf facts places → (f : Fact) → Contains (facts_by facts places) f ↔ Contains facts f
+pub all_of_order : (facts : List Fact) (places : List ℕ) → IsOrderOf facts places → (f : Fact) → Contains (facts_by facts places) f ↔ Contains facts f
 all_of_order facts places order f =
     let some = in_flat_map (one_at facts) places f in (
       λ h. let one = some.0 h in from_place facts one.1 f one.4,

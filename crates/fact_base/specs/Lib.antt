@@ -3,6 +3,7 @@ pub mod BodyLaws
 pub mod Contents
 pub mod Entries
 pub mod Fits
+pub mod Gathered
 pub mod Judged
 pub mod Level
 pub mod Rows

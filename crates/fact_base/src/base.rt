@@ -1,12 +1,13 @@
 ghost use Rattle.std.specs.Prelude.{◌≡◌, ◌≢◌, ◌↔◌, [], ◌∷◌, length, is_some, IsTrue, IfSome, OnOk, OnErr};
 ghost use Rattle.fact_base.specs.Body.{body, union};
+ghost use Rattle.fact_base.specs.Entries.{AreStored, facts_of_entries};
 ghost use Rattle.fact_base.specs.Fits.{Fits};
 ghost use Rattle.fact_base.specs.Rows.{rows_of, values_at};
 ghost use Rattle.fact_base.specs.Shown.{rows_left};
 ghost use Rattle.fact_base.specs.Verdict.{IsEvidence, verdict};
 ghost use Rattle.oim_report.specs.Duplicates.{level_of};
 
-use crate::entries::{count_of, entries_from, entries_of, level_of, same_rows};
+use crate::entries::{Entries, count_of, entries_from, entries_of, level_of, same_rows};
 use crate::evidence::Evidence;
 use crate::judging::{evidence_of, verdict_of};
 use crate::references::{replace, with_all};
@@ -56,6 +57,24 @@ impl<'s> Base<'s> {
             sheet,
             entries: SortedMap::new(alloc),
             references: SortedSet::new(alloc),
+        }
+    }
+
+    /// What these entries and references say, which are those of reports read under the sheet.
+    pub(crate) fn of(
+        alloc: Global,
+        sheet: &'s Sheet,
+        entries: Entries,
+        references: SortedSet<Text>,
+    ) -> Base<'s>
+        requires { AreStored sheet.now entries references }
+        ensures { result ≡ record { sheet = sheet.now; body = record { facts = facts_of_entries entries; references = references } } }
+    {
+        Base {
+            alloc,
+            sheet,
+            entries,
+            references,
         }
     }
 

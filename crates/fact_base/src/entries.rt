@@ -1,11 +1,12 @@
 ghost use Rattle.std.specs.Prelude.{map, ◌≡◌, ◌↔◌, Some, length, IsTrue, IfOk, OnOk, slice_get};
 ghost use Rattle.std.specs.List.{All};
+ghost use Rattle.std.specs.List.Sorted.{IsSorted};
 ghost use Rattle.std.specs.Option.{option_map};
 ghost use Rattle.fact_base.specs.Entries.{AreEntriesOf, NoneAbove, entry_of, facts_of_entries, with_fact, with_value};
 ghost use Rattle.fact_base.specs.Judged.{AreSummarised, level_at};
 ghost use Rattle.fact_base.specs.Shown.{row_of};
 ghost use Rattle.merge_laws.specs.Sorted.{IsRising, entry_key};
-ghost use Rattle.oim_dims.specs.FactOrder.{dimensions_cmp};
+ghost use Rattle.oim_dims.specs.FactOrder.{dimensions_cmp, fact_cmp};
 ghost use Rattle.oim_report.specs.Duplicates.{level_of};
 ghost use Rattle.oim_report.specs.Order.{IsOrderOf};
 
@@ -59,8 +60,8 @@ pub(crate) fn entries_from(
     Ok(SortedMap::of_rising(entries))
 }
 
-// The facts in room from which each can be taken away.
-fn given_of(alloc: Global, facts: Vec<Fact>) -> Result<Vec<Option<Fact>>, AllocError>
+/// The facts in room from which each can be taken away.
+pub(crate) fn given_of(alloc: Global, facts: Vec<Fact>) -> Result<Vec<Option<Fact>>, AllocError>
     ensures { IfOk result (λ given. given.items ≡ map Some facts.items) }
 {
     let mut given = Vec::with_capacity(alloc, facts.len())?;
@@ -68,6 +69,18 @@ fn given_of(alloc: Global, facts: Vec<Fact>) -> Result<Vec<Option<Fact>>, AllocE
         given.push(Some(fact))?;
     }
     Ok(given)
+}
+
+/// The same of facts that do not fall.
+pub(crate) fn entries_in_order(alloc: Global, facts: Vec<Fact>) -> Result<Entries, AllocError>
+    requires { IsSorted fact_cmp facts.items }
+    ensures { IfOk result (AreEntriesOf facts.items) }
+{
+    let mut entries = Vec::with_capacity(alloc, facts.len())?;
+    for fact in facts {
+        push_given(alloc, &mut entries, fact)?;
+    }
+    Ok(SortedMap::of_rising(entries))
 }
 
 // The same as `push` where the fact is given up.

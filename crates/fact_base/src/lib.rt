@@ -4,8 +4,10 @@
 mod base;
 mod entries;
 mod evidence;
+mod gathering;
 mod judging;
 pub mod laws;
+mod ordering;
 mod references;
 mod row;
 mod rows;
@@ -15,6 +17,7 @@ mod verdict;
 
 pub use base::Base;
 pub use evidence::Evidence;
+pub use gathering::Gathering;
 pub use row::Row;
 pub use rows::Rows;
 pub use verdict::Verdict;

@@ -35,7 +35,8 @@ fn set_of(alloc: Global, texts: &[Text]) -> Result<SortedSet<Text>, AllocError>
     Ok(SortedSet::of_rising(items))
 }
 
-fn copies_of(alloc: Global, texts: &[Text]) -> Result<Vec<Text>, AllocError>
+/// The texts once more.
+pub(crate) fn copies_of(alloc: Global, texts: &[Text]) -> Result<Vec<Text>, AllocError>
     ensures { IfOk result (λ copies. copies.items ≡ texts.now) }
 {
     let mut copies = Vec::with_capacity(alloc, texts.len())?;

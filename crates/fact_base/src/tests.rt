@@ -1,4 +1,5 @@
 mod bases;
+mod gathered;
 mod many;
 mod many_refused;
 mod pairs;

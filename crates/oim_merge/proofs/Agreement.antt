@@ -8,7 +8,7 @@ use Rattle.oim_report.specs.Sheet.{Sheet}
 use Rattle.oim_report.specs.declared.refusal.Refusal.{Refusal}
 use Rattle.fact_base.specs.Body.{body, union}
 use Rattle.fact_base.specs.Contents.{Contents}
-use Rattle.oim_merge.specs.Gathered.{base_of}
+use Rattle.oim_merge.specs.Bases.{base_of}
 use Rattle.oim_merge.specs.History.{IsReadAsBody}
 use Rattle.oim_merge.specs.Reports.{document_in}
 use Rattle.oim_merge.specs.Replicas.{Agree, Numbers, ReplicasStay, WireAgrees, Writer, base_named, both, documents_named, earlier, joined_with, present, reached, report, text_by, text_chosen, wire, with_accepted, with_outcome}

@@ -1,4 +1,4 @@
-pub mod Gathered
+pub mod Bases
 pub mod Reports
 pub mod Bundles
 pub mod Evidenced

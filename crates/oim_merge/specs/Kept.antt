@@ -6,7 +6,7 @@ use Rattle.oim_report.specs.Outcome.{outcome}
 use Rattle.oim_report.specs.Sheet.{Sheet}
 use Rattle.oim_report.specs.declared.refusal.Refusal.{Refusal}
 use Rattle.fact_base.specs.Contents.{Contents}
-use Rattle.oim_merge.specs.Gathered.{base_of}
+use Rattle.oim_merge.specs.Bases.{base_of}
 use Rattle.oim_merge.specs.Replicas.{joined_with}
 
 -- what an outcome comes to: the base of its document, or the refusal

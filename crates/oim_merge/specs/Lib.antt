@@ -3,7 +3,7 @@ pub mod Reports
 pub mod Added
 pub mod Above
 pub mod Run
-pub mod Gathered
+pub mod Bases
 pub mod Lines
 pub mod Named
 pub mod Listing

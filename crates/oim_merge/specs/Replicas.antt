@@ -14,7 +14,7 @@ use Rattle.fact_base.specs.Rows.{values_at}
 use Rattle.fact_base.specs.Sets.{set_of}
 use Rattle.fact_base.specs.Verdict.{verdict}
 use Rattle.oim_write.specs.Bytes.{canonical, earlier as earlier_text}
-use Rattle.oim_merge.specs.Gathered.{base_of}
+use Rattle.oim_merge.specs.Bases.{base_of}
 use Rattle.oim_merge.specs.History.{IsReadAsBody}
 use Rattle.oim_merge.specs.Reports.{accepted}
 use Rattle.oim_merge.specs.Schedule.{Machine, NoneIsBad, World, numbered, world_after}

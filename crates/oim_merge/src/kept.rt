@@ -6,7 +6,7 @@ ghost use Rattle.oim_merge.specs.Kept.{AreKept, read_as, with_read};
 ghost use Rattle.oim_merge.specs.Replicas.{joined_with, with_outcome};
 
 use crate::reading::read;
-use fact_base::Base;
+use fact_base::{Base, Gathering};
 use oim_report::{Refusal, Sheet};
 use oim_write::Encoded;
 use std::alloc::{AllocError, Global};
@@ -66,9 +66,9 @@ fn read_base<'s>(
 {
     match read(alloc, sheet, bytes)? {
         Ok(report) => {
-            let mut base = Base::new(alloc, sheet);
-            base.absorb_report(report)?;
-            Ok(Ok(base))
+            let mut gathered = Gathering::new(alloc, sheet);
+            gathered.add(report)?;
+            Ok(Ok(gathered.into_base()?))
         }
         Err(refusal) => Ok(Err(refusal)),
     }

@@ -21,7 +21,6 @@ mod events_reader;
 mod expecting;
 mod fact_list;
 mod fault;
-mod gathering;
 mod kept;
 pub mod laws;
 mod line_cut;

@@ -1,5 +1,5 @@
 ghost use Rattle.std.specs.Prelude.{◌≡◌, IfOk};
-ghost use Rattle.oim_merge.specs.Gathered.{base_of};
+ghost use Rattle.oim_merge.specs.Bases.{base_of};
 ghost use Rattle.oim_merge.specs.Reports.{accepted, refused};
 
 use crate::merging::Consolidation;

@@ -5,12 +5,11 @@ ghost use Rattle.oim_merge.specs.Run.{Stops, Writes, failures_after_run};
 
 use crate::consolidation::write_within;
 use crate::fault::Fault;
-use crate::gathering::{join_all, take};
 use crate::listing::write_verdicts;
 use crate::merged::Merged;
 use crate::reading::read;
 use crate::refusals::Refusals;
-use fact_base::Base;
+use fact_base::Gathering;
 use oim_report::Sheet;
 use oim_value::Level;
 use oim_write::{Encoded, Sink};
@@ -24,29 +23,21 @@ use std::mem;
 #[derive(Drop)]
 pub struct Consolidation<'s> {
     alloc: Global,
-    sheet: &'s Sheet,
-    // those that take no more reports
-    bases: Vec<Base<'s>>,
-    // the one that takes the next report, where it is not much larger
-    last: Base<'s>,
+    gathered: Gathering<'s>,
     refusals: Refusals,
     reports: u64,
 }
 
 impl<'s> Model for Consolidation<'s> {
-    ghost use Rattle.std.specs.Prelude.{[], ◌∷◌, ◌++◌};
     ghost use Rattle.std.specs.Coded.{codes};
     ghost use Rattle.oim_report.specs.SheetCode.{sheet_code};
     ghost use Rattle.oim_merge.specs.Added.{Added};
-    ghost use Rattle.oim_merge.specs.Gathered.{AreBases, body_in};
 
     ghost Value = { Added };
 
     ghost coded = { Prim.hlevel (codes, sheet_code) };
 
-    ghost view = { λ c. record { sheet = c.sheet.now; body = body_in (c.bases.items ++ c.last ∷ []); refusals = c.refusals; reports = c.reports } };
-
-    ghost invariant = { λ c. AreBases c.sheet.now (c.bases.items ++ c.last ∷ []) };
+    ghost view = { λ c. record { sheet = c.gathered.sheet; body = c.gathered.body; refusals = c.refusals; reports = c.reports } };
 }
 
 impl<'s> Consolidation<'s> {
@@ -57,9 +48,7 @@ impl<'s> Consolidation<'s> {
     {
         Consolidation {
             alloc,
-            sheet,
-            bases: Vec::new(alloc),
-            last: Base::new(alloc, sheet),
+            gathered: Gathering::new(alloc, sheet),
             refusals: Refusals::new(alloc),
             reports: 0,
         }
@@ -89,9 +78,10 @@ impl<'s> Consolidation<'s> {
         ensures ok { OnOk result (self.new ≡ with_report self.old bytes.now) }
         ensures err { OnErr result (self.new ≡ self.old) }
     {
+        self.gathered.known();
         let number = self.reports + 1;
-        match read(self.alloc, self.sheet, bytes)? {
-            Ok(report) => take(self.alloc, &mut self.bases, &mut self.last, report)?,
+        match read(self.alloc, self.gathered.sheet(), bytes)? {
+            Ok(report) => self.gathered.add(report)?,
             Err(refusal) => self.refusals.push(number, refusal)?,
         }
         self.reports = number;
@@ -170,20 +160,18 @@ impl<'s> Consolidation<'s> {
         written
     }
 
-    /// Joins all that came.
+    /// Makes a base of all that came.
     pub(crate) fn into_merged(self) -> Result<Merged<'s>, AllocError>
         ensures base { IfOk result
             (λ merged. merged.base ≡ record { sheet = self.entry.sheet; body = self.entry.body }) }
         ensures refusals { IfOk result (λ merged. merged.refusals ≡ self.entry.refusals) }
     {
         let Consolidation {
-            alloc,
-            bases,
-            last,
+            gathered,
             refusals,
             ..
         } = self;
-        let base = join_all(alloc, bases, last)?;
+        let base = gathered.into_base()?;
         Ok(Merged { base, refusals })
     }
 }

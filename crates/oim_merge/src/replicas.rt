@@ -1,6 +1,6 @@
 ghost use Rattle.std.specs.Prelude.{◌≡◌, ◌<◌, false, IsTrue, ◌↔◌, ◌++◌, [], length, slice_set, IfOk, OnOk};
 ghost use Rattle.std.specs.List.{All, slice_index_or};
-ghost use Rattle.oim_merge.specs.Gathered.{base_of};
+ghost use Rattle.oim_merge.specs.Bases.{base_of};
 ghost use Rattle.oim_merge.specs.Held.{KeepReadings, sent_texts, world_in};
 ghost use Rattle.oim_merge.specs.Replay.{refused_by};
 ghost use Rattle.oim_merge.specs.Replicas.{joined_with, wire};

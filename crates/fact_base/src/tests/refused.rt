@@ -1,5 +1,5 @@
 use super::{read, read_sheet, tell_refused};
-use crate::Base;
+use crate::{Base, Gathering};
 use oim_report::{Report, Sheet};
 
 // A report of a number and a reference.
@@ -189,4 +189,75 @@ fn a_refused_base_leaves_the_one_that_joins_it(rt: HostRuntime) {
 #[test]
 fn a_refused_base_leaves_the_one_that_absorbs_it(rt: HostRuntime) {
     assert!(rt; gets_both(&rt, Way::Absorb));
+}
+
+// Adds a report of this text, and answers whether it did; where a request is refused, it is lost.
+fn gather(rt: &HostRuntime, gathered: &mut Gathering<'_>, text: &str) -> Option<bool> {
+    let report = read(rt, gathered.sheet(), text)?;
+    if !gathered.sheet().same_as(report.sheet()) {
+        return None;
+    }
+    Some(gathered.add(report).is_ok())
+}
+
+// Whether what was gathered becomes a base with what both reports say, where no request is refused.
+fn becomes_both(rt: &HostRuntime, gathered: Gathering<'_>) -> bool {
+    match gathered.into_base() {
+        Ok(base) => has_both(&base),
+        Err(_) => {
+            tell_refused(rt);
+            true
+        }
+    }
+}
+
+// Whether what was gathered is that of a base.
+fn is_as_before(gathered: Gathering<'_>, before: &Base<'_>) -> bool {
+    match gathered.into_base() {
+        Ok(base) => base.same_as(before),
+        Err(_) => false,
+    }
+}
+
+// Whether what was gathered of the first report gains what the other says, or is as before.
+fn gains(rt: &HostRuntime, mut gathered: Gathering<'_>, before: &Base<'_>) -> bool {
+    match gather(rt, &mut gathered, ADDED) {
+        Some(true) => becomes_both(rt, gathered),
+        Some(false) => {
+            tell_refused(rt);
+            is_as_before(gathered, before)
+        }
+        None => false,
+    }
+}
+
+// The same again where the first report is refused.
+fn gathers_both(rt: &HostRuntime, before: &Base<'_>) -> bool {
+    let mut gathered = Gathering::new(rt.alloc(), before.sheet());
+    match gather(rt, &mut gathered, BEFORE) {
+        Some(true) => gains(rt, gathered, before),
+        Some(false) => {
+            tell_refused(rt);
+            gather(rt, &mut gathered, BEFORE) == Some(true) && is_as_before(gathered, before)
+        }
+        None => false,
+    }
+}
+
+fn gathers_both_under(rt: &HostRuntime, sheet: &Sheet) -> bool {
+    match read(rt, sheet, BEFORE) {
+        Some(first) => match base_of(rt, &first) {
+            Some(before) => gathers_both(rt, &before),
+            None => false,
+        },
+        None => false,
+    }
+}
+
+#[test]
+fn a_refused_report_leaves_what_was_gathered(rt: HostRuntime) {
+    match read_sheet(&rt) {
+        Ok(sheet) => assert!(rt; gathers_both_under(&rt, &sheet)),
+        Err(_) => assert!(rt; false),
+    }
 }

@@ -30,7 +30,7 @@ evidence. The line is one of
   FIRST LAST    its first and its last fact, by their identifiers in that text
   complete      the row has one fact: all who report it agree exactly
   consistent    it has several, numbers that agree within rounding
-  LOW HIGH      the ends of what all these intervals have in common
+  LOW HIGH      the ends of what the rounding intervals of all its facts share
   inconsistent  it has facts that contradict each other
   I J           two of these
 

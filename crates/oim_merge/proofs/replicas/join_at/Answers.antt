@@ -1,5 +1,5 @@
 use Rattle.std.proofs.Common.{◌∙◌, []}
-use Rattle.oim_merge.specs.Gathered.{base_of}
+use Rattle.oim_merge.specs.Bases.{base_of}
 use Rattle.oim_merge.proofs.Steps.{joins_itself, joins_other, read_default}
 use Rattle.oim_merge.proofs.replicas.join_at.Goals as goal
 

@@ -1,47 +1,29 @@
-use Rattle.std.proofs.Common.{◌≡◌, ◌+◌, [], ◌∷◌, ◌++◌, Ok, Err, sym, ap, subst, ◌∙◌}
+use Rattle.std.proofs.Common.{◌≡◌, ◌+◌, [], ◌∷◌, Ok, Err, refl, sym, ap, ◌∙◌}
 use Rattle.oim_report.specs.Outcome.{outcome}
+use Rattle.fact_base.specs.Body.{body, union}
+use Rattle.fact_base.specs.Contents.{Contents}
+use Rattle.fact_base.proofs.Gathers.{with_nothing}
 use Rattle.oim_merge.specs.Added.{with_report}
-use Rattle.oim_merge.proofs.Gathered.{Took, last_sheet, nothing_more, took_all, took_body}
 use Rattle.oim_merge.proofs.Reports.{accepted_step, refused_step}
 use Rattle.oim_merge.proofs.merging.Consolidation.add.Goals as goal
-use Rattle.oim_merge.proofs.merging.Consolidation.add.Goals.{in-Ok+in_ok-take-in-Ok, in-Err+in_ok-push-in-Err}
-
-pub take-requires : goal.take-requires
-take-requires c =
-    let inside = c.self.inside in
-    let read = rw c.in-Ok.is at c.in_ok-report.ensures in
-    read.1 ∙ sym (last_sheet inside.sheet.now inside.bases.items inside.last c.self.invariant)
-
-pub invariant_of-self-2 : goal.invariant_of-self-2
-invariant_of-self-2 c =
-    let inside = c.self.inside in
-    let all = inside.bases.items ++ inside.last ∷ [] in
-    let same = last_sheet inside.sheet.now inside.bases.items inside.last c.self.invariant in
-    elim c.match-branch-2.branch [
-      | in-Ok+in_ok-take-in-Ok w ↦
-          let new = w.take.new.bases.items ++ w.take.new.last ∷ [] in
-          let further = w.in-Ok.report.document ∷ [] in
-          let took : Took inside.sheet.now further all new = subst (λ s. Took s further all new) same w.in_ok-take-in-Ok.ensures.ok in
-          rw w.self-inside-is (took_all inside.sheet.now further all new c.self.invariant took)
-      | in-Err+in_ok-push-in-Err w ↦ rw w.self-inside-is c.self.invariant
-    ]
+use Rattle.oim_merge.proofs.merging.Consolidation.add.Goals.{in-Ok+in_ok-add-in-Ok, in-Err+in_ok-push-in-Err}
 
 pub returns-clause-ok : goal.returns-clause-ok
 returns-clause-ok c =
     let inside = c.self.inside in
     let bytes = c.args.bytes.now in
-    let all = inside.bases.items ++ inside.last ∷ [] in
-    let same = last_sheet inside.sheet.now inside.bases.items inside.last c.self.invariant in
+    let old = inside.gathered.body in
+    let under = ap (λ s. outcome s bytes) (sym c.sheet.ensures) in
     elim c.match-branch-2.branch [
-      | in-Ok+in_ok-take-in-Ok w ↦
-          let new = w.take.new.bases.items ++ w.take.new.last ∷ [] in
+      | in-Ok+in_ok-add-in-Ok w ↦
           let d = w.in-Ok.report.document in
-          let took : Took inside.sheet.now (d ∷ []) all new = subst (λ s. Took s (d ∷ []) all new) same w.in_ok-take-in-Ok.ensures.ok in
-          let read : outcome inside.sheet.now bytes ≡ Ok d = (rw w.in-Ok.is at c.in_ok-report.ensures).0 in
+          let read : outcome inside.gathered.sheet bytes ≡ Ok d = under ∙ (rw w.in-Ok.is at c.in_ok-report.ensures).0 in
+          let added : w.add.new.self ≡ record { sheet = inside.gathered.sheet; body = union old (body (d ∷ [])) } = w.in_ok-add-in-Ok.ensures.ok in
           rw w.self-inside-is
-          (accepted_step inside.sheet.now bytes d _ _ inside.refusals inside.reports read (took_body inside.sheet.now (d ∷ []) all new c.self.invariant took) ∙ ap (λ a. with_report a bytes) c.self.view_is)
+          ((λ i. record { sheet = (added i).sheet; body = (added i).body; refusals = inside.refusals; reports = inside.reports + 1 })
+          ∙ accepted_step inside.gathered.sheet bytes d old (union old (body (d ∷ []))) inside.refusals inside.reports read refl ∙ ap (λ a. with_report a bytes) c.self.view_is)
       | in-Err+in_ok-push-in-Err w ↦
-          let read : outcome inside.sheet.now bytes ≡ Err w.in-Err.refusal = rw w.in-Err.is at c.in_ok-report.ensures in
+          let read : outcome inside.gathered.sheet bytes ≡ Err w.in-Err.refusal = under ∙ (rw w.in-Err.is at c.in_ok-report.ensures) in
           rw w.self-inside-is
-          (refused_step inside.sheet.now bytes w.in-Err.refusal _ inside.refusals w.push.new.self inside.reports read (nothing_more inside.sheet.now all c.self.invariant) w.in_ok-push-in-Err.ensures.ok ∙ ap (λ a. with_report a bytes) c.self.view_is)
+          (refused_step inside.gathered.sheet bytes w.in-Err.refusal old inside.refusals w.push.new.self inside.reports read (with_nothing old c.known.ensures.rises) w.in_ok-push-in-Err.ensures.ok ∙ ap (λ a. with_report a bytes) c.self.view_is)
     ]

@@ -1,8 +1,5 @@
-use Rattle.std.proofs.Common.{[], ◌∷◌, ◌++◌, refl, sym, ◌∙◌}
-use Rattle.fact_base.proofs.Bodies.{body_of_both}
-use Rattle.oim_merge.specs.Gathered.{body_in}
-use Rattle.oim_merge.proofs.Reports.{same_added}
+use Rattle.std.proofs.Common.{refl}
 use Rattle.oim_merge.proofs.merging.Consolidation.new.Goals as goal
 
 pub returns : goal.returns
-returns c = same_added ((λ i. body_in (c.new.ensures.items i ++ c.new-2.ensures i ∷ [])) ∙ sym (body_of_both [] [])) c.new-3.ensures refl
+returns c = λ i. record { sheet = (c.new.ensures i).sheet; body = (c.new.ensures i).body; refusals = c.new-2.ensures i; reports = 0 }

@@ -1,5 +1,5 @@
 use Rattle.std.proofs.Common.{◌≡◌, [], replicate}
-use Rattle.oim_merge.specs.Gathered.{base_of}
+use Rattle.oim_merge.specs.Bases.{base_of}
 use Rattle.oim_merge.proofs.replicas.Replicas.new.Given as goal
 
 abbrev pub invariant-loop-made : goal.invariant-loop-made

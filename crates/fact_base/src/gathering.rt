@@ -1,0 +1,207 @@
+ghost use Rattle.std.specs.Prelude.{◌≡◌, ◌+◌, ◌-◌, ◌^◌, [], ◌∷◌, length, min, IfOk, OnOk, OnErr};
+ghost use Rattle.fact_base.specs.Body.{body, union};
+ghost use Rattle.fact_base.specs.Fits.{Fits};
+ghost use Rattle.fact_base.specs.Gathered.{gathered};
+
+use crate::base::Base;
+use crate::entries::entries_in_order;
+use crate::ordering::{in_order, put_in_order, settle};
+use crate::references::copies_of;
+use merge_laws::SortedSet;
+use oim_dims::Fact;
+use oim_names::Text;
+use oim_report::{Report, Sheet};
+use std::alloc::{AllocError, Global};
+use std::marker::Model;
+
+/// What reports say in all, on its way into a base, so that a small report costs no walk over a large
+/// base. It borrows the sheet under which the reports are read.
+#[derive(Drop)]
+pub struct Gathering<'s> {
+    alloc: Global,
+    // what reports say that were not much smaller than it
+    base: Base<'s>,
+    // how many facts and references it has
+    size: u128,
+    // what the others say, in lists that are put in order, each item once, whenever they have doubled
+    facts: Vec<Fact>,
+    settled_facts: usize,
+    references: Vec<Text>,
+    settled_references: usize,
+}
+
+impl<'s> Model for Gathering<'s> {
+    ghost use Rattle.std.specs.Coded.{codes};
+    ghost use Rattle.oim_report.specs.SheetCode.{sheet_code};
+    ghost use Rattle.fact_base.specs.Body.{union};
+    ghost use Rattle.fact_base.specs.Contents.{Contents};
+    ghost use Rattle.fact_base.specs.Fits.{Fits};
+    ghost use Rattle.fact_base.specs.Gathered.{gathered};
+
+    ghost Value = { Contents };
+
+    ghost coded = { Prim.hlevel (codes, sheet_code) };
+
+    ghost view = { λ g. record { sheet = g.base.sheet; body = union g.base.body (gathered g.facts.items g.references.items) } };
+
+    ghost invariant = { λ g. Fits g.base.sheet (gathered g.facts.items g.references.items) };
+}
+
+impl<'s> Gathering<'s> {
+    /// Nothing yet. Later calls take their memory from `alloc`.
+    pub fn new(alloc: Global, sheet: &'s Sheet) -> Gathering<'s>
+        ensures { result ≡ record { sheet = sheet.now; body = body [] } }
+    {
+        Gathering {
+            alloc,
+            base: Base::new(alloc, sheet),
+            size: 0,
+            facts: Vec::new(alloc),
+            settled_facts: 0,
+            references: Vec::new(alloc),
+            settled_references: 0,
+        }
+    }
+
+    /// The sheet under which the reports are read.
+    pub fn sheet(&self) -> &'s Sheet
+        ensures { result.now ≡ self.now.sheet }
+    {
+        self.base.sheet()
+    }
+
+    /// Adds the facts and references of a report that was read under an equal sheet. The report is
+    /// given up: its facts are moved.
+    ///
+    /// Errors: want of memory; all is then as before, and the report is lost.
+    pub fn add(&mut self, report: Report<'_>) -> Result<(), AllocError>
+        requires { report.sheet ≡ self.old.sheet }
+        ensures ok { OnOk result (self.new ≡ record self.old { body = union self.old.body (body (report.entry.document ∷ [])) }) }
+        ensures err { OnErr result (self.new ≡ self.old) }
+    {
+        if self.size / 2 > size_of_report(&report) {
+            return self.gather(report);
+        }
+        self.absorb(report)
+    }
+
+    // Lets the base take a report.
+    fn absorb(&mut self, report: Report<'_>) -> Result<(), AllocError>
+        requires { report.sheet ≡ self.old.sheet }
+        ensures ok { OnOk result (self.new ≡ record self.old { body = union self.old.body (body (report.entry.document ∷ [])) }) }
+        ensures err { OnErr result (self.new ≡ self.old) }
+    {
+        self.base.absorb_report(report)?;
+        self.size = size_of(&self.base);
+        Ok(())
+    }
+
+    // Puts what a report says behind the lists.
+    fn gather(&mut self, report: Report<'_>) -> Result<(), AllocError>
+        requires { report.sheet ≡ self.old.sheet }
+        ensures ok { OnOk result (self.new ≡ record self.old { body = union self.old.body (body (report.entry.document ∷ [])) }) }
+        ensures err { OnErr result (self.new ≡ self.old) }
+    {
+        report.known();
+        self.settle()?;
+        let references = copies_of(self.alloc, report.taxonomy())?;
+        let (facts, order) = report.into_facts();
+        let facts = in_order(self.alloc, facts, order.as_slice())?;
+        self.append(facts, references)
+    }
+
+    // Puts in order what has doubled, which changes nothing that contracts see.
+    fn settle(&mut self) -> Result<(), AllocError>
+        ensures { self.new ≡ self.old }
+    {
+        settle(&mut self.facts, &mut self.settled_facts)?;
+        settle(&mut self.references, &mut self.settled_references)
+    }
+
+    // Moves all of them behind the lists.
+    fn append(&mut self, mut facts: Vec<Fact>, mut references: Vec<Text>) -> Result<(), AllocError>
+        requires { Fits self.old.sheet (gathered facts.items references.items) }
+        ensures ok { OnOk result (self.new ≡ record self.old { body = union self.old.body (gathered facts.items references.items) }) }
+        ensures err { OnErr result (self.new ≡ self.old) }
+    {
+        self.facts.reserve(facts.len())?;
+        self.references.append(&mut references)?;
+        // there is room, so that this is not refused
+        self.facts.append(&mut facts)
+    }
+
+    /// The base of what all of them say.
+    ///
+    /// Errors: want of memory; all is then lost.
+    pub fn into_base(self) -> Result<Base<'s>, AllocError>
+        ensures { IfOk result (λ base. base ≡ self.entry) }
+    {
+        let Gathering {
+            alloc,
+            base,
+            facts,
+            references,
+            ..
+        } = self;
+        base.known();
+        if facts.is_empty() && references.is_empty() {
+            return Ok(base);
+        }
+        let others = base_of(alloc, base.sheet(), facts, references)?;
+        joined(base, others)
+    }
+
+    /// Does nothing, and tells that each fact fits the sheet, each reference is its own kept text,
+    /// and both rise.
+    pub fn known(&self)
+        ensures { Fits self.now.sheet self.now.body }
+    {
+        self.base.known();
+    }
+}
+
+// How many facts and references there are; no more than fit the number.
+fn size_of(base: &Base<'_>) -> u128
+    ensures { result ≡ min (length base.now.body.facts + length base.now.body.references) (2 ^ 128 - 1) }
+{
+    let references = base.taxonomy().len() as u128;
+    base.fact_count().saturating_add(references)
+}
+
+// The same of a report.
+fn size_of_report(report: &Report<'_>) -> u128
+    ensures { result ≡ min (length report.now.document.facts + length report.now.document.references) (2 ^ 128 - 1) }
+{
+    let references = report.taxonomy().len() as u128;
+    (report.facts().len() as u128).saturating_add(references)
+}
+
+// The base of these facts and references, in whatever order they stand, and however often.
+fn base_of<'s>(
+    alloc: Global,
+    sheet: &'s Sheet,
+    mut facts: Vec<Fact>,
+    mut references: Vec<Text>,
+) -> Result<Base<'s>, AllocError>
+    requires { Fits sheet.now (gathered facts.items references.items) }
+    ensures { IfOk result (λ base. base ≡ record { sheet = sheet.now; body = gathered facts.items references.items }) }
+{
+    put_in_order(&mut references)?;
+    facts.sort()?;
+    let entries = entries_in_order(alloc, facts)?;
+    let references = SortedSet::of_rising(references);
+    Ok(Base::of(alloc, sheet, entries, references))
+}
+
+// What both bases say in one: the larger absorbs the other.
+fn joined<'s>(mut base: Base<'s>, mut other: Base<'s>) -> Result<Base<'s>, AllocError>
+    requires { base.sheet ≡ other.sheet }
+    ensures { IfOk result (λ both. both ≡ record { sheet = base.entry.sheet; body = union base.entry.body other.entry.body }) }
+{
+    if other.row_count() > base.row_count() {
+        other.absorb(base)?;
+        return Ok(other);
+    }
+    base.absorb(other)?;
+    Ok(base)
+}

@@ -1,0 +1,10 @@
+-- Bases by what they took (own).
+use Rattle.std.specs.Prelude.{List}
+use Rattle.oim_report.specs.Document.{Document}
+use Rattle.oim_report.specs.Sheet.{Sheet}
+use Rattle.fact_base.specs.Body.{body}
+use Rattle.fact_base.specs.Contents.{Contents}
+
+-- the base that took these documents
+abbrev pub base_of : Sheet → List Document → Contents
+base_of sheet docs = record { sheet = sheet; body = body docs }
