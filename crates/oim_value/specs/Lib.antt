@@ -3,6 +3,7 @@ pub mod Decimals
 pub mod Ends
 pub mod Interval
 pub mod Level
+pub mod Limits
 pub mod Meets
 pub mod Number
 pub mod Plain

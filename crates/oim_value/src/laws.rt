@@ -5,6 +5,7 @@ ghost use Rattle.oim_value.specs.Ends.{AllMeetIffEndsMeet, EndsAreCommonInterval
 ghost use Rattle.oim_value.specs.Interval.{CommonIsAssociative, CommonIsBoth, CommonIsCommutative, CommonIsIdempotent, HalfAfterPoint, HalfBeforePoint, IntervalHasNumber, IntervalHasPoints, MeetsByCommonPart, MeetsByCommonPoint, WithinIsNear};
 ghost use Rattle.oim_value.specs.declared.level.Level.{Level as SeenLevel};
 ghost use Rattle.oim_value.specs.Level.{LevelsStandApart, level_cmp};
+ghost use Rattle.oim_value.specs.Limits.{DecimalsAreInRange, DigitsAreFew, LimitsAre, OneIsUnits};
 ghost use Rattle.oim_value.specs.Meets.{MeetsIsReflexive, MeetsIsSymmetric};
 ghost use Rattle.oim_value.specs.Number.{DenotesOne, ShortIsKept};
 ghost use Rattle.oim_value.specs.Plain.{FittingIsWritable, PlainIsAscii, PlainIsOne, PlainIsPlain, PlainReadsBack, PlainTellsApart, ShortIsWritable};
@@ -15,6 +16,15 @@ ghost use Rattle.oim_value.specs.ValueOrder.{value_cmp};
 use crate::decimals::Decimals;
 use crate::level::Level;
 use crate::value::Value;
+
+/// At most 18 digits of a number count, the number 1 is 10^19 units, and finite decimals go from -18
+/// to 18.
+pub fn limits_are()
+    ensures constants { LimitsAre }
+    ensures digits { DigitsAreFew }
+    ensures units { OneIsUnits }
+    ensures decimals { DecimalsAreInRange }
+{}
 
 /// A text denotes one number at most.
 pub fn denotes_one()
