@@ -16,3 +16,4 @@ pub mod UnitText
 pub mod Orders
 pub mod ReadPeriods
 pub mod Languages
+pub mod FirstAndLast

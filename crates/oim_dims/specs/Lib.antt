@@ -6,3 +6,4 @@ pub mod Unit
 pub mod Ties
 pub mod DimensionSet
 pub mod FactOrder
+pub mod Limits

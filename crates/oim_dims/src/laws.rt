@@ -3,6 +3,7 @@ ghost use Rattle.std.specs.Cmp.{IsTotalOrder};
 ghost use Rattle.std.specs.declared.cmp.Ordering.TheVariants.{Equal};
 ghost use Rattle.oim_dims.specs.declared.fact.Fact.{Fact as AFact};
 ghost use Rattle.oim_dims.specs.Language.{LanguagesAreKept};
+ghost use Rattle.oim_dims.specs.Limits.{LimitsAre};
 ghost use Rattle.oim_dims.specs.Period.{PeriodsReadBack, ReadPeriodsArePeriods};
 ghost use Rattle.oim_dims.specs.Unit.{BindingsSpell, OthersAreRefused, TextsDenoteOneUnit, UnitsAreNotRefused, UnitsReadBack};
 ghost use Rattle.oim_dims.specs.DimensionSet.{DimensionSet, MembersGrow, NamesAreThere};
@@ -10,6 +11,12 @@ ghost use Rattle.oim_dims.specs.FactOrder.{dimensions_cmp, fact_cmp};
 
 use crate::dimensions::Dimensions;
 use crate::fact::Fact;
+
+/// A day has 86,400 seconds. Moments go from the second that begins the year 0001 to the last second of
+/// the year 9999.
+pub fn limits_are()
+    ensures { LimitsAre }
+{}
 
 /// The text of a period denotes that period.
 pub fn periods_read_back()

@@ -1,0 +1,11 @@
+-- The limits of moments (own): the constants of the code, by the date-times that they are.
+use Rattle.std.specs.Prelude.{◌≡◌, Some, None, codes}
+use Rattle.oim_dims.specs.declared.limits.TheConstants.{DAY_SECONDS, FIRST_MOMENT, LAST_MOMENT}
+use Rattle.oim_dims.specs.DateTime.{moment_of}
+
+-- a day has 86,400 seconds, the first moment begins the year 0001, and the last is the last second of the year 9999, whose end is none
+pub record LimitsAre : Type 0 where
+  pub day : DAY_SECONDS ≡ 86_400
+  pub first : moment_of (codes "0001-01-01T00:00:00") ≡ Some FIRST_MOMENT
+  pub last : moment_of (codes "9999-12-31T23:59:59") ≡ Some LAST_MOMENT
+  pub beyond : moment_of (codes "9999-12-31T24:00:00") ≡ None
