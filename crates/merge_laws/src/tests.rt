@@ -335,8 +335,30 @@ fn entries_that_are_there_already_change_nothing(rt: HostRuntime) -> Result<(), 
     Ok(())
 }
 
+// Whether sets of the same items are one, in whatever order and however often these were inserted.
+fn is_set_its_members(rt: &HostRuntime) -> Result<bool, AllocError> {
+    let first = set(rt, &["a", "b", "c"])?;
+    let second = set(rt, &["c", "a", "b", "a"])?;
+    Ok(first.is_same(&second))
+}
+
+// The same of maps with the same items at each key.
+fn is_map_its_values(rt: &HostRuntime) -> Result<bool, AllocError> {
+    let first = items_at(rt, &[("j", "c"), ("k", "a"), ("k", "b")])?;
+    let second = items_at(rt, &[("k", "b"), ("j", "c"), ("k", "a"), ("k", "b")])?;
+    Ok(first.is_same(&second))
+}
+
+// The same of summaries of the same numbers.
+fn is_summary_of_members(rt: &HostRuntime) -> Result<bool, AllocError> {
+    let first = both(rt, &both_rounded(rt)?, &rounded("101"))?;
+    let second = both(rt, &rounded("101"), &both_rounded(rt)?)?;
+    Ok(both(rt, &second, &rounded("102"))? == first)
+}
+
+// A law's own function does nothing. Each is called once, so that it is tried at a type of values.
 #[test]
-fn laws_hold(_rt: HostRuntime) {
+fn laws_hold(rt: HostRuntime) {
     laws::set_has_both::<Text>();
     laws::map_has_both::<Text, SortedSet<Text>>();
     laws::all_meet_iff_ends_meet();
@@ -345,4 +367,7 @@ fn laws_hold(_rt: HostRuntime) {
     laws::map_is_its_values::<Text, SortedSet<Text>>();
     laws::map_keeps_what_merging_keeps::<Text, SortedSet<Text>>();
     laws::summary_is_of_members();
+    assert!(rt; is_set_its_members(&rt) == Ok(true));
+    assert!(rt; is_map_its_values(&rt) == Ok(true));
+    assert!(rt; is_summary_of_members(&rt) == Ok(true));
 }
