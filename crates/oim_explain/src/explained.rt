@@ -26,6 +26,8 @@ pub struct Explained {
 /// no character of it turns or ends a terminal's line, and of no text in the file are more than 80
 /// characters shown.
 ///
+/// A file that is not JSON has one line, on that fault.
+///
 /// Errors: want of memory.
 pub fn explain(
     alloc: Global,
@@ -46,10 +48,25 @@ pub fn explain(
             found.as_slice(),
         )?;
     }
-    let repeated = Repeated::of(alloc, file.as_str(), Role::Report, bytes)?;
-    text.push_str(repeated.text.as_str())?;
-    let faults = (found.as_slice().len() as u64).saturating_add(repeated.count);
+    let mut faults = found.as_slice().len() as u64;
+    if !is_unread(found.as_slice()) {
+        let repeated = Repeated::of(alloc, file.as_str(), Role::Report, bytes)?;
+        text.push_str(repeated.text.as_str())?;
+        faults = faults.saturating_add(repeated.count);
+    }
     Ok(Explained { text, faults })
+}
+
+/// Whether the file is not JSON. Then no member of it is read, although `json`, which accepts numbers of
+/// any size, may find repeated ones.
+fn is_unread(found: &[Refusal]) -> bool {
+    matches!(
+        found.first(),
+        Some(Refusal {
+            reason: Reason::NotJson,
+            ..
+        })
+    )
 }
 
 fn push_faults(

@@ -69,6 +69,11 @@ const DOCUMENTS: [Table<'static>; 2] = [
                 "{\0\"\0",
                 "r: 1 NotJson: the file is no JSON text, or nests deeper than 127: invalid JSON at line 1 column 2; the file looks like a text in UTF-16: write it as UTF-8\n",
             ),
+            // the file has repeated members, but none of them is read
+            (
+                r#"{"documentInfo":{},"facts":{"a":1,"a":2},"x:y":1e999}"#,
+                "r: 1 NotJson: the file is no JSON text, or nests deeper than 127: number out of range at line 1 column 53\n",
+            ),
             (
                 "[]",
                 "r: 2 MemberForm: the file is no object of \"documentInfo\" and \"facts\"\n",
