@@ -174,8 +174,8 @@ const ANSWERED: [(&str, &str); 17] = [
     ("check -h", "Counts the facts of one report"),
     ("help replay", "Runs a schedule"),
     ("replay --help", "Runs a schedule"),
-    ("--version", "xbrlmerge 0.2.0\n"),
-    ("-V", "xbrlmerge 0.2.0\n"),
+    ("--version", "xbrlmerge 0.3.0-dev\n"),
+    ("-V", "xbrlmerge 0.3.0-dev\n"),
 ];
 
 #[test]

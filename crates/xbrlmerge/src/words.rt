@@ -17,7 +17,8 @@ use std::convert::AsStr;
 
 const PROGRAM: &str = "xbrlmerge";
 
-const VERSION: &str = "0.2.0";
+// Between releases it is the next one with `-dev`. tests/tools compares it with the other places.
+const VERSION: &str = "0.3.0-dev";
 
 const ABOUT: &str = "Consolidates xBRL-JSON reports, and finds where they contradict each other";
 

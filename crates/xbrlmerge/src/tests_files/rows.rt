@@ -324,6 +324,6 @@ pub(super) const UNFLUSHED: [(&str, &str); 7] = [
         "merge --sheet sheet --allow none 100 101",
         "device: 0 bytes written\n",
     ),
-    ("--version", "device: 16 bytes written\n"),
+    ("--version", "device: 20 bytes written\n"),
     ("merge --sheet none", NOT_READ),
 ];

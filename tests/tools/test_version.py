@@ -1,0 +1,38 @@
+"""The program, the Python module, the man page and the changelog have one version."""
+import os
+import re
+import unittest
+
+TOP = os.path.dirname(os.path.dirname(os.path.dirname(os.path.abspath(__file__))))
+
+
+def found(path, pattern):
+    """Returns what the pattern's group matches, at each place of a file."""
+    with open(os.path.join(TOP, path), encoding="utf-8") as file:
+        return re.findall(pattern, file.read(), re.MULTILINE)
+
+
+def numbers(version):
+    return tuple(map(int, version.removesuffix("-dev").split(".")))
+
+
+class Version(unittest.TestCase):
+    def setUp(self):
+        (self.program,) = found("crates/xbrlmerge/src/words.rt", r'^const VERSION: &str = "(.*)";$')
+
+    def test_man_page_and_module_have_that_of_the_program(self):
+        self.assertEqual(found("docs/xbrlmerge.1", r'^\.TH XBRLMERGE 1 "" "xbrlmerge ([^"]*)"'), [self.program])
+        # PEP 440 writes the version of a development build so
+        self.assertEqual(found("python/pyproject.toml", r'^version = "(.*)"$'), [self.program.replace("-dev", ".dev0")])
+
+    def test_an_unreleased_build_has_the_next_version(self):
+        first, *others = found("CHANGELOG.md", r"^## \[([^]]*)\]")
+        if first == "Unreleased":
+            self.assertTrue(self.program.endswith("-dev"), self.program)
+            self.assertGreater(numbers(self.program), numbers(others[0]))
+        else:
+            self.assertEqual(self.program, first)
+
+
+if __name__ == "__main__":
+    unittest.main()
