@@ -1,12 +1,7 @@
 """tests/doubt on a small tree of its own: a definition that is not on the page must not hide behind another name."""
-import os
-import shutil
-import subprocess
-import sys
-import tempfile
 import unittest
 
-TOP = os.path.dirname(os.path.dirname(os.path.dirname(os.path.abspath(__file__))))
+from small_tree import SmallTree
 
 CODE = """\
 ghost use Rattle.shop.specs.Order.{Order, IsPaid, total};
@@ -64,24 +59,15 @@ There are {lines} lines in all.
 
 class Doubt(unittest.TestCase):
     def setUp(self):
-        self.folder = tempfile.mkdtemp()
-        self.addCleanup(shutil.rmtree, self.folder)
-        for path in ("crates/shop/src", "crates/shop/specs", "docs", "tests"):
-            os.makedirs(os.path.join(self.folder, path))
-        shutil.copy(os.path.join(TOP, "tests", "doubt"), os.path.join(self.folder, "tests"))
-        self.put("crates/shop/src/sum.rt", CODE)
-        self.put("crates/shop/specs/Order.antt", SPECS)
-
-    def put(self, path, text):
-        with open(os.path.join(self.folder, path), "w", encoding="utf-8") as file:
-            file.write(text)
+        self.tree = SmallTree(self, "doubt")
+        self.tree.put("crates/shop/src/sum.rt", CODE)
+        self.tree.put("crates/shop/specs/Order.antt", SPECS)
 
     def problems(self, names, lines):
         """Returns the status of tests/doubt, and its lines, on a page with these definitions."""
-        self.put("docs/DOUBT.md", PAGE.format(lines=lines, names=", ".join(f"`{it}`" for it in names)))
-        doubt = [sys.executable, os.path.join(self.folder, "tests", "doubt"), "--quiet"]
-        ran = subprocess.run(doubt, capture_output=True, encoding="utf-8")
-        return ran.returncode, ran.stderr.splitlines()
+        self.tree.put("docs/DOUBT.md", PAGE.format(lines=lines, names=", ".join(f"`{it}`" for it in names)))
+        status, _, found = self.tree.run("--quiet")
+        return status, found
 
     def test_a_complete_page_passes(self):
         status, lines = self.problems(["Order", "added", "total", "paid", "IsPaid"], 23)
@@ -97,8 +83,8 @@ class Doubt(unittest.TestCase):
     def test_the_first_variable_of_a_capitalised_name_is_bound(self):
         record = "\n\n-- an order to some place\npub record IsSent (order : Order) : Type 0 where\n  pub place : ℕ\n"
         law = "\n-- it is sent\nabbrev pub Sends : ℕ → Order → Type 0\nSends place order = place ≡ total order\n"
-        self.put("crates/shop/specs/Order.antt", SPECS + record + law)
-        self.put("crates/shop/src/sum.rt", CODE.replace("IsPaid order.now", "Sends 0 order.now").replace("IsPaid,", "Sends,"))
+        self.tree.put("crates/shop/specs/Order.antt", SPECS + record + law)
+        self.tree.put("crates/shop/src/sum.rt", CODE.replace("IsPaid order.now", "Sends 0 order.now").replace("IsPaid,", "Sends,"))
         status, lines = self.problems(["Order", "added", "total", "Sends"], 19)
         self.assertEqual(lines, ["doubt: 5 names, 19 lines, nothing is missing"])
         self.assertEqual(status, 0)

@@ -1,0 +1,30 @@
+"""A small repository in a folder of its own, in which a script of tests/ runs."""
+import os
+import shutil
+import subprocess
+import tempfile
+
+TOP = os.path.dirname(os.path.dirname(os.path.dirname(os.path.abspath(__file__))))
+
+
+class SmallTree:
+    """A folder with a copy of a script and the files that a test writes. The test's end removes it."""
+
+    def __init__(self, test, script):
+        self.folder = tempfile.mkdtemp()
+        test.addCleanup(shutil.rmtree, self.folder)
+        self.script = os.path.join(self.folder, "tests", script)
+        os.makedirs(os.path.dirname(self.script))
+        shutil.copy(os.path.join(TOP, "tests", script), self.script)
+
+    def put(self, path, text):
+        path = os.path.join(self.folder, path)
+        os.makedirs(os.path.dirname(path), exist_ok=True)
+        with open(path, "w", encoding="utf-8") as file:
+            file.write(text)
+        return path
+
+    def run(self, *words, **settings):
+        """Returns the script's status, and its lines on standard output and on standard error."""
+        ran = subprocess.run([self.script, *words], capture_output=True, encoding="utf-8", **settings)
+        return ran.returncode, ran.stdout.splitlines(), ran.stderr.splitlines()
