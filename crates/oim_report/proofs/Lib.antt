@@ -56,6 +56,8 @@ pub mod ReadText
 pub mod TextUtf8
 pub mod StringsUtf8
 pub mod ReadUtf8
+pub mod KeysRise
+pub mod LimitLaws
 pub mod ListedKinds
 pub mod AcceptedWhereFree
 pub mod RefusedWhereHeld

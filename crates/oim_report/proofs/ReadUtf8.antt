@@ -255,15 +255,15 @@ value_has (suc n) = with_has _ _ (λ ts h. items_have (value n) (value_has n) (l
 
 -- ---- the value that is kept: the members go in one after another
 
-abbrev Has : {A : Type 0} → (A → Type 0) → Option A → Type 0
+abbrev pub Has : {A : Type 0} → (A → Type 0) → Option A → Type 0
 Has P None = ⊤
 Has P (Some a) = P a
 
-has_mapped : {A B : Type 0} (P : A → Type 0) (Q : B → Type 0) (f : A → B) → ((a : A) → P a → Q (f a)) → (o : Option A) → Has P o → Has Q (option_map f o)
+pub has_mapped : {A B : Type 0} (P : A → Type 0) (Q : B → Type 0) (f : A → B) → ((a : A) → P a → Q (f a)) → (o : Option A) → Has P o → Has Q (option_map f o)
 has_mapped P Q f k None x = tt
 has_mapped P Q f k (Some a) x = k a x
 
-has_then : {A B : Type 0} (P : A → Type 0) (Q : B → Type 0) (f : A → Option B) → ((a : A) → P a → Has Q (f a)) → (o : Option A) → Has P o → Has Q (option_and_then f o)
+pub has_then : {A B : Type 0} (P : A → Type 0) (Q : B → Type 0) (f : A → Option B) → ((a : A) → P a → Has Q (f a)) → (o : Option A) → Has P o → Has Q (option_and_then f o)
 has_then P Q f k None x = tt
 has_then P Q f k (Some a) x = k a x
 
@@ -276,7 +276,7 @@ put_has : (k : List ℕ) (d : Data) (ms : Members) → IsUtf8 k → HasUtf8 d �
 put_has k d no_members key h m = (key, h, tt)
 put_has k d (member l e ms) key h m = choose_members (slice_cmp nat_cmp k l) _ _ _ (key, h, m) (m.0, h, m.2) (m.0, m.1, put_has k d ms key h m.2)
 
-any : {A : Type 0} (o : Option A) → Has (λ a. ⊤) o
+pub any : {A : Type 0} (o : Option A) → Has (λ a. ⊤) o
 any None = tt
 any (Some a) = tt
 

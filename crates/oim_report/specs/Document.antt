@@ -11,8 +11,8 @@ use Rattle.oim_report.specs.Json.{json, values}
 use Rattle.oim_report.specs.Parts.{FactParts, fact_parts}
 use Rattle.oim_report.specs.Sheet.{Sheet}
 
--- its facts, in byte order of their identifiers, repeats kept; the references of `taxonomy` as they are kept, in their order; and
--- the declared level of duplicates
+-- its facts, in byte order of their identifiers (law `identifiers_rise`), repeats kept; the references of `taxonomy` as they are
+-- kept, in their order; and the declared level of duplicates
 pub record Document : Type 0 where
   pub facts : List Fact
   pub references : List (List ℕ)

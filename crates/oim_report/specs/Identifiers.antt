@@ -1,6 +1,9 @@
 -- The identifiers of a report's facts (xBRL-JSON 1.0, section 2: the keys of `facts`; their order is own).
 use Rattle.std.specs.Prelude.{◌≡◌, ℕ, List, [], ◌∷◌, map, Ok, Option, Some, option_map}
 use Rattle.std.specs.List.{AllZip}
+use Rattle.std.specs.List.Sorted.{IsStrictlySortedBy}
+use Rattle.std.specs.Ordering.{nat_cmp}
+use Rattle.std.specs.Cmp.Lexicographic.{slice_cmp}
 use Rattle.oim_names.specs.Bindings.{Binding}
 use Rattle.oim_dims.specs.declared.fact.Fact.{Fact}
 use Rattle.serde_json.specs.Data.{Data, Members, no_members, member}
@@ -25,6 +28,10 @@ tree_identifiers tree = identifiers_in (keyed (facts_of tree))
 -- the identifiers that a file's bytes give, None where they are not JSON
 abbrev pub identifiers : List ℕ → Option (List (List ℕ))
 identifiers bytes = option_map tree_identifiers (json bytes)
+
+-- they strictly rise by bytes, where the bytes are JSON
+abbrev pub IdentifiersRise : Type 0
+IdentifiersRise = (bytes : List ℕ) (tree : Data) → json bytes ≡ Some tree → IsStrictlySortedBy (slice_cmp nat_cmp) (tree_identifiers tree)
 
 -- the object of an identifier says the fact
 abbrev pub IdentifierSays : Sheet → List Binding → List ℕ × Data → Fact → Type 0

@@ -33,3 +33,4 @@ pub mod SaidUnlessRefused
 pub mod PlainJson
 pub mod ReadBack
 pub mod Examples
+pub mod Limits

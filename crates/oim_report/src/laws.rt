@@ -7,9 +7,10 @@ ghost use Rattle.oim_names.specs.Bindings.{Binding};
 ghost use Rattle.oim_names.specs.Expansion.{Expands, ExpandsEntity};
 ghost use Rattle.oim_report.specs.Accepts.{AcceptedWhereFree};
 ghost use Rattle.oim_report.specs.Duplicates.{LevelIgnoresOrder, LevelIsStrictest, ValuesMeetIsMeets};
-ghost use Rattle.oim_report.specs.Identifiers.{EachFactHasAnIdentifier};
+ghost use Rattle.oim_report.specs.Identifiers.{EachFactHasAnIdentifier, IdentifiersRise};
 ghost use Rattle.oim_report.specs.Faults.{FirstFaultIsAnswered, NoFaultsWhereAccepted};
 ghost use Rattle.oim_report.specs.Kept.{KeptIsAccepted, KeptIsKept, KeptIsUtf8, is_web, web_text};
+ghost use Rattle.oim_report.specs.Limits.{NestedIsRead, NestsWithinLimit, TextsAreWithinLimit};
 ghost use Rattle.oim_report.specs.Listed.{ConceptsAreListed, DimensionsAreListed};
 ghost use Rattle.oim_report.specs.Names.{entity_named, named};
 ghost use Rattle.oim_report.specs.Outcome.{OutcomesWantNoMemory};
@@ -91,6 +92,11 @@ pub fn outcomes_are_said()
 /// says the fact at its place.
 pub fn each_fact_has_an_identifier()
     ensures { EachFactHasAnIdentifier }
+{}
+
+/// Where a file's bytes are JSON, the identifiers of its facts strictly rise by bytes.
+pub fn identifiers_rise()
+    ensures { IdentifiersRise }
 {}
 
 /// A report is accepted as a document exactly where its bytes are JSON, no condition holds of the
@@ -181,6 +187,14 @@ pub fn fact_object_reads_back()
 /// Each string and each key of the value of a file's bytes is UTF-8.
 pub fn what_is_read_is_utf8()
     ensures { ReadHasUtf8 }
+{}
+
+/// A base, a reference and a kept text have at most 65,536 bytes. JSON that is read nests at most 127
+/// deep, as `serde_json` has it.
+pub fn limits_are()
+    ensures texts { TextsAreWithinLimit }
+    ensures nesting { NestsWithinLimit }
+    ensures nested { NestedIsRead }
 {}
 
 /// A plain object is read from its compact text. It has no float, so that this is what `serde_json`

@@ -1,0 +1,19 @@
+-- The limits of a file (own; how deep JSON nests is that of `serde_json`).
+use Rattle.std.specs.Prelude.{◌≡◌, ◌↔◌, ℕ, ◌≤◌, IsTrue, List, length, Some}
+use Rattle.serde_json.specs.Data.{Data, object, Members, depth}
+use Rattle.serde_json.specs.Written.{compact_text}
+use Rattle.oim_report.specs.Json.{json}
+use Rattle.oim_report.specs.Kept.{is_within_limit}
+use Rattle.oim_report.specs.PlainJson.{IsPlainJson}
+
+-- a base, a reference and a kept text have at most 65,536 bytes,
+abbrev pub TextsAreWithinLimit : Type 0
+TextsAreWithinLimit = (text : List ℕ) → IsTrue (is_within_limit text) ↔ (length text ≤ 65_536)
+
+-- what is read nests at most 127 deep,
+abbrev pub NestsWithinLimit : Type 0
+NestsWithinLimit = (bytes : List ℕ) (tree : Data) → json bytes ≡ Some tree → depth tree ≤ 127
+
+-- and an object that nests so deep is read
+abbrev pub NestedIsRead : Type 0
+NestedIsRead = (ms : Members) → IsPlainJson (object ms) 127 → json (compact_text (object ms)) ≡ Some (object ms)
