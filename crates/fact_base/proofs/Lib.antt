@@ -9,6 +9,7 @@ pub mod Summaries
 pub mod Levels
 pub mod NeverComplete
 pub mod Verdicts
+mod Contradictions
 pub mod RowsOf
 pub mod Fitting
 mod Given

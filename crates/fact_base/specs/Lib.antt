@@ -1,6 +1,7 @@
 pub mod Body
 pub mod BodyLaws
 pub mod Contents
+pub mod Contradiction
 pub mod Entries
 pub mod Fits
 pub mod Gathered

@@ -1,5 +1,6 @@
 //! Laws of the definitions, each the contract of a function that does nothing.
 ghost use Rattle.fact_base.specs.BodyLaws.{BodyHasWhatDocumentsHave, BodyIgnoresOrder, BodyOfBoth, UnionHasBoth};
+ghost use Rattle.fact_base.specs.Contradiction.{NumericInconsistentIsApart};
 ghost use Rattle.fact_base.specs.Fits.{AcceptedFits, UnionFits};
 ghost use Rattle.fact_base.specs.Level.{SetsAreNeverComplete};
 ghost use Rattle.fact_base.specs.Rows.{RowsTellFacts};
@@ -46,4 +47,11 @@ pub fn sets_are_never_complete()
 /// A dimension set is called inconsistent exactly where two of its facts do not meet.
 pub fn inconsistent_is_apart()
     ensures { InconsistentIsApart }
+{}
+
+/// A numeric dimension set of a body that fits a sheet is called inconsistent exactly where two of its
+/// values are numbers and no number of units lies in both of their intervals, or one is nil and the
+/// other is not.
+pub fn numeric_inconsistent_is_apart()
+    ensures { NumericInconsistentIsApart }
 {}

@@ -4,6 +4,7 @@ mod many;
 mod many_refused;
 mod pairs;
 mod refused;
+mod small_reports;
 mod verdicts;
 
 use crate::{Base, Evidence, Verdict};

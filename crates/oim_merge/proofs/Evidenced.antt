@@ -1,13 +1,14 @@
 -- The evidence of the dimension sets of a body that fits a sheet.
-use Rattle.std.proofs.Common.{◌≡◌, ◌≢◌, ℕ, zero, suc, ◌<◌, ◌≤◌, Bool, true, false, List, [], ◌∷◌, length, Option, Some, None, refl, sym, ap, subst, ◌∙◌, arith}
+use Rattle.std.proofs.Common.{◌≡◌, ◌≢◌, ℕ, zero, suc, ◌<◌, ◌≤◌, Bool, true, false, List, [], ◌∷◌, length, Option, Some, None, ◌++◌, inl, inr, refl, sym, ap, subst, ◌∙◌, arith}
 use mathlib.Core.Bool.{true≢false}
-use Rattle.std.specs.Prelude.{Contains, is_some, slice_get, ℤ, ◌≤ℤ◌, if◌then◌else◌}
+use Rattle.std.specs.Prelude.{Contains, codes, is_some, slice_get, ℤ, ◌≤ℤ◌, if◌then◌else◌}
 use Rattle.std.specs.Option.{unwrap_or}
 use Rattle.std.proofs.lemmas.Int.{ints}
 use Rattle.std.proofs.lemmas.Option.{get_or_from_slice_get}
 use Rattle.merge_laws.specs.Ends.{Summarised, summary_of_all}
 use Rattle.oim_value.specs.Ends.{intervals_of}
 use Rattle.oim_value.specs.Meets.{Meets}
+use Rattle.oim_value.specs.Plain.{plain}
 use Rattle.oim_value.specs.SeveralMeet.{AreApart, EachTwoValuesMeet, place_of_greatest_low, place_of_least_high}
 use Rattle.oim_value.specs.ValueOrder.{value_cmp}
 use Rattle.oim_value.specs.declared.interval.Interval.{Interval}
@@ -33,7 +34,7 @@ use Rattle.fact_base.proofs.Members.{each_by_there, each_there, in_flat_map, som
 use Rattle.fact_base.proofs.RowsOf.{rows_tell_facts}
 use Rattle.fact_base.proofs.Verdicts.{inconsistent_is_apart}
 use Rattle.fact_base.proofs.Summaries.{crossed_are_apart, nil_is_apart, no_number_is_apart, shared_is_common}
-use Rattle.oim_merge.specs.Lines.{LinesTellVerdicts, verdict_shown}
+use Rattle.oim_merge.specs.Lines.{LinesTellVerdicts, WordsShowVerdicts, verdict_shown}
 use Rattle.oim_write.proofs.NumberedFacts.{row_facts, rows_facts_are}
 
 -- the values of a dimension set are different, in order and of one kind
@@ -173,3 +174,8 @@ pub lines_tell_verdicts : LinesTellVerdicts
 lines_tell_verdicts sheet b fits r at number line is =
     let values = each_there (λ (q : Row). q.1 ≡ values_at q.0 b.facts) (rows_of b.facts) r (rows_tell_facts b.facts fits.rises.facts).values at in
     evidence_shows b.facts r.0 is.evidence (subst (λ vs. IsEvidence vs is.evidence) values is.shows)
+
+pub words_show_verdicts : WordsShowVerdicts
+words_show_verdicts name Alike = inl refl
+words_show_verdicts name (Common c) = inr (codes "common " ++ (plain c.low ++ 32 ∷ plain c.high), refl)
+words_show_verdicts name (Apart i j) = inr (codes "apart " ++ (name i ++ 32 ∷ name j), refl)

@@ -4,6 +4,7 @@ use Rattle.std.specs.Prelude.{Contains, filter}
 use Rattle.std.specs.List.{AllByRecursion, AllZip}
 use Rattle.std.specs.List.Sorted.{IsPermutation, IsStrictlySortedBy}
 use Rattle.std.specs.Cmp.{tied_itself}
+use Rattle.std.specs.Option.{unwrap_or}
 use Rattle.std.specs.Ordering.{is_eq}
 use Rattle.std.specs.declared.cmp.Ordering.TheVariants.{Less}
 use Rattle.std.proofs.lemmas.Bool.{cases_Bool}
@@ -11,11 +12,13 @@ use Rattle.std.proofs.lemmas.Grind.{flat_map-append}
 use Rattle.std.proofs.lemmas.List.Sorted.{Contains-permutation, IsPermutation-append_right, IsPermutation-filter_both, IsPermutation-refl, IsPermutation-trans}
 use Rattle.merge_laws.specs.Sorted.{IsSet}
 use Rattle.serde_json.specs.Data.{Data}
+use Rattle.oim_names.specs.Bindings.{Binding}
 use Rattle.oim_dims.specs.FactOrder.{fact_cmp}
 use Rattle.oim_dims.specs.declared.fact.Fact.{Fact}
 use Rattle.oim_dims.proofs.Orders.{fact_cmp_exact, fact_cmp_total}
 use Rattle.oim_report.specs.Document.{Document}
-use Rattle.oim_report.specs.Identifiers.{identifiers}
+use Rattle.oim_report.specs.Identifiers.{IdentifierSays, identifiers, identifiers_in, keyed}
+use Rattle.oim_report.specs.Info.{bindings_of, facts_of}
 use Rattle.oim_report.specs.Outcome.{outcome}
 use Rattle.oim_report.specs.Sheet.{Sheet}
 use Rattle.oim_report.specs.declared.refusal.Refusal.{Refusal}
@@ -24,7 +27,7 @@ use Rattle.fact_base.specs.Body.{all_facts}
 use Rattle.fact_base.proofs.Members.{first_or_later, first_there, in_one_of_both, later_there, none_there}
 use Rattle.fact_base.proofs.Sets.{set_of_is_set}
 use Rattle.oim_merge.specs.Reports.{accepted, document_in, merged}
-use Rattle.oim_merge.specs.Sources.{EachFactIsSaid, EachMentionIsTold, Mention, by_fact, is_of, mentions, mentions_by_fact, mentions_from, mentions_in, mentions_of}
+use Rattle.oim_merge.specs.Sources.{EachFactIsSaid, EachMentionIsTold, EachObjectIsMentioned, IsMentionOf, Mention, by_fact, is_of, mentions, mentions_by_fact, mentions_from, mentions_in, mentions_of}
 use Rattle.oim_merge.proofs.ByPlace.{is_equal}
 use Rattle.oim_merge.proofs.PlacedFacts.{AreOf}
 use Rattle.oim_merge.proofs.SourceMentions.{mentions_are_of}
@@ -157,3 +160,21 @@ as_many sheet bytes d is accepted e =
 pub refused_has_none : (n : ℕ) (is : Option (List (List ℕ))) (r : Refusal) → mentions_of n is (Err r) ≡ []
 refused_has_none n None r = refl
 refused_has_none n (Some is) r = refl
+
+-- ---- each object
+
+mentioned_in : (sheet : Sheet) (bs : List Binding) (n : ℕ) (objects : List (List ℕ × Data)) (fs : List Fact) → AllZip (IdentifierSays sheet bs) objects fs → AllZip (IsMentionOf sheet bs n) objects (mentions_in n (identifiers_in objects) fs)
+mentioned_in sheet bs n [] fs zip = tt
+mentioned_in sheet bs n (o ∷ objects) [] zip = absurd zip
+mentioned_in sheet bs n (o ∷ objects) (f ∷ fs) zip = (record { report = refl; identifier = refl; says = zip.0 }, mentioned_in sheet bs n objects fs zip.1)
+
+pub each_object_is_mentioned : EachObjectIsMentioned
+each_object_is_mentioned sheet n bytes d tree accepted read =
+    let has = each_fact_has_an_identifier sheet bytes d accepted in
+    let said = has.2.tree in
+    let same : said ≡ tree = ap (λ o. unwrap_or o said) (sym has.2.read ∙ read) in
+    let told : AllZip (IsMentionOf sheet (bindings_of said) n) (keyed (facts_of said)) (mentions_in n has.0 d.facts) =
+    subst (λ ids. AllZip (IsMentionOf sheet (bindings_of said) n) (keyed (facts_of said)) (mentions_in n ids d.facts)) has.2.are (mentioned_in sheet (bindings_of said) n (keyed (facts_of said)) d.facts has.2.say) in
+    subst (λ t. AllZip (IsMentionOf sheet (bindings_of t) n) (keyed (facts_of t)) (mentions_of n (identifiers bytes) (outcome sheet bytes))) same
+    (subst (λ ms. AllZip (IsMentionOf sheet (bindings_of said) n) (keyed (facts_of said)) ms)
+    (sym ((λ i. mentions_of n (has.1 i) (accepted i)))) told)

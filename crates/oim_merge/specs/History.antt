@@ -2,11 +2,14 @@
 use Rattle.std.specs.Prelude.{◌≡◌, ℕ, List, [], ◌∷◌, ◌++◌, Contains, Ok}
 use Rattle.std.specs.List.{All}
 use Rattle.merge_laws.specs.Members.{SameMembers}
+use Rattle.oim_dims.specs.DimensionSet.{DimensionSet}
 use Rattle.oim_report.specs.Document.{Document}
+use Rattle.oim_report.specs.Duplicates.{level_of}
 use Rattle.oim_report.specs.Outcome.{outcome}
 use Rattle.oim_report.specs.Sheet.{Sheet}
 use Rattle.fact_base.specs.Body.{Body, body, union}
 use Rattle.fact_base.specs.Fits.{Fits, IsAccepted}
+use Rattle.fact_base.specs.Verdict.{verdict}
 use Rattle.oim_write.specs.Bytes.{canonical, earlier}
 
 -- how a base came to be: a new one, one that took a document, one that joined another
@@ -27,9 +30,27 @@ documents_of fresh = []
 documents_of (took h d) = documents_of h ++ d ∷ []
 documents_of (joined h k) = documents_of h ++ documents_of k
 
--- only these matter: neither their order, nor their grouping, nor how often each came
+-- it has the body of these,
+abbrev pub HistoriesGiveBodies : Type 0
+HistoriesGiveBodies = (h : History) → body_of h ≡ body (documents_of h)
+
+-- so only these matter: neither their order, nor their grouping, nor how often each came. Bases that the same documents reached
+-- write the same bytes,
 abbrev pub HistoriesAreForgotten : Type 0
 HistoriesAreForgotten = (h k : History) → SameMembers (documents_of h) (documents_of k) → canonical (body_of h) ≡ canonical (body_of k)
+
+-- and have the same verdicts,
+abbrev pub VerdictsAreForgotten : Type 0
+VerdictsAreForgotten =
+    (h k : History) (s : DimensionSet) → SameMembers (documents_of h) (documents_of k) → verdict (body_of h).facts s ≡ verdict (body_of k).facts s
+
+-- the same level,
+abbrev pub LevelsAreForgotten : Type 0
+LevelsAreForgotten = (h k : History) → SameMembers (documents_of h) (documents_of k) → level_of (body_of h).facts ≡ level_of (body_of k).facts
+
+-- and the same references
+abbrev pub ReferencesAreForgotten : Type 0
+ReferencesAreForgotten = (h k : History) → SameMembers (documents_of h) (documents_of k) → (body_of h).references ≡ (body_of k).references
 
 -- ---- round trips
 

@@ -1,6 +1,6 @@
 -- The lines that tell of duplicates: one for each dimension set, in order (own; the words are those of the XBRL working group note on
 -- duplicate facts). In bytes, a space is 32, a line end 10.
-use Rattle.std.specs.Prelude.{◌≡◌, ℕ, suc, ◌-◌, List, [], ◌∷◌, ◌++◌, map, length, get_or, codes, Contains, Some}
+use Rattle.std.specs.Prelude.{◌≡◌, ◌⊎◌, ℕ, suc, ◌-◌, List, [], ◌∷◌, ◌++◌, map, length, get_or, codes, Contains, Some}
 use Rattle.std.specs.Fmt.{decimal}
 use Rattle.oim_value.specs.Plain.{plain}
 use Rattle.oim_dims.specs.declared.fact.Fact.{Fact}
@@ -63,3 +63,17 @@ abbrev pub LinesTellVerdicts : Type 0
 LinesTellVerdicts =
     (sheet : Sheet) (b : Body) → Fits sheet b → (r : Row) → Contains (rows_of b.facts) r →
     (number : ℕ) (line : List ℕ) (is : IsLine b.facts number r line) → verdict b.facts r.0 ≡ Some (verdict_shown is.evidence)
+
+-- the word of a verdict
+abbrev pub verdict_word : Verdict → List ℕ
+verdict_word Complete = codes "complete"
+verdict_word Consistent = codes "consistent"
+verdict_word Inconsistent = codes "inconsistent"
+
+-- a text is this word, alone or with more behind a space
+abbrev pub BeginsWithWord : List ℕ → List ℕ → Type 0
+BeginsWithWord word text = (text ≡ word) ⊎ ((more : List ℕ) × (text ≡ word ++ 32 ∷ more))
+
+-- evidence in words begins with the word of the verdict that it shows
+abbrev pub WordsShowVerdicts : Type 0
+WordsShowVerdicts = (name : ℕ → List ℕ) (e : Evidence) → BeginsWithWord (verdict_word (verdict_shown e)) (evidence_text name e)

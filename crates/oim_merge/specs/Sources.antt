@@ -1,14 +1,18 @@
 -- Who said what: each fact object of the accepted reports, by the fact that it says (own). In bytes, a space is 32, a line end 10.
 use Rattle.std.specs.Prelude.{◌≡◌, ℕ, suc, ◌-◌, Bool, Option, Some, None, List, [], ◌∷◌, ◌++◌, map, get_or, filter, flat_map, Contains, Result, Ok, Err}
 use Rattle.std.specs.Fmt.{decimal}
+use Rattle.std.specs.List.{AllZip}
 use Rattle.std.specs.List.Sorted.{IsPermutation}
 use Rattle.std.specs.Ordering.{is_eq}
-use Rattle.serde_json.specs.Data.{string}
+use Rattle.serde_json.specs.Data.{Data, string}
 use Rattle.serde_json.specs.Written.{compact_text}
+use Rattle.oim_names.specs.Bindings.{Binding}
 use Rattle.oim_dims.specs.FactOrder.{fact_cmp}
 use Rattle.oim_dims.specs.declared.fact.Fact.{Fact}
-use Rattle.oim_report.specs.Document.{Document}
-use Rattle.oim_report.specs.Identifiers.{identifiers}
+use Rattle.oim_report.specs.Document.{Document, ObjectSays}
+use Rattle.oim_report.specs.Identifiers.{identifiers, keyed}
+use Rattle.oim_report.specs.Info.{bindings_of, facts_of}
+use Rattle.oim_report.specs.Json.{json}
 use Rattle.oim_report.specs.Outcome.{outcome}
 use Rattle.oim_report.specs.Sheet.{Sheet}
 use Rattle.oim_report.specs.declared.refusal.Refusal.{Refusal}
@@ -74,6 +78,18 @@ EachFactIsSaid = (sheet : Sheet) (reports : List (List ℕ)) (f : Fact) → Cont
 -- each fact object of an accepted report is told once, and nothing else is
 abbrev pub EachMentionIsTold : Type 0
 EachMentionIsTold = (sheet : Sheet) (reports : List (List ℕ)) → IsPermutation (mentions sheet reports) (mentions_by_fact sheet reports)
+
+-- the mention of a fact object with its identifier, in the report of a number: with the fact that the object says
+pub record IsMentionOf (sheet : Sheet) (bs : List Binding) (n : ℕ) (object : List ℕ × Data) (m : Mention) : Type 0 where
+  pub report : m.report ≡ n
+  pub identifier : m.identifier ≡ object.0
+  pub says : ObjectSays sheet bs object.1 m.fact
+
+-- the mentions of an accepted report are those of its fact objects, one of each, in byte order of the identifiers
+abbrev pub EachObjectIsMentioned : Type 0
+EachObjectIsMentioned =
+    (sheet : Sheet) (n : ℕ) (bytes : List ℕ) (d : Document) (tree : Data) → outcome sheet bytes ≡ Ok d → json bytes ≡ Some tree →
+    AllZip (IsMentionOf sheet (bindings_of tree) n) (keyed (facts_of tree)) (mentions_of n (identifiers bytes) (outcome sheet bytes))
 
 -- what a mention says, with the bytes of its report in place of the number
 pub record Saying : Type 0 where

@@ -2,12 +2,12 @@
 ghost use Rattle.oim_merge.specs.Above.{AllowedIsDeclared};
 ghost use Rattle.oim_merge.specs.Added.{StepsAreList};
 ghost use Rattle.oim_merge.specs.EventLines.{LinesSayOneEvent};
-ghost use Rattle.oim_merge.specs.History.{EarlierTextsGiveBodies, HistoriesAreForgotten, MergedTextsMerge, TextsGiveBodies};
-ghost use Rattle.oim_merge.specs.Lines.{LinesAreOne, LinesTellVerdicts};
+ghost use Rattle.oim_merge.specs.History.{EarlierTextsGiveBodies, HistoriesAreForgotten, HistoriesGiveBodies, LevelsAreForgotten, MergedTextsMerge, ReferencesAreForgotten, TextsGiveBodies, VerdictsAreForgotten};
+ghost use Rattle.oim_merge.specs.Lines.{LinesAreOne, LinesTellVerdicts, WordsShowVerdicts};
 ghost use Rattle.oim_merge.specs.ReadBack.{CanonicalReadsBack, EarlierIsNotCanonical, EarlierReadsBack, LeastLevelIsDeclared, MergedTextsAreCanonical};
 ghost use Rattle.oim_merge.specs.Replicas.{EqualSetsWriteTheSame, ReplicasSayAsAfresh, ReplicasStay, WireAgrees};
 ghost use Rattle.oim_merge.specs.Run.{ReportsIgnoreOrder};
-ghost use Rattle.oim_merge.specs.Sources.{EachFactIsSaid, EachMentionIsTold, SourcesIgnoreOrder};
+ghost use Rattle.oim_merge.specs.Sources.{EachFactIsSaid, EachMentionIsTold, EachObjectIsMentioned, SourcesIgnoreOrder};
 
 /// Reports under one sheet of which the accepted ones say the same documents, in any order and each
 /// as often as one likes, are written by the same bytes.
@@ -60,10 +60,15 @@ pub fn earlier_is_not_canonical()
     ensures { EarlierIsNotCanonical }
 {}
 
-/// Bases that took the same accepted reports, in any order, grouping and repetition, by themselves
-/// or through bases that they joined, write the same bytes.
+/// A base has the body of the documents that reached it, by itself or through bases that it joined.
+/// So bases that the same accepted reports reached, in any order, grouping and repetition, write the
+/// same bytes and have the same verdicts, level and references.
 pub fn histories_are_forgotten()
-    ensures { HistoriesAreForgotten }
+    ensures body { HistoriesGiveBodies }
+    ensures bytes { HistoriesAreForgotten }
+    ensures verdicts { VerdictsAreForgotten }
+    ensures level { LevelsAreForgotten }
+    ensures references { ReferencesAreForgotten }
 {}
 
 /// A merged text that is merged with itself, and with any of the reports that went into it, is
@@ -77,14 +82,18 @@ pub fn lines_are_one()
     ensures { LinesAreOne }
 {}
 
-/// The word in a line is that of the verdict on its dimension set.
+/// The evidence in a line shows the verdict on its dimension set, and its first word is that of the
+/// verdict.
 pub fn lines_tell_verdicts()
-    ensures { LinesTellVerdicts }
+    ensures verdict { LinesTellVerdicts }
+    ensures word { WordsShowVerdicts }
 {}
 
-/// The lines of sources tell each fact object of each accepted report once and nothing else, and
-/// each fact of what the reports say in all has a line.
+/// Each fact object in the bytes of an accepted report is one mention, with the fact that it says. The
+/// lines of sources list each mention once and nothing else, and each fact of what the reports say in
+/// all has a line.
 pub fn sources_are_whole()
+    ensures objects { EachObjectIsMentioned }
     ensures told { EachMentionIsTold }
     ensures said { EachFactIsSaid }
 {}

@@ -192,7 +192,7 @@ fn a_refused_base_leaves_the_one_that_absorbs_it(rt: HostRuntime) {
 }
 
 // Adds a report of this text, and answers whether it did; where a request is refused, it is lost.
-fn gather(rt: &HostRuntime, gathered: &mut Gathering<'_>, text: &str) -> Option<bool> {
+pub(super) fn gather(rt: &HostRuntime, gathered: &mut Gathering<'_>, text: &str) -> Option<bool> {
     let report = read(rt, gathered.sheet(), text)?;
     if !gathered.sheet().same_as(report.sheet()) {
         return None;

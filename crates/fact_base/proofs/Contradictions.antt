@@ -1,0 +1,77 @@
+-- Values of a numeric dimension set that do not meet contradict one another.
+use Rattle.std.proofs.Common.{◌≡◌, Bool, true, false, cond, List, [], ◌∷◌, Some, refl, sym, ap, subst, ◌∙◌, ⊎_elim}
+use Rattle.std.specs.Prelude.{◌↔◌, ⊤, Contains}
+use Rattle.std.specs.Cmp.{Equal-is}
+use Rattle.std.specs.FinMap as map
+use Rattle.std.specs.Option.{unwrap_or}
+use Rattle.std.specs.Ordering.{is_eq}
+use Rattle.oim_value.specs.Interval.{interval}
+use Rattle.oim_value.specs.Meets.{Meets}
+use Rattle.oim_value.specs.declared.value.Value.{Value}
+use Rattle.oim_value.specs.declared.value.Value.TheVariants.{Nil, Number, Text as AText, Name as AName}
+use Rattle.oim_value.proofs.Intervals.{interval_has_points, meets_by_common_point}
+use Rattle.oim_dims.specs.DimensionSet.{DimensionSet}
+use Rattle.oim_dims.specs.FactOrder.{dimensions_cmp}
+use Rattle.oim_dims.specs.declared.fact.Fact.{Fact}
+use Rattle.oim_dims.proofs.Orders.{dimensions_cmp_exact}
+use Rattle.oim_report.specs.FactFits.{FactFits, ValueFits}
+use Rattle.oim_report.specs.Sheet.{Sheet}
+use Rattle.oim_report.specs.declared.concept_kind.ConceptKind.TheVariants.{Numeric}
+use Rattle.fact_base.specs.Body.{Body}
+use Rattle.fact_base.specs.Contradiction.{Contradict, IsNumeric, NumericInconsistentIsApart}
+use Rattle.fact_base.specs.Fits.{Fits}
+use Rattle.fact_base.specs.Rows.{values_at}
+use Rattle.fact_base.proofs.Members.{each_there, first_or_later, first_there, later_there, none_there}
+use Rattle.fact_base.proofs.Verdicts.{inconsistent_is_apart}
+
+-- a fact with these dimensions and this value
+abbrev HasFact : DimensionSet → Value → List Fact → Type 0
+HasFact s v fs = (f : Fact) × (Contains fs f × ((s ≡ f.dimensions) × (f.value ≡ v)))
+
+fact_of_value : (s : DimensionSet) (fs : List Fact) (v : Value) → Contains (values_at s fs) v → HasFact s v fs
+fact_of_value s [] v at = none_there v at
+fact_of_value s (f ∷ fs) v at = by_test (is_eq (dimensions_cmp s f.dimensions)) refl at
+  where
+    later : Contains (values_at s fs) v → HasFact s v (f ∷ fs)
+    later there = let found = fact_of_value s fs v there in (found.0, (later_there f fs found.0 found.1.0, found.1.1))
+
+    by_test : (b : Bool) → is_eq (dimensions_cmp s f.dimensions) ≡ b → Contains (cond b (f.value ∷ values_at s fs) (values_at s fs)) v → HasFact s v (f ∷ fs)
+    by_test true is at = ⊎_elim (λ here. (f, (first_there f fs, (dimensions_cmp_exact s f.dimensions ((Equal-is (dimensions_cmp s f.dimensions)).0 is), here)))) later (first_or_later f.value (values_at s fs) v at)
+    by_test false is at = later at
+
+numeric_value : (sheet : Sheet) (b : Body) (s : DimensionSet) → Fits sheet b → IsNumeric sheet s → (v : Value) → Contains (values_at s b.facts) v → ValueFits Numeric v
+numeric_value sheet b s fits numeric v at =
+    let found = fact_of_value s b.facts v at in
+    let fact = each_there (FactFits sheet) b.facts found.0 fits.facts found.1.0 in
+    let listed : Some fact.kind ≡ Some Numeric = sym fact.listed ∙ ap (λ (d : DimensionSet). map.get sheet.concepts d.concept) (sym found.1.1.0) ∙ numeric in
+    subst (ValueFits Numeric) found.1.1.1 (subst (λ k. ValueFits k found.0.value) (ap (λ o. unwrap_or o Numeric) listed) fact.value)
+
+contradict_is_apart : (v w : Value) → ValueFits Numeric v → ValueFits Numeric w → (¬ (Meets v w)) ↔ Contradict v w
+contradict_is_apart Nil Nil f g = (λ apart. apart tt, λ no m. no)
+contradict_is_apart Nil (Number n e) f g = (λ apart. tt, λ is m. m)
+contradict_is_apart (Number m d) Nil f g = (λ apart. tt, λ is m. m)
+contradict_is_apart (Number m d) (Number n e) f g =
+    let meets = meets_by_common_point (interval m d) (interval n e) (interval_has_points m d) (interval_has_points n e) in
+    (λ apart common. apart (meets.1 common), λ none meet. none (meets.0 meet))
+contradict_is_apart (AText t) w f g = absurd f
+contradict_is_apart (AName n) w f g = absurd f
+contradict_is_apart Nil (AText t) f g = absurd g
+contradict_is_apart Nil (AName n) f g = absurd g
+contradict_is_apart (Number m d) (AText t) f g = absurd g
+contradict_is_apart (Number m d) (AName n) f g = absurd g
+
+pub numeric_inconsistent_is_apart : NumericInconsistentIsApart
+numeric_inconsistent_is_apart sheet b s fits numeric =
+    let fit = numeric_value sheet b s fits numeric in
+    let is = inconsistent_is_apart b.facts s in (
+      λ inconsistent.
+          let found = is.0 inconsistent in
+          record {
+            first = found.0;
+            second = found.1;
+            first_there = found.2.0;
+            second_there = found.2.1.0;
+            contradict = (contradict_is_apart found.0 found.1 (fit found.0 found.2.0) (fit found.1 found.2.1.0)).0 found.2.1.1;
+          },
+      λ h. is.1 (h.first, h.second, (h.first_there, (h.second_there, (contradict_is_apart h.first h.second (fit h.first h.first_there) (fit h.second h.second_there)).1 h.contradict))),
+    )

@@ -1,0 +1,5 @@
+use Rattle.fact_base.proofs.Contradictions.{numeric_inconsistent_is_apart}
+use Rattle.fact_base.proofs.laws.numeric_inconsistent_is_apart.Goals as goal
+
+pub returns : goal.returns
+returns c = numeric_inconsistent_is_apart

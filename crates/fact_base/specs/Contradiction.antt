@@ -1,0 +1,40 @@
+-- When facts of a numeric dimension set contradict one another, by numbers alone (XBRL working group note on duplicate facts; nil is own).
+use Rattle.std.specs.Prelude.{◌≡◌, ◌↔◌, ⊤, ℤ, List, Some, Contains}
+use Rattle.std.specs.FinMap as map
+use Rattle.oim_value.specs.Interval.{IsCommonPoint, interval}
+use Rattle.oim_value.specs.declared.value.Value.{Value}
+use Rattle.oim_value.specs.declared.value.Value.TheVariants.{Nil, Number}
+use Rattle.oim_dims.specs.DimensionSet.{DimensionSet}
+use Rattle.oim_report.specs.Sheet.{Sheet}
+use Rattle.oim_report.specs.declared.concept_kind.ConceptKind.TheVariants.{Numeric}
+use Rattle.fact_base.specs.Body.{Body}
+use Rattle.fact_base.specs.Fits.{Fits}
+use Rattle.fact_base.specs.Rows.{values_at}
+use Rattle.fact_base.specs.Verdict.{verdict}
+use Rattle.fact_base.specs.declared.verdict.Verdict.TheVariants.{Inconsistent}
+
+-- the sheet lists the concept of these dimensions as numeric
+abbrev pub IsNumeric : Sheet → DimensionSet → Type 0
+IsNumeric sheet s = map.get sheet.concepts s.concept ≡ Some Numeric
+
+-- both are numbers and no number of units lies in both of their intervals, or one is nil and the other is not
+abbrev pub Contradict : Value → Value → Type 0
+Contradict (Number m d) (Number n e) = ¬ ((units : ℤ) × IsCommonPoint (interval m d) (interval n e) units)
+Contradict Nil Nil = ⊥
+Contradict Nil w = ⊤
+Contradict v Nil = ⊤
+Contradict v w = ⊥
+
+-- two of these values contradict one another
+pub record HasContradiction (vs : List Value) : Type 0 where
+  pub first : Value
+  pub second : Value
+  pub first_there : Contains vs first
+  pub second_there : Contains vs second
+  pub contradict : Contradict first second
+
+-- a numeric dimension set of a body that fits a sheet is inconsistent exactly where two of its values contradict one another
+abbrev pub NumericInconsistentIsApart : Type 0
+NumericInconsistentIsApart =
+    (sheet : Sheet) (b : Body) (s : DimensionSet) → Fits sheet b → IsNumeric sheet s →
+    (verdict b.facts s ≡ Some Inconsistent) ↔ HasContradiction (values_at s b.facts)
