@@ -1,6 +1,6 @@
 -- Values of a numeric dimension set that do not meet contradict one another.
 use Rattle.std.proofs.Common.{◌≡◌, Bool, true, false, cond, List, [], ◌∷◌, Some, refl, sym, ap, subst, ◌∙◌, ⊎_elim}
-use Rattle.std.specs.Prelude.{◌↔◌, ⊤, Contains}
+use Rattle.std.specs.Prelude.{◌↔◌, Contains}
 use Rattle.std.specs.Cmp.{Equal-is}
 use Rattle.std.specs.FinMap as map
 use Rattle.std.specs.Option.{unwrap_or}
@@ -30,14 +30,13 @@ HasFact s v fs = (f : Fact) × (Contains fs f × ((s ≡ f.dimensions) × (f.val
 
 fact_of_value : (s : DimensionSet) (fs : List Fact) (v : Value) → Contains (values_at s fs) v → HasFact s v fs
 fact_of_value s [] v at = none_there v at
-fact_of_value s (f ∷ fs) v at = by_test (is_eq (dimensions_cmp s f.dimensions)) refl at
+fact_of_value s (f ∷ fs) v at = by_test (λ there. fact_of_value s fs v there) (is_eq (dimensions_cmp s f.dimensions)) refl at
   where
-    later : Contains (values_at s fs) v → HasFact s v (f ∷ fs)
-    later there = let found = fact_of_value s fs v there in (found.0, (later_there f fs found.0 found.1.0, found.1.1))
-
-    by_test : (b : Bool) → is_eq (dimensions_cmp s f.dimensions) ≡ b → Contains (cond b (f.value ∷ values_at s fs) (values_at s fs)) v → HasFact s v (f ∷ fs)
-    by_test true is at = ⊎_elim (λ here. (f, (first_there f fs, (dimensions_cmp_exact s f.dimensions ((Equal-is (dimensions_cmp s f.dimensions)).0 is), here)))) later (first_or_later f.value (values_at s fs) v at)
-    by_test false is at = later at
+    later : (Contains (values_at s fs) v → HasFact s v fs) → Contains (values_at s fs) v → HasFact s v (f ∷ fs)
+    later rest there = let found = rest there in (found.0, (later_there f fs found.0 found.1.0, found.1.1))
+    by_test : (Contains (values_at s fs) v → HasFact s v fs) → (b : Bool) → is_eq (dimensions_cmp s f.dimensions) ≡ b → Contains (cond b (f.value ∷ values_at s fs) (values_at s fs)) v → HasFact s v (f ∷ fs)
+    by_test rest true is here = ⊎_elim (λ this. (f, (first_there f fs, (dimensions_cmp_exact s f.dimensions ((Equal-is (dimensions_cmp s f.dimensions)).0 is), this)))) (later rest) (first_or_later f.value (values_at s fs) v here)
+    by_test rest false is there = later rest there
 
 numeric_value : (sheet : Sheet) (b : Body) (s : DimensionSet) → Fits sheet b → IsNumeric sheet s → (v : Value) → Contains (values_at s b.facts) v → ValueFits Numeric v
 numeric_value sheet b s fits numeric v at =

@@ -1,6 +1,7 @@
 -- Histories by their documents, and texts that are read again.
 use Rattle.std.proofs.Common.{◌≡◌, inl, ⊎_elim, [], ◌∷◌, ◌++◌, append-nil, Result, Ok, Err, refl, sym, ap, subst, ◌∙◌}
 use Rattle.std.specs.Prelude.{Contains}
+use Rattle.merge_laws.specs.Members.{SameMembers}
 use Rattle.oim_value.specs.declared.level.Level.TheVariants.{All as AllLevel}
 use Rattle.oim_dims.proofs.Orders.{fact_cmp_exact, fact_cmp_total}
 use Rattle.oim_dims.specs.FactOrder.{fact_cmp}

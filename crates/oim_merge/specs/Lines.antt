@@ -74,6 +74,6 @@ verdict_word Inconsistent = codes "inconsistent"
 abbrev pub BeginsWithWord : List ℕ → List ℕ → Type 0
 BeginsWithWord word text = (text ≡ word) ⊎ ((more : List ℕ) × (text ≡ word ++ 32 ∷ more))
 
--- evidence in words begins with the word of the verdict that it shows
+-- the evidence of a line begins with the word of the verdict that it shows
 abbrev pub WordsShowVerdicts : Type 0
 WordsShowVerdicts = (name : ℕ → List ℕ) (e : Evidence) → BeginsWithWord (verdict_word (verdict_shown e)) (evidence_text name e)

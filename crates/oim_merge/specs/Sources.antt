@@ -85,7 +85,7 @@ pub record IsMentionOf (sheet : Sheet) (bs : List Binding) (n : ℕ) (object : L
   pub identifier : m.identifier ≡ object.0
   pub says : ObjectSays sheet bs object.1 m.fact
 
--- the mentions of an accepted report are those of its fact objects, one of each, in byte order of the identifiers
+-- an accepted report has one mention of each fact object in its bytes, in byte order of the identifiers
 abbrev pub EachObjectIsMentioned : Type 0
 EachObjectIsMentioned =
     (sheet : Sheet) (n : ℕ) (bytes : List ℕ) (d : Document) (tree : Data) → outcome sheet bytes ≡ Ok d → json bytes ≡ Some tree →

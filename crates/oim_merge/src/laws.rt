@@ -82,16 +82,16 @@ pub fn lines_are_one()
     ensures { LinesAreOne }
 {}
 
-/// The evidence in a line shows the verdict on its dimension set, and its first word is that of the
+/// The evidence in a line shows the verdict on its dimension set, and begins with the word of that
 /// verdict.
 pub fn lines_tell_verdicts()
     ensures verdict { LinesTellVerdicts }
     ensures word { WordsShowVerdicts }
 {}
 
-/// Each fact object in the bytes of an accepted report is one mention, with the fact that it says. The
-/// lines of sources list each mention once and nothing else, and each fact of what the reports say in
-/// all has a line.
+/// An accepted report has one mention of each fact object in its bytes, with the fact that the object
+/// says. The lines of sources list each mention once and nothing else, and each fact of what the reports
+/// say in all has a line.
 pub fn sources_are_whole()
     ensures objects { EachObjectIsMentioned }
     ensures told { EachMentionIsTold }
