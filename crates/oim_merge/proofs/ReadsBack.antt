@@ -24,7 +24,8 @@ use Rattle.oim_report.specs.FactFits.{FactFits}
 use Rattle.oim_report.specs.FactObject.{fact_object}
 use Rattle.oim_report.specs.Json.{any_member, given, other, text, values}
 use Rattle.oim_report.specs.Namespaces.{binds_nothing, bindings_in}
-use Rattle.oim_report.specs.Info.{declarations, document_type, document_refusal, level_said, said_level, said_references, said_reference}
+use Rattle.oim_report.specs.Holds.{document_refusal}
+use Rattle.oim_report.specs.Info.{declarations, document_type, level_said, said_level, said_references, said_reference}
 use Rattle.oim_report.specs.Kept.{IsKeptReference}
 use Rattle.oim_report.specs.Outcome.{all_or_first, at, fact_outcome, facts_said, tree_outcome, unless_above}
 use Rattle.oim_report.specs.Refusal.{map_ok}
@@ -33,6 +34,7 @@ use Rattle.oim_report.specs.Sheet.{Sheet}
 use Rattle.oim_report.specs.Document.{Document}
 use Rattle.oim_report.specs.declared.place.Place.TheVariants.{Document as AtDocument}
 use Rattle.oim_report.specs.declared.refusal.Refusal.{Refusal}
+use Rattle.oim_report.proofs.DocumentHolds.{document_least}
 use Rattle.oim_report.proofs.ReadFact.{fact_back}
 use Rattle.fact_base.specs.Body.{Body}
 use Rattle.fact_base.specs.Fits.{Fits}
@@ -137,10 +139,11 @@ Accepts declared =
     (document_refusal (report_object declared namespaces references facts) ≡ None) × (level_said (report_object declared namespaces references facts) ≡ Some (declared_level declared))
 
 accepts : (declared : Option Level) → Accepts declared
-accepts None namespaces references facts binds are bound = (rw (binds, references_back references are, type_said) refl, refl)
+accepts None namespaces references facts binds are bound =
+    (sym (document_least (report_object None namespaces references facts)) ∙ rw (binds, references_back references are, type_said) refl, refl)
 accepts (Some l) namespaces references facts binds are bound =
     let said = level_found (bindings_in namespaces) bound l in
-    (rw (binds, references_back references are, type_said, said) refl, said)
+    (sym (document_least (report_object (Some l) namespaces references facts)) ∙ rw (binds, references_back references are, type_said, said) refl, said)
 
 object_back : (sheet : Sheet) (declared : Option Level) (namespaces : Members) (references : List (List ℕ)) (key : Fact → List ℕ) (spelled : QName → List ℕ) (facts : List Fact) →
     any_member binds_nothing namespaces ≡ false → All IsKeptReference references → BindsFeature declared (bindings_in namespaces) → All (FactFits sheet) facts → All (SpellsFact (bindings_in namespaces) spelled) facts →

@@ -9,7 +9,8 @@ use Rattle.oim_dims.specs.declared.fact.Fact.{Fact}
 use Rattle.serde_json.specs.Data.{Data}
 use Rattle.oim_report.specs.Conditions.{concept_kind, concept_refusal, content_refusal, decimals_refusal, defined_refusal, fact_refusal, form_refusal, language_refusal, names_of, period_refusal, unit_refusal, value_refusal}
 use Rattle.oim_report.specs.Names.{names_refusal}
-use Rattle.oim_report.specs.Outcome.{fact_or, fact_outcome, parts_outcome}
+use Rattle.oim_report.specs.Outcome.{fact_or, fact_outcome}
+use Rattle.oim_report.proofs.ByParts.{by_parts, parts_outcome}
 use Rattle.oim_report.specs.Parts.{DimensionParts, FactParts, fact_parts}
 use Rattle.oim_report.specs.Refusal.{or_refusal}
 use Rattle.oim_report.specs.Said.{fact_of, said_concept, said_dimensions, said_entity, said_fact, said_language, said_members, said_period, said_unit, said_value}
@@ -128,6 +129,6 @@ pub record HasAccepted (sheet : Sheet) (bs : List Binding) (d : Data) (f : Fact)
 
 pub accepted : (sheet : Sheet) (bs : List Binding) (d : Data) (f : Fact) → fact_outcome sheet bs d ≡ Ok f → HasAccepted sheet bs d f
 accepted sheet bs d f e =
-    let a = parts_say sheet bs (fact_parts d) f e in
+    let a = parts_say sheet bs (fact_parts d) f (sym (by_parts sheet bs d) ∙ e) in
     let b = accepted_parts sheet bs a.0 f a.2 in
     record { parts = a.0; are = a.1; dimensions = b.0; accepted = b.1 }

@@ -11,23 +11,22 @@ use Rattle.oim_report.specs.declared.place.Place.TheVariants.{Document as AtDocu
 use Rattle.oim_report.specs.Accepts.{AcceptedWhereFree, Accepts, IsFree}
 use Rattle.oim_report.specs.Document.{Document}
 use Rattle.oim_report.specs.Duplicates.{level_of}
-use Rattle.oim_report.specs.Info.{bindings_of, document_refusal, facts_of}
+use Rattle.oim_report.specs.Info.{bindings_of, facts_of}
 use Rattle.oim_report.specs.Json.{json, values}
-use Rattle.oim_report.specs.Outcome.{all_or_first, at, document_with, fact_or, fact_outcome, facts_said, outcome, parts_outcome, then_allowed, tree_outcome, unless_above, unless_refused}
-use Rattle.oim_report.specs.Parts.{fact_parts}
+use Rattle.oim_report.specs.Outcome.{all_or_first, at, document_with, fact_outcome, facts_said, outcome, then_allowed, tree_outcome, unless_above, unless_refused}
 use Rattle.oim_report.specs.Refusal.{map_ok}
-use Rattle.oim_report.specs.Said.{said_fact}
 use Rattle.oim_report.specs.Sheet.{Sheet}
-use Rattle.oim_report.proofs.Accepted.{parts_say}
+use Rattle.oim_report.specs.Holds.{document_holds, document_refusal}
+use Rattle.oim_report.proofs.AnsweredLeast.{free_is_said, said_is_free}
+use Rattle.oim_report.proofs.LeastOf.{none_is}
 use Rattle.oim_report.proofs.AcceptedFacts.{next, ok_of}
 use Rattle.oim_report.proofs.Documents.{document_is_said, document_said, is_allowed, not_refused}
 use Rattle.oim_report.proofs.OneDocument.{says_one_document}
-use Rattle.oim_report.proofs.SaidUnlessRefused.{facts_are_said}
 
 -- ---- what is accepted is free
 
 pub one_free : (sheet : Sheet) (bs : List Binding) (d : Data) (f : Fact) → fact_outcome sheet bs d ≡ Ok f → IsFree sheet bs d
-one_free sheet bs d f e = let a = parts_say sheet bs (fact_parts d) f e in record { parts = a.0; are = a.1; free = a.2.refused }
+one_free = said_is_free
 
 pub all_free : (sheet : Sheet) (bs : List Binding) (n : ℕ) (ds : List Data) (fs : List Fact) → all_or_first n (map (fact_outcome sheet bs) ds) ≡ Ok fs → AllByRecursion (IsFree sheet bs) ds
 all_free sheet bs n [] fs e = tt
@@ -48,7 +47,7 @@ tree_accepts sheet bytes tree d read e =
     record {
       tree = tree;
       read = read;
-      document = a.0;
+      document = (none_is (document_holds tree)).0 a.0;
       facts = all_free sheet (bindings_of tree) 1 (values (facts_of tree)) c.0 c.1;
       said = document_said sheet bytes (Some tree) d read e;
       level = not_above (is_lt (level_cmp d.level (level_of d.facts))) d d (ap then_allowed (sym b) ∙ a.1);
@@ -61,9 +60,7 @@ some_accepts sheet bytes (Some tree) d read e = tree_accepts sheet bytes tree d 
 -- ---- what is free is accepted
 
 pub one_said : (sheet : Sheet) (bs : List Binding) (d : Data) → IsFree sheet bs d → (f : Fact) × (fact_outcome sheet bs d ≡ Ok f)
-one_said sheet bs d free =
-    let f = facts_are_said sheet bs free.parts free.free in
-    (f.0, ap (parts_outcome sheet bs) free.are ∙ ap (λ r. fact_or r (said_fact sheet bs free.parts)) free.free ∙ ap (fact_or None) f.1)
+one_said = free_is_said
 
 pub all_ok : (sheet : Sheet) (bs : List Binding) (n : ℕ) (ds : List Data) → AllByRecursion (IsFree sheet bs) ds → (fs : List Fact) × (all_or_first n (map (fact_outcome sheet bs) ds) ≡ Ok fs)
 all_ok sheet bs n [] free = ([], refl)
@@ -79,10 +76,11 @@ free_accepted sheet bytes d acc =
     let bs = bindings_of tree in
     let fs = all_ok sheet bs 1 (values (facts_of tree)) acc.facts in
     let doc = document_with tree fs.0 in
-    let says = document_is_said sheet bytes tree fs.0 acc.read acc.document fs.1 in
+    let none = (none_is (document_holds tree)).1 acc.document in
+    let says = document_is_said sheet bytes tree fs.0 acc.read none fs.1 in
     let one : doc ≡ d = says_one_document sheet bytes doc d says acc.said in
     ap (tree_outcome sheet) acc.read
-    ∙ ap (λ r. unless_refused r (then_allowed (map_ok (document_with tree) (facts_said sheet bs (facts_of tree))))) acc.document
+    ∙ ap (λ r. unless_refused r (then_allowed (map_ok (document_with tree) (facts_said sheet bs (facts_of tree))))) none
     ∙ ap (λ r. then_allowed (map_ok (document_with tree) r)) fs.1
     ∙ ap (λ e. unless_above (level_of e.facts) e) one
     ∙ ap (λ b. cond b (Err (at AtDocument DisallowedDuplicates)) (Ok d)) acc.level

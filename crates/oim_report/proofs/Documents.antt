@@ -1,5 +1,5 @@
 -- Where nothing refuses a report, its document is what its bytes say.
-use Rattle.std.proofs.Common.{◌≡◌, ℕ, List, [], ◌∷◌, Bool, true, false, cond, Option, Some, None, Result, Ok, Err, refl, ap, subst}
+use Rattle.std.proofs.Common.{◌≡◌, ℕ, List, [], ◌∷◌, Bool, true, false, cond, Option, Some, None, Result, Ok, Err, refl, ap, subst, ◌∙◌}
 use Rattle.std.specs.Prelude.{All, is_none}
 use Rattle.oim_report.specs.FactFits.{FactFits}
 use Rattle.std.specs.Option.{unwrap_or}
@@ -15,7 +15,9 @@ use Rattle.oim_report.specs.declared.place.Place.TheVariants.{Document as AtDocu
 use Rattle.oim_report.specs.declared.refusal.Refusal.{Refusal}
 use Rattle.oim_report.specs.Document.{Document, SaysDocument}
 use Rattle.oim_report.specs.Duplicates.{level_of}
-use Rattle.oim_report.specs.Info.{base_said, bindings_of, document_refusal, facts_of, info_refusal, level_said, namespaces_of, references_said, shape_refusal}
+use Rattle.oim_report.specs.Info.{base_said, bindings_of, facts_of, level_said, namespaces_of, references_said}
+use Rattle.oim_report.specs.Holds.{document_refusal}
+use Rattle.oim_report.proofs.DocumentHolds.{document_least, info_refusal, shape_refusal}
 use Rattle.oim_report.specs.Json.{any_in, any_member, json, members}
 use Rattle.oim_report.specs.Namespaces.{binds_nothing}
 use Rattle.oim_report.specs.Outcome.{at, document_with, facts_said, outcome, then_allowed, tree_outcome, unless_above, unless_refused}
@@ -44,7 +46,7 @@ in_members (Some ms) e = e
 -- the prefixes of a report that is not refused stand for namespaces
 pub bindings_are_namespaces : (tree : Data) → document_refusal tree ≡ None → AreNamespaces (bindings_of tree)
 bindings_are_namespaces tree e =
-    let groups = none_of (shape_refusal tree) _ e in
+    let groups = none_of (shape_refusal tree) _ (document_least tree ∙ e) in
     let info = none_of (info_refusal tree) None groups.1 in
     let each = four (any_in binds_nothing (namespaces_of tree)) (is_none (base_said tree)) (is_none (references_said tree)) (is_none (level_said tree)) info.0 in
     bindings_are (members (namespaces_of tree)) (in_members (namespaces_of tree) each.0)
@@ -71,7 +73,7 @@ not_refused (Some q) r d e = absurd (cc)
 -- what the facts of a report that is not refused make is what its bytes say
 pub document_is_said : (sheet : Sheet) (bytes : List ℕ) (tree : Data) (fs : List Fact) → json bytes ≡ Some tree → document_refusal tree ≡ None → facts_said sheet (bindings_of tree) (facts_of tree) ≡ Ok fs → SaysDocument sheet bytes (document_with tree fs)
 document_is_said sheet bytes tree fs read none said =
-    let groups = none_of (shape_refusal tree) _ none in
+    let groups = none_of (shape_refusal tree) _ (document_least tree ∙ none) in
     let info = none_of (info_refusal tree) None groups.1 in
     let each = four (any_in binds_nothing (namespaces_of tree)) (is_none (base_said tree)) (is_none (references_said tree)) (is_none (level_said tree)) info.0 in
     record {

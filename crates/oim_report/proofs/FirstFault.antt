@@ -16,7 +16,7 @@ use Rattle.serde_json.specs.Find.{as_object, get_member}
 use Rattle.oim_report.specs.declared.concept_kind.ConceptKind.{ConceptKind}
 use Rattle.oim_report.specs.declared.dimension_kind.DimensionKind.{DimensionKind}
 use Rattle.oim_report.specs.Conditions.{comes_again, concept_kind, concept_refusal, content_refusal, decimals_refusal, defined_names, defined_refusal, dimension_kind, dimension_names, fact_refusal, form_refusal, has_misshapen_core, in_dimensions, is_faulty, is_misfit, is_numeric, is_other_kind, language_refusal, lists_unknown, member_names, names_of, period_refusal, spelled_in, unit_names, unit_refusal, value_names, value_refusal, value_refusals as first_value_refusals}
-use Rattle.oim_report.specs.Faults.{concept_refusals, content_refusals, core_refusals, defined_refusals, form_refusals, has_misfit, is_unknown_dimension, language_refusals, names_refusals, parts_refusals, refuses_some, unit_refusals, value_refusals, when}
+use Rattle.oim_report.specs.Faults.{concept_refusals, content_refusals, core_refusals, defined_refusals, form_refusals, has_misfit, is_unknown_dimension, language_refusals, names_refusals, refuses_some, unit_refusals, value_refusals, when}
 use Rattle.oim_report.specs.Json.{Given, absent, nil, text, whole, other, is_absent, is_no_object, is_no_text}
 use Rattle.oim_report.specs.Names.{Spelled, a_name, an_entity, names_refusal}
 use Rattle.oim_report.specs.Parts.{DimensionParts, FactParts, dimension_parts, parts_of}
@@ -29,7 +29,7 @@ use Rattle.oim_report.proofs.UnitNames.{by_any, one_more}
 
 -- ---- names
 
-any_of : (bs : List Binding) (ns : List Spelled) → names_refusal bs ns ≡ by_any (refuses_some NameForm bs ns) (refuses_some UnboundPrefix bs ns) (refuses_some ReservedNamespace bs ns)
+pub any_of : (bs : List Binding) (ns : List Spelled) → names_refusal bs ns ≡ by_any (refuses_some NameForm bs ns) (refuses_some UnboundPrefix bs ns) (refuses_some ReservedNamespace bs ns)
 any_of bs [] = refl
 any_of bs (n ∷ ns) =
     ap (lesser (refusal_as n.has_form bs n.text)) (any_of bs ns)
@@ -47,7 +47,7 @@ first_name bs ns = three (refuses_some NameForm bs ns) (refuses_some UnboundPref
 -- ---- the form
 
 -- a member is missing, or is an object
-missing : (o : Option Data) → is_no_object o ≡ false → is_none (option_map dimension_parts (option_and_then as_object o)) ≡ is_none o
+pub missing : (o : Option Data) → is_no_object o ≡ false → is_none (option_map dimension_parts (option_and_then as_object o)) ≡ is_none o
 missing None h = refl
 missing (Some null) h = absurd (cc)
 missing (Some (boolean b)) h = absurd (cc)
@@ -211,7 +211,11 @@ module _ (sheet : Sheet) (bs : List Binding) (p : FactParts) where
 
 -- ---- a fact object
 
-pub first_parts : (sheet : Sheet) (bs : List Binding) (ms : Members) → first_refusal (parts_refusals sheet bs (object ms) (parts_of ms)) ≡ fact_refusal sheet bs (parts_of ms)
+-- of a fact object of these parts, in the order of the numbers
+abbrev pub parts_refusals : Sheet → List Binding → Members → List (Option Reason)
+parts_refusals sheet bs ms = form_refusals (parts_of ms) (get_member (codes "dimensions") ms) ++ option_map_or (content_refusals sheet bs (parts_of ms)) (parts_of ms).dimensions []
+
+pub first_parts : (sheet : Sheet) (bs : List Binding) (ms : Members) → first_refusal (parts_refusals sheet bs ms) ≡ fact_refusal sheet bs (parts_of ms)
 first_parts sheet bs ms =
     let p = parts_of ms in
     let inside = option_map_or (content_refusals sheet bs p) p.dimensions [] in

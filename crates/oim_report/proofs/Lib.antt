@@ -36,7 +36,6 @@ pub mod AcceptedFacts
 pub mod Documents
 pub mod RisingNames
 pub mod SheetEntries
-pub mod OtherReasons
 pub mod OneMembers
 pub mod InTurn
 pub mod OneDocument
@@ -70,3 +69,11 @@ pub mod ComesAgain
 pub mod EachRefusal
 pub mod FirstFault
 pub mod FaultLaws
+pub mod LeastOf
+pub mod DocumentHolds
+pub mod FactHolds
+pub mod ValueWords
+pub mod AllTold
+pub mod ByParts
+pub mod AnsweredLeast
+pub mod SheetHolds

@@ -1,6 +1,6 @@
 -- What the map of a sheet has is what a member of the object says.
 use Rattle.std.proofs.Common.{◌≡◌, ◌⊎◌, inl, inr, ℕ, List, [], ◌∷◌, ◌++◌, Bool, true, false, cond, not, Option, Some, None, Ok, refl, sym, ap, subst, ◌∙◌}
-use Rattle.std.specs.Prelude.{◌↔◌, if◌then◌else◌}
+use Rattle.std.specs.Prelude.{◌↔◌}
 use Rattle.std.specs.Option.{option_map_or}
 use Rattle.std.specs.List.{list_any}
 use Rattle.std.specs.Ordering.{eq_by_cmp}
@@ -15,9 +15,11 @@ use Rattle.serde_json.specs.Data.{Data, Members, no_members, member}
 use Rattle.oim_report.specs.Json.{any_in, json}
 use Rattle.oim_report.specs.KindLaws.{same_concept_kind_is, same_dimension_kind_is}
 use Rattle.oim_report.specs.Listed.{ConceptsAreListed, DimensionsAreListed, SaysKind, StandsIn}
-use Rattle.oim_report.specs.Names.{named, names_refusal}
-use Rattle.oim_report.specs.Refusal.{or_refusal, unless}
-use Rattle.oim_report.specs.Sheet.{Sheet, concept_kind_named, dimension_kind_named, entries_in, entry, has_bad_kind, has_other_kind, has_two_kinds, key_names, kind_in, kinds_refusal, listed, names_no_kind, said_sheet, same_concept_kind, same_dimension_kind, sheet_bindings, sheet_concepts, sheet_dimensions, sheet_namespaces_refusal, sheet_of, sheet_outcome, sheet_refusal, sheet_shape_refusal}
+use Rattle.oim_report.specs.Least.{least}
+use Rattle.oim_report.specs.Names.{named}
+use Rattle.oim_report.specs.Refusal.{unless}
+use Rattle.oim_report.specs.Sheet.{Sheet, concept_kind_named, dimension_kind_named, entries_in, entry, has_bad_kind, has_other_kind, has_two_kinds, key_names, kind_in, listed, names_no_kind, said_sheet, same_concept_kind, same_dimension_kind, sheet_bindings, sheet_concepts, sheet_dimensions, sheet_holds, sheet_of, sheet_outcome}
+use Rattle.oim_report.proofs.LeastOf.{none_is}
 use Rattle.oim_report.proofs.Naming.{expanded}
 use Rattle.oim_report.proofs.RisingNames.{name_total}
 use Rattle.oim_report.proofs.SaysParts.{named_expands}
@@ -83,32 +85,17 @@ module _ {K : Type 0} (kind_named : List ℕ → Option K) (same : K → K → B
 
 -- ---- an accepted sheet
 
-later_none : (r s : Option Reason) → or_refusal r s ≡ None → s ≡ None
-later_none None s e = e
-later_none (Some r) s e = absurd (cc)
-
-first_none : (r s : Option Reason) → or_refusal r s ≡ None → r ≡ None
-first_none None s e = refl
-first_none (Some r) s e = absurd (cc)
-
-no_bad : (b : Bool) → (if b then Some SheetKind else None) ≡ None → b ≡ false
-no_bad true e = absurd (cc)
-no_bad false e = refl
-
-kinds_good : (tree : Data) → sheet_refusal tree ≡ None → (has_bad_kind concept_kind_named same_concept_kind (sheet_bindings tree) (sheet_concepts tree) ≡ false) × (has_bad_kind dimension_kind_named same_dimension_kind (sheet_bindings tree) (sheet_dimensions tree) ≡ false)
-kinds_good tree e =
-    let shape = later_none (sheet_shape_refusal tree) _ e in
-    let spaces = later_none (sheet_namespaces_refusal tree) _ shape in
-    let names = later_none (names_refusal (sheet_bindings tree) (key_names (sheet_concepts tree) ++ key_names (sheet_dimensions tree))) _ spaces in
-    or_parts _ _ (no_bad _ (first_none (kinds_refusal tree) None names))
+kinds_good : (tree : Data) → least (sheet_holds tree) ≡ None → (has_bad_kind concept_kind_named same_concept_kind (sheet_bindings tree) (sheet_concepts tree) ≡ false) × (has_bad_kind dimension_kind_named same_dimension_kind (sheet_bindings tree) (sheet_dimensions tree) ≡ false)
+unfolding sheet_holds
+kinds_good tree e = or_parts _ _ ((none_is (sheet_holds tree)).0 e SheetKind)
 
 accepted : (refusal : Option Reason) (said sheet : Sheet) → unless refusal said ≡ Ok sheet → (refusal ≡ None) × (said ≡ sheet)
 accepted None said sheet e = (refl, cc)
 accepted (Some r) said sheet e = absurd (cc)
 
-is_accepted : (bytes : List ℕ) (tree : Data) (sheet : Sheet) → json bytes ≡ Some tree → sheet_outcome bytes ≡ Ok sheet → (sheet_refusal tree ≡ None) × (said_sheet tree ≡ sheet)
+is_accepted : (bytes : List ℕ) (tree : Data) (sheet : Sheet) → json bytes ≡ Some tree → sheet_outcome bytes ≡ Ok sheet → (least (sheet_holds tree) ≡ None) × (said_sheet tree ≡ sheet)
 unfolding sheet_outcome
-is_accepted bytes tree sheet read e = accepted (sheet_refusal tree) (said_sheet tree) sheet (ap sheet_of (sym read) ∙ e)
+is_accepted bytes tree sheet read e = accepted (least (sheet_holds tree)) (said_sheet tree) sheet (ap sheet_of (sym read) ∙ e)
 
 pub concepts_are_listed : ConceptsAreListed
 concepts_are_listed bytes tree sheet n k read e =

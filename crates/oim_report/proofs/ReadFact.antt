@@ -22,7 +22,8 @@ use Rattle.oim_report.specs.Conditions.{form_refusal, spelled_in, concept_kind, 
 use Rattle.oim_report.specs.Fact.{SaysFact, SaysDimensions}
 use Rattle.oim_report.specs.FactFits.{PeriodFits, UnitFits, MeasuresFit, FactFits}
 use Rattle.oim_report.specs.FactObject.{option_spelled, option_unit_text, fact_object}
-use Rattle.oim_report.specs.Outcome.{fact_or, parts_outcome, fact_outcome}
+use Rattle.oim_report.specs.Outcome.{fact_or, fact_outcome}
+use Rattle.oim_report.proofs.ByParts.{by_parts, parts_outcome}
 use Rattle.oim_report.specs.Said.{said_value, said_dimensions, said_fact}
 use Rattle.oim_report.specs.Sheet.{Sheet}
 use Rattle.oim_report.specs.ReadBack.{SpellsFact, option_given, dimensions_given, value_given, parts_given, ConceptReadsBack, EntityReadsBack, PeriodReadsBack, UnitReadsBack, LanguageReadsBack, MembersReadBack, ValueReadsBack, FactObjectReadsBack, FormsAreAccepted, NamesAreAccepted}
@@ -156,7 +157,7 @@ module _ (sheet : Sheet) (bs : List Binding) (spelled : QName → List ℕ) (f :
       ∙ ap (option_map (λ v. record { dimensions = f.dimensions; value = v })) value_said
 
   outcome : fact_outcome sheet bs (fact_object spelled f) ≡ Ok f
-  outcome = ap (parts_outcome sheet bs) (parts_back sheet bs spelled f fits s) ∙ (λ i. fact_or (none_refuses i) (fact_said i))
+  outcome = by_parts sheet bs (fact_object spelled f) ∙ ap (parts_outcome sheet bs) (parts_back sheet bs spelled f fits s) ∙ (λ i. fact_or (none_refuses i) (fact_said i))
 
 pub names_accepted : NamesAreAccepted
 names_accepted = names_none

@@ -11,35 +11,20 @@ use Rattle.serde_json.specs.Data.{Data}
 use Rattle.oim_report.specs.declared.place.Place.TheVariants.{Document as AtDocument, Fact as AtFact}
 use Rattle.oim_report.specs.declared.refusal.Refusal.{Refusal}
 use Rattle.oim_report.specs.Accepts.{IsFree}
-use Rattle.oim_report.specs.Conditions.{fact_refusal}
 use Rattle.oim_report.specs.Document.{Document}
 use Rattle.oim_report.specs.Duplicates.{level_of}
-use Rattle.oim_report.specs.Info.{bindings_of, document_refusal, facts_of}
+use Rattle.oim_report.specs.Info.{bindings_of, facts_of}
 use Rattle.oim_report.specs.Json.{json, values}
-use Rattle.oim_report.specs.Outcome.{all_or_first, at, document_with, fact_or, fact_outcome, facts_said, outcome, parts_outcome, then_allowed, tree_outcome, unless_above, unless_refused}
-use Rattle.oim_report.specs.Parts.{FactParts, fact_parts}
+use Rattle.oim_report.specs.Outcome.{all_or_first, at, document_with, fact_outcome, facts_said, outcome, then_allowed, tree_outcome, unless_above, unless_refused}
 use Rattle.oim_report.specs.Refusal.{map_ok}
-use Rattle.oim_report.specs.Refuses.{RefusedWhereHeld, Refuses, RefusesFacts, RefusesObject, RefusesOne, RefusesTree}
-use Rattle.oim_report.specs.Said.{said_fact}
+use Rattle.oim_report.specs.Refuses.{RefusedWhereHeld, Refuses, RefusesFacts, RefusesOne, RefusesTree}
 use Rattle.oim_report.specs.Sheet.{Sheet}
+use Rattle.oim_report.specs.Holds.{document_holds, document_refusal}
+use Rattle.oim_report.proofs.AnsweredLeast.{refused_is_least}
+use Rattle.oim_report.proofs.LeastOf.{least_is, none_is}
 use Rattle.oim_report.proofs.AcceptedWhereFree.{all_free, all_ok, one_free, one_said}
 use Rattle.oim_report.proofs.Documents.{document_is_said}
 use Rattle.oim_report.proofs.OneDocument.{says_one_document}
-use Rattle.oim_report.proofs.SaidUnlessRefused.{facts_are_said}
-
--- ---- one object
-
-by_fact : (sheet : Sheet) (bs : List Binding) (p : FactParts) (o : Option Reason) (reason : Reason) → fact_refusal sheet bs p ≡ o → fact_or o (said_fact sheet bs p) ≡ Err reason → o ≡ Some reason
-by_fact sheet bs p None reason free e = let f = facts_are_said sheet bs p free in let no : fact_or None (Some f.0) ≡ Err reason = sym (ap (fact_or None) f.1) ∙ e in absurd (cc)
-by_fact sheet bs p (Some r) reason free e = cc
-
-by_parts : (sheet : Sheet) (bs : List Binding) (d : Data) (o : Option FactParts) (reason : Reason) → fact_parts d ≡ o → parts_outcome sheet bs o ≡ Err reason → RefusesObject sheet bs d reason
-by_parts sheet bs d None reason is e = inl (is, cc)
-by_parts sheet bs d (Some p) reason is e = inr (p, is, by_fact sheet bs p (fact_refusal sheet bs p) reason refl e)
-
-object_refused : (sheet : Sheet) (bs : List Binding) (d : Data) (reason : Reason) → RefusesObject sheet bs d reason → fact_outcome sheet bs d ≡ Err reason
-object_refused sheet bs d reason (inl h) = ap (parts_outcome sheet bs) h.0 ∙ ap Err (sym h.1)
-object_refused sheet bs d reason (inr h) = ap (parts_outcome sheet bs) h.1 ∙ ap (λ r. fact_or r (said_fact sheet bs h.0)) h.2
 
 -- ---- the first of several
 
@@ -57,7 +42,7 @@ by_first sheet bs n d ds r (Ok f) is later e =
 by_first sheet bs n d ds r (Err reason) is later e =
     let same : at (AtFact n) reason ≡ r = cc in
     let place : n ≡ n + 0 = omega arith in
-    record { before = []; object = d; after = ds; reason = reason; are = refl; free = tt; refused = by_parts sheet bs d (fact_parts d) reason refl is; answer = sym same ∙ ap (λ k. at (AtFact k) reason) place }
+    record { before = []; object = d; after = ds; reason = reason; are = refl; free = tt; refused = (refused_is_least sheet bs d reason).0 is; answer = sym same ∙ ap (λ k. at (AtFact k) reason) place }
 
 first_is : (sheet : Sheet) (bs : List Binding) (n : ℕ) (ds : List Data) (r : Refusal) → all_or_first n (map (fact_outcome sheet bs) ds) ≡ Err r → RefusesOne sheet bs n ds r
 first_is sheet bs n [] r e = absurd (cc)
@@ -76,7 +61,7 @@ behind_free sheet bs n (d ∷ ds) one after reason free e =
 
 first_answered : (sheet : Sheet) (bs : List Binding) (n : ℕ) (ds : List Data) (r : Refusal) → RefusesOne sheet bs n ds r → all_or_first n (map (fact_outcome sheet bs) ds) ≡ Err r
 first_answered sheet bs n ds r h =
-    ap (λ x. all_or_first n (map (fact_outcome sheet bs) x)) h.are ∙ behind_free sheet bs n h.before h.object h.after h.reason h.free (object_refused sheet bs h.object h.reason h.refused) ∙ ap Err (sym h.answer)
+    ap (λ x. all_or_first n (map (fact_outcome sheet bs) x)) h.are ∙ behind_free sheet bs n h.before h.object h.after h.reason h.free ((refused_is_least sheet bs h.object h.reason).1 h.refused) ∙ ap Err (sym h.answer)
 
 -- ---- a document
 
@@ -93,8 +78,8 @@ module _ (sheet : Sheet) (bytes : List ℕ) (tree : Data) (read : json bytes ≡
       inr (all_free sheet (bindings_of tree) 1 (values (facts_of tree)) fs is, record { document = doc; said = document_is_said sheet bytes tree fs read none is; above = a.0; answer = a.1 })
 
   by_document : (o : Option Reason) (r : Refusal) → document_refusal tree ≡ o → unless_refused o (then_allowed (map_ok (document_with tree) (facts_said sheet (bindings_of tree) (facts_of tree)))) ≡ Err r → RefusesTree sheet bytes tree r
-  by_document None r is e = inr (is, by_facts (facts_said sheet (bindings_of tree) (facts_of tree)) r is refl e)
-  by_document (Some reason) r is e = inl (reason, is, cc)
+  by_document None r is e = inr ((none_is (document_holds tree)).0 is, by_facts (facts_said sheet (bindings_of tree) (facts_of tree)) r is refl e)
+  by_document (Some reason) r is e = inl (reason, (least_is (document_holds tree) reason).0 is, cc)
 
   facts_answered : (r : Refusal) → document_refusal tree ≡ None → RefusesFacts sheet bytes tree r → then_allowed (map_ok (document_with tree) (facts_said sheet (bindings_of tree) (facts_of tree))) ≡ Err r
   facts_answered r none (inl one) = ap (λ o. then_allowed (map_ok (document_with tree) o)) (first_answered sheet (bindings_of tree) 1 (values (facts_of tree)) r one)
@@ -105,8 +90,8 @@ module _ (sheet : Sheet) (bytes : List ℕ) (tree : Data) (read : json bytes ≡
       ∙ ap (λ b. cond b (Err (at AtDocument DisallowedDuplicates)) (Ok h.1.document)) h.1.above ∙ ap Err (sym h.1.answer)
 
   tree_answered : (r : Refusal) → RefusesTree sheet bytes tree r → tree_outcome sheet (Some tree) ≡ Err r
-  tree_answered r (inl h) = ap (λ o. unless_refused o (then_allowed (map_ok (document_with tree) (facts_said sheet (bindings_of tree) (facts_of tree))))) h.1 ∙ ap Err (sym h.2)
-  tree_answered r (inr h) = ap (λ o. unless_refused o (then_allowed (map_ok (document_with tree) (facts_said sheet (bindings_of tree) (facts_of tree))))) h.0 ∙ facts_answered r h.0 h.1
+  tree_answered r (inl h) = ap (λ o. unless_refused o (then_allowed (map_ok (document_with tree) (facts_said sheet (bindings_of tree) (facts_of tree))))) ((least_is (document_holds tree) h.0).1 h.1) ∙ ap Err (sym h.2)
+  tree_answered r (inr h) = ap (λ o. unless_refused o (then_allowed (map_ok (document_with tree) (facts_said sheet (bindings_of tree) (facts_of tree))))) ((none_is (document_holds tree)).1 h.0) ∙ facts_answered r ((none_is (document_holds tree)).1 h.0) h.1
 
 by_read : (sheet : Sheet) (bytes : List ℕ) (o : Option Data) (r : Refusal) → json bytes ≡ o → tree_outcome sheet o ≡ Err r → Refuses sheet bytes r
 by_read sheet bytes None r is e = inl (is, cc)

@@ -1,30 +1,28 @@
 -- Which reports are accepted, told by the conditions and not by the outcome (own).
-use Rattle.std.specs.Prelude.{◌≡◌, ◌↔◌, ℕ, List, false, Some, None, Ok}
+use Rattle.std.specs.Prelude.{◌≡◌, ◌↔◌, ℕ, List, false, Some, Ok}
 use Rattle.std.specs.List.{AllByRecursion}
 use Rattle.std.specs.Ordering.{is_lt}
 use Rattle.oim_names.specs.Bindings.{Binding}
+use Rattle.oim_names.specs.declared.reason.Reason.{Reason}
 use Rattle.oim_value.specs.Level.{level_cmp}
 use Rattle.serde_json.specs.Data.{Data}
-use Rattle.oim_report.specs.Conditions.{fact_refusal}
 use Rattle.oim_report.specs.Document.{Document, SaysDocument}
 use Rattle.oim_report.specs.Duplicates.{level_of}
-use Rattle.oim_report.specs.Info.{bindings_of, document_refusal, facts_of}
+use Rattle.oim_report.specs.Info.{bindings_of, facts_of}
 use Rattle.oim_report.specs.Json.{json, values}
 use Rattle.oim_report.specs.Outcome.{outcome}
-use Rattle.oim_report.specs.Parts.{FactParts, fact_parts}
 use Rattle.oim_report.specs.Sheet.{Sheet}
+use Rattle.oim_report.specs.Holds.{document_holds, holds}
 
--- a fact object is an object, and none of a fact's conditions holds of it
-pub record IsFree (sheet : Sheet) (bs : List Binding) (object : Data) : Type 0 where
-  pub parts : FactParts
-  pub are : fact_parts object ≡ Some parts
-  pub free : fact_refusal sheet bs parts ≡ None
+-- no condition holds of a fact object
+abbrev pub IsFree : Sheet → List Binding → Data → Type 0
+IsFree sheet bs d = (r : Reason) → holds sheet bs d r ≡ false
 
 -- the bytes are JSON, no condition holds of the document or of a fact, they say this document, and the level of its facts is not above the declared one
 pub record Accepts (sheet : Sheet) (bytes : List ℕ) (d : Document) : Type 0 where
   pub tree : Data
   pub read : json bytes ≡ Some tree
-  pub document : document_refusal tree ≡ None
+  pub document : (r : Reason) → document_holds tree r ≡ false
   pub facts : AllByRecursion (IsFree sheet (bindings_of tree)) (values (facts_of tree))
   pub said : SaysDocument sheet bytes d
   pub level : is_lt (level_cmp d.level (level_of d.facts)) ≡ false

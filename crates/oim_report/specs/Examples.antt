@@ -1,5 +1,5 @@
 -- Facts as examples of what is written and read (own).
-use Rattle.std.specs.Prelude.{ℕ, pos, negsuc, List, [], ◌∷◌, ◌++◌, false, codes, bytes_eq, if◌then◌else◌, Some, None}
+use Rattle.std.specs.Prelude.{ℕ, pos, negsuc, List, [], ◌∷◌, ◌++◌, codes, bytes_eq, if◌then◌else◌, Some, None}
 use Rattle.oim_names.specs.QName.{QName}
 use Rattle.oim_names.specs.Bindings.{Binding}
 use Rattle.oim_value.specs.declared.value.Value.{Value}
@@ -8,8 +8,6 @@ use Rattle.oim_dims.specs.DimensionSet.{DimensionSet}
 use Rattle.oim_dims.specs.declared.fact.Fact.{Fact}
 use Rattle.oim_dims.specs.declared.member.Member.TheVariants.{Nil as NoMember, Text as MemberText, Name as MemberName}
 use Rattle.oim_dims.specs.declared.period.Period.TheVariants.{Forever, Duration}
-use Rattle.oim_report.specs.Json.{absent, text}
-use Rattle.oim_report.specs.Parts.{FactParts}
 
 abbrev pub first_uri : List ℕ
 first_uri = codes "http://example.org/t"
@@ -48,26 +46,6 @@ text_fact = fact (record {
   language = Some (codes "en-gb");
   members = (in_first (codes "Reg"), MemberName (in_first (codes "North"))) ∷ (in_first (codes "Sku"), MemberText (codes "a b")) ∷ [];
 }) (AText (codes "Blue"))
-
--- the parts of its object, without its period
-abbrev pub text_parts : FactParts
-text_parts = record {
-  value = text (codes "Blue");
-  decimals = absent;
-  dimensions = Some (record {
-    concept = text (codes "n1:T");
-    entity = text (codes "n2:529900:A1");
-    period = absent;
-    unit = absent;
-    language = text (codes "en-gb");
-    note = absent;
-    defined = (codes "n1:Reg", text (codes "n1:North")) ∷ (codes "n1:Sku", text (codes "a b")) ∷ [];
-    unknown = false;
-  });
-  linked = false;
-  misshapen = false;
-  unknown = false;
-}
 
 -- a fact without its period
 abbrev pub undated : Fact → Fact

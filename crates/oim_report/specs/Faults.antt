@@ -1,27 +1,33 @@
--- Everything that is wrong with a report, as far as one condition makes sense beside another (own). Where `Info` and `Conditions` answer the
--- first condition that holds, this tells each; one that speaks of what another refuses is not told beside it.
-use Rattle.std.specs.Prelude.{◌≡◌, ◌↔◌, ℕ, ◌+◌, List, [], ◌∷◌, ◌++◌, map, Bool, false, not, ◌||◌, ◌&&◌, if◌then◌else◌, codes, Option, Some, None, is_none, is_some, Result, Ok, Err}
+-- Everything that is wrong with a report (own): all conditions that hold and are not hidden, each with its place.
+use Rattle.std.specs.Prelude.{◌≡◌, ◌↔◌, ℕ, ◌+◌, List, [], ◌∷◌, ◌++◌, map, Bool, false, not, ◌||◌, ◌&&◌, if◌then◌else◌, Option, Some, None, is_none, is_some, option_and_then}
 use Rattle.std.specs.Option.{option_map_or, unwrap_or}
 use Rattle.std.specs.List.{filter_map, list_any}
+use Rattle.std.specs.Ordering.{is_lt}
 use Rattle.std.specs.Result.{result_err}
 use Rattle.oim_names.specs.Bindings.{Binding}
 use Rattle.oim_names.specs.Expansion.{lacks_form, lacks_binding, lies_in_reserved, name_refusal}
 use Rattle.oim_names.specs.declared.reason.Reason.{Reason}
-use Rattle.oim_names.specs.declared.reason.Reason.TheVariants.{NotJson, MemberForm, UnknownMember, DocumentType, Namespace, BaseUrl, TaxonomyUrl, Feature, Links, Notes, DimensionsMissing, NameForm, UnboundPrefix, ReservedNamespace, MissingConcept, UnknownConcept, UnknownDimension, DimensionValue, UnitOnOther, LanguageOnNumeric, DecimalsOnOther}
+use Rattle.oim_names.specs.declared.reason.Reason.TheVariants.{NotJson, MemberForm, UnknownMember, Links, Notes, DimensionsMissing, NameForm, UnboundPrefix, ReservedNamespace, MissingConcept, UnknownConcept, UnknownDimension, DimensionValue, UnitOnOther, LanguageOnNumeric, DecimalsOnOther, DisallowedDuplicates}
+use Rattle.oim_value.specs.Level.{level_cmp}
+use Rattle.oim_value.specs.declared.level.Level.TheVariants.{All as AllLevel}
+use Rattle.oim_dims.specs.declared.fact.Fact.{Fact}
 use Rattle.serde_json.specs.Data.{Data}
-use Rattle.serde_json.specs.Find.{get}
 use Rattle.oim_report.specs.declared.concept_kind.ConceptKind.{ConceptKind}
 use Rattle.oim_report.specs.declared.place.Place.TheVariants.{Document as AtDocument, Fact as AtFact}
 use Rattle.oim_report.specs.declared.refusal.Refusal.{Refusal}
 use Rattle.oim_report.specs.Conditions.{concept_kind, comes_again, decimals_refusal, dimension_kind, dimension_names, has_misshapen_core, in_dimensions, is_misfit, is_numeric, is_other_kind, language_refusal, names_of, period_refusal, unit_refusal, value_refusal}
+use Rattle.oim_report.specs.Accepts.{Accepts}
 use Rattle.oim_report.specs.Document.{Document}
-use Rattle.oim_report.specs.Info.{base_said, bindings_of, facts_of, has_misshapen_part, has_other_type, has_unknown_part, level_said, namespaces_of, said_references, taxonomy_of}
-use Rattle.oim_report.specs.Json.{Given, is_absent, json, object_at, any_in, text_of, values}
+use Rattle.oim_report.specs.Duplicates.{level_of}
+use Rattle.oim_report.specs.Info.{bindings_of, facts_of, level_said}
+use Rattle.oim_report.specs.Json.{Given, is_absent, json, text_of, values}
 use Rattle.oim_report.specs.Names.{Spelled}
-use Rattle.oim_report.specs.Namespaces.{binds_nothing}
 use Rattle.oim_report.specs.Outcome.{at, outcome}
 use Rattle.oim_report.specs.Parts.{DimensionParts, FactParts, fact_parts}
+use Rattle.oim_report.specs.Said.{said_fact}
 use Rattle.oim_report.specs.Sheet.{Sheet}
+use Rattle.oim_report.specs.Holds.{document_holds, holds}
+use Rattle.oim_report.specs.Least.{told}
 
 -- a refusal, where its condition holds
 abbrev pub when : Bool → Reason → Option Reason
@@ -30,28 +36,6 @@ when holds reason = if holds then Some reason else None
 -- those that there are
 abbrev pub all_refusals : List (Option Reason) → List Reason
 all_refusals refusals = filter_map (λ r. r) refusals
-
--- ---- the document
-
--- which references are kept depends on the base: where that is refused, they are looked at as without one
-abbrev pub refuses_references : Data → Bool
-refuses_references tree = is_none (said_references (unwrap_or (base_said tree) None) (taxonomy_of tree))
-
--- which key is the feature depends on the prefixes: where an entry binds nothing, it is not told
-abbrev pub refuses_level : Data → Bool
-refuses_level tree = not (any_in binds_nothing (namespaces_of tree)) && is_none (level_said tree)
-
--- and the type is not, where there is no `documentInfo` to have one
-abbrev pub document_refusals : Data → List (Option Reason)
-document_refusals tree =
-    when (has_misshapen_part tree) MemberForm
-    ∷ when (has_unknown_part tree) UnknownMember
-    ∷ when (is_some (object_at (codes "documentInfo") tree) && has_other_type tree) DocumentType
-    ∷ when (any_in binds_nothing (namespaces_of tree)) Namespace
-    ∷ when (is_none (base_said tree)) BaseUrl
-    ∷ when (refuses_references tree) TaxonomyUrl
-    ∷ when (refuses_level tree) Feature
-    ∷ []
 
 -- ---- the form of a fact
 
@@ -136,19 +120,10 @@ content_refusals sheet bs p ds =
     names_refusals bs (names_of sheet bs ds p.value)
     ++ (concept_refusals sheet bs ds.concept ++ (defined_refusals sheet bs ds.defined ++ (core_refusals kind ds ++ value_refusals kind p.value p.decimals)))
 
--- of a fact object of these parts, in the order of the numbers
-abbrev pub parts_refusals : Sheet → List Binding → Data → FactParts → List (Option Reason)
-parts_refusals sheet bs d p =
-    form_refusals p (get (codes "dimensions") d) ++ option_map_or (content_refusals sheet bs p) p.dimensions []
-
--- what is no object has not the form
-abbrev pub fact_faults : Sheet → List Binding → Data → List Reason
-fact_faults sheet bs d = all_refusals (option_map_or (parts_refusals sheet bs d) (fact_parts d) (Some MemberForm ∷ []))
-
 -- of several fact objects, where the first has the place n
 abbrev pub faults_from : Sheet → List Binding → ℕ → List Data → List Refusal
 faults_from sheet bs n [] = []
-faults_from sheet bs n (d ∷ ds) = map (at (AtFact n)) (fact_faults sheet bs d) ++ faults_from sheet bs (n + 1) ds
+faults_from sheet bs n (d ∷ ds) = map (at (AtFact n)) (told (holds sheet bs d)) ++ faults_from sheet bs (n + 1) ds
 
 -- ---- a report
 
@@ -157,21 +132,26 @@ abbrev pub or_else : List Refusal → List Refusal → List Refusal
 or_else [] later = later
 or_else (r ∷ rs) later = r ∷ rs
 
--- the one refusal that is answered, where there is one
-abbrev pub answered : Result Document Refusal → List Refusal
-answered (Ok d) = []
-answered (Err r) = r ∷ []
+-- the facts that its fact objects say
+abbrev pub facts_in : Sheet → Data → List Fact
+facts_in sheet tree = filter_map (λ d. option_and_then (said_fact sheet (bindings_of tree)) (fact_parts d)) (values (facts_of tree))
 
--- those of the document; where there are none, those of its facts, in byte order of their identifiers; where there are none, that it has
--- duplicates beyond its level, which is then what is answered
-abbrev pub tree_faults : Sheet → Result Document Refusal → Data → List Refusal
-tree_faults sheet said tree =
-    or_else (map (at AtDocument) (all_refusals (document_refusals tree)))
-    (or_else (faults_from sheet (bindings_of tree) 1 (values (facts_of tree))) (answered said))
+-- whether the level of the facts is above the declared one
+abbrev pub is_above_level : Sheet → Data → Bool
+is_above_level sheet tree = is_lt (level_cmp (unwrap_or (level_said tree) AllLevel) (level_of (facts_in sheet tree)))
 
--- everything that is wrong with a report's bytes under a sheet, each with its place
+abbrev pub level_faults : Sheet → Data → List Refusal
+level_faults sheet tree = if is_above_level sheet tree then at AtDocument DisallowedDuplicates ∷ [] else []
+
+-- the faults of the document; if it has none, those of its facts in byte order of their identifiers; if they have none, that of the level
+abbrev pub tree_faults : Sheet → Data → List Refusal
+tree_faults sheet tree =
+    or_else (map (at AtDocument) (told (document_holds tree)))
+    (or_else (faults_from sheet (bindings_of tree) 1 (values (facts_of tree))) (level_faults sheet tree))
+
+-- all faults of a report's bytes under a sheet
 unfoldable pub faults : Sheet → List ℕ → List Refusal
-faults sheet bytes = option_map_or (tree_faults sheet (outcome sheet bytes)) (json bytes) (at AtDocument NotJson ∷ [])
+faults sheet bytes = option_map_or (tree_faults sheet) (json bytes) (at AtDocument NotJson ∷ [])
 
 -- ---- laws
 
@@ -179,10 +159,10 @@ abbrev pub first_of : List Refusal → Option Refusal
 first_of [] = None
 first_of (r ∷ rs) = Some r
 
--- there is none exactly where the report is accepted,
+-- there are no faults exactly where the report is accepted
 abbrev pub NoFaultsWhereAccepted : Type 0
-NoFaultsWhereAccepted = (sheet : Sheet) (bytes : List ℕ) → (faults sheet bytes ≡ []) ↔ ((d : Document) × (outcome sheet bytes ≡ Ok d))
+NoFaultsWhereAccepted = (sheet : Sheet) (bytes : List ℕ) → (faults sheet bytes ≡ []) ↔ ((d : Document) × Accepts sheet bytes d)
 
--- and the first is the refusal that is answered
+-- the first fault is the refusal
 abbrev pub FirstFaultIsAnswered : Type 0
 FirstFaultIsAnswered = (sheet : Sheet) (bytes : List ℕ) → first_of (faults sheet bytes) ≡ result_err (outcome sheet bytes)

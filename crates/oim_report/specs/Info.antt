@@ -1,21 +1,18 @@
 -- The parts of a report outside its facts, and why they are refused (xBRL-JSON 1.0, section 2; own where it says so).
-use Rattle.std.specs.Prelude.{ℕ, List, [], ◌∷◌, Bool, false, not, ◌||◌, ◌&&◌, bytes_eq, codes, if◌then◌else◌, Option, Some, None, is_none, option_map, option_and_then}
+use Rattle.std.specs.Prelude.{ℕ, List, [], ◌∷◌, Bool, false, ◌&&◌, bytes_eq, codes, if◌then◌else◌, Option, Some, None, option_map, option_and_then}
 use Rattle.std.specs.Option.{option_map_or, unwrap_or}
 use Rattle.oim_names.specs.Bindings.{Binding, uri_of}
 use Rattle.oim_names.specs.Expansion.{reserved_uri}
 use Rattle.oim_names.specs.QName.{prefix_part, local_part}
-use Rattle.oim_names.specs.declared.reason.Reason.{Reason}
-use Rattle.oim_names.specs.declared.reason.Reason.TheVariants.{MemberForm, UnknownMember, DocumentType, Namespace, BaseUrl, TaxonomyUrl, Feature}
 use Rattle.oim_value.specs.Level.{level_with}
 use Rattle.oim_value.specs.declared.level.Level.{Level}
 use Rattle.oim_value.specs.declared.level.Level.TheVariants.{All}
 use Rattle.serde_json.specs.Data.{Data, Items, no_items, item, Members, no_members, member}
-use Rattle.serde_json.specs.Find.{get, as_array, as_object}
-use Rattle.oim_report.specs.Json.{Given, absent, nil, text, whole, other, given, given_of, text_of, is_text, object_at, within, members, any_in, is_unknown, is_object, is_no_object, is_no_array}
+use Rattle.serde_json.specs.Find.{as_array, as_object}
+use Rattle.oim_report.specs.Json.{Given, absent, nil, text, whole, other, given, given_of, text_of, object_at, within, members}
 use Rattle.url.specs.Parts.{Parts}
 use Rattle.oim_report.specs.Kept.{base_url, is_reference_refused, kept}
-use Rattle.oim_report.specs.Namespaces.{binds_nothing, bindings_in}
-use Rattle.oim_report.specs.Refusal.{first_holding, first_refusal}
+use Rattle.oim_report.specs.Namespaces.{bindings_in}
 
 -- ---- the parts
 
@@ -83,12 +80,7 @@ references_said tree = option_and_then (λ base. said_references base (taxonomy_
 abbrev pub level_said : Data → Option Level
 level_said tree = said_level (declarations (bindings_of tree) (features_of tree))
 
--- ---- conditions
-
--- whether a part of it is missing, or of another kind of value
-abbrev pub has_misshapen_part : Data → Bool
-has_misshapen_part tree =
-    not (is_object tree) || is_none (object_at (codes "documentInfo") tree) || is_no_object (info (codes "namespaces") tree) || is_no_object (info (codes "features") tree) || is_no_object (get (codes "facts") tree) || is_no_array (info (codes "taxonomy") tree)
+-- ---- what may stand there
 
 abbrev pub root_keys : List (List ℕ)
 root_keys = codes "documentInfo" ∷ codes "facts" ∷ []
@@ -98,28 +90,3 @@ info_keys = codes "documentType" ∷ codes "namespaces" ∷ codes "taxonomy" ∷
 
 abbrev pub document_type : List ℕ
 document_type = codes "https://xbrl.org/2021/xbrl-json"
-
-abbrev pub has_unknown_part : Data → Bool
-has_unknown_part tree = any_in (is_unknown root_keys) (as_object tree) || any_in (is_unknown info_keys) (object_at (codes "documentInfo") tree)
-
-abbrev pub has_other_type : Data → Bool
-has_other_type tree = not (is_text document_type (given_of (info (codes "documentType") tree)))
-
-abbrev pub shape_refusal : Data → Option Reason
-shape_refusal tree = first_holding (
-    (has_misshapen_part tree, MemberForm)
-    ∷ (has_unknown_part tree, UnknownMember)
-    ∷ (has_other_type tree, DocumentType)
-    ∷ [])
-
-abbrev pub info_refusal : Data → Option Reason
-info_refusal tree = first_holding (
-    (any_in binds_nothing (namespaces_of tree), Namespace)
-    ∷ (is_none (base_said tree), BaseUrl)
-    ∷ (is_none (references_said tree), TaxonomyUrl)
-    ∷ (is_none (level_said tree), Feature)
-    ∷ [])
-
--- the conditions of a document, in the order in which they are answered
-abbrev pub document_refusal : Data → Option Reason
-document_refusal tree = first_refusal (shape_refusal tree ∷ info_refusal tree ∷ [])

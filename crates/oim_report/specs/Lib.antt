@@ -1,4 +1,5 @@
 pub mod Refusal
+pub mod Least
 pub mod Json
 pub mod Given
 pub mod Parts
@@ -20,14 +21,15 @@ pub mod Order
 pub mod Beside
 pub mod Info
 pub mod Document
+pub mod Holds
 pub mod Outcome
 pub mod Identifiers
-pub mod Faults
 pub mod FactFits
 pub mod FactObject
 pub mod Report
 pub mod OneDocument
 pub mod Accepts
+pub mod Faults
 pub mod Refuses
 pub mod SaidUnlessRefused
 pub mod PlainJson

@@ -1,5 +1,5 @@
 -- What a report's bytes say, or the first refusal (own).
-use Rattle.std.specs.Prelude.{◌≢◌, ℕ, ◌+◌, List, [], ◌∷◌, map, if◌then◌else◌, Option, Some, None, Result, Ok, Err}
+use Rattle.std.specs.Prelude.{◌≢◌, ℕ, ◌+◌, List, [], ◌∷◌, map, if◌then◌else◌, Option, Some, None, option_and_then, Result, Ok, Err}
 use Rattle.std.specs.Option.{unwrap_or}
 use Rattle.std.specs.Ordering.{is_lt}
 use Rattle.oim_names.specs.Bindings.{Binding}
@@ -13,34 +13,30 @@ use Rattle.serde_json.specs.Data.{Data, Members}
 use Rattle.oim_report.specs.declared.place.Place.{Place}
 use Rattle.oim_report.specs.declared.place.Place.TheVariants.{Document as AtDocument, Fact as AtFact}
 use Rattle.oim_report.specs.declared.refusal.Refusal.{Refusal}
-use Rattle.oim_report.specs.Conditions.{fact_refusal}
 use Rattle.oim_report.specs.Document.{Document}
 use Rattle.oim_report.specs.Duplicates.{level_of}
-use Rattle.oim_report.specs.Info.{bindings_of, facts_of, references_said, level_said, document_refusal}
+use Rattle.oim_report.specs.Info.{bindings_of, facts_of, references_said, level_said}
 use Rattle.oim_report.specs.Json.{json, values}
-use Rattle.oim_report.specs.Parts.{FactParts, fact_parts}
+use Rattle.oim_report.specs.Parts.{fact_parts}
 use Rattle.oim_report.specs.Refusal.{map_ok}
 use Rattle.oim_report.specs.Said.{said_fact}
 use Rattle.oim_report.specs.Sheet.{Sheet}
+use Rattle.oim_report.specs.Holds.{document_refusal, holds}
+use Rattle.oim_report.specs.Least.{least}
 
 abbrev pub at : Place → Reason → Refusal
 at place reason = record { reason = reason; place = place }
 
 -- ---- a fact
 
--- an object of these parts says a fact wherever it is not refused: where it said none, its form would be refused
+-- an object says a fact wherever no condition holds of it: where it said none, its form would be refused
 abbrev pub fact_or : Option Reason → Option Fact → Result Fact Reason
 fact_or None (Some fact) = Ok fact
 fact_or None None = Err MemberForm
 fact_or (Some reason) fact = Err reason
 
--- what is no object has not the form
-abbrev pub parts_outcome : Sheet → List Binding → Option FactParts → Result Fact Reason
-parts_outcome sheet bs None = Err MemberForm
-parts_outcome sheet bs (Some p) = fact_or (fact_refusal sheet bs p) (said_fact sheet bs p)
-
 abbrev pub fact_outcome : Sheet → List Binding → Data → Result Fact Reason
-fact_outcome sheet bs d = parts_outcome sheet bs (fact_parts d)
+fact_outcome sheet bs d = fact_or (least (holds sheet bs d)) (option_and_then (said_fact sheet bs) (fact_parts d))
 
 -- all facts, or the first refusal with its place, where the first outcome has the place n
 abbrev pub all_or_first : ℕ → List (Result Fact Reason) → Result (List Fact) Refusal

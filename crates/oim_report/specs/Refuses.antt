@@ -1,28 +1,23 @@
 -- Which reports are refused and why, told by the conditions and not by the outcome (own).
-use Rattle.std.specs.Prelude.{◌≡◌, ◌⊎◌, ◌↔◌, ℕ, ◌+◌, List, ◌∷◌, ◌++◌, length, true, None, Some, Err}
+use Rattle.std.specs.Prelude.{◌≡◌, ◌⊎◌, ◌↔◌, ℕ, ◌+◌, List, ◌∷◌, ◌++◌, length, true, false, None, Some, Err}
 use Rattle.std.specs.List.{AllByRecursion}
 use Rattle.std.specs.Ordering.{is_lt}
 use Rattle.oim_names.specs.Bindings.{Binding}
 use Rattle.oim_names.specs.declared.reason.Reason.{Reason}
-use Rattle.oim_names.specs.declared.reason.Reason.TheVariants.{NotJson, MemberForm, DisallowedDuplicates}
+use Rattle.oim_names.specs.declared.reason.Reason.TheVariants.{NotJson, DisallowedDuplicates}
 use Rattle.oim_value.specs.Level.{level_cmp}
 use Rattle.serde_json.specs.Data.{Data}
 use Rattle.oim_report.specs.declared.place.Place.TheVariants.{Document as AtDocument, Fact as AtFact}
 use Rattle.oim_report.specs.declared.refusal.Refusal.{Refusal}
 use Rattle.oim_report.specs.Accepts.{IsFree}
-use Rattle.oim_report.specs.Conditions.{fact_refusal}
 use Rattle.oim_report.specs.Document.{Document, SaysDocument}
 use Rattle.oim_report.specs.Duplicates.{level_of}
-use Rattle.oim_report.specs.Info.{bindings_of, document_refusal, facts_of}
+use Rattle.oim_report.specs.Info.{bindings_of, facts_of}
 use Rattle.oim_report.specs.Json.{json, values}
 use Rattle.oim_report.specs.Outcome.{at, outcome}
-use Rattle.oim_report.specs.Parts.{FactParts, fact_parts}
 use Rattle.oim_report.specs.Sheet.{Sheet}
-
--- a fact object is refused: it is no object, or this is the first of a fact's conditions that holds of it
-abbrev pub RefusesObject : Sheet → List Binding → Data → Reason → Type 0
-RefusesObject sheet bs d reason =
-    ((fact_parts d ≡ None) × (reason ≡ MemberForm)) ⊎ ((p : FactParts) × (fact_parts d ≡ Some p) × (fact_refusal sheet bs p ≡ Some reason))
+use Rattle.oim_report.specs.Holds.{document_holds, holds}
+use Rattle.oim_report.specs.Least.{IsLeast}
 
 -- the first of several objects that is refused, behind `earlier` others
 pub record RefusesOne (sheet : Sheet) (bs : List Binding) (earlier : ℕ) (objects : List Data) (r : Refusal) : Type 0 where
@@ -32,7 +27,7 @@ pub record RefusesOne (sheet : Sheet) (bs : List Binding) (earlier : ℕ) (objec
   pub reason : Reason
   pub are : objects ≡ before ++ object ∷ after
   pub free : AllByRecursion (IsFree sheet bs) before
-  pub refused : RefusesObject sheet bs object reason
+  pub refused : IsLeast (holds sheet bs object) reason
   pub answer : r ≡ at (AtFact (earlier + length before)) reason
 
 -- the level of what is said is above the declared one
@@ -48,10 +43,10 @@ RefusesFacts sheet bytes tree r =
     RefusesOne sheet (bindings_of tree) 1 (values (facts_of tree)) r
     ⊎ (AllByRecursion (IsFree sheet (bindings_of tree)) (values (facts_of tree)) × RefusesLevel sheet bytes r)
 
--- of JSON: the first condition of the document that holds, and where there is none the facts
+-- of JSON: the least condition of the document that holds, and where there is none the facts
 abbrev pub RefusesTree : Sheet → List ℕ → Data → Refusal → Type 0
 RefusesTree sheet bytes tree r =
-    ((reason : Reason) × (document_refusal tree ≡ Some reason) × (r ≡ at AtDocument reason)) ⊎ ((document_refusal tree ≡ None) × RefusesFacts sheet bytes tree r)
+    ((reason : Reason) × IsLeast (document_holds tree) reason × (r ≡ at AtDocument reason)) ⊎ (((reason : Reason) → document_holds tree reason ≡ false) × RefusesFacts sheet bytes tree r)
 
 abbrev pub Refuses : Sheet → List ℕ → Refusal → Type 0
 Refuses sheet bytes r =

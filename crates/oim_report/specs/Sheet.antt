@@ -1,13 +1,14 @@
 -- Concept sheets: which concepts and dimensions reports may use, and what their values are (own).
-use Rattle.std.specs.Prelude.{◌≢◌, ℕ, List, [], ◌∷◌, ◌++◌, Bool, true, false, not, ◌||◌, codes, bytes_eq, if◌then◌else◌, Option, Some, None, is_some, option_and_then, Result, Err}
+use Rattle.std.specs.Prelude.{◌≡◌, ◌≢◌, ◌⊎◌, ◌↔◌, ℕ, List, [], ◌∷◌, ◌++◌, Bool, true, false, not, ◌||◌, codes, bytes_eq, if◌then◌else◌, Option, Some, None, is_some, option_and_then, Result, Err}
 use Rattle.std.specs.Option.{option_map_or}
 use Rattle.std.specs.List.{list_any}
 use Rattle.std.specs.FinMap as map
 use Rattle.std.specs.FinMap.{FinMap}
 use Rattle.oim_names.specs.QName.{QName}
 use Rattle.oim_names.specs.Bindings.{Binding}
+use Rattle.oim_names.specs.Expansion.{lacks_binding, lacks_form, lies_in_reserved}
 use Rattle.oim_names.specs.declared.reason.Reason.{Reason}
-use Rattle.oim_names.specs.declared.reason.Reason.TheVariants.{OutOfMemory, NotJson, MemberForm, UnknownMember, Namespace, SheetKind}
+use Rattle.oim_names.specs.declared.reason.Reason.TheVariants.{OutOfMemory, NotJson, MemberForm, UnknownMember, Namespace, NameForm, UnboundPrefix, ReservedNamespace, SheetKind}
 use Rattle.oim_value.specs.ValueOrder.{name_cmp}
 use Rattle.serde_json.specs.Data.{Data, Members, no_members, member}
 use Rattle.serde_json.specs.Find.{get, as_object}
@@ -16,9 +17,10 @@ use Rattle.oim_report.specs.declared.concept_kind.ConceptKind.TheVariants.{Numer
 use Rattle.oim_report.specs.declared.dimension_kind.DimensionKind.{DimensionKind}
 use Rattle.oim_report.specs.declared.dimension_kind.DimensionKind.TheVariants.{Explicit, Typed}
 use Rattle.oim_report.specs.Json.{json, given, text_of, object_at, members, any_in, is_unknown, is_object, is_no_object}
-use Rattle.oim_report.specs.Names.{Spelled, a_name, named, names_refusal}
+use Rattle.oim_report.specs.Least.{IsLeast, least}
+use Rattle.oim_report.specs.Names.{Spelled, a_name, named}
 use Rattle.oim_report.specs.Namespaces.{binds_nothing, bindings_in}
-use Rattle.oim_report.specs.Refusal.{first_holding, first_refusal, unless}
+use Rattle.oim_report.specs.Refusal.{unless}
 
 -- the concepts and the taxonomy-defined dimensions, each with its kind
 pub record Sheet : Type 0 where
@@ -98,36 +100,24 @@ module _ {K : Type 0} (kind_named : List ℕ → Option K) (same : K → K → B
 
 -- ---- conditions
 
--- whether it is no object, or a member of it is none
-abbrev pub is_misshapen_sheet : Data → Bool
-is_misshapen_sheet tree =
-    not (is_object tree) || is_no_object (get (codes "namespaces") tree) || is_no_object (get (codes "concepts") tree) || is_no_object (get (codes "dimensions") tree)
-
 abbrev pub sheet_keys : List (List ℕ)
 sheet_keys = codes "namespaces" ∷ codes "concepts" ∷ codes "dimensions" ∷ []
 
-abbrev pub sheet_shape_refusal : Data → Option Reason
-sheet_shape_refusal tree = first_holding (
-    (is_misshapen_sheet tree, MemberForm)
-    ∷ (any_in (is_unknown sheet_keys) (as_object tree), UnknownMember)
-    ∷ [])
+abbrev pub sheet_names : Data → List Spelled
+sheet_names tree = key_names (sheet_concepts tree) ++ key_names (sheet_dimensions tree)
 
-abbrev pub sheet_namespaces_refusal : Data → Option Reason
-sheet_namespaces_refusal tree = first_holding ((any_in binds_nothing (sheet_namespaces tree), Namespace) ∷ [])
-
-abbrev pub kinds_refusal : Data → Option Reason
-kinds_refusal tree = first_holding (
-    (has_bad_kind concept_kind_named same_concept_kind (sheet_bindings tree) (sheet_concepts tree) || has_bad_kind dimension_kind_named same_dimension_kind (sheet_bindings tree) (sheet_dimensions tree), SheetKind)
-    ∷ [])
-
--- the conditions of a sheet, in the order in which they are answered
-abbrev pub sheet_refusal : Data → Option Reason
-sheet_refusal tree = first_refusal (
-    sheet_shape_refusal tree
-    ∷ sheet_namespaces_refusal tree
-    ∷ names_refusal (sheet_bindings tree) (key_names (sheet_concepts tree) ++ key_names (sheet_dimensions tree))
-    ∷ kinds_refusal tree
-    ∷ [])
+-- whether a condition of a sheet holds
+unfoldable pub sheet_holds : Data → Reason → Bool
+sheet_holds tree MemberForm =
+    not (is_object tree) || is_no_object (get (codes "namespaces") tree) || is_no_object (get (codes "concepts") tree) || is_no_object (get (codes "dimensions") tree)
+sheet_holds tree UnknownMember = any_in (is_unknown sheet_keys) (as_object tree)
+sheet_holds tree Namespace = any_in binds_nothing (sheet_namespaces tree)
+sheet_holds tree NameForm = list_any (λ n. lacks_form n.has_form n.text) (sheet_names tree)
+sheet_holds tree UnboundPrefix = list_any (λ n. lacks_binding n.has_form (sheet_bindings tree) n.text) (sheet_names tree)
+sheet_holds tree ReservedNamespace = list_any (λ n. lies_in_reserved n.has_form (sheet_bindings tree) n.text) (sheet_names tree)
+sheet_holds tree SheetKind =
+    has_bad_kind concept_kind_named same_concept_kind (sheet_bindings tree) (sheet_concepts tree) || has_bad_kind dimension_kind_named same_dimension_kind (sheet_bindings tree) (sheet_dimensions tree)
+sheet_holds tree r = false
 
 -- ---- what a sheet says
 
@@ -139,7 +129,7 @@ said_sheet tree = record {
 
 abbrev pub sheet_of : Option Data → Result Sheet Reason
 sheet_of None = Err NotJson
-sheet_of (Some tree) = unless (sheet_refusal tree) (said_sheet tree)
+sheet_of (Some tree) = unless (least (sheet_holds tree)) (said_sheet tree)
 
 -- the sheet that the bytes say, or why they are refused
 unfoldable pub sheet_outcome : List ℕ → Result Sheet Reason
@@ -148,3 +138,10 @@ sheet_outcome bytes = sheet_of (json bytes)
 -- no sheet is refused for want of memory
 abbrev pub SheetOutcomesWantNoMemory : Type 0
 SheetOutcomesWantNoMemory = (bytes : List ℕ) → sheet_outcome bytes ≢ Err OutOfMemory
+
+-- a sheet is refused because it is not JSON, or for the least condition that holds
+abbrev pub RefusesSheet : List ℕ → Reason → Type 0
+RefusesSheet bytes r = ((json bytes ≡ None) × (r ≡ NotJson)) ⊎ ((tree : Data) × (json bytes ≡ Some tree) × IsLeast (sheet_holds tree) r)
+
+abbrev pub SheetRefusedWhereHeld : Type 0
+SheetRefusedWhereHeld = (bytes : List ℕ) (r : Reason) → (sheet_outcome bytes ≡ Err r) ↔ RefusesSheet bytes r

@@ -1,8 +1,9 @@
 ghost use Rattle.std.specs.Prelude.{◌≡◌, ◌++◌, ◌⊎◌, ◌&&◌, true, false, if◌then◌else◌, Some, None, map, is_none, is_some, IfOk, IfErr, OnOk, codes};
 ghost use Rattle.std.specs.Option.{option_map_or};
 ghost use Rattle.serde_json.specs.View.{view};
-ghost use Rattle.oim_report.specs.Faults.{all_refusals, document_refusals};
-ghost use Rattle.oim_report.specs.Info.{base_said, bindings_of, declarations, features_of, has_other_type, namespaces_of, said_level, said_references, taxonomy_of};
+ghost use Rattle.oim_report.specs.Holds.{document_holds};
+ghost use Rattle.oim_report.specs.Least.{told};
+ghost use Rattle.oim_report.specs.Info.{base_said, bindings_of, declarations, features_of, namespaces_of, said_level, said_references, taxonomy_of};
 ghost use Rattle.oim_report.specs.Json.{any_in, object_at};
 ghost use Rattle.oim_report.specs.Namespaces.{binds_nothing};
 ghost use Rattle.oim_report.specs.Outcome.{at};
@@ -12,7 +13,7 @@ use crate::base_url::read_base_url;
 use crate::document_form::{has_misshapen_part, has_other_type, has_unknown_part};
 use crate::fault_list::Faults;
 use crate::features::read_level;
-use crate::json_tree::{object_at, within};
+use crate::json_tree::within;
 use crate::namespaces::read_namespaces;
 use crate::place::Place;
 use crate::taxonomy::read_taxonomy;
@@ -30,8 +31,8 @@ pub(crate) fn add_document_faults(
     tree: &Value,
     faults: &mut Faults,
 ) -> Result<(), AllocError>
-    ensures { let refusals = all_refusals (document_refusals (view tree.now)) in
-        OnOk result (faults.new ≡ faults.old ++ map (at Place.Document) refusals) }
+    ensures { let reasons = told (document_holds (view tree.now)) in
+        OnOk result (faults.new ≡ faults.old ++ map (at Place.Document) reasons) }
 {
     let aliases = read_aliases(alloc, tree)?;
     let base = said_base(alloc, tree)?;
@@ -42,21 +43,13 @@ pub(crate) fn add_document_faults(
         &[
             when(has_misshapen_part(tree), Reason::MemberForm),
             when(has_unknown_part(tree), Reason::UnknownMember),
-            when(has_type_amiss(tree), Reason::DocumentType),
+            when(has_other_type(tree), Reason::DocumentType),
             when(aliases.is_none(), Reason::Namespace),
             when(is_base_refused, Reason::BaseUrl),
             when(references_refused, Reason::TaxonomyUrl),
             when(refuses_level(&aliases, tree), Reason::Feature),
         ],
     )
-}
-
-// Whether there is a `documentInfo`, and the type in it is another or missing.
-fn has_type_amiss(tree: &Value) -> bool
-    ensures { let there = is_some (object_at (codes "documentInfo") (view tree.now)) in
-        result ≡ (there && has_other_type (view tree.now)) }
-{
-    object_at(tree, "documentInfo").is_some() && has_other_type(tree)
 }
 
 // The prefixes, unless an entry binds nothing.

@@ -1,7 +1,10 @@
-ghost use Rattle.std.specs.Prelude.{◌≡◌, ◌||◌};
+ghost use Rattle.std.specs.Prelude.{◌≡◌, ◌||◌, ◌∷◌, [], option_map};
 ghost use Rattle.std.specs.Result.{result_err};
 ghost use Rattle.serde_json.specs.View.{view};
-ghost use Rattle.oim_report.specs.Info.{shape_refusal, has_misshapen_part, has_unknown_part, has_other_type};
+ghost use Rattle.std.specs.List.{find};
+ghost use Rattle.oim_report.specs.Info.{document_type};
+ghost use Rattle.oim_report.specs.Json.{given_of, is_text};
+ghost use Rattle.oim_report.specs.Holds.{document_holds};
 
 use crate::given::Given;
 use crate::json_tree::{has_unknown_in, is_no_array, is_no_object, object_at, within};
@@ -14,7 +17,8 @@ const DOCUMENT_TYPE: &str = "https://xbrl.org/2021/xbrl-json";
 ///
 /// Errors, the first that holds: `MemberForm`, `UnknownMember`, `DocumentType`.
 pub(crate) fn check_shape(tree: &Value) -> Result<(), Reason>
-    ensures { result_err result ≡ shape_refusal (view tree.now) }
+    ensures { let form = Reason.MemberForm ∷ Reason.UnknownMember ∷ Reason.DocumentType ∷ [] in
+        result_err result ≡ find (document_holds (view tree.now)) form }
 {
     if has_misshapen_part(tree) {
         return Err(Reason::MemberForm);
@@ -28,8 +32,9 @@ pub(crate) fn check_shape(tree: &Value) -> Result<(), Reason>
     Ok(())
 }
 
+#[tactic(auto, unfolding(crate::specs::Holds::document_holds))]
 pub(crate) fn has_misshapen_part(tree: &Value) -> bool
-    ensures { result ≡ has_misshapen_part (view tree.now) }
+    ensures { result ≡ document_holds (view tree.now) Reason.MemberForm }
 {
     !tree.is_object()
         || object_at(tree, "documentInfo").is_none()
@@ -39,8 +44,9 @@ pub(crate) fn has_misshapen_part(tree: &Value) -> bool
         || is_no_array(within(tree, "documentInfo", "taxonomy"))
 }
 
+#[tactic(auto, unfolding(crate::specs::Holds::document_holds))]
 pub(crate) fn has_unknown_part(tree: &Value) -> bool
-    ensures { result ≡ has_unknown_part (view tree.now) }
+    ensures { result ≡ document_holds (view tree.now) Reason.UnknownMember }
 {
     has_unknown_in(tree.as_object(), &["documentInfo", "facts"])
         || has_unknown_in(
@@ -57,11 +63,19 @@ pub(crate) fn has_unknown_part(tree: &Value) -> bool
         )
 }
 
+#[tactic(auto, unfolding(crate::specs::Holds::document_holds))]
 pub(crate) fn has_other_type(tree: &Value) -> bool
-    ensures { result ≡ has_other_type (view tree.now) }
+    ensures { result ≡ document_holds (view tree.now) Reason.DocumentType }
 {
-    match Given::of(within(tree, "documentInfo", "documentType")).text() {
-        Some(found) => found != DOCUMENT_TYPE,
-        None => true,
+    object_at(tree, "documentInfo").is_some()
+        && !is_document_type(within(tree, "documentInfo", "documentType"))
+}
+
+fn is_document_type(value: Option<&Value>) -> bool
+    ensures { result ≡ is_text document_type (given_of (option_map (λ v. view v.now) value.entry)) }
+{
+    match Given::of(value).text() {
+        Some(found) => found == DOCUMENT_TYPE,
+        None => false,
     }
 }

@@ -2,8 +2,10 @@ ghost use Rattle.std.specs.Prelude.{◌≡◌, [], ◌++◌, map, None, option_m
 ghost use Rattle.std.specs.Option.{option_map_or};
 ghost use Rattle.serde_json.specs.View.{view};
 ghost use Rattle.oim_report.specs.Conditions.{concept_kind, language_refusal, period_refusal, unit_refusal};
-ghost use Rattle.oim_report.specs.Faults.{all_refusals, concept_refusals, content_refusals, core_refusals, fact_faults, form_refusals};
+ghost use Rattle.oim_report.specs.Faults.{all_refusals, concept_refusals, content_refusals, core_refusals, form_refusals, value_refusals};
 ghost use Rattle.oim_report.specs.Given.{seen};
+ghost use Rattle.oim_report.specs.Holds.{holds};
+ghost use Rattle.oim_report.specs.Least.{told};
 ghost use Rattle.oim_report.specs.Outcome.{at};
 ghost use Rattle.oim_report.specs.SeenParts.{seen_dimensions, seen_parts};
 ghost use Rattle.oim_report.specs.Sheet.{Sheet};
@@ -37,7 +39,7 @@ pub(crate) fn add_fact_faults(
     place: Place,
     faults: &mut Faults,
 ) -> Result<(), AllocError>
-    ensures { let reasons = fact_faults sheet.now aliases.now (view object.now) in
+    ensures { let reasons = told (holds sheet.now aliases.now (view object.now)) in
         OnOk result (faults.new ≡ faults.old ++ map (at place) reasons) }
 {
     match FactParts::of(alloc, object)? {
@@ -64,7 +66,8 @@ fn add_parts_faults(
 ) -> Result<(), AllocError>
     ensures { let p = seen_parts parts.now in
         let form = form_refusals p (option_map (λ v. view v.now) given.entry) in
-        let content = option_map_or (content_refusals sheet.now aliases.now p) p.dimensions [] in
+        let value = value_refusals None p.value p.decimals in
+        let content = option_map_or (content_refusals sheet.now aliases.now p) p.dimensions value in
         OnOk result (faults.new ≡ faults.old ++ map (at place) (all_refusals (form ++ content))) }
 {
     faults.add(place, &form_refusals(parts, given))?;
@@ -72,7 +75,7 @@ fn add_parts_faults(
         Some(dimensions) => {
             add_content_faults(alloc, sheet, aliases, parts, dimensions, place, faults)
         }
-        None => Ok(()),
+        None => faults.add(place, &value_refusals(None, parts.value, parts.decimals)),
     }
 }
 

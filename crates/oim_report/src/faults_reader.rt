@@ -1,6 +1,8 @@
 ghost use Rattle.std.specs.Prelude.{◌≡◌, ◌++◌, Some, IfOk, OnOk};
+ghost use Rattle.std.specs.Option.{option_to_list};
+ghost use Rattle.std.specs.Result.{result_err};
 ghost use Rattle.serde_json.specs.View.{view};
-ghost use Rattle.oim_report.specs.Faults.{answered, faults, tree_faults};
+ghost use Rattle.oim_report.specs.Faults.{faults, tree_faults};
 ghost use Rattle.oim_report.specs.Outcome.{tree_outcome};
 
 use crate::document_faults::add_document_faults;
@@ -16,11 +18,11 @@ use oim_names::Reason;
 use serde_json::Value;
 use std::alloc::{AllocError, Global};
 
-/// Everything that is wrong with a report's bytes under a sheet, where `read_report` answers the
-/// first alone (own): that they are not JSON; or else each condition of the document that holds; or
-/// else each of each fact, with its place; or else that its facts have duplicates beyond the declared
-/// level. A condition that speaks of what another one refuses is not told beside it. There is none
-/// where the report is accepted.
+/// Everything that is wrong with a report's bytes under a sheet (own); `read_report` returns only the
+/// first fault. If the bytes are not JSON, that is the only fault. Otherwise they are all conditions
+/// that hold: of the document; if none holds, of the facts, each with its place; if none holds, that
+/// of the level of duplicates. `Feature` is left out beside `Namespace`. An accepted report has no
+/// faults.
 ///
 /// Errors: want of memory.
 #[tactic(auto, unfolding(crate::specs::Faults::faults, crate::specs::Outcome::outcome))]
@@ -38,8 +40,7 @@ pub fn faults(alloc: Global, sheet: &Sheet, bytes: &[u8]) -> Result<Faults, Allo
 }
 
 fn tree_faults(alloc: Global, sheet: &Sheet, tree: &Value) -> Result<Faults, AllocError>
-    ensures { let said = tree_outcome sheet.now (Some (view tree.now)) in
-        IfOk result (λ found. found ≡ tree_faults sheet.now said (view tree.now)) }
+    ensures { IfOk result (λ found. found ≡ tree_faults sheet.now (view tree.now)) }
 {
     let mut faults = Faults::new(alloc);
     add_document_faults(alloc, tree, &mut faults)?;
@@ -58,7 +59,7 @@ fn tree_faults(alloc: Global, sheet: &Sheet, tree: &Value) -> Result<Faults, All
     Ok(faults)
 }
 
-// Appends the refusal of a report, where it is refused.
+// Appends the refusal, if the report is refused.
 fn add_answered(
     alloc: Global,
     sheet: &Sheet,
@@ -66,7 +67,7 @@ fn add_answered(
     faults: &mut Faults,
 ) -> Result<(), AllocError>
     ensures { let said = tree_outcome sheet.now (Some (view tree.now)) in
-        OnOk result (faults.new ≡ faults.old ++ answered said) }
+        OnOk result (faults.new ≡ faults.old ++ option_to_list (result_err said)) }
 {
     match read_document(alloc, sheet, tree) {
         Ok(_) => Ok(()),

@@ -1,6 +1,7 @@
 ghost use Rattle.std.specs.Prelude.{◌≡◌, ◌⊎◌, Some, None, IfOk, IfErr};
 ghost use Rattle.serde_json.specs.View.{view};
-ghost use Rattle.oim_report.specs.Info.{bindings_of, document_refusal, level_said, references_said};
+ghost use Rattle.oim_report.specs.Holds.{document_refusal};
+ghost use Rattle.oim_report.specs.Info.{bindings_of, level_said, references_said};
 
 use crate::base_url::read_base_url;
 use crate::document_form::check_shape;

@@ -16,9 +16,10 @@ ghost use Rattle.oim_report.specs.Names.{entity_named, named};
 ghost use Rattle.oim_report.specs.Outcome.{OutcomesWantNoMemory};
 ghost use Rattle.oim_report.specs.Refuses.{RefusedWhereHeld};
 ghost use Rattle.oim_report.specs.Report.{AcceptedFactsFit, AcceptedReferencesAreKept, OutcomesAreSaid};
-ghost use Rattle.oim_report.specs.Sheet.{SheetOutcomesWantNoMemory};
+ghost use Rattle.oim_report.specs.Sheet.{SheetOutcomesWantNoMemory, SheetRefusedWhereHeld};
 ghost use Rattle.oim_report.specs.OneDocument.{SaysOneDocument};
 ghost use Rattle.oim_report.specs.SaidUnlessRefused.{FactsAreSaid};
+ghost use Rattle.oim_report.specs.Least.{LeastIsAnswered};
 ghost use Rattle.oim_report.specs.PlainJson.{PlainHasNoFloat, PlainTextReadsBack, ReadHasUtf8};
 ghost use Rattle.oim_report.specs.ReadBack.{ConceptsReadBack, DimensionsReadBack, EntitiesReadBack, FactObjectHasParts, FactObjectIsPlain, FactObjectReadsBack, FormsAreAccepted, LanguagesReadBack, NamesAreAccepted, PeriodsReadBack, UnitsReadBack, ValuesReadBack};
 
@@ -68,6 +69,11 @@ pub fn sheet_outcomes_want_no_memory()
     ensures { SheetOutcomesWantNoMemory }
 {}
 
+/// A sheet is refused exactly because its bytes are not JSON, or for the least condition that holds.
+pub fn sheet_refused_where_held()
+    ensures { SheetRefusedWhereHeld }
+{}
+
 /// An accepted sheet has a concept with a kind exactly where some key of `concepts` expands to it and
 /// its value says the kind, and a dimension exactly where one of `dimensions` does.
 pub fn sheet_lists_what_it_says()
@@ -106,15 +112,15 @@ pub fn accepted_where_free()
     ensures { AcceptedWhereFree }
 {}
 
-/// A report is refused exactly for the first condition that holds: that its bytes are not JSON, the
-/// first condition of the document, that of the first fact with one, at its place, or that the level
-/// of its facts is above the declared one.
+/// A report is refused exactly for one condition: that its bytes are not JSON, the least condition of
+/// the document that holds, the least of the first fact of which one holds, at its place, or that the
+/// level of its facts is above the declared one.
 pub fn refused_where_held()
     ensures { RefusedWhereHeld }
 {}
 
-/// A report has faults exactly where it is refused, and the first of them is the refusal that
-/// `read_report` answers.
+/// A report has no faults exactly where it is accepted, by the conditions and the level alone. The
+/// first fault is the refusal of `read_report`.
 pub fn faults_begin_with_the_refusal()
     ensures none { NoFaultsWhereAccepted }
     ensures first { FirstFaultIsAnswered }
@@ -207,4 +213,10 @@ pub fn plain_text_reads_back()
 /// The object of a fact is plain and nests two deep, so that its text is read as the object.
 pub fn fact_object_is_plain()
     ensures { FactObjectIsPlain }
+{}
+
+/// Of any conditions, `least` is the one that holds and has the least number. `told` lists those that
+/// hold and are not hidden, with strictly rising numbers, and begins with the least.
+pub fn least_is_answered()
+    ensures { LeastIsAnswered }
 {}

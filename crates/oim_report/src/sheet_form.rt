@@ -1,9 +1,10 @@
-ghost use Rattle.std.specs.Prelude.{◌≡◌, ◌++◌, option_map};
+ghost use Rattle.std.specs.Prelude.{◌≡◌, ◌++◌, ◌∷◌, [], option_map};
+ghost use Rattle.std.specs.List.{find};
 ghost use Rattle.std.specs.Result.{result_err};
 ghost use Rattle.serde_json.specs.View.{view, members_view};
 ghost use Rattle.oim_report.specs.Json.{members};
 ghost use Rattle.oim_report.specs.Names.{names_refusal};
-ghost use Rattle.oim_report.specs.Sheet.{key_names, sheet_shape_refusal};
+ghost use Rattle.oim_report.specs.Sheet.{key_names, sheet_holds};
 
 use crate::json_tree::{has_unknown_in, is_no_object};
 use crate::lesser::lesser;
@@ -13,8 +14,10 @@ use serde_json::{Map, Value};
 /// Whether a sheet has the form: its parts and their keys.
 ///
 /// Errors, the first that holds: `MemberForm`, `UnknownMember`.
+#[tactic(auto, unfolding(crate::specs::Sheet::sheet_holds))]
 pub(crate) fn check_form(tree: &Value) -> Result<(), Reason>
-    ensures { result_err result ≡ sheet_shape_refusal (view tree.now) }
+    ensures { let form = Reason.MemberForm ∷ Reason.UnknownMember ∷ [] in
+        result_err result ≡ find (sheet_holds (view tree.now)) form }
 {
     if !tree.is_object()
         || is_no_object(tree.get("namespaces"))

@@ -156,8 +156,8 @@ const FACTS: [Table<'static>; 1] = [Table {
     rows: &[
         ("", ""),
         (
-            r#""a":{"links":{"y":1}}"#,
-            "r: fact \"a\": 2 MemberForm: \"value\" is missing\nr: fact \"a\": 9 Links: the links {\"y\":1} cannot be merged\nr: fact \"a\": 11 DimensionsMissing: the fact has no \"dimensions\"\n",
+            r#""a":{"decimals":20,"links":{"y":1}}"#,
+            "r: fact \"a\": 2 MemberForm: \"value\" is missing\nr: fact \"a\": 9 Links: the links {\"y\":1} cannot be merged\nr: fact \"a\": 11 DimensionsMissing: the fact has no \"dimensions\"\nr: fact \"a\": 29 DecimalsRange: the decimals 20 are not from -18 to 18\n",
         ),
         (
             r#""a":{"value":"1","colour":1,"dimensions":{"noteId":"n"}}"#,

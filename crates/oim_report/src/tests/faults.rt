@@ -47,6 +47,11 @@ const FACTS: Rows<'static> = &[
         r#""a":{"x":1,"dimensions":[],"links":{"y":1}},"b":7,"c":{"links":[]}"#,
         &[(2, 1), (3, 1), (9, 1), (2, 2), (2, 3), (11, 3)],
     ),
+    // without dimensions those of the value and the decimals
+    (
+        r#""a":{"value":1,"decimals":"x"},"b":{"value":null,"decimals":19},"c":{"value":"x","decimals":1}"#,
+        &[(11, 1), (25, 1), (28, 1), (11, 2), (29, 2), (11, 3)],
+    ),
     // and those of its content beside them
     (
         r#""a":{"dimensions":{"concept":"q:A","noteId":1}},"b":{"value":"1","dimensions":{"concept":1}}"#,

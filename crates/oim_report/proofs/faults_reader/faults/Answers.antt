@@ -4,7 +4,7 @@ use Rattle.oim_names.specs.declared.reason.Reason.TheVariants.{NotJson}
 use Rattle.oim_report.specs.declared.place.Place.TheVariants.{Document}
 use Rattle.oim_report.specs.Faults.{faults, tree_faults}
 use Rattle.oim_report.specs.Json.{json}
-use Rattle.oim_report.specs.Outcome.{at, outcome}
+use Rattle.oim_report.specs.Outcome.{at}
 use Rattle.oim_report.proofs.FoundWith.{nothing_said}
 use Rattle.oim_report.proofs.faults_reader.faults.Goals as goal
 
@@ -15,4 +15,4 @@ returns-in_ok-push-in-None c =
     let none : json c.args.bytes.now ≡ None = nothing_said c.read_json.result (json c.args.bytes.now) NotJson (sym c.in-None.is ∙ found.0) found.1 c.read_json.ensures.refused in
     c.in_ok-push-in-None.ensures
     ∙ (λ i. c.new-faults.ensures i ++ c.from.ensures i ∷ [])
-    ∙ ap (λ o. option_map_or (tree_faults c.args.sheet.now (outcome c.args.sheet.now c.args.bytes.now)) o (at Document NotJson ∷ [])) (sym none)
+    ∙ ap (λ o. option_map_or (tree_faults c.args.sheet.now) o (at Document NotJson ∷ [])) (sym none)
