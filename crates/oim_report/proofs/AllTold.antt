@@ -16,13 +16,13 @@ use Rattle.std.specs.Prelude.{int_lt}
 use Rattle.serde_json.specs.Data.{Data, Members, no_members, null, boolean, number, string, array, object}
 use Rattle.serde_json.specs.Find.{get, get_member}
 use Rattle.url.specs.Parts.{Parts}
-use Rattle.oim_report.specs.Faults.{all_refusals, content_refusals, form_refusals, value_refusals, is_a_name, refuses_some, when}
+use Rattle.oim_report.specs.Faults.{all_refusals, content_refusals, form_refusals, value_refusals, is_a_name, when}
 use Rattle.oim_report.specs.Info.{base_said, info, level_said, namespaces_of, said_base, said_references, taxonomy_of}
 use Rattle.std.specs.Option.{unwrap_or}
 use Rattle.oim_report.specs.Json.{any_in, given_of, is_no_object, members, object_at}
 use Rattle.oim_report.specs.Kept.{base_url}
 use Rattle.oim_report.specs.Namespaces.{binds_nothing}
-use Rattle.oim_report.specs.Names.{named}
+use Rattle.oim_report.specs.Names.{named, refuses_some}
 use Rattle.oim_report.specs.Parts.{FactParts, dimension_parts, fact_parts, parts_of}
 use Rattle.oim_report.specs.Refusal.{or_refusal}
 use Rattle.oim_report.specs.Sheet.{Sheet}

@@ -29,9 +29,9 @@ use Rattle.oim_report.specs.declared.concept_kind.ConceptKind.TheVariants.{Numer
 use Rattle.oim_report.specs.declared.dimension_kind.DimensionKind.{DimensionKind}
 use Rattle.oim_report.specs.declared.dimension_kind.DimensionKind.TheVariants.{Explicit, Typed}
 use Rattle.oim_report.specs.Conditions.{comes_again, concept_kind, decimals_refusal, defined_names, dimension_kind, dimension_names, fact_refusal, has_misshapen_core, in_dimensions, is_misfit, is_numeric, is_other_kind, language_refusal, member_names, names_of, period_refusal, unit_names, unit_refusal, value_names, value_refusal}
-use Rattle.oim_report.specs.Faults.{content_refusals, form_refusals, has_misfit, is_a_name, is_unknown_dimension, refuses_some, when}
+use Rattle.oim_report.specs.Faults.{content_refusals, form_refusals, has_misfit, is_a_name, is_unknown_dimension, when}
 use Rattle.oim_report.specs.Json.{text, any_member, given, given_of, is_absent, is_no_object, is_unknown, members, object_at}
-use Rattle.oim_report.specs.Names.{a_name, an_entity, in_namespace, named}
+use Rattle.oim_report.specs.Names.{a_name, an_entity, in_namespace, named, refuses_some}
 use Rattle.oim_report.specs.Parts.{DimensionParts, core_keys, dimension_parts, parts_of}
 use Rattle.oim_report.specs.Refusal.{first_refusal, or_refusal}
 use Rattle.oim_report.specs.Sheet.{Sheet, same_concept_kind, same_dimension_kind}

@@ -6,12 +6,12 @@ use Rattle.oim_names.specs.Bindings.{Binding}
 use Rattle.oim_names.specs.declared.reason.Reason.{Reason}
 use Rattle.oim_report.specs.declared.concept_kind.ConceptKind.{ConceptKind}
 use Rattle.oim_report.specs.Conditions.{concept_kind, concept_refusal, content_refusal, defined_names, dimension_refusals, names_of, spelled_in, unit_names, value_names, value_refusals}
-use Rattle.oim_report.specs.Json.{Given}
+use Rattle.oim_report.specs.Json.{Given, absent, nil, text, whole, other}
 use Rattle.oim_report.specs.Names.{a_name, an_entity, names_refusal}
 use Rattle.oim_report.specs.Parts.{DimensionParts, FactParts}
 use Rattle.oim_report.specs.Refusal.{first_refusal, or_refusal}
 use Rattle.oim_report.specs.Sheet.{Sheet}
-use Rattle.oim_report.proofs.Least.{names-parts}
+use Rattle.oim_report.proofs.NameRefusals.{names-parts}
 
 or_refusal-assoc : (r s t : Option Reason) → or_refusal (or_refusal r s) t ≡ or_refusal r (or_refusal s t)
 or_refusal-assoc None s t = refl
@@ -40,6 +40,13 @@ are_free sheet bs ds value none =
 
 -- ---- the content
 
+concept_found : (sheet : Sheet) (bs : List Binding) (g : Given) (kind : ConceptKind) → concept_kind sheet bs g ≡ Some kind → concept_refusal sheet bs g ≡ None
+concept_found sheet bs (text t) kind is = rw is refl
+concept_found sheet bs absent kind is = absurd (cc)
+concept_found sheet bs nil kind is = absurd (cc)
+concept_found sheet bs (whole n) kind is = absurd (cc)
+concept_found sheet bs other kind is = absurd (cc)
+
 module _ (sheet : Sheet) (bs : List Binding) (p : FactParts) (ds : DimensionParts) (kind : ConceptKind) (is : concept_kind sheet bs ds.concept ≡ Some kind) where
   abbrev naming : Option Reason
   naming = first_refusal (names_refusal bs (names_of sheet bs ds p.value) ∷ concept_refusal sheet bs ds.concept ∷ [])
@@ -57,14 +64,8 @@ module _ (sheet : Sheet) (bs : List Binding) (p : FactParts) (ds : DimensionPart
       ∙ ap (λ k. first_refusal (dimension_refusals sheet bs k ds ++ value_refusals k p.value p.decimals)) is
       ∙ first_refusal-append (dimension_refusals sheet bs (Some kind) ds) (value_refusals (Some kind) p.value p.decimals)
 
-  pub by_dimensions : (r : Reason) → None ≡ naming → dimensions ≡ Some r → content_refusal sheet bs p ds ≡ Some r
-  by_dimensions r named refused = in_three named ∙ ap (λ o. or_refusal o value) refused
+  no_naming : names_refusal bs (names_of sheet bs ds p.value) ≡ None → None ≡ naming
+  no_naming names = sym (λ i. or_refusal (names i) (or_refusal (concept_found sheet bs ds.concept kind is i) None))
 
-  pub no_naming : names_refusal bs (names_of sheet bs ds p.value) ≡ None → concept_refusal sheet bs ds.concept ≡ None → None ≡ naming
-  no_naming names concept = sym (λ i. or_refusal (names i) (or_refusal (concept i) None))
-
-  pub by_none : None ≡ naming → dimensions ≡ None → value ≡ None → content_refusal sheet bs p ds ≡ None
-  by_none named free accepted = in_three named ∙ ap (λ o. or_refusal o value) free ∙ accepted
-
-  pub by_value : (r : Reason) → None ≡ naming → dimensions ≡ None → value ≡ Some r → content_refusal sheet bs p ds ≡ Some r
-  by_value r named free refused = in_three named ∙ ap (λ o. or_refusal o value) free ∙ refused
+  pub by_none : names_refusal bs (names_of sheet bs ds p.value) ≡ None → dimensions ≡ None → value ≡ None → content_refusal sheet bs p ds ≡ None
+  by_none names free accepted = in_three (no_naming names) ∙ ap (λ o. or_refusal o value) free ∙ accepted

@@ -37,6 +37,15 @@ use Rattle.oim_report.proofs.LeastOf.{first_told}
 object_first : (sheet : Sheet) (bs : List Binding) (d : Data) → first (told (holds sheet bs d)) ≡ result_err (fact_outcome sheet bs d)
 object_first sheet bs d = first_told (holds sheet bs d) ∙ answered_is_least sheet bs d
 
+by_told : (place : Place) (rs : List Reason) (r : Refusal) → first_of (map (at place) rs) ≡ Some r → first rs ≡ Some r.reason
+by_told place [] r e = absurd (cc)
+by_told place (s ∷ rs) r e = let same : at place s ≡ r = cc in ap (λ (x : Refusal). Some x.reason) same
+
+-- the first fault of a fact object is its refusal
+pub refused_by_first : (sheet : Sheet) (bs : List Binding) (d : Data) (place : Place) (r : Refusal) → first_of (map (at place) (told (holds sheet bs d))) ≡ Some r → fact_outcome sheet bs d ≡ Err r.reason
+refused_by_first sheet bs d place r e =
+    ap (λ o. fact_or o (option_and_then (said_fact sheet bs) (fact_parts d))) (sym (first_told (holds sheet bs d)) ∙ by_told place (told (holds sheet bs d)) r e)
+
 -- ---- several
 
 none_first : (place : Place) (rs : List Reason) (later : List Refusal) → first rs ≡ None → first_of (map (at place) rs ++ later) ≡ first_of later

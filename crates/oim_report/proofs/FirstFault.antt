@@ -5,7 +5,7 @@ use Rattle.std.specs.Option.{option_map_or}
 use Rattle.std.specs.List.{flat_map, list_any}
 use Rattle.std.proofs.lemmas.Bool.{or_parts}
 use Rattle.oim_names.specs.Bindings.{Binding}
-use Rattle.oim_names.specs.Expansion.{is_reserved, is_unbound, name_refusal, refusal_as}
+use Rattle.oim_names.specs.Expansion.{name_refusal}
 use Rattle.oim_names.specs.declared.reason.Reason.{Reason}
 use Rattle.oim_names.specs.declared.reason.Reason.TheVariants.{MemberForm, UnknownMember, Links, Notes, DimensionsMissing, NameForm, UnboundPrefix, ReservedNamespace, UnknownConcept, UnknownDimension, DimensionValue, UnitForm, UnitOnOther, LanguageForm, LanguageOnNumeric, DecimalsRange, DecimalsOnOther}
 use Rattle.oim_value.specs.Decimals.{is_finite_decimals}
@@ -16,24 +16,17 @@ use Rattle.serde_json.specs.Find.{as_object, get_member}
 use Rattle.oim_report.specs.declared.concept_kind.ConceptKind.{ConceptKind}
 use Rattle.oim_report.specs.declared.dimension_kind.DimensionKind.{DimensionKind}
 use Rattle.oim_report.specs.Conditions.{comes_again, concept_kind, concept_refusal, content_refusal, decimals_refusal, defined_names, defined_refusal, dimension_kind, dimension_names, fact_refusal, form_refusal, has_misshapen_core, in_dimensions, is_faulty, is_misfit, is_numeric, is_other_kind, language_refusal, lists_unknown, member_names, names_of, period_refusal, spelled_in, unit_names, unit_refusal, value_names, value_refusal, value_refusals as first_value_refusals}
-use Rattle.oim_report.specs.Faults.{concept_refusals, content_refusals, core_refusals, defined_refusals, form_refusals, has_misfit, is_unknown_dimension, language_refusals, names_refusals, refuses_some, unit_refusals, value_refusals, when}
+use Rattle.oim_report.specs.Faults.{concept_refusals, content_refusals, core_refusals, defined_refusals, form_refusals, has_misfit, is_unknown_dimension, language_refusals, names_refusals, unit_refusals, value_refusals, when}
 use Rattle.oim_report.specs.Json.{Given, absent, nil, text, whole, other, is_absent, is_no_object, is_no_text}
-use Rattle.oim_report.specs.Names.{Spelled, a_name, an_entity, names_refusal}
+use Rattle.oim_report.specs.Names.{Spelled, a_name, an_entity, names_refusal, refuses_some}
 use Rattle.oim_report.specs.Parts.{DimensionParts, FactParts, dimension_parts, parts_of}
-use Rattle.oim_report.specs.Refusal.{first_refusal, lesser, or_refusal}
+use Rattle.oim_report.specs.Refusal.{first_refusal, or_refusal}
 use Rattle.oim_report.specs.Sheet.{Sheet}
 use Rattle.oim_report.proofs.EachRefusal.{behind, first-append, or_when}
 use Rattle.oim_report.proofs.FactRefused.{are_free}
-use Rattle.oim_report.proofs.Least.{lesser-parts, names-parts}
-use Rattle.oim_report.proofs.UnitNames.{by_any, one_more}
+use Rattle.oim_report.proofs.NameRefusals.{by_any, first_free, names-parts}
 
 -- ---- names
-
-pub any_of : (bs : List Binding) (ns : List Spelled) → names_refusal bs ns ≡ by_any (refuses_some NameForm bs ns) (refuses_some UnboundPrefix bs ns) (refuses_some ReservedNamespace bs ns)
-any_of bs [] = refl
-any_of bs (n ∷ ns) =
-    ap (lesser (refusal_as n.has_form bs n.text)) (any_of bs ns)
-    ∙ one_more (n.has_form n.text) (is_unbound bs n.text) (is_reserved bs n.text) (refuses_some NameForm bs ns) (refuses_some UnboundPrefix bs ns) (refuses_some ReservedNamespace bs ns)
 
 three : (a b c : Bool) → first_refusal (when a NameForm ∷ when b UnboundPrefix ∷ when c ReservedNamespace ∷ []) ≡ by_any a b c
 three true b c = refl
@@ -42,7 +35,7 @@ three false false true = refl
 three false false false = refl
 
 first_name : (bs : List Binding) (ns : List Spelled) → first_refusal (names_refusals bs ns) ≡ names_refusal bs ns
-first_name bs ns = three (refuses_some NameForm bs ns) (refuses_some UnboundPrefix bs ns) (refuses_some ReservedNamespace bs ns) ∙ sym (any_of bs ns)
+first_name bs ns = three (refuses_some NameForm bs ns) (refuses_some UnboundPrefix bs ns) (refuses_some ReservedNamespace bs ns)
 
 -- ---- the form
 
@@ -77,7 +70,7 @@ first_form ms =
 -- ---- the concept, where its name is not refused
 
 one_free : (bs : List Binding) (t : List ℕ) → names_refusal bs (a_name t ∷ []) ≡ None → name_refusal bs t ≡ None
-one_free bs t free = (lesser-parts (name_refusal bs t) None free).0
+one_free bs t free = (first_free bs (a_name t) [] free).0
 
 first_concept : (sheet : Sheet) (bs : List Binding) (g : Given) → is_no_text g ≡ false → names_refusal bs (spelled_in a_name g) ≡ None → first_refusal (concept_refusals sheet bs g) ≡ concept_refusal sheet bs g
 first_concept sheet bs absent fits free = refl
@@ -102,7 +95,7 @@ module _ (sheet : Sheet) (bs : List Binding) where
   unknown_same [] free = refl
   unknown_same (d ∷ ds) free =
       let both = names-parts bs (defined_names sheet bs d) (flat_map (defined_names sheet bs) ds) free in
-      let name = (lesser-parts (name_refusal bs d.0) (names_refusal bs (member_names (dimension_kind sheet bs d.0) d.1)) both.0).0 in
+      let name = (first_free bs (a_name d.0) (member_names (dimension_kind sheet bs d.0) d.1) both.0).0 in
       (λ i. (is_none (name i) && is_none (dimension_kind sheet bs d.0)) || unknown_same ds both.1 i)
 
   fits_kind : (kind : Option DimensionKind) (misfit : Bool) → is_none kind ≡ false → (is_some kind && misfit) ≡ misfit

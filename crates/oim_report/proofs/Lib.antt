@@ -4,8 +4,7 @@ pub mod Filled
 pub mod Texts
 pub mod DefinedParts
 pub mod Naming
-pub mod Least
-pub mod UnitNames
+pub mod NameRefusals
 pub mod UnitSaid
 pub mod PartsOf
 pub mod LastAt

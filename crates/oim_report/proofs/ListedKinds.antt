@@ -18,7 +18,7 @@ use Rattle.oim_report.specs.Listed.{ConceptsAreListed, DimensionsAreListed, Says
 use Rattle.oim_report.specs.Least.{least}
 use Rattle.oim_report.specs.Names.{named}
 use Rattle.oim_report.specs.Refusal.{unless}
-use Rattle.oim_report.specs.Sheet.{Sheet, concept_kind_named, dimension_kind_named, entries_in, entry, has_bad_kind, has_other_kind, has_two_kinds, key_names, kind_in, listed, names_no_kind, said_sheet, same_concept_kind, same_dimension_kind, sheet_bindings, sheet_concepts, sheet_dimensions, sheet_holds, sheet_of, sheet_outcome}
+use Rattle.oim_report.specs.Sheet.{Sheet, concept_kind_named, dimension_kind_named, entries_in, entry, has_bad_kind, has_other_kind, has_two_kinds, kind_in, listed, names_no_kind, said_sheet, same_concept_kind, same_dimension_kind, sheet_bindings, sheet_concepts, sheet_dimensions, sheet_holds, sheet_of, sheet_outcome}
 use Rattle.oim_report.proofs.LeastOf.{none_is}
 use Rattle.oim_report.proofs.Naming.{expanded}
 use Rattle.oim_report.proofs.RisingNames.{name_total}

@@ -1,27 +1,22 @@
 -- The members of taxonomy-defined dimensions, read one after another.
-use Rattle.std.proofs.Common.{◌≡◌, ◌⊎◌, inl, inr, ℕ, ◌+◌, ◌<◌, length, drop, get_or, add-one, List, [], ◌∷◌, ◌++◌, map, append_assoc, Bool, true, false, ◌||◌, refl, sym, ap, ◌∙◌}
-use Rattle.std.specs.Prelude.{Some, None, is_none}
+use Rattle.std.proofs.Common.{◌≡◌, ℕ, ◌+◌, ◌<◌, length, drop, get_or, add-one, List, [], ◌∷◌, ◌++◌, map, append_assoc, Bool, false, ◌||◌, refl, sym, ap, ◌∙◌}
+use Rattle.std.specs.Prelude.{Some, is_none}
 use Rattle.std.specs.Borrow.{Bor}
 use Rattle.std.proofs.Math.Seq.{drop-cons}
-use Rattle.std.specs.List.{flat_map, list_any}
+use Rattle.std.specs.List.{list_any}
 use Rattle.oim_names.specs.QName.{QName}
 use Rattle.oim_names.specs.Bindings.{Binding}
-use Rattle.oim_names.specs.QName.{is_name}
-use Rattle.oim_names.specs.Expansion.{refusal_as}
-use Rattle.oim_names.specs.declared.reason.Reason.{Reason}
-use Rattle.oim_names.specs.declared.reason.Reason.TheVariants.{OutOfMemory, UnknownDimension, DimensionValue}
 use Rattle.oim_dims.specs.DimensionSet.{with_member}
 use Rattle.oim_dims.specs.declared.member.Member.{Member}
 use Rattle.oim_report.specs.declared.dimension_kind.DimensionKind.{DimensionKind}
 use Rattle.oim_report.specs.declared.given.Given.{Given as Lent}
-use Rattle.oim_report.specs.Conditions.{comes_again, defined_names, dimension_kind, dimension_names, is_faulty, is_misfit, lists_unknown, member_names}
+use Rattle.oim_report.specs.Conditions.{dimension_kind, dimension_names, is_misfit, lists_unknown}
 use Rattle.oim_report.specs.Given.{seen}
 use Rattle.oim_report.specs.Json.{Given}
-use Rattle.oim_report.specs.Names.{named, names_refusal}
+use Rattle.oim_report.specs.Names.{named}
 use Rattle.oim_report.specs.Said.{members_with, said_member}
 use Rattle.oim_report.specs.SeenParts.{seen_defined}
 use Rattle.oim_report.specs.Sheet.{Sheet}
-use Rattle.oim_report.proofs.Least.{lesser-parts, names-parts}
 
 -- whether one has a member that it may not have
 abbrev pub some_misfit : Sheet → List Binding → List (List ℕ × Given) → Bool
@@ -41,26 +36,8 @@ pub next_defined : (xs : List (Bor (List ℕ) × Lent)) (i : ℕ) (x : Bor (List
 next_defined xs i x within = rw (add-one, drop-cons xs i x) refl
 
 module _ (sheet : Sheet) (bs : List Binding) (d : List ℕ × Given) (ds : List (List ℕ × Given)) (kind : DimensionKind) (known : dimension_kind sheet bs d.0 ≡ Some kind) where
-  pub member_free : names_refusal bs (flat_map (defined_names sheet bs) (d ∷ ds)) ≡ None → names_refusal bs (member_names (Some kind) d.1) ≡ None
-  member_free none =
-      let here = (names-parts bs (defined_names sheet bs d) (flat_map (defined_names sheet bs) ds) none).0 in
-      ap (λ k. names_refusal bs (member_names k d.1)) (sym known) ∙ (lesser-parts (refusal_as is_name bs d.0) (names_refusal bs (member_names (dimension_kind sheet bs d.0) d.1)) here).1
-
-  pub later_free : names_refusal bs (flat_map (defined_names sheet bs) (d ∷ ds)) ≡ None → names_refusal bs (flat_map (defined_names sheet bs) ds) ≡ None
-  later_free none = (names-parts bs (defined_names sheet bs d) (flat_map (defined_names sheet bs) ds) none).1
-
   pub unknown_later : lists_unknown sheet bs (d ∷ ds) ≡ lists_unknown sheet bs ds
   unknown_later = ap (λ k. is_none k || lists_unknown sheet bs ds) known
-
-  -- what stops at a dimension
-  abbrev pub Stops : List (List ℕ × Given) → Reason → Type 0
-  Stops all r = (r ≡ OutOfMemory) ⊎ (((r ≡ UnknownDimension) × (lists_unknown sheet bs all ≡ true)) ⊎ ((r ≡ DimensionValue) × (is_faulty sheet bs all ≡ true)))
-
-  pub misfit_stops : (all : List (List ℕ × Given)) (r : Reason) → some_misfit sheet bs (d ∷ ds) ≡ some_misfit sheet bs all → (r ≡ OutOfMemory) ⊎ ((r ≡ DimensionValue) × (is_misfit (Some kind) d.1 ≡ true)) → Stops all r
-  misfit_stops all r so_far (inl memory) = inl memory
-  misfit_stops all r so_far (inr misfit) =
-      let here : some_misfit sheet bs all ≡ true = sym so_far ∙ ap (λ b. b || some_misfit sheet bs ds) (ap (λ k. is_misfit k d.1) known ∙ misfit.1) in
-      inr (inr (misfit.0, ap (λ b. b || comes_again (dimension_names bs all)) here))
 
   pub misfit_later : is_misfit (Some kind) d.1 ≡ false → some_misfit sheet bs (d ∷ ds) ≡ some_misfit sheet bs ds
   misfit_later fits = ap (λ b. b || some_misfit sheet bs ds) (ap (λ k. is_misfit k d.1) known ∙ fits)

@@ -13,8 +13,7 @@ use Rattle.oim_names.specs.declared.reason.Reason.{Reason}
 use Rattle.oim_names.specs.declared.reason.Reason.TheVariants.{NameForm, UnboundPrefix, ReservedNamespace}
 use Rattle.oim_dims.specs.Unit.{denominator_pieces, is_unit_text, numerator_pieces, refuses, some_piece}
 use Rattle.oim_report.specs.Conditions.{piece_names}
-use Rattle.oim_report.specs.Faults.{refuses_name, refuses_some}
-use Rattle.oim_report.specs.Names.{Spelled, a_name}
+use Rattle.oim_report.specs.Names.{Spelled, a_name, refuses_name, refuses_some}
 
 -- by whether it has the form, and what its prefix is bound to
 abbrev refuses_so : Reason → Bool → Option (List ℕ) → Bool

@@ -27,7 +27,8 @@ use Rattle.oim_report.specs.Said.{said_member, members_with}
 use Rattle.oim_report.specs.Sheet.{Sheet}
 use Rattle.oim_report.specs.ReadBack.{SpellsMember, SpellsDimension, with_given, member_given, defined_given, DimensionsReadBack}
 use Rattle.oim_report.proofs.Spelled.{expands, name_back, spelled_apart}
-use Rattle.oim_report.proofs.AcceptedNames.{one_name, names_append}
+use Rattle.oim_report.proofs.AcceptedNames.{one_name}
+use Rattle.oim_report.proofs.NameRefusals.{names_append}
 use Rattle.oim_report.proofs.MemberOrder.{either_first, below_apart, each_added, all_added}
 use Rattle.oim_report.proofs.GivenKeys.{All-with_given, Any-with_given, Any-kept}
 

@@ -25,7 +25,8 @@ use Rattle.oim_report.specs.Said.{all_named, with_name, in_order, side_of, unit_
 use Rattle.oim_report.specs.ReadBack.{SpellsName, UnitsReadBack}
 use Rattle.oim_report.proofs.MemberOrder.{other_way}
 use Rattle.oim_report.proofs.Spelled.{some_number, expands, named_back}
-use Rattle.oim_report.proofs.AcceptedNames.{names_append, names_zip}
+use Rattle.oim_report.proofs.AcceptedNames.{names_zip}
+use Rattle.oim_report.proofs.NameRefusals.{names_append}
 
 -- ---- the pieces of a unit's text
 

@@ -24,7 +24,7 @@ use Rattle.oim_report.specs.Parts.{DimensionParts, FactParts}
 use Rattle.oim_report.specs.Said.{all_named, fact_of, in_order, members_with, said_concept, said_dimensions, said_entity, said_language, said_member, said_members, said_period, said_unit, said_value, side_of, unit_with}
 use Rattle.oim_report.specs.Sheet.{Sheet}
 use Rattle.oim_report.proofs.Accepted.{and_then_some, map_some}
-use Rattle.oim_report.proofs.AcceptedNames.{name_more, names_append}
+use Rattle.oim_report.proofs.NameRefusals.{name_more, names_append}
 use Rattle.oim_report.proofs.SaysParts.{named_expands}
 
 -- a text that names something is not refused

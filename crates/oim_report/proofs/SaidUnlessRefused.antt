@@ -39,7 +39,7 @@ use Rattle.oim_report.specs.SaidUnlessRefused.{FactsAreSaid}
 use Rattle.oim_report.specs.Sheet.{Sheet}
 use Rattle.oim_report.proofs.Accepted.{EachSays, and_then_some}
 use Rattle.oim_report.proofs.FactRefused.{are_free}
-use Rattle.oim_report.proofs.Least.{lesser-parts, names-parts}
+use Rattle.oim_report.proofs.NameRefusals.{first_free, names-parts}
 use Rattle.oim_report.proofs.Naming.{expanded}
 
 -- ---- no refusal
@@ -62,12 +62,12 @@ name_said : (has_form : List ℕ → Bool) (bs : List Binding) (t : List ℕ) �
 name_said has_form bs t none = let n = kept_named has_form bs t none in (n.0, expanded has_form bs t n.0 n.1)
 
 one_said : (has_form : List ℕ → Bool) (bs : List Binding) (t : List ℕ) → names_refusal bs (record { has_form = has_form; text = t } ∷ []) ≡ None → (n : QName) × (named_as has_form bs t ≡ Some n)
-one_said has_form bs t none = name_said has_form bs t (lesser-parts (refusal_as has_form bs t) None none).0
+one_said has_form bs t none = name_said has_form bs t (first_free bs (record { has_form = has_form; text = t }) [] none).0
 
 all_said : (bs : List Binding) (ts : List (List ℕ)) → names_refusal bs (map a_name ts) ≡ None → (ns : List QName) × (all_named bs ts ≡ Some ns)
 all_said bs [] none = ([], refl)
 all_said bs (t ∷ ts) none =
-    let both = lesser-parts (refusal_as is_name bs t) (names_refusal bs (map a_name ts)) none in
+    let both = first_free bs (a_name t) (map a_name ts) none in
     let n = name_said is_name bs t both.0 in
     let ns = all_said bs ts both.1 in
     (n.0 ∷ ns.0, rw (n.1, ns.1) refl)
@@ -150,7 +150,7 @@ members_are_said sheet bs es [] none fit = (es, refl)
 members_are_said sheet bs es (d ∷ ds) none fit =
     let kind = dimension_kind sheet bs d.0 in
     let free = names-parts bs (defined_names sheet bs d) (flat_map (defined_names sheet bs) ds) none in
-    let here = lesser-parts (refusal_as is_name bs d.0) (names_refusal bs (member_names kind d.1)) free.0 in
+    let here = first_free bs (a_name d.0) (member_names kind d.1) free.0 in
     let fits = or_parts (is_misfit kind d.1) (list_any (λ d. is_misfit (dimension_kind sheet bs d.0) d.1) ds) fit in
     let n = name_said is_name bs d.0 here.0 in
     let m = member_is_said bs kind d.1 here.1 fits.0 in

@@ -14,9 +14,9 @@ use Rattle.serde_json.specs.Data.{Data, Members, no_members, member}
 use Rattle.serde_json.specs.View.{view, members_view}
 use Rattle.serde_json.proofs.Views.{Entry}
 use Rattle.oim_report.specs.Json.{any_member}
-use Rattle.oim_report.specs.Names.{named, names_refusal}
+use Rattle.oim_report.specs.Names.{a_name, named, names_refusal}
 use Rattle.oim_report.specs.Sheet.{key_names, kind_in, entries_in, listed, names_no_kind, has_other_kind, has_two_kinds, has_bad_kind}
-use Rattle.oim_report.proofs.Least.{lesser-parts}
+use Rattle.oim_report.proofs.NameRefusals.{first_free}
 use Rattle.oim_report.proofs.RisingNames.{name_total}
 
 -- the first of two, where it is there
@@ -84,7 +84,7 @@ module _ {K : Type 0} (kind_named : List ℕ → Option K) (same : K → K → B
 
   -- its key is a name
   pub key_is_name : (bs : List Binding) (all rest : Members) (m : FinMap name_cmp K) (key : List ℕ) (d : Data) → Lists bs all (member key d rest) m → (refusal_as is_name bs key ≡ None) × (names_refusal bs (key_names rest) ≡ None)
-  key_is_name bs all rest m key d l = lesser-parts (refusal_as is_name bs key) (names_refusal bs (key_names rest)) l.names
+  key_is_name bs all rest m key d l = first_free bs (a_name key) (key_names rest) l.names
 
   either : (a b : Bool) → a ≡ true → (a || b) ≡ true
   either a b h = ap (λ x. x || b) h

@@ -6,16 +6,14 @@ use Rattle.oim_names.specs.Bindings.{Binding}
 use Rattle.oim_names.specs.declared.reason.Reason.{Reason}
 use Rattle.oim_names.specs.declared.reason.Reason.TheVariants.{MemberForm, UnknownMember, Namespace, NameForm, UnboundPrefix, ReservedNamespace, SheetKind}
 use Rattle.serde_json.specs.Data.{Data, Members}
-use Rattle.oim_report.specs.Faults.{refuses_some}
 use Rattle.oim_report.specs.Json.{any_in, json, members, object_at}
 use Rattle.oim_report.specs.Least.{least}
-use Rattle.oim_report.specs.Names.{names_refusal}
+use Rattle.oim_report.specs.Names.{names_refusal, refuses_some}
 use Rattle.oim_report.specs.Namespaces.{binds_nothing, bindings_in}
 use Rattle.oim_report.specs.Refusal.{first_holding, first_refusal, or_refusal, unless}
 use Rattle.oim_report.specs.Sheet.{RefusesSheet, Sheet, SheetRefusedWhereHeld, concept_kind_named, dimension_kind_named, has_bad_kind, key_names, said_sheet, same_concept_kind, same_dimension_kind, sheet_bindings, sheet_concepts, sheet_dimensions, sheet_holds, sheet_names, sheet_namespaces, sheet_of, sheet_outcome}
-use Rattle.oim_report.proofs.FirstFault.{any_of}
 use Rattle.oim_report.proofs.LeastOf.{least_is}
-use Rattle.oim_report.proofs.UnitNames.{by_any}
+use Rattle.oim_report.proofs.NameRefusals.{by_any}
 
 -- the conditions in the order in which a sheet is read
 abbrev pub sheet_refusal : Data → Option Reason
@@ -43,8 +41,7 @@ unfolding least sheet_holds
 sheet_least tree =
     let bs = sheet_bindings tree in
     let names = sheet_names tree in
-    (λ i. first_refusal (find (sheet_holds tree) (MemberForm ∷ UnknownMember ∷ []) ∷ first_holding ((any_in binds_nothing (sheet_namespaces tree), Namespace) ∷ []) ∷ any_of bs names i ∷ first_holding ((sheet_holds tree SheetKind, SheetKind) ∷ []) ∷ []))
-    ∙ flat (sheet_holds tree MemberForm) (sheet_holds tree UnknownMember) (any_in binds_nothing (sheet_namespaces tree)) (refuses_some NameForm bs names) (refuses_some UnboundPrefix bs names) (refuses_some ReservedNamespace bs names) (sheet_holds tree SheetKind)
+    flat (sheet_holds tree MemberForm) (sheet_holds tree UnknownMember) (any_in binds_nothing (sheet_namespaces tree)) (refuses_some NameForm bs names) (refuses_some UnboundPrefix bs names) (refuses_some ReservedNamespace bs names) (sheet_holds tree SheetKind)
 
 -- ---- as a sheet is read
 

@@ -5,7 +5,7 @@ use Rattle.std.specs.List.{filter_map, list_any}
 use Rattle.std.specs.Ordering.{is_lt}
 use Rattle.std.specs.Result.{result_err}
 use Rattle.oim_names.specs.Bindings.{Binding}
-use Rattle.oim_names.specs.Expansion.{lacks_form, lacks_binding, lies_in_reserved, name_refusal}
+use Rattle.oim_names.specs.Expansion.{name_refusal}
 use Rattle.oim_names.specs.declared.reason.Reason.{Reason}
 use Rattle.oim_names.specs.declared.reason.Reason.TheVariants.{NotJson, MemberForm, UnknownMember, Links, Notes, DimensionsMissing, NameForm, UnboundPrefix, ReservedNamespace, MissingConcept, UnknownConcept, UnknownDimension, DimensionValue, UnitOnOther, LanguageOnNumeric, DecimalsOnOther, DisallowedDuplicates}
 use Rattle.oim_value.specs.Level.{level_cmp}
@@ -21,7 +21,7 @@ use Rattle.oim_report.specs.Document.{Document}
 use Rattle.oim_report.specs.Duplicates.{level_of}
 use Rattle.oim_report.specs.Info.{bindings_of, facts_of, level_said}
 use Rattle.oim_report.specs.Json.{Given, is_absent, json, text_of, values}
-use Rattle.oim_report.specs.Names.{Spelled}
+use Rattle.oim_report.specs.Names.{Spelled, refuses_some}
 use Rattle.oim_report.specs.Outcome.{at, outcome}
 use Rattle.oim_report.specs.Parts.{DimensionParts, FactParts, fact_parts}
 use Rattle.oim_report.specs.Said.{said_fact}
@@ -50,16 +50,6 @@ form_refusals p dimensions =
     ∷ []
 
 -- ---- its names
-
--- whether this is why a text is no such name
-abbrev pub refuses_name : Reason → List Binding → Spelled → Bool
-refuses_name NameForm bs n = lacks_form n.has_form n.text
-refuses_name UnboundPrefix bs n = lacks_binding n.has_form bs n.text
-refuses_name ReservedNamespace bs n = lies_in_reserved n.has_form bs n.text
-refuses_name r bs n = false
-
-abbrev pub refuses_some : Reason → List Binding → List Spelled → Bool
-refuses_some reason bs names = list_any (refuses_name reason bs) names
 
 abbrev pub names_refusals : List Binding → List Spelled → List (Option Reason)
 names_refusals bs names =

@@ -1,5 +1,5 @@
 -- A refusal is the least condition that holds, and faults are all conditions that hold (own).
-use Rattle.std.specs.Prelude.{◌≡◌, ◌↔◌, ◌≤◌, ℕ, List, [], ◌∷◌, map, Contains, Bool, false, not, ◌&&◌, IsTrue, Option, Some, None}
+use Rattle.std.specs.Prelude.{◌≡◌, ◌↔◌, ◌≤◌, List, [], ◌∷◌, map, Contains, Bool, false, not, ◌&&◌, IsTrue, Option, Some, None}
 use Rattle.std.specs.List.{filter, find, list_any}
 use Rattle.std.specs.List.Sorted.{IsStrictlyIncreasing}
 use Rattle.oim_names.specs.Reasons.{entry_of, reasons}

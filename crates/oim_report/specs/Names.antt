@@ -1,11 +1,12 @@
 -- The names in an object, and why they are refused.
-use Rattle.std.specs.Prelude.{ℕ, List, map, Bool, if◌then◌else◌, Option, Some, None, option_and_then}
+use Rattle.std.specs.Prelude.{ℕ, List, [], ◌∷◌, Bool, false, if◌then◌else◌, Option, Some, None, option_and_then}
+use Rattle.std.specs.List.{find, list_any}
 use Rattle.std.specs.Str.{bytes_eq}
 use Rattle.oim_names.specs.QName.{QName, is_name, is_entity, local_part, prefix_part}
 use Rattle.oim_names.specs.Bindings.{Binding, uri_of}
-use Rattle.oim_names.specs.Expansion.{refusal_as, reserved_uri}
+use Rattle.oim_names.specs.Expansion.{lacks_binding, lacks_form, lies_in_reserved, reserved_uri}
 use Rattle.oim_names.specs.declared.reason.Reason.{Reason}
-use Rattle.oim_report.specs.Refusal.{least_refusal}
+use Rattle.oim_names.specs.declared.reason.Reason.TheVariants.{NameForm, UnboundPrefix, ReservedNamespace}
 
 -- a text that is to be a name, and the form that it is to have
 pub record Spelled : Type 0 where
@@ -18,9 +19,19 @@ a_name t = record { has_form = is_name; text = t }
 abbrev pub an_entity : List ℕ → Spelled
 an_entity t = record { has_form = is_entity; text = t }
 
--- the least refusal of any of several names: of form, prefix and namespace (own)
+-- whether a text is no such name for this reason, and whether one of several is
+abbrev pub refuses_name : Reason → List Binding → Spelled → Bool
+refuses_name NameForm bs n = lacks_form n.has_form n.text
+refuses_name UnboundPrefix bs n = lacks_binding n.has_form bs n.text
+refuses_name ReservedNamespace bs n = lies_in_reserved n.has_form bs n.text
+refuses_name r bs n = false
+
+abbrev pub refuses_some : Reason → List Binding → List Spelled → Bool
+refuses_some reason bs names = list_any (refuses_name reason bs) names
+
+-- the least refusal of several names: of form, prefix and namespace (own)
 abbrev pub names_refusal : List Binding → List Spelled → Option Reason
-names_refusal bs names = least_refusal (map (λ n. refusal_as n.has_form bs n.text) names)
+names_refusal bs names = find (λ r. refuses_some r bs names) (NameForm ∷ UnboundPrefix ∷ ReservedNamespace ∷ [])
 
 -- the name that a text stands for (XML Namespaces 1.0, section 4), as `Expands` has it
 abbrev pub in_namespace : List ℕ → List ℕ → Option QName

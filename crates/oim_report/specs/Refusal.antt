@@ -1,6 +1,5 @@
 -- Conditions of refusals, and which is answered (own).
-use Rattle.std.specs.Prelude.{Bool, nat_le, List, [], ◌∷◌, if◌then◌else◌, Option, Some, None, Result, Ok, Err}
-use Rattle.oim_names.specs.Reasons.{entry_of}
+use Rattle.std.specs.Prelude.{Bool, List, [], ◌∷◌, if◌then◌else◌, Option, Some, None, Result, Ok, Err}
 use Rattle.oim_names.specs.declared.reason.Reason.{Reason}
 
 -- whether it holds, and the refusal that it is answered with
@@ -20,16 +19,6 @@ or_refusal (Some reason) later = Some reason
 abbrev pub first_refusal : List (Option Reason) → Option Reason
 first_refusal [] = None
 first_refusal (r ∷ rs) = or_refusal r (first_refusal rs)
-
--- the refusal of the least number
-abbrev pub lesser : Option Reason → Option Reason → Option Reason
-lesser None s = s
-lesser (Some r) None = Some r
-lesser (Some r) (Some s) = if nat_le (entry_of r).number (entry_of s).number then Some r else Some s
-
-abbrev pub least_refusal : List (Option Reason) → Option Reason
-least_refusal [] = None
-least_refusal (r ∷ rs) = lesser r (least_refusal rs)
 
 -- a value, but where it is refused
 abbrev pub unless : {A : Type 0} → Option Reason → A → Result A Reason

@@ -1,12 +1,12 @@
-ghost use Rattle.std.specs.Prelude.{◌≡◌, ◌⊎◌, Some, None, false, IfOk, IfErr, OnOk};
-ghost use Rattle.std.specs.Result.{result_err};
+//! The core dimensions of a fact. An error says that a condition holds, but not which is the least.
+
+ghost use Rattle.std.specs.Prelude.{◌≡◌, Some, None, false, IfOk, OnOk};
 ghost use Rattle.oim_names.specs.Expansion.{ExpandsEntity};
-ghost use Rattle.oim_report.specs.Conditions.{language_refusal, period_refusal, spelled_in, unit_names, unit_refusal};
+ghost use Rattle.oim_report.specs.Conditions.{language_refusal, period_refusal, unit_refusal};
 ghost use Rattle.oim_report.specs.Given.{seen};
 ghost use Rattle.oim_report.specs.Glossary.{IsGlossary};
 ghost use Rattle.oim_report.specs.Glossaries.{SaysLanguage, SaysPeriod, SaysUnit};
 ghost use Rattle.oim_report.specs.Json.{is_no_text};
-ghost use Rattle.oim_report.specs.Names.{an_entity, names_refusal};
 ghost use Rattle.oim_report.specs.Said.{said_entity, said_language, said_period, said_unit};
 
 use crate::concept_kind::ConceptKind;
@@ -17,9 +17,7 @@ use oim_dims::{Period, Unit};
 use oim_names::{Aliases, Name, Reason, Text};
 use std::alloc::Global;
 
-/// The entity, where there is one.
-///
-/// Errors: where its name is not refused, `OutOfMemory` alone.
+/// The entity, if there is one.
 pub(crate) fn read_entity<'a>(
     alloc: Global,
     aliases: &Aliases,
@@ -29,8 +27,6 @@ pub(crate) fn read_entity<'a>(
     requires form { is_no_text (seen entity) ≡ false }
     requires known { IsGlossary (ExpandsEntity aliases.now) entities.old }
     ensures said { IfOk result (λ read. said_entity aliases.now (seen entity.entry) ≡ Some read) }
-    ensures errors { names_refusal aliases.now (spelled_in an_entity (seen entity.entry)) ≡ None →
-        IfErr result (λ r. r ≡ Reason.OutOfMemory) }
     ensures known { OnOk result (IsGlossary (ExpandsEntity aliases.now) entities.new) }
 {
     match entity.text() {
@@ -40,8 +36,6 @@ pub(crate) fn read_entity<'a>(
 }
 
 /// The period; without one a fact holds forever.
-///
-/// Errors: `PeriodForm`, `PeriodOrder`.
 pub(crate) fn read_period<'a>(
     alloc: Global,
     periods: &mut Glossary<'a, Period>,
@@ -50,7 +44,7 @@ pub(crate) fn read_period<'a>(
     requires form { is_no_text (seen period) ≡ false }
     requires known { IsGlossary SaysPeriod periods.old }
     ensures said { IfOk result (λ read. said_period (seen period.entry) ≡ Some read) }
-    ensures refused { result_err result ≡ period_refusal (seen period.entry) }
+    ensures accepted { IfOk result (λ _. period_refusal (seen period.entry) ≡ None) }
     ensures known { OnOk result (IsGlossary SaysPeriod periods.new) }
 {
     match period.text() {
@@ -59,10 +53,7 @@ pub(crate) fn read_period<'a>(
     }
 }
 
-/// The unit, where there is one, of a fact whose concept has this kind.
-///
-/// Errors, where none of its names is refused: `UnitForm`; `UnitOnOther` where the concept is not
-/// numeric; `OutOfMemory`.
+/// The unit, if there is one, of a fact whose concept has this kind.
 pub(crate) fn read_unit<'a>(
     alloc: Global,
     aliases: &Aliases,
@@ -74,9 +65,6 @@ pub(crate) fn read_unit<'a>(
     requires known { IsGlossary (SaysUnit aliases.now) units.old }
     ensures said { IfOk result (λ read. said_unit aliases.now (seen unit.entry) ≡ Some read) }
     ensures accepted { IfOk result (λ _. unit_refusal (Some kind) (seen unit.entry) ≡ None) }
-    ensures refused { let refusal = unit_refusal (Some kind) (seen unit.entry) in
-        names_refusal aliases.now (unit_names (seen unit.entry)) ≡ None →
-        IfErr result (λ r. (r ≡ Reason.OutOfMemory) ⊎ (refusal ≡ Some r)) }
     ensures known { OnOk result (IsGlossary (SaysUnit aliases.now) units.new) }
 {
     let Some(text) = unit.text() else {
@@ -89,9 +77,7 @@ pub(crate) fn read_unit<'a>(
     Ok(read)
 }
 
-/// The language, where there is one, in lower case, of a fact whose concept has this kind.
-///
-/// Errors: `LanguageForm`; `LanguageOnNumeric` where the concept is numeric; `OutOfMemory`.
+/// The language, if there is one, in lower case, of a fact whose concept has this kind.
 pub(crate) fn read_language<'a>(
     alloc: Global,
     languages: &mut Glossary<'a, Text>,
@@ -102,8 +88,6 @@ pub(crate) fn read_language<'a>(
     requires known { IsGlossary SaysLanguage languages.old }
     ensures said { IfOk result (λ read. said_language (seen language.entry) ≡ Some read) }
     ensures accepted { IfOk result (λ _. language_refusal (Some kind) (seen language.entry) ≡ None) }
-    ensures refused { let refusal = language_refusal (Some kind) (seen language.entry) in
-        IfErr result (λ r. (r ≡ Reason.OutOfMemory) ⊎ (refusal ≡ Some r)) }
     ensures known { OnOk result (IsGlossary SaysLanguage languages.new) }
 {
     let Some(text) = language.text() else {

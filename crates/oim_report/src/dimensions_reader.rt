@@ -1,12 +1,10 @@
-ghost use Rattle.std.specs.Prelude.{◌≡◌, ◌⊎◌, Some, None, false, IfOk, IfErr, OnOk};
-ghost use Rattle.std.specs.List.{flat_map};
-ghost use Rattle.oim_report.specs.Conditions.{defined_names, dimension_refusals, has_misshapen_core, spelled_in, unit_names};
+ghost use Rattle.std.specs.Prelude.{◌≡◌, Some, None, false, IfOk, OnOk};
+ghost use Rattle.oim_report.specs.Conditions.{dimension_refusals, has_misshapen_core};
 ghost use Rattle.oim_report.specs.Given.{seen};
 ghost use Rattle.oim_report.specs.Glossaries.{AreGlossaries};
-ghost use Rattle.oim_report.specs.Names.{an_entity, names_refusal};
 ghost use Rattle.oim_report.specs.Refusal.{first_refusal};
 ghost use Rattle.oim_report.specs.Said.{said_concept, said_dimensions};
-ghost use Rattle.oim_report.specs.SeenParts.{seen_defined, seen_dimensions};
+ghost use Rattle.oim_report.specs.SeenParts.{seen_dimensions};
 
 use crate::concept_kind::ConceptKind;
 use crate::core_dimensions::{read_entity, read_language, read_period, read_unit};
@@ -18,10 +16,9 @@ use oim_dims::Dimensions;
 use oim_names::{Aliases, Name, Reason, Text};
 use std::alloc::Global;
 
-/// The dimensions of a fact with this concept, of this kind, whose form is not refused.
+/// The dimensions of a fact with this concept, of this kind, which have the form.
 ///
-/// Errors, where none of their names is refused: the first refusal of the taxonomy-defined
-/// dimensions, the period, the unit and the language; `OutOfMemory`.
+/// Errors: some condition holds; `OutOfMemory`.
 pub(crate) fn read_dimensions<'s, 'a>(
     alloc: Global,
     sheet: &'s Sheet,
@@ -39,13 +36,6 @@ pub(crate) fn read_dimensions<'s, 'a>(
     ensures accepted { let ds = seen_dimensions parts.now in
         let refusals = dimension_refusals sheet.now aliases.now (Some kind) ds in
         IfOk result (λ _. first_refusal refusals ≡ None) }
-    ensures refused { let ds = seen_dimensions parts.now in
-        let refusals = dimension_refusals sheet.now aliases.now (Some kind) ds in
-        let defined = flat_map (defined_names sheet.now aliases.now) ds.defined in
-        names_refusal aliases.now (spelled_in an_entity (seen parts.now.entity)) ≡ None →
-        names_refusal aliases.now defined ≡ None →
-        names_refusal aliases.now (unit_names (seen parts.now.unit)) ≡ None →
-        IfErr result (λ r. (r ≡ Reason.OutOfMemory) ⊎ (first_refusal refusals ≡ Some r)) }
     ensures known { OnOk result (AreGlossaries sheet.now aliases.now glossaries.new) }
 {
     let defined = parts.defined.as_slice();

@@ -1,5 +1,4 @@
-ghost use Rattle.std.specs.Prelude.{◌≡◌, Some, IfOk, not, option_map};
-ghost use Rattle.std.specs.Result.{result_err};
+ghost use Rattle.std.specs.Prelude.{◌≡◌, Some, None, IfSome, not, option_map};
 ghost use Rattle.serde_json.specs.View.{view};
 ghost use Rattle.oim_report.specs.Conditions.{form_refusal, has_misshapen_core, in_dimensions};
 ghost use Rattle.oim_report.specs.Faults.{form_refusals};
@@ -11,30 +10,17 @@ use crate::when::when;
 use oim_names::Reason;
 use serde_json::Value;
 
-/// The parts of a fact's dimensions, where the fact has the form: its members, links and notes.
-///
-/// Errors, the first that holds: `MemberForm`, `UnknownMember`, `Links`, `Notes`,
-/// `DimensionsMissing`.
-pub(crate) fn check_form<'p, 'a>(parts: &'p FactParts<'a>) -> Result<&'p DimensionParts<'a>, Reason>
-    ensures there { IfOk result (λ found. parts.now.dimensions ≡ Some found.now) }
-    ensures refused { result_err result ≡ form_refusal (seen_parts parts.now) }
+/// The parts of a fact's dimensions, if the fact has the form: its members, links and notes.
+pub(crate) fn well_formed<'p, 'a>(parts: &'p FactParts<'a>) -> Option<&'p DimensionParts<'a>>
+    ensures there { IfSome result (λ found. parts.now.dimensions ≡ Some found.now) }
+    ensures accepted { IfSome result (λ _. form_refusal (seen_parts parts.now) ≡ None) }
 {
-    if parts.misshapen || parts.value.is_absent() || has_misshapen_core(parts) {
-        return Err(Reason::MemberForm);
+    let is_misshapen = parts.misshapen || parts.value.is_absent() || has_misshapen_core(parts);
+    let is_unknown = parts.unknown || has_unknown_dimension(parts);
+    if is_misshapen || is_unknown || parts.linked || has_note(parts) {
+        return None;
     }
-    if parts.unknown || has_unknown_dimension(parts) {
-        return Err(Reason::UnknownMember);
-    }
-    if parts.linked {
-        return Err(Reason::Links);
-    }
-    if has_note(parts) {
-        return Err(Reason::Notes);
-    }
-    match &parts.dimensions {
-        Some(dimensions) => Ok(dimensions),
-        None => Err(Reason::DimensionsMissing),
-    }
+    parts.dimensions.as_ref()
 }
 
 /// Each condition of a fact's form, where this stands at its `dimensions`.

@@ -1,10 +1,9 @@
-ghost use Rattle.std.specs.Prelude.{◌≡◌, ◌⊎◌, if◌then◌else◌, Some, None, IfOk, IfErr};
+ghost use Rattle.std.specs.Prelude.{◌≡◌, if◌then◌else◌, Some, None, IfOk};
 ghost use Rattle.std.specs.Result.{result_err};
-ghost use Rattle.oim_report.specs.Conditions.{decimals_refusal, value_names, value_refusal, value_refusals};
+ghost use Rattle.oim_report.specs.Conditions.{decimals_refusal, value_refusal, value_refusals};
 ghost use Rattle.oim_report.specs.Faults.{value_refusals as each_refusal};
 ghost use Rattle.oim_report.specs.Given.{seen};
 ghost use Rattle.oim_report.specs.Json.{is_absent, text as a_text, whole};
-ghost use Rattle.oim_report.specs.Names.{names_refusal};
 ghost use Rattle.oim_report.specs.Refusal.{first_refusal};
 ghost use Rattle.oim_report.specs.Said.{said_decimals, said_value};
 
@@ -17,8 +16,7 @@ use std::alloc::Global;
 
 /// The value of a fact whose concept has this kind.
 ///
-/// Errors, where its name is not refused, the first that holds: `ValueForm`, `NumberForm`,
-/// `NumberDigits`, `DecimalsForm`, `DecimalsRange`, `DecimalsOnOther`; `OutOfMemory`.
+/// Errors: some condition holds; `OutOfMemory`.
 pub(crate) fn read_value(
     alloc: Global,
     aliases: &Aliases,
@@ -30,9 +28,6 @@ pub(crate) fn read_value(
         (λ v. said_value aliases.now (Some kind) (seen value.entry) (seen decimals.entry) ≡ Some v) }
     ensures accepted { let refusals = value_refusals (Some kind) (seen value.entry) (seen decimals.entry) in
         IfOk result (λ _. first_refusal refusals ≡ None) }
-    ensures refused { names_refusal aliases.now (value_names (Some kind) (seen value.entry)) ≡ None →
-        let refusals = value_refusals (Some kind) (seen value.entry) (seen decimals.entry) in
-        IfErr result (λ r. (r ≡ Reason.OutOfMemory) ⊎ (first_refusal refusals ≡ Some r)) }
 {
     match value {
         Given::Nil => {
@@ -55,9 +50,6 @@ fn read_text(
         (λ v. said_value aliases.now (Some kind) (a_text text.now) (seen decimals.entry) ≡ Some v) }
     ensures accepted { let refusals = value_refusals (Some kind) (a_text text.now) (seen decimals.entry) in
         IfOk result (λ _. first_refusal refusals ≡ None) }
-    ensures refused { names_refusal aliases.now (value_names (Some kind) (a_text text.now)) ≡ None →
-        let refusals = value_refusals (Some kind) (a_text text.now) (seen decimals.entry) in
-        IfErr result (λ r. (r ≡ Reason.OutOfMemory) ⊎ (first_refusal refusals ≡ Some r)) }
 {
     match kind {
         ConceptKind::Numeric => {

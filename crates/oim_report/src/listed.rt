@@ -1,6 +1,5 @@
-ghost use Rattle.std.specs.Prelude.{◌≡◌, Some, IfOk, IfSome, option_map};
-ghost use Rattle.std.specs.Result.{result_ok, result_err};
-ghost use Rattle.oim_report.specs.Conditions.{concept_kind, concept_refusal, dimension_kind};
+ghost use Rattle.std.specs.Prelude.{◌≡◌, Some, IfSome, option_map};
+ghost use Rattle.oim_report.specs.Conditions.{concept_kind, dimension_kind};
 ghost use Rattle.oim_report.specs.Given.{seen};
 ghost use Rattle.oim_report.specs.Glossary.{IsGlossary};
 ghost use Rattle.oim_report.specs.Glossaries.{NamesConcept};
@@ -14,32 +13,22 @@ use crate::given::Given;
 use crate::glossary::Glossary;
 use crate::recall::recall_concept;
 use crate::sheet::Sheet;
-use oim_names::{Aliases, Name, Reason};
+use oim_names::{Aliases, Name};
 
 /// The concept that a text names, as the sheet has it, and what its values are.
-///
-/// Errors: `MissingConcept` where there is no text; `UnknownConcept` where it names no concept of the
-/// sheet, or nothing.
 pub(crate) fn find_concept<'s, 'a>(
     sheet: &'s Sheet,
     aliases: &Aliases,
     concepts: &mut Glossary<'a, (&'s Name, ConceptKind)>,
     concept: Given<'a>,
-) -> Result<(&'s Name, ConceptKind), Reason>
+) -> Option<(&'s Name, ConceptKind)>
     requires known { IsGlossary (NamesConcept sheet.now aliases.now) concepts.old }
-    ensures kind { option_map (λ c. c.1) (result_ok result)
+    ensures kind { option_map (λ c. c.1) result
         ≡ concept_kind sheet.now aliases.now (seen concept.entry) }
-    ensures name { IfOk result (λ c. said_concept aliases.now (seen concept.entry) ≡ Some c.0.now) }
-    ensures refused { result_err result ≡ concept_refusal sheet.now aliases.now (seen concept.entry) }
+    ensures name { IfSome result (λ c. said_concept aliases.now (seen concept.entry) ≡ Some c.0.now) }
     ensures known { IsGlossary (NamesConcept sheet.now aliases.now) concepts.new }
 {
-    let Some(text) = concept.text() else {
-        return Err(Reason::MissingConcept);
-    };
-    match recall_concept(sheet, aliases, concepts, text) {
-        Some(found) => Ok(found),
-        None => Err(Reason::UnknownConcept),
-    }
+    recall_concept(sheet, aliases, concepts, concept.text()?)
 }
 
 /// The concept that a text names, as the sheet has it, and what its values are.

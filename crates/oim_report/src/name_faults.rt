@@ -1,9 +1,9 @@
 ghost use Rattle.std.specs.Prelude.{◌≡◌};
 ghost use Rattle.std.specs.List.{flat_map};
 ghost use Rattle.oim_report.specs.Conditions.{concept_kind, defined_names, dimension_kind, member_names, names_of, spelled_in, unit_names, value_names};
-ghost use Rattle.oim_report.specs.Faults.{names_refusals, refuses_name, refuses_some};
+ghost use Rattle.oim_report.specs.Faults.{names_refusals};
 ghost use Rattle.oim_report.specs.Given.{seen};
-ghost use Rattle.oim_report.specs.Names.{a_name, an_entity};
+ghost use Rattle.oim_report.specs.Names.{a_name, an_entity, refuses_name, refuses_some};
 ghost use Rattle.oim_report.specs.SeenParts.{seen_defined, seen_dimensions};
 
 use crate::concept_kind::ConceptKind;
@@ -81,8 +81,8 @@ fn refuses_name(aliases: &Aliases, name: Given<'_>, reason: Reason) -> bool
     }
 }
 
-// Whether this is why the text is no name.
-fn is_refused(aliases: &Aliases, text: &str, reason: Reason) -> bool
+/// Whether this is why the text is no name.
+pub(crate) fn is_refused(aliases: &Aliases, text: &str, reason: Reason) -> bool
     ensures { result ≡ refuses_name reason aliases.now (a_name text.now) }
 {
     aliases.name_refusal(text) == Some(reason)

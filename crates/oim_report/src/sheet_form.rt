@@ -3,11 +3,11 @@ ghost use Rattle.std.specs.List.{find};
 ghost use Rattle.std.specs.Result.{result_err};
 ghost use Rattle.serde_json.specs.View.{view, members_view};
 ghost use Rattle.oim_report.specs.Json.{members};
-ghost use Rattle.oim_report.specs.Names.{names_refusal};
+ghost use Rattle.oim_report.specs.Names.{names_refusal, refuses_some};
 ghost use Rattle.oim_report.specs.Sheet.{key_names, sheet_holds};
 
 use crate::json_tree::{has_unknown_in, is_no_object};
-use crate::lesser::lesser;
+use crate::name_faults::is_refused;
 use oim_names::{Aliases, Reason};
 use serde_json::{Map, Value};
 
@@ -34,7 +34,7 @@ pub(crate) fn check_form(tree: &Value) -> Result<(), Reason>
 
 /// Whether each key of both is a name.
 ///
-/// Errors: the least refusal of a key.
+/// Errors, the first that holds of some key: `NameForm`, `UnboundPrefix`, `ReservedNamespace`.
 pub(crate) fn check_names(
     aliases: &Aliases,
     concepts: Option<&Map<String, Value>>,
@@ -44,30 +44,49 @@ pub(crate) fn check_names(
         let defined = members (option_map (λ m. members_view m.now.entries) dimensions.entry) in
         result_err result ≡ names_refusal aliases.now (key_names listed ++ key_names defined) }
 {
-    let of_concepts = keys_refusal(aliases, concepts);
-    let of_dimensions = keys_refusal(aliases, dimensions);
-    match lesser(of_concepts, of_dimensions) {
-        Some(reason) => Err(reason),
-        None => Ok(()),
+    if refuses_either(aliases, concepts, dimensions, Reason::NameForm) {
+        return Err(Reason::NameForm);
     }
+    if refuses_either(aliases, concepts, dimensions, Reason::UnboundPrefix) {
+        return Err(Reason::UnboundPrefix);
+    }
+    if refuses_either(aliases, concepts, dimensions, Reason::ReservedNamespace) {
+        return Err(Reason::ReservedNamespace);
+    }
+    Ok(())
 }
 
-fn keys_refusal(aliases: &Aliases, listed: Option<&Map<String, Value>>) -> Option<Reason>
+// Whether this is why some key of either is no name.
+fn refuses_either(
+    aliases: &Aliases,
+    concepts: Option<&Map<String, Value>>,
+    dimensions: Option<&Map<String, Value>>,
+    reason: Reason,
+) -> bool
+    ensures { let listed = members (option_map (λ m. members_view m.now.entries) concepts.entry) in
+        let defined = members (option_map (λ m. members_view m.now.entries) dimensions.entry) in
+        result ≡ refuses_some reason aliases.now (key_names listed ++ key_names defined) }
+{
+    refuses_keys(aliases, concepts, reason) || refuses_keys(aliases, dimensions, reason)
+}
+
+fn refuses_keys(aliases: &Aliases, listed: Option<&Map<String, Value>>, reason: Reason) -> bool
     ensures { let ms = members (option_map (λ m. members_view m.now.entries) listed.entry) in
-        result ≡ names_refusal aliases.now (key_names ms) }
+        result ≡ refuses_some reason aliases.now (key_names ms) }
 {
     match listed {
-        Some(members) => least_refusal(aliases, members),
-        None => None,
+        Some(members) => refuses_key(aliases, members, reason),
+        None => false,
     }
 }
 
-fn least_refusal(aliases: &Aliases, members: &Map<String, Value>) -> Option<Reason>
-    ensures { result ≡ names_refusal aliases.now (key_names (members_view members.now.entries)) }
+fn refuses_key(aliases: &Aliases, members: &Map<String, Value>, reason: Reason) -> bool
+    ensures { result ≡ refuses_some reason aliases.now (key_names (members_view members.now.entries)) }
 {
-    let mut least = None;
     for (key, _kind) in members.iter() {
-        least = lesser(least, aliases.name_refusal(key.as_str()));
+        if is_refused(aliases, key.as_str(), reason) {
+            return true;
+        }
     }
-    least
+    false
 }

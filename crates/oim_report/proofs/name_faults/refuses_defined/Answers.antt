@@ -1,7 +1,7 @@
 use Rattle.std.proofs.Common.{◌+◌, ◌<◌, drop, get_or, length, true, false, refl, sym, ap, ◌∙◌}
 use Rattle.std.specs.List.{flat_map}
 use Rattle.oim_report.specs.Conditions.{defined_names}
-use Rattle.oim_report.specs.Faults.{refuses_some}
+use Rattle.oim_report.specs.Names.{refuses_some}
 use Rattle.oim_report.specs.SeenParts.{seen_defined}
 use Rattle.oim_report.proofs.MemberLists.{next_defined, seen_item}
 use Rattle.oim_report.proofs.NameTests.{either}

@@ -1,7 +1,7 @@
 use Rattle.std.proofs.Common.{◌≡◌, drop}
 use Rattle.std.specs.List.{flat_map}
 use Rattle.oim_report.specs.Conditions.{defined_names}
-use Rattle.oim_report.specs.Faults.{refuses_some}
+use Rattle.oim_report.specs.Names.{refuses_some}
 use Rattle.oim_report.specs.SeenParts.{seen_defined}
 use Rattle.oim_report.proofs.name_faults.refuses_defined.Given as goal
 

@@ -1,7 +1,7 @@
 use Rattle.std.proofs.Common.{◌≡◌, Some, option_map, true, sym, ap, ◌∙◌}
 use Rattle.oim_dims.specs.Unit.{is_unit_text}
 use Rattle.oim_report.specs.Conditions.{unit_names}
-use Rattle.oim_report.specs.Faults.{refuses_some}
+use Rattle.oim_report.specs.Names.{refuses_some}
 use Rattle.oim_report.specs.Given.{seen}
 use Rattle.oim_report.specs.Json.{text_of}
 use Rattle.oim_report.proofs.NameTests.{unit_pieces}

@@ -5,7 +5,7 @@ use Rattle.serde_json.specs.View.{members_view, view}
 use Rattle.oim_report.specs.Json.{members}
 use Rattle.oim_report.specs.Refusal.{unless}
 use Rattle.oim_report.specs.Sheet.{key_names, said_sheet}
-use Rattle.oim_report.proofs.Least.{names-parts}
+use Rattle.oim_report.proofs.NameRefusals.{names-parts}
 use Rattle.oim_report.proofs.SheetHolds.{kinds_refused, sheet_least}
 use Rattle.oim_report.proofs.sheet.Sheet.from_tree.Goals as goal
 
