@@ -1,6 +1,7 @@
 pub mod Refusal
 pub mod Least
 pub mod Json
+pub mod Pieces
 pub mod Given
 pub mod Parts
 pub mod SeenParts
@@ -23,6 +24,7 @@ pub mod Info
 pub mod Document
 pub mod Holds
 pub mod Outcome
+pub mod FoundFacts
 pub mod Identifiers
 pub mod FactFits
 pub mod FactObject

@@ -1,12 +1,15 @@
-ghost use Rattle.std.specs.Prelude.{◌≡◌, ◌⊎◌, Some, None, IfOk, IfErr, map, option_map, bytes_eq};
+ghost use Rattle.std.specs.Prelude.{◌≡◌, ◌⊎◌, Some, None, IfOk, IfErr, IfSome, codes, map, option_map, bytes_eq};
 ghost use Rattle.std.specs.List.{list_any};
-ghost use Rattle.serde_json.specs.Data.{null};
+ghost use Rattle.serde_json.specs.Data.{Members, null, object, put};
+ghost use Rattle.oim_report.specs.Pieces.{IsPiece};
 ghost use Rattle.serde_json.specs.View.{view, members_view};
 ghost use Rattle.oim_report.specs.Json.{without_mark, json, object_at, within, any_member, any_in, has_member, has_colon, is_unknown, is_no_object, is_no_array};
 
+use crate::outline::{Outline, read_outline};
 use oim_names::Reason;
 use serde_json::{Map, Value};
 use std::alloc::Global;
+use std::str;
 
 /// The JSON value that the bytes are, after at most one byte order mark.
 ///
@@ -22,6 +25,17 @@ pub(crate) fn read_json(alloc: Global, bytes: &[u8]) -> Result<Value, Reason>
         Err(error) if error.is_memory() => Err(Reason::OutOfMemory),
         Err(_) => Err(Reason::NotJson),
     }
+}
+
+/// The object that the bytes are, without its last member, `facts`, and the text of that one's
+/// members: once this has been read, the whole has.
+pub(crate) fn read_json_outline(alloc: Global, bytes: &[u8]) -> Option<Outline<'_>>
+    ensures { IfSome result (λ o. (before : Members) × (view o.tree ≡ object before)
+        × ((found : Members) → IsPiece o.facts.now found
+        → json bytes.now ≡ Some (object (put (codes "facts") (object found) before)))) }
+{
+    let text = str::from_utf8(after_mark(bytes)).ok()?;
+    read_outline(alloc, text)
 }
 
 fn after_mark(bytes: &[u8]) -> &[u8]

@@ -14,6 +14,7 @@ ghost use Rattle.oim_report.specs.Limits.{NestedIsRead, NestsWithinLimit, TextsA
 ghost use Rattle.oim_report.specs.Listed.{ConceptsAreListed, DimensionsAreListed};
 ghost use Rattle.oim_report.specs.Names.{entity_named, named};
 ghost use Rattle.oim_report.specs.Outcome.{OutcomesWantNoMemory};
+ghost use Rattle.oim_report.specs.Pieces.{PiecesAreTheWhole};
 ghost use Rattle.oim_report.specs.Refuses.{RefusedWhereHeld};
 ghost use Rattle.oim_report.specs.Report.{AcceptedFactsFit, AcceptedReferencesAreKept, OutcomesAreSaid};
 ghost use Rattle.oim_report.specs.Sheet.{SheetOutcomesWantNoMemory, SheetRefusedWhereHeld};
@@ -219,4 +220,10 @@ pub fn fact_object_is_plain()
 /// hold and are not hidden, with strictly rising numbers, and begins with the least.
 pub fn least_is_answered()
     ensures { LeastIsAnswered }
+{}
+
+/// Two texts of members that are each read alone are read as the members of both if a comma stands
+/// between them (RFC 8259, section 4; of a repeated name, `serde_json` keeps the last value).
+pub fn pieces_are_the_whole()
+    ensures { PiecesAreTheWhole }
 {}

@@ -1,12 +1,14 @@
-ghost use Rattle.std.specs.Prelude.{◌≡◌, ◌⊎◌, Some, Ok, Err, IfOk, IfErr};
+ghost use Rattle.std.specs.Prelude.{◌≡◌, ◌⊎◌, Some, Ok, Err, IfOk, IfErr, IfSome};
 ghost use Rattle.serde_json.specs.View.{view};
 ghost use Rattle.oim_report.specs.Document.{SaysDocument};
 ghost use Rattle.oim_report.specs.Outcome.{at, outcome, tree_outcome};
 
 use crate::duplicates::level_of;
+use crate::facts_in_pieces::read_facts_in_pieces;
 use crate::facts_reader::read_facts;
 use crate::info::read_info;
-use crate::json_tree::read_json;
+use crate::json_tree::{read_json, read_json_outline};
+use crate::limits::{LEAST_IN_PIECES, PIECE_BYTES};
 use crate::order::order_of;
 use crate::place::Place;
 use crate::refusal::Refusal;
@@ -29,6 +31,11 @@ pub fn read_report<'s>(alloc: Global, sheet: &'s Sheet, bytes: &[u8]) -> Result<
     ensures errors { IfErr result
         (λ r. (r ≡ at Place.Document Reason.OutOfMemory) ⊎ (outcome sheet.now bytes.now ≡ Err r)) }
 {
+    if bytes.len() >= LEAST_IN_PIECES {
+        if let Some(report) = read_in_pieces(alloc, sheet, bytes, PIECE_BYTES) {
+            return Ok(report);
+        }
+    }
     let tree = read_json(alloc, bytes)?;
     read_document(alloc, sheet, &tree)
 }
@@ -52,4 +59,27 @@ pub(crate) fn read_document<'s>(
         return Err(Refusal::from(Reason::DisallowedDuplicates));
     }
     Ok(Report::new(sheet, facts, info.references, info.level, level, order))
+}
+
+/// The same of bytes, with the facts read in pieces of `size` bytes or more, of which one is in
+/// memory at a time. `None` if the text was not cut so, or anything is refused: only reading the
+/// whole shows why.
+pub(crate) fn read_in_pieces<'s>(
+    alloc: Global,
+    sheet: &'s Sheet,
+    bytes: &[u8],
+    size: usize,
+) -> Option<Report<'s>>
+    ensures ok { IfSome result (λ r. outcome sheet.now bytes.now ≡ Ok r.document) }
+    ensures sheet { IfSome result (λ r. r.sheet ≡ sheet.now) }
+{
+    let outline = read_json_outline(alloc, bytes)?;
+    let info = read_info(alloc, &outline.tree).ok()?;
+    let facts = read_facts_in_pieces(alloc, sheet, &info.aliases, outline.facts, size)?;
+    let order = order_of(alloc, facts.as_slice()).ok()?;
+    let level = level_of(facts.as_slice(), order.as_slice());
+    if info.level < level {
+        return None;
+    }
+    Some(Report::new(sheet, facts, info.references, info.level, level, order))
 }

@@ -3,6 +3,7 @@ mod facts;
 mod faults;
 mod identifiers;
 mod kept;
+mod pieces;
 mod read_back;
 mod reports;
 mod sheet;

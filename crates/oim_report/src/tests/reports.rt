@@ -49,7 +49,11 @@ struct Table<'t> {
     end: &'t str,
 }
 
-fn read<'s>(rt: &HostRuntime, sheet: &'s Sheet, bytes: &[u8]) -> Result<Report<'s>, Refusal> {
+pub(super) fn read<'s>(
+    rt: &HostRuntime,
+    sheet: &'s Sheet,
+    bytes: &[u8],
+) -> Result<Report<'s>, Refusal> {
     match read_report(rt.alloc(), sheet, bytes) {
         Err(
             Refusal {

@@ -1,0 +1,125 @@
+-- Facts that were found in a text, brought into the order of their identifiers.
+use Rattle.std.proofs.Common.{◌≡◌, ℕ, ◌+◌, ◌<◌, List, [], ◌∷◌, ◌++◌, length, get_or, drop, map, Bool, true, false, cond, Option, Some, None, Result, Ok, Err, String, Global, string_bytes, refl, sym, ap, ◌∙◌, subst}
+use Rattle.std.specs.Prelude.{IfSome}
+use Rattle.std.specs.Ordering.{nat_cmp, match_ordering, is_lt}
+use Rattle.std.specs.String.{string_cmp}
+use Rattle.std.specs.Cmp.Lexicographic.{slice_cmp}
+use Rattle.std.specs.BTreeMap.{insert_entry}
+use Rattle.std.specs.declared.cmp.Ordering.{Ordering}
+use Rattle.std.specs.declared.cmp.Ordering.TheVariants.{Less, Equal, Greater}
+use Rattle.std.proofs.lemmas.List.{drop_more}
+use Rattle.std.proofs.lemmas.Bool.{false≢true}
+use Rattle.oim_names.specs.Bindings.{Binding}
+use Rattle.oim_names.specs.declared.reason.Reason.{Reason}
+use Rattle.oim_dims.specs.declared.fact.Fact.{Fact}
+use Rattle.serde_json.specs.Data.{Data, Members, no_members, member, put}
+use Rattle.oim_report.specs.FoundFacts.{AreFound, is_above, rise_after}
+use Rattle.oim_report.specs.Json.{values}
+use Rattle.oim_report.specs.Outcome.{fact_outcome, all_or_first, facts_said}
+use Rattle.oim_report.specs.Pieces.{append, put_all}
+use Rattle.oim_report.specs.Refusal.{map_ok}
+use Rattle.oim_report.specs.Sheet.{Sheet}
+use Rattle.oim_report.proofs.MembersPut.{IsBefore, IsRising, before_all, rising_stays}
+
+module _ (sheet : Sheet) (bs : List Binding) where
+  -- ---- one piece behind another
+
+  pub found_append : (ms ns : Members) (ss ts : List (String Global)) (fs gs : List Fact) → AreFound sheet bs ms ss fs → AreFound sheet bs ns ts gs → AreFound sheet bs (append ms ns) (ss ++ ts) (fs ++ gs)
+  found_append no_members ns [] ts [] gs h k = k
+  found_append no_members ns [] ts (f ∷ fs) gs h k = absurd h
+  found_append no_members ns (s ∷ ss) ts fs gs h k = absurd h
+  found_append (member l d ms) ns [] ts fs gs h k = absurd h
+  found_append (member l d ms) ns (s ∷ ss) ts [] gs h k = absurd h
+  found_append (member l d ms) ns (s ∷ ss) ts (f ∷ fs) gs h k = (h.0, h.1, found_append ms ns ss ts fs gs h.2 k)
+
+  -- ---- what they say
+
+  said_from : (n : ℕ) (ms : Members) (ss : List (String Global)) (fs : List Fact) → AreFound sheet bs ms ss fs → all_or_first n (map (fact_outcome sheet bs) (values ms)) ≡ Ok fs
+  said_from n no_members [] [] h = refl
+  said_from n no_members [] (f ∷ fs) h = absurd h
+  said_from n no_members (s ∷ ss) fs h = absurd h
+  said_from n (member k d ms) [] fs h = absurd h
+  said_from n (member k d ms) (s ∷ ss) [] h = absurd h
+  said_from n (member k d ms) (s ∷ ss) (f ∷ fs) h =
+      ap (λ o. all_or_first n (o ∷ map (fact_outcome sheet bs) (values ms))) h.1 ∙ ap (map_ok (λ gs. f ∷ gs)) (said_from (n + 1) ms ss fs h.2)
+
+  pub found_said : (ms : Members) (ss : List (String Global)) (fs : List Fact) → AreFound sheet bs ms ss fs → facts_said sheet bs ms ≡ Ok fs
+  found_said ms ss fs h = said_from 1 ms ss fs h
+
+  -- ---- identifiers that rise
+
+  less : (o : Ordering) → is_lt o ≡ true → o ≡ Less
+  less Less e = refl
+  less Equal e = absurd (false≢true e)
+  less Greater e = absurd (false≢true e)
+
+  both_true : (a b : Bool) → cond a b false ≡ true → (a ≡ true) × (b ≡ true)
+  both_true true b e = (refl, e)
+  both_true false b e = absurd (false≢true e)
+
+  rise_behind : (k : List ℕ) (ms : Members) (ss : List (String Global)) (fs : List Fact) → AreFound sheet bs ms ss fs → rise_after (Some k) ss ≡ true → IsBefore k ms × IsRising ms
+  rise_behind k no_members [] [] h e = (tt, tt)
+  rise_behind k no_members [] (f ∷ fs) h e = absurd h
+  rise_behind k no_members (s ∷ ss) fs h e = absurd h
+  rise_behind k (member l d ms) [] fs h e = absurd h
+  rise_behind k (member l d ms) (s ∷ ss) [] h e = absurd h
+  rise_behind k (member l d ms) (s ∷ ss) (f ∷ fs) h e =
+      let t = both_true (is_above (Some k) (string_bytes s)) (rise_after (Some (string_bytes s)) ss) e in
+      let rest = rise_behind l ms ss fs h.2 (ap (λ x. rise_after (Some x) ss) (sym h.0) ∙ t.1) in
+      let below : slice_cmp nat_cmp k l ≡ Less = less (slice_cmp nat_cmp k l) (ap (λ x. is_lt (slice_cmp nat_cmp k x)) (sym h.0) ∙ t.0) in
+      ((below, before_all k l ms below rest.0), rest)
+
+  rises : (ms : Members) (ss : List (String Global)) (fs : List Fact) → AreFound sheet bs ms ss fs → rise_after None ss ≡ true → IsRising ms
+  rises no_members ss fs h e = tt
+  rises (member l d ms) [] fs h e = absurd h
+  rises (member l d ms) (s ∷ ss) [] h e = absurd h
+  rises (member l d ms) (s ∷ ss) (f ∷ fs) h e = rise_behind l ms ss fs h.2 (ap (λ x. rise_after (Some x) ss) (sym h.0) ∙ e)
+
+  pub rising_said : (ms : Members) (ss : List (String Global)) (fs : List Fact) → AreFound sheet bs ms ss fs → rise_after None ss ≡ true → facts_said sheet bs (put_all ms no_members) ≡ Ok fs
+  rising_said ms ss fs h e = ap (facts_said sheet bs) (rising_stays ms (rises ms ss fs h e)) ∙ found_said ms ss fs h
+
+  pub none_found : (ss : List (String Global)) (fs : List Fact) → ss ≡ [] → fs ≡ [] → AreFound sheet bs no_members ss fs
+  none_found ss fs e f = subst (λ l. AreFound sheet bs no_members l fs) (sym e) (subst (AreFound sheet bs no_members []) (sym f) tt)
+
+  pub found_by : (ms : Members) (ss ts : List (String Global)) (fs gs : List Fact) → ts ≡ ss → gs ≡ fs → AreFound sheet bs ms ss fs → AreFound sheet bs ms ts gs
+  found_by ms ss ts fs gs e f h = subst (λ l. AreFound sheet bs ms l gs) (sym e) (subst (AreFound sheet bs ms ss) (sym f) h)
+
+  pub found_one : (ms : Members) (ss : List (String Global)) (fs : List Fact) (k : List ℕ) (d : Data) (s : String Global) (f : Fact) → AreFound sheet bs ms ss fs → string_bytes s ≡ k → fact_outcome sheet bs d ≡ Ok f
+      → AreFound sheet bs (append ms (member k d no_members)) (ss ++ s ∷ []) (fs ++ f ∷ [])
+  found_one ms ss fs k d s f h e o = found_append ms (member k d no_members) ss (s ∷ []) fs (f ∷ []) h (e, o, tt)
+
+  -- ---- facts that go to their places
+
+  abbrev pub AreKept : Members → List (String Global × Fact) → Type 0
+  AreKept ms es = AreFound sheet bs ms (map (λ e. e.0) es) (map (λ e. e.1) es)
+
+  pub kept_put : (k : List ℕ) (d : Data) (s : String Global) (f : Fact) (ms : Members) (es : List (String Global × Fact)) → string_bytes s ≡ k → fact_outcome sheet bs d ≡ Ok f → AreKept ms es → AreKept (put k d ms) (insert_entry string_cmp es s f)
+  kept_put k d s f no_members [] e o h = (e, o, tt)
+  kept_put k d s f no_members (x ∷ es) e o h = absurd h
+  kept_put k d s f (member l y ms) [] e o h = absurd h
+  kept_put k d s f (member l y ms) (x ∷ es) e o h =
+      let here = ap (λ z. slice_cmp nat_cmp z (string_bytes x.0)) e ∙ ap (slice_cmp nat_cmp k) h.0 in
+      elim (slice_cmp nat_cmp k l) as (λ p. slice_cmp nat_cmp k l ≡ p → AreKept (match_ordering p (member k d (member l y ms)) (member l d ms) (member l y (put k d ms))) (insert_entry string_cmp (x ∷ es) s f)) [
+        | Less ↦ λ p. subst (λ q. AreKept (member k d (member l y ms)) (match_ordering q ((s, f) ∷ x ∷ es) ((x.0, f) ∷ es) (x ∷ insert_entry string_cmp es s f))) (sym (here ∙ p)) (e, o, h)
+        | Equal ↦ λ p. subst (λ q. AreKept (member l d ms) (match_ordering q ((s, f) ∷ x ∷ es) ((x.0, f) ∷ es) (x ∷ insert_entry string_cmp es s f))) (sym (here ∙ p)) (h.0, o, h.2)
+        | Greater ↦ λ p. subst (λ q. AreKept (member l y (put k d ms)) (match_ordering q ((s, f) ∷ x ∷ es) ((x.0, f) ∷ es) (x ∷ insert_entry string_cmp es s f))) (sym (here ∙ p)) (h.0, h.1, kept_put k d s f ms es e o h.2)
+      ] refl
+
+-- ---- the steps of the loops
+
+pub goes_on : (l s : String Global) (ss : List (String Global)) → is_lt (string_cmp l s) ≡ true → rise_after (Some (string_bytes l)) (s ∷ ss) ≡ rise_after (Some (string_bytes s)) ss
+goes_on l s ss e = ap (λ b. cond b (rise_after (Some (string_bytes s)) ss) false) e
+
+pub stops : (l s : String Global) (ss : List (String Global)) → is_lt (string_cmp l s) ≡ false → rise_after (Some (string_bytes l)) (s ∷ ss) ≡ false
+stops l s ss e = ap (λ b. cond b (rise_after (Some (string_bytes s)) ss) false) e
+
+pub one_further : (ms : Members) (k : List ℕ) (d : Data) (ns : Members) → append (append ms (member k d no_members)) ns ≡ append ms (member k d ns)
+one_further no_members k d ns = refl
+one_further (member l e ms) k d ns = ap (member l e) (one_further ms k d ns)
+
+pub weaker : {A : Type 0} (r : Option A) (P Q : A → Type 0) → IfSome r P → ((x : A) → P x → Q x) → IfSome r Q
+weaker None P Q h f = tt
+weaker (Some x) P Q h f = f x h
+
+pub at_index : {X : Type 0} (xs : List X) (i : ℕ) (x : X) → i < length xs → x ≡ get_or xs i x → drop i xs ≡ x ∷ drop (i + 1) xs
+at_index xs i x l e = drop_more xs i x l ∙ ap (λ y. y ∷ drop (i + 1) xs) (sym e)

@@ -1,0 +1,266 @@
+-- A front that ends with a closing brace has the same lexemes whatever follows it.
+use Rattle.std.proofs.Common.{◌≡◌, ℕ, suc, zero, ◌≤◌, Bool, true, false, cond, ◌&&◌, ◌||◌, ◌==◌, nat_lt, List, [], ◌∷◌, ◌++◌, length, Option, Some, None, option_and_then, refl, sym, ap, ◌∙◌, subst, arith, append_assoc}
+use Rattle.std.proofs.lemmas.Bool.{false≢true, true≢false, eqb-true, and_parts}
+use Rattle.std.proofs.lemmas.List.{length-append}
+use Rattle.std.specs.Prelude.{⊤}
+use Rattle.std.specs.Char.{is_digit, encode_utf8}
+use Rattle.json.specs.Token.{string}
+use Rattle.json.specs.Text.{code_unit, short_escape, is_high_surrogate, is_low_surrogate, surrogate_pair, Within, plain, after_backslash, after_u, after_high, prepend, content}
+use Rattle.json.specs.Word.{is_operator, is_space, word}
+use Rattle.json.specs.Lex.{Lexeme, token, comma, colon, Class, quote, backslash, operator, space, other, class, operator_lexeme, string_token, Mode, between, in_word, in_string, in_escape, lex_byte, lex}
+use Rattle.json.specs.Align.{is_good}
+use Rattle.oim_report.specs.Pieces.{Closed}
+use Rattle.oim_report.proofs.JsonStrings.{turn, run, is_between, mode, Keeps, keeps-content, stays, hex_stays, all_hex, is_found}
+use Rattle.oim_report.proofs.JsonWords.{is_end, each_end, word-front}
+
+-- ---- where a string ends
+
+record Closes (w : Within) (ys : List ℕ) : Type 0 where
+  q : List ℕ
+  r : List ℕ
+  at : ys ≡ q ++ 34 ∷ r
+  ends : is_between (run (mode w) (q ++ 34 ∷ [])) ≡ true
+  lexed : (z : List ℕ) → lex (mode w) (q ++ 34 ∷ z) ≡ lex between z
+
+lex_class : (c : Class) (x : ℕ) (xs : List ℕ) (k : Mode → List Lexeme) → lex_byte in_string c x xs k ≡ k (turn in_string c)
+lex_class quote x xs k = refl
+lex_class backslash x xs k = refl
+lex_class operator x xs k = refl
+lex_class space x xs k = refl
+lex_class other x xs k = refl
+
+lex_turn : (w : Within) (x : ℕ) (z : List ℕ) → lex (mode w) (x ∷ z) ≡ lex (turn (mode w) (class x)) z
+unfolding lex
+lex_turn plain x z = lex_class (class x) x z (λ n. lex n z)
+lex_turn after_backslash x z = refl
+lex_turn after_u x z = lex_class (class x) x z (λ n. lex n z)
+lex_turn (after_high h) x z = lex_class (class x) x z (λ n. lex n z)
+
+step : (w w' : Within) (x : ℕ) (ys : List ℕ) → turn (mode w) (class x) ≡ mode w' → Closes w' ys → Closes w (x ∷ ys)
+step w w' x ys e c = record {
+  q = x ∷ c.q;
+  r = c.r;
+  at = ap (λ l. x ∷ l) c.at;
+  ends = ap (λ m. is_between (run m (c.q ++ 34 ∷ []))) e ∙ c.ends;
+  lexed = λ z. lex_turn w x (c.q ++ 34 ∷ z) ∙ ap (λ m. lex m (c.q ++ 34 ∷ z)) e ∙ c.lexed z;
+}
+
+by : (t : Bool) (x y : Option (List ℕ)) (s : List ℕ) (P : Type 0) → (t ≡ true → x ≡ Some s → P) → (t ≡ false → y ≡ Some s → P) → cond t x y ≡ Some s → P
+by true x y s P f g h = f refl h
+by false x y s P f g h = g refl h
+
+no : (s : List ℕ) (P : Type 0) → None ≡ Some s → P
+no s P h = Prim.cc
+
+some_of : (a : List ℕ) (r : Option (List ℕ)) (s : List ℕ) (P : Type 0) → ((u : List ℕ) → r ≡ Some u → P) → prepend a r ≡ Some s → P
+some_of a None s P f h = no s P h
+some_of a (Some u) s P f h = f u refl
+
+then_of : (f : ℕ → Option (List ℕ)) (o : Option ℕ) (s : List ℕ) (P : Type 0) → (is_found o ≡ true → (u : ℕ) → f u ≡ Some s → P) → option_and_then f o ≡ Some s → P
+then_of f None s P g h = no s P h
+then_of f (Some u) s P g h = g refl u h
+
+turn_backslash : (x : ℕ) → (x == 92) ≡ true → turn in_string (class x) ≡ in_escape
+turn_backslash x e = ap (λ y. turn in_string (class y)) (eqb-true x 92 e)
+
+four : (w : Within) (a b c d : ℕ) (xs : List ℕ) → mode w ≡ in_string → is_found (code_unit a b c d) ≡ true → Closes w xs → Closes after_u (a ∷ b ∷ c ∷ d ∷ xs)
+unfolding code_unit
+four w a b c d xs m f k =
+    let p = and_parts (is_digit a 16 && is_digit b 16 && is_digit c 16) (is_digit d 16) (all_hex _ _ f) in
+    let q = and_parts (is_digit a 16 && is_digit b 16) (is_digit c 16) p.0 in
+    let r = and_parts (is_digit a 16) (is_digit b 16) q.0 in
+    step after_u after_u a _ (hex_stays a r.0) (step after_u after_u b _ (hex_stays b r.1) (step after_u after_u c _ (hex_stays c q.1) (step after_u w d _ (hex_stays d p.1 ∙ sym m) k)))
+
+six : (h s u a b c d : ℕ) (xs : List ℕ) → (s == 92) ≡ true → is_found (code_unit a b c d) ≡ true → Closes plain xs → Closes (after_high h) (s ∷ u ∷ a ∷ b ∷ c ∷ d ∷ xs)
+six h s u a b c d xs e f k = step (after_high h) after_backslash s _ (turn_backslash s e) (step after_backslash after_u u _ refl (four plain a b c d xs refl f k))
+
+closes : (w : Within) (ys s : List ℕ) → content w ys ≡ Some s → Closes w ys
+unfolding content lex
+closes plain [] s h = no s _ h
+closes plain (x ∷ xs) s h =
+    by (x == 34) _ _ s _ (λ e i. record { q = []; r = xs; at = ap (λ y. y ∷ xs) (eqb-true x 34 e); ends = refl; lexed = λ z. refl })
+    (λ e. by (x == 92) _ _ s _ (λ b i. step plain after_backslash x xs (turn_backslash x b) (closes after_backslash xs s i))
+    (λ b. by (nat_lt x 32) _ _ s _ (λ l i. no s _ i) (λ l. some_of (x ∷ []) _ s _ (λ u i. step plain plain x xs (stays x e b) (closes plain xs u i))))) h
+closes after_backslash [] s h = no s _ h
+closes after_backslash (x ∷ xs) s h =
+    by (x == 117) _ _ s _ (λ e i. step after_backslash after_u x xs refl (closes after_u xs s i))
+    (λ e. then_of _ (short_escape x) s _ (λ f c. some_of (c ∷ []) _ s _ (λ u i. step after_backslash plain x xs refl (closes plain xs u i)))) h
+closes after_u [] s h = no s _ h
+closes after_u (a ∷ []) s h = no s _ h
+closes after_u (a ∷ b ∷ []) s h = no s _ h
+closes after_u (a ∷ b ∷ c ∷ []) s h = no s _ h
+closes after_u (a ∷ b ∷ c ∷ d ∷ xs) s h =
+    then_of _ (code_unit a b c d) s _ (λ f u. by (is_high_surrogate u) _ _ s _ (λ e i. four (after_high u) a b c d xs refl f (closes (after_high u) xs s i))
+    (λ e. by (is_low_surrogate u) _ _ s _ (λ l i. no s _ i) (λ l. some_of (encode_utf8 u) _ s _ (λ v i. four plain a b c d xs refl f (closes plain xs v i))))) h
+closes (after_high k) [] s h = no s _ h
+closes (after_high k) (y ∷ []) s h = no s _ h
+closes (after_high k) (y ∷ u ∷ []) s h = no s _ h
+closes (after_high k) (y ∷ u ∷ a ∷ []) s h = no s _ h
+closes (after_high k) (y ∷ u ∷ a ∷ b ∷ []) s h = no s _ h
+closes (after_high k) (y ∷ u ∷ a ∷ b ∷ c ∷ []) s h = no s _ h
+closes (after_high k) (y ∷ u ∷ a ∷ b ∷ c ∷ d ∷ xs) s h =
+    by ((y == 92) && (u == 117)) _ _ s _ (λ e. then_of _ (code_unit a b c d) s _ (λ f l. by (is_low_surrogate l) _ _ s _
+    (λ n. some_of (encode_utf8 (surrogate_pair k l)) _ s _ (λ v i. six k y u a b c d xs (and_parts _ _ e).0 f (closes plain xs v i))) (λ n i. no s _ i))) (λ e i. no s _ i) h
+
+-- ---- a string ends before what has no quote
+
+abbrev pub NoQuote : List ℕ → Type 0
+NoQuote [] = ⊤
+NoQuote (x ∷ xs) = (x ≡ 34 → ⊥) × NoQuote xs
+
+abbrev hd : List ℕ → ℕ
+hd [] = 0
+hd (x ∷ xs) = x
+
+abbrev tl : List ℕ → List ℕ
+tl [] = []
+tl (x ∷ xs) = xs
+
+has_none : (q r : List ℕ) → NoQuote (q ++ 34 ∷ r) → ⊥
+has_none [] r h = h.0 refl
+has_none (x ∷ q) r h = has_none q r h.1
+
+before : (xs t q r : List ℕ) → NoQuote t → xs ++ t ≡ q ++ 34 ∷ r → (r' : List ℕ) × (xs ≡ q ++ 34 ∷ r')
+before [] t q r h e = absurd (has_none q r (subst NoQuote e h))
+before (x ∷ xs) t [] r h e = (xs, ap (λ y. y ∷ xs) (ap hd e))
+before (x ∷ xs) t (c ∷ q) r h e =
+    let rest = before xs t q r h (ap tl e) in
+    (rest.0, λ i. ap hd e i ∷ rest.1 i)
+
+-- ---- where a word ends
+
+closed_rest : (x : ℕ) (xs : List ℕ) → Closed (x ∷ xs) → Closed xs
+closed_rest x [] h = tt
+closed_rest x (y ∷ xs) h = h
+
+record Stops (xs : List ℕ) : Type 0 where
+  p : List ℕ
+  y : ℕ
+  r : List ℕ
+  at : xs ≡ p ++ y ∷ r
+  is : is_end y ≡ true
+  lexed : (z : List ℕ) → lex in_word (p ++ y ∷ z) ≡ lex between (y ∷ z)
+
+cases : (t : Bool) (P : Type 0) → (t ≡ true → P) → (t ≡ false → P) → P
+cases true P f g = f refl
+cases false P f g = g refl
+
+passed : (q b o s : Bool) (x : ℕ) (xs : List ℕ) (k : Mode → List Lexeme) → (o || s) ≡ false
+    → lex_byte in_word (cond q quote (cond b backslash (cond o operator (cond s space other)))) x xs k ≡ k in_word
+passed true b o s x xs k e = refl
+passed false true o s x xs k e = refl
+passed false false true s x xs k e = absurd (true≢false e)
+passed false false false true x xs k e = absurd (true≢false e)
+passed false false false false x xs k e = refl
+
+skip_word : (x : ℕ) (xs : List ℕ) → is_end x ≡ false → lex in_word (x ∷ xs) ≡ lex in_word xs
+unfolding lex
+skip_word x xs e = passed (x == 34) (x == 92) (is_operator x) (is_space x) x xs (λ n. lex n xs) e
+
+end_word : (x : ℕ) → is_end x ≡ true → (z : List ℕ) → lex in_word (x ∷ z) ≡ lex between (x ∷ z)
+unfolding lex
+end_word = each_end (λ x. (z : List ℕ) → lex in_word (x ∷ z) ≡ lex between (x ∷ z))
+    (λ z. refl) (λ z. refl) (λ z. refl) (λ z. refl) (λ z. refl) (λ z. refl) (λ z. refl) (λ z. refl) (λ z. refl) (λ z. refl)
+
+here : (x : ℕ) (xs : List ℕ) → is_end x ≡ true → Stops (x ∷ xs)
+here x xs e = record { p = []; y = x; r = xs; at = refl; is = e; lexed = end_word x e }
+
+later : (x : ℕ) (xs : List ℕ) → is_end x ≡ false → Stops xs → Stops (x ∷ xs)
+later x xs e s = record { p = x ∷ s.p; y = s.y; r = s.r; at = ap (λ l. x ∷ l) s.at; is = s.is; lexed = λ z. skip_word x (s.p ++ s.y ∷ z) e ∙ s.lexed z }
+
+stops : (xs : List ℕ) → Closed xs → (xs ≡ [] → ⊥) → Stops xs
+stops [] h ne = absurd (ne refl)
+stops (x ∷ []) h ne = here x [] (ap is_end h)
+stops (x ∷ y ∷ xs) h ne = cases (is_end x) _ (here x (y ∷ xs)) (λ e. later x (y ∷ xs) e (stops (y ∷ xs) h (λ k. Prim.cc)))
+
+-- ---- pieces
+
+abbrev pub AllGood : List Lexeme → Type 0
+AllGood [] = ⊤
+AllGood (token t ∷ ls) = (is_good t ≡ true) × AllGood ls
+AllGood (comma ∷ ls) = AllGood ls
+AllGood (colon ∷ ls) = AllGood ls
+
+pub record Piece (a : List ℕ) : Type 0 where
+  pub ls : List Lexeme
+  pub lexed : (b : List ℕ) → lex between (a ++ b) ≡ ls ++ lex between b
+
+good_rest : (l : Lexeme) (ls : List Lexeme) → AllGood (l ∷ ls) → AllGood ls
+good_rest (token t) ls h = h.1
+good_rest comma ls h = h
+good_rest colon ls h = h
+
+good_string : (o : Option (List ℕ)) → is_good (string_token o) ≡ true → (s : List ℕ) × (o ≡ Some s)
+good_string None h = absurd (false≢true h)
+good_string (Some s) h = (s, refl)
+
+kept : (o o' : Option (List ℕ)) (s : List ℕ) → Keeps o o' → o ≡ Some s → o' ≡ Some s
+kept None o' s k e = Prim.cc
+kept (Some u) o' s k e = k ∙ e
+
+closed_drop : (p ys : List ℕ) → Closed (p ++ ys) → Closed ys
+closed_drop [] ys h = h
+closed_drop (x ∷ p) ys h = closed_drop p ys (closed_rest x (p ++ ys) h)
+
+lexc : (x : ℕ) (c : Class) → class x ≡ c → (ys : List ℕ) → lex between (x ∷ ys) ≡ lex_byte between c x ys (λ m. lex m ys)
+unfolding lex
+lexc x c e ys = ap (λ k. lex_byte between k x ys (λ m. lex m ys)) e
+
+not_alone : (x : ℕ) (xs : List ℕ) → class x ≡ other → Closed (x ∷ xs) → xs ≡ [] → ⊥
+not_alone x [] e h k = let is : class 125 ≡ other = ap class (sym h) ∙ e in Prim.cc
+not_alone x (y ∷ xs) e h k = Prim.cc
+
+abbrev Shorter : ℕ → List ℕ → Type 0
+Shorter n t = (r : List ℕ) → length r ≤ n → Closed r → AllGood (lex between (r ++ t)) → Piece r
+
+at_quote : (n x : ℕ) (xs t : List ℕ) → length (x ∷ xs) ≤ suc n → NoQuote t → Closed (x ∷ xs) → class x ≡ quote → AllGood (lex_byte between quote x (xs ++ t) (λ m. lex m (xs ++ t))) → Shorter n t → Piece (x ∷ xs)
+at_quote n x xs t le nq c e h ih =
+    let s = good_string (content plain (xs ++ t)) h.0 in
+    let l = closes plain (xs ++ t) s.0 s.1 in
+    let f = before xs t l.q l.r nq l.at in
+    let r = f.0 in
+    let split : (z : List ℕ) → xs ++ z ≡ l.q ++ 34 ∷ (r ++ z) = λ z. ap (λ y. y ++ z) f.1 ∙ append_assoc l.q (34 ∷ r) z in
+    let front : (z : List ℕ) → (l.q ++ 34 ∷ []) ++ (r ++ z) ≡ xs ++ z = λ z. append_assoc l.q (34 ∷ []) (r ++ z) ∙ sym (split z) in
+    let behind : (z : List ℕ) → lex in_string (xs ++ z) ≡ lex between (r ++ z) = λ z. ap (lex in_string) (split z) ∙ l.lexed (r ++ z) in
+    let long : length xs ≡ length (l.q ++ 34 ∷ r) = ap length f.1 in
+    let short : length r ≤ n = omega (arith, long, length-append l.q (34 ∷ r)) in
+    let rest = ih r short (closed_drop (l.q ++ 34 ∷ []) r (subst Closed (f.1 ∙ sym (append_assoc l.q (34 ∷ []) r)) (closed_rest x xs c))) (subst AllGood (behind t) h.1) in
+    let same : (b : List ℕ) → content plain (xs ++ b) ≡ Some s.0 = λ b. ap (content plain) (sym (front b)) ∙ kept _ _ s.0 (keeps-content plain (l.q ++ 34 ∷ []) (r ++ t) (r ++ b) l.ends) (ap (content plain) (front t) ∙ s.1) in
+    record {
+      ls = token (string s.0) ∷ rest.ls;
+      lexed = λ b. lexc x quote e (xs ++ b) ∙ (λ i. token (string_token (same b i)) ∷ (behind b ∙ rest.lexed b) i);
+    }
+
+at_word : (n x : ℕ) (xs t : List ℕ) → length (x ∷ xs) ≤ suc n → Closed (x ∷ xs) → class x ≡ other → AllGood (lex_byte between other x (xs ++ t) (λ m. lex m (xs ++ t))) → Shorter n t → Piece (x ∷ xs)
+at_word n x xs t le c e h ih =
+    let s = stops xs (closed_rest x xs c) (not_alone x xs e c) in
+    let split : (z : List ℕ) → xs ++ z ≡ s.p ++ s.y ∷ (s.r ++ z) = λ z. ap (λ y. y ++ z) s.at ∙ append_assoc s.p (s.y ∷ s.r) z in
+    let behind : (z : List ℕ) → lex in_word (xs ++ z) ≡ lex between (s.y ∷ (s.r ++ z)) = λ z. ap (lex in_word) (split z) ∙ s.lexed (s.r ++ z) in
+    let long : length xs ≡ length (s.p ++ s.y ∷ s.r) = ap length s.at in
+    let short : length (s.y ∷ s.r) ≤ n = omega (arith, long, length-append s.p (s.y ∷ s.r)) in
+    let rest = ih (s.y ∷ s.r) short (closed_drop s.p (s.y ∷ s.r) (subst Closed s.at (closed_rest x xs c))) (subst AllGood (behind t) h.1) in
+    let same : (b : List ℕ) → word (x ∷ (xs ++ b)) ≡ word (x ∷ s.p) = λ b. ap (λ l. word (x ∷ l)) (split b) ∙ word-front s.y (s.r ++ b) s.is x s.p in
+    record {
+      ls = token (word (x ∷ s.p)) ∷ rest.ls;
+      lexed = λ b. lexc x other e (xs ++ b) ∙ (λ i. token (same b i) ∷ (behind b ∙ rest.lexed b) i);
+    }
+
+at_class : (k : Class) (n x : ℕ) (xs t : List ℕ) → length (x ∷ xs) ≤ suc n → NoQuote t → Closed (x ∷ xs) → class x ≡ k → AllGood (lex_byte between k x (xs ++ t) (λ m. lex m (xs ++ t))) → Shorter n t → Piece (x ∷ xs)
+at_class quote n x xs t le nq c e h ih = at_quote n x xs t le nq c e h ih
+at_class backslash n x xs t le nq c e h ih = absurd (false≢true h.0)
+at_class operator n x xs t le nq c e h ih =
+    let rest = ih xs (omega arith) (closed_rest x xs c) (good_rest (operator_lexeme x) _ h) in
+    record { ls = operator_lexeme x ∷ rest.ls; lexed = λ b. lexc x operator e (xs ++ b) ∙ ap (λ l. operator_lexeme x ∷ l) (rest.lexed b) }
+at_class space n x xs t le nq c e h ih =
+    let rest = ih xs (omega arith) (closed_rest x xs c) h in
+    record { ls = rest.ls; lexed = λ b. lexc x space e (xs ++ b) ∙ rest.lexed b }
+at_class other n x xs t le nq c e h ih = at_word n x xs t le c e h ih
+
+piece : (n : ℕ) (a t : List ℕ) → length a ≤ n → NoQuote t → Closed a → AllGood (lex between (a ++ t)) → Piece a
+piece n [] t le nq c g = record { ls = []; lexed = λ b. refl }
+piece zero (x ∷ xs) t le nq c g = let no : ⊥ = omega arith in absurd no
+piece (suc n) (x ∷ xs) t le nq c g = at_class (class x) n x xs t le nq c refl (subst AllGood (lexc x (class x) refl (xs ++ t)) g) (λ r l d k. piece n r t l nq d k)
+
+-- the lexemes of a front that ends with a closing brace, where with something behind it that has no quote no lexeme is bad
+pub piece_of : (a t : List ℕ) → NoQuote t → Closed a → AllGood (lex between (a ++ t)) → Piece a
+piece_of a t = piece (length a) a t (omega arith)

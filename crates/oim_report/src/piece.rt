@@ -1,0 +1,61 @@
+ghost use Rattle.std.specs.Prelude.{◌≡◌, true, Some, IfSome};
+ghost use Rattle.serde_json.specs.Read.{read};
+ghost use Rattle.serde_json.specs.View.{view, members_view};
+ghost use Rattle.oim_report.specs.Pieces.{alone, one_data, EndsWithBrace, IsPiece};
+
+use serde_json::{Map, Value};
+use std::alloc::Global;
+
+/// The members of a text of members, read as the one object of an array; `None` where the text is no
+/// such text or does not end with a brace, or memory ran out.
+pub(crate) fn read_piece(
+    alloc: Global,
+    buffer: &mut String,
+    piece: &str,
+) -> Option<Map<String, Value>>
+    ensures { IfSome result (λ m. IsPiece piece.now (members_view m.entries)) }
+{
+    if !ends_with_brace(piece) {
+        return None;
+    }
+    let members = only_object(read_alone(alloc, buffer, piece)?)?;
+    if members.len() == 0 {
+        return None;
+    }
+    Some(members)
+}
+
+fn ends_with_brace(piece: &str) -> bool
+    ensures { result ≡ true → EndsWithBrace piece.now }
+{
+    match piece.as_bytes().last() {
+        Some(byte) => *byte == b'}',
+        None => false,
+    }
+}
+
+fn read_alone(alloc: Global, buffer: &mut String, piece: &str) -> Option<Value>
+    ensures { IfSome result (λ v. read (alone piece.now) ≡ Some (view v)) }
+{
+    buffer.clear();
+    buffer.push_str("[{").ok()?;
+    buffer.push_str(piece).ok()?;
+    buffer.push_str("}]").ok()?;
+    Value::from_str(alloc, buffer.as_str()).ok()
+}
+
+// The members of the one object of an array.
+fn only_object(value: Value) -> Option<Map<String, Value>>
+    ensures { IfSome result (λ m. view value ≡ one_data (members_view m.entries)) }
+{
+    let Value::Array(mut items) = value else {
+        return None;
+    };
+    if items.as_slice().len() != 1 {
+        return None;
+    }
+    match items.pop() {
+        Some(Value::Object(members)) => Some(members),
+        _ => None,
+    }
+}
