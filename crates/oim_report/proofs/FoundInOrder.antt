@@ -1,5 +1,5 @@
 -- Facts that were found in a text, brought into the order of their identifiers.
-use Rattle.std.proofs.Common.{◌≡◌, ℕ, ◌+◌, ◌<◌, List, [], ◌∷◌, ◌++◌, length, get_or, drop, map, Bool, true, false, cond, Option, Some, None, Result, Ok, Err, String, Global, string_bytes, refl, sym, ap, ◌∙◌, subst}
+use Rattle.std.proofs.Common.{◌≡◌, ℕ, ◌+◌, ◌<◌, List, [], ◌∷◌, ◌++◌, length, get_or, drop, map, Bool, true, false, cond, Option, Some, None, Result, Ok, Err, String, Global, string_bytes, refl, sym, ap, ◌∙◌, subst, arith, append_assoc}
 use Rattle.std.specs.Prelude.{IfSome}
 use Rattle.std.specs.Ordering.{nat_cmp, match_ordering, is_lt}
 use Rattle.std.specs.String.{string_cmp}
@@ -7,7 +7,7 @@ use Rattle.std.specs.Cmp.Lexicographic.{slice_cmp}
 use Rattle.std.specs.BTreeMap.{insert_entry}
 use Rattle.std.specs.declared.cmp.Ordering.{Ordering}
 use Rattle.std.specs.declared.cmp.Ordering.TheVariants.{Less, Equal, Greater}
-use Rattle.std.proofs.lemmas.List.{drop_more}
+use Rattle.std.proofs.lemmas.List.{drop_more, length-append}
 use Rattle.std.proofs.lemmas.Bool.{false≢true}
 use Rattle.oim_names.specs.Bindings.{Binding}
 use Rattle.oim_names.specs.declared.reason.Reason.{Reason}
@@ -123,3 +123,41 @@ weaker (Some x) P Q h f = f x h
 
 pub at_index : {X : Type 0} (xs : List X) (i : ℕ) (x : X) → i < length xs → x ≡ get_or xs i x → drop i xs ≡ x ∷ drop (i + 1) xs
 at_index xs i x l e = drop_more xs i x l ∙ ap (λ y. y ∷ drop (i + 1) xs) (sym e)
+
+-- ---- facts that go to their places, one after another
+
+abbrev pub put_entries : List (String Global) → List Fact → List (String Global × Fact) → List (String Global × Fact)
+put_entries [] fs es = es
+put_entries (s ∷ ss) [] es = es
+put_entries (s ∷ ss) (f ∷ fs) es = put_entries ss fs (insert_entry string_cmp es s f)
+
+pub put_one_more : (ss : List (String Global)) (fs : List Fact) (s : String Global) (f : Fact) (es : List (String Global × Fact)) → length fs ≡ length ss → put_entries (ss ++ s ∷ []) (fs ++ f ∷ []) es ≡ insert_entry string_cmp (put_entries ss fs es) s f
+put_one_more [] [] s f es l = refl
+put_one_more [] (g ∷ fs) s f es l = absurd (omega (arith, l))
+put_one_more (t ∷ ss) [] s f es l = absurd (omega (arith, l))
+put_one_more (t ∷ ss) (g ∷ fs) s f es l = put_one_more ss fs s f (insert_entry string_cmp es t g) (omega (arith, l))
+
+put_enough : (ss : List (String Global)) (fs rest : List Fact) (es : List (String Global × Fact)) → length fs ≡ length ss → put_entries ss (fs ++ rest) es ≡ put_entries ss fs es
+put_enough [] [] rest es l = refl
+put_enough [] (g ∷ fs) rest es l = absurd (omega (arith, l))
+put_enough (t ∷ ss) [] rest es l = absurd (omega (arith, l))
+put_enough (t ∷ ss) (g ∷ fs) rest es l = put_enough ss fs rest (insert_entry string_cmp es t g) (omega (arith, l))
+
+kept_all : (sheet : Sheet) (bs : List Binding) (ms now : Members) (ss : List (String Global)) (fs : List Fact) (es : List (String Global × Fact)) → AreFound sheet bs ms ss fs → AreKept sheet bs now es → AreKept sheet bs (put_all ms now) (put_entries ss fs es)
+kept_all sheet bs no_members now [] fs es h k = k
+kept_all sheet bs no_members now (s ∷ ss) fs es h k = absurd h
+kept_all sheet bs (member l d ms) now [] fs es h k = absurd h
+kept_all sheet bs (member l d ms) now (s ∷ ss) [] es h k = absurd h
+kept_all sheet bs (member l d ms) now (s ∷ ss) (f ∷ fs) es h k = kept_all sheet bs ms (put l d now) ss fs (insert_entry string_cmp es s f) h.2 (kept_put sheet bs l d s f now es h.0 h.1 k)
+
+pub all_kept : (sheet : Sheet) (bs : List Binding) (ms : Members) (ss : List (String Global)) (fs taken rest : List Fact) (es : List (String Global × Fact)) → AreFound sheet bs ms ss fs → fs ≡ taken ++ rest → length taken ≡ length ss → es ≡ put_entries ss taken []
+    → AreKept sheet bs (put_all ms no_members) es
+all_kept sheet bs ms ss fs taken rest es h e l k =
+    let same : put_entries ss fs [] ≡ es = ap (λ gs. put_entries ss gs []) e ∙ put_enough ss taken rest [] l ∙ sym k in
+    subst (AreKept sheet bs (put_all ms no_members)) same (kept_all sheet bs ms no_members ss fs [] h tt)
+
+pub taken_one : (fs taken left : List Fact) (old : List Fact) (f : Fact) → fs ≡ taken ++ old → old ≡ f ∷ left → fs ≡ (taken ++ f ∷ []) ++ left
+taken_one fs taken left old f e o = e ∙ ap (λ l. taken ++ l) o ∙ sym (append_assoc taken (f ∷ []) left)
+
+pub longer : (taken : List Fact) (ss : List (String Global)) (f : Fact) (s : String Global) → length taken ≡ length ss → length (taken ++ f ∷ []) ≡ length (ss ++ s ∷ [])
+longer taken ss f s l = length-append taken (f ∷ []) ∙ ap (λ n. n + 1) l ∙ sym (length-append ss (s ∷ []))

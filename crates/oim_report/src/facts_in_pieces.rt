@@ -35,26 +35,14 @@ pub(crate) fn read_facts_in_pieces(
     for _ in 0..text.len() {
         let (objects, rest) = read_next(alloc, &mut buffer, left, size)?;
         let mut more = read_objects(alloc, sheet, aliases, &objects)?;
-        if !rise_on(identifiers.as_slice(), more.identifiers.as_slice()) {
-            return None;
-        }
         identifiers.append(&mut more.identifiers).ok()?;
         facts.append(&mut more.facts).ok()?;
         match rest {
             Some(rest) => left = rest,
-            None => return FoundFacts { identifiers, facts }.in_order(),
+            None => return FoundFacts { identifiers, facts }.in_order(alloc),
         }
     }
     None
-}
-
-// Whether the identifiers of the next piece rise above those before. This only saves time: whether all
-// rise is looked at in the end.
-fn rise_on(before: &[String], after: &[String]) -> bool {
-    match (before.last(), after.first()) {
-        (Some(last), Some(first)) => last < first,
-        _ => true,
-    }
 }
 
 fn read_objects(

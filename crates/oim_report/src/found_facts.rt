@@ -1,4 +1,6 @@
-ghost use Rattle.std.specs.Prelude.{◌≡◌, List, None, Ok, IfSome};
+ghost use Rattle.std.specs.Prelude.{◌≡◌, List, None, Ok, true, map, IfSome};
+ghost use Rattle.std.specs.BTreeMap.{insert_entry};
+ghost use Rattle.std.specs.String.{string_cmp};
 ghost use Rattle.oim_names.specs.Bindings.{Binding};
 ghost use Rattle.serde_json.specs.Data.{Members, no_members};
 ghost use Rattle.oim_report.specs.FoundFacts.{AreFound, rise_after};
@@ -7,6 +9,8 @@ ghost use Rattle.oim_report.specs.Pieces.{put_all};
 ghost use Rattle.oim_report.specs.Sheet.{Sheet as ASheet};
 
 use oim_dims::Fact;
+use std::alloc::Global;
+use std::collections::BTreeMap;
 
 /// Facts in the order of a text, each with its identifier.
 #[derive(Drop)]
@@ -16,18 +20,19 @@ pub(crate) struct FoundFacts {
 }
 
 impl FoundFacts {
-    /// The facts in byte order of their identifiers. `None` if the identifiers do not rise.
-    pub(crate) fn in_order(self) -> Option<Vec<Fact>>
+    /// The facts in byte order of their identifiers; if an identifier is repeated, the last fact
+    /// with it. `None` if memory ran out.
+    pub(crate) fn in_order(self, alloc: Global) -> Option<Vec<Fact>>
         ensures { IfSome result (λ facts. (sheet : ASheet) (bs : List Binding) (ms : Members) →
             AreFound sheet bs ms self.identifiers.items self.facts.items →
             facts_said sheet bs (put_all ms no_members) ≡ Ok facts.items) }
     {
         let FoundFacts { identifiers, facts } = self;
         if rise(identifiers.as_slice()) {
-            Some(facts)
-        } else {
-            None
+            return Some(facts);
         }
+        let found = by_identifier(alloc, identifiers, facts)?;
+        facts_of(alloc, found)
     }
 }
 
@@ -46,4 +51,45 @@ fn rise(identifiers: &[String]) -> bool
         last = identifier;
     }
     true
+}
+
+// Each identifier with the last fact that has it.
+fn by_identifier(
+    alloc: Global,
+    identifiers: Vec<String>,
+    facts: Vec<Fact>,
+) -> Option<BTreeMap<String, Fact>>
+    ensures { IfSome result (λ m. (sheet : ASheet) (bs : List Binding) (ms : Members) →
+        AreFound sheet bs ms identifiers.items facts.items →
+        AreFound sheet bs (put_all ms no_members) (map (λ e. e.0) m.entries) (map (λ e. e.1) m.entries)) }
+{
+    let mut found = BTreeMap::new(alloc);
+    let mut left = facts.into_iter();
+    for identifier in identifiers {
+        let fact = left.next()?;
+        if !put(&mut found, identifier, fact) {
+            return None;
+        }
+    }
+    Some(found)
+}
+
+// Whether there was memory for it.
+fn put(found: &mut BTreeMap<String, Fact>, identifier: String, fact: Fact) -> bool
+    ensures { result ≡ true → found.new.entries ≡ insert_entry string_cmp found.old.entries identifier fact }
+{
+    match found.insert(identifier, fact) {
+        Ok(_) => true,
+        Err(_) => false,
+    }
+}
+
+fn facts_of(alloc: Global, found: BTreeMap<String, Fact>) -> Option<Vec<Fact>>
+    ensures { IfSome result (λ facts. facts.items ≡ map (λ e. e.1) found.entries) }
+{
+    let mut facts = Vec::new(alloc);
+    for (_identifier, fact) in found {
+        facts.push(fact).ok()?;
+    }
+    Some(facts)
 }

@@ -27,6 +27,10 @@ const IN_PIECES: &[&str] = &[
     "\n{ \"documentInfo\" : {\n \"documentType\" : \"https://xbrl.org/2021/xbrl-json\", \"namespaces\" : {\n \"eg\" : \"http://example.org/t\" } },\n \"facts\" : {\n \"a\" : {\n \"value\" : \"1\",\n \"dimensions\" : { \"concept\" : \"eg:A\" }\n },\n \"b\" : { \"value\" : \"2\",\n \"dimensions\" : { \"concept\" : \"eg:A\" }\n }\n } }\n",
 ];
 
+// Fact objects whose identifiers do not rise, or are repeated.
+const OUT_OF_ORDER: &str =
+    r#""f2":{"value":"2","dimensions":{"concept":"eg:A"}},"f10":{"value":"10","dimensions":{"concept":"eg:A"}},"f1":{"value":"1","dimensions":{"concept":"eg:A"}},"f2":{"value":"3","dimensions":{"concept":"eg:A"}}}}"#;
+
 // Reports that are read whole, since something in them is refused or is no piece.
 const WHOLE: &[&str] = &[
     "",
@@ -84,6 +88,14 @@ fn reports_are_read_in_pieces(rt: HostRuntime) -> Result<(), Fail> {
         assert!(rt; is_read_alike(&rt, &sheet, text, 1));
         assert!(rt; is_read_alike(&rt, &sheet, text, 1000));
     }
+    Ok(())
+}
+
+#[test]
+fn facts_come_in_order_of_identifiers(rt: HostRuntime) -> Result<(), Fail> {
+    let sheet = read_sheet(&rt, SHEET)?;
+    let text = joined(&rt, START, OUT_OF_ORDER, "")?;
+    assert!(rt; is_read_alike(&rt, &sheet, text.as_str(), 1));
     Ok(())
 }
 
