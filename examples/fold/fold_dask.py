@@ -57,10 +57,11 @@ def join_here(sheet, lower):
 def fold_by_calls(sheet, out, width, files):
     lower = [merge_here(sheet, files[at : at + width]) for at in range(0, len(files), width)]
     ((text, lines),) = dask.compute(join_here(sheet, lower))
-    part = f"{out}.part.{os.getpid()}"
-    with open(part, "wb") as file:
-        file.write(text)
-    os.replace(part, out)
+    with tempfile.TemporaryDirectory(prefix=".fold_dask.", dir=os.path.dirname(out) or ".") as room:
+        part = os.path.join(room, "text")
+        with open(part, "wb") as file:
+            file.write(text)
+        os.replace(part, out)
     sys.stderr.write("".join(f"{line}\n" for line in lines))
     return 1 if lines else 0
 
