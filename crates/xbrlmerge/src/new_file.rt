@@ -2,11 +2,12 @@ use crate::stop::Stop;
 use std::alloc::{AllocError, Global};
 use std::fs::{self, File, OpenFile, Permissions};
 use std::io::{self, ErrorKind, Write};
+use std::os::unix::fs::PermissionsExt;
 use std::rt::Files;
 
-/// How many names are tried for a file beside another: runs that go on in one folder, and files
-/// that a run left which a signal ended.
-const MOST_NAMES: u32 = 1_000;
+/// The bits of a mode that are kept. The new file belongs to who runs the program, so one that runs
+/// as its owner or group would run as another one than before.
+const KEPT_BITS: u32 = 0o777;
 
 /// A new file, with its name.
 pub(crate) type Named<F> = (String, F);
@@ -51,24 +52,28 @@ pub(crate) fn remove<F: Files>(files: &F, name: &str) {
     let _ = fs::remove_file(files, name);
 }
 
-/// The mode of the regular file of this name, if there is one.
+/// The mode of the regular file of this name, if there is one, without setuid, setgid and sticky.
 ///
 /// Errors: `Stop::Unwritten` where something else has that name, or none can have it.
 fn old_mode<'w, F: Files>(files: &F, name: &'w str) -> Result<Option<Permissions>, Stop<'w>> {
     match fs::symlink_metadata(files, name) {
-        Ok(old) if old.is_file() => Ok(Some(old.permissions())),
+        Ok(old) if old.is_file() => {
+            let mode = old.permissions().mode() & KEPT_BITS;
+            Ok(Some(Permissions::from_mode(mode)))
+        }
         Err(fault) if fault.kind() == ErrorKind::NotFound && !name.is_empty() => Ok(None),
         _ => Err(Stop::Unwritten(name)),
     }
 }
 
-/// The first file that can be made new beside this one, by a number in its name.
+/// The first file that can be made new beside this one, by a number in its name. Runs that go on in
+/// the folder have the names before it, and files that runs left which a signal ended.
 fn first_new<F: Files>(
     alloc: Global,
     files: &F,
     name: &str,
 ) -> Result<Option<Named<F::File>>, AllocError> {
-    for number in 0..MOST_NAMES {
+    for number in 0..u32::MAX {
         let beside = name_beside(alloc, name, number)?;
         match File::create_new(files, beside.as_str()) {
             Ok(file) => return Ok(Some((beside, file))),
