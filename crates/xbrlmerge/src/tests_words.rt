@@ -89,7 +89,7 @@ fn other_words_are_usage(rt: HostRuntime) -> Result<(), Fail> {
     Ok(())
 }
 
-const USAGE: [(&str, &str); 6] = [
+const USAGE: [(&str, &str); 7] = [
     (
         "merge r",
         "error: the following required arguments were not provided:
@@ -125,6 +125,15 @@ For more information, try '--help'.
     (
         "replay --sheet s --replicas 65 --events e",
         "error: invalid value '65' for '--replicas <N>': 65 is not in 1..=64
+
+For more information, try '--help'.
+",
+    ),
+    (
+        "n\u{1b}[2J\nreport",
+        "error: unrecognized subcommand 'n\\u001b[2J\\u000areport'
+
+Usage: xbrlmerge [COMMAND]
 
 For more information, try '--help'.
 ",

@@ -11,6 +11,7 @@ use crate::stop::Stop;
 use crate::task::{Asked, Task};
 use clap::error::ErrorKind;
 use clap::{ArgMatches, Command, Error};
+use oim_explain::Escaped;
 use oim_merge::Fault;
 use std::alloc::{AllocError, Global};
 use std::convert::AsStr;
@@ -49,10 +50,35 @@ pub(crate) fn read_words<W: AsStr>(alloc: Global, words: &[W]) -> Result<Asked<'
             ErrorKind::DisplayHelp | ErrorKind::DisplayVersion => {
                 Ok(alone(alloc, Task::Show(error)))
             }
-            ErrorKind::OutOfMemory => Err(Stop::Run(Fault::OutOfMemory(0))),
-            _ => Err(Stop::Words(error)),
+            ErrorKind::OutOfMemory => Err(stop_of(error)),
+            _ => Err(stop_of(error_shown(alloc, words, error)?)),
         },
     }
+}
+
+fn stop_of(error: Error) -> Stop<'static> {
+    match error.kind() {
+        ErrorKind::OutOfMemory => Stop::Run(Fault::OutOfMemory(0)),
+        _ => Stop::Words(error),
+    }
+}
+
+/// The error of these words where they are escaped, since clap's text has them as they are.
+fn error_shown<W: AsStr>(alloc: Global, words: &[W], raw: Error) -> Result<Error, AllocError> {
+    let escaped = escape_each(alloc, words)?;
+    match asked(alloc, escaped.as_slice()) {
+        Ok(_) => Ok(raw),
+        Err(error) => Ok(error),
+    }
+}
+
+fn escape_each<W: AsStr>(alloc: Global, words: &[W]) -> Result<Vec<String>, AllocError> {
+    let mut escaped = Vec::with_capacity(alloc, words.len())?;
+    for word in words {
+        let shown = Escaped(word.as_str());
+        escaped.push(format!(in alloc; "{shown}")?)?;
+    }
+    Ok(escaped)
 }
 
 /// A task with no report and no file.
