@@ -13,8 +13,9 @@ const FEWEST: usize = 1 << 12;
 
 const MOST: usize = 1 << 16;
 
-/// Reads a source to its end, as long as it gives at most `limit` bytes. It asks the source at
-/// most `limit` + 1 times, since each answer but the last has at least one byte.
+/// Reads a source to its end, as long as it gives at most `limit` bytes, and gives back what memory
+/// these do not fill. It asks the source at most `limit` + 1 times, since each answer but the last
+/// has at least one byte.
 pub fn read_all<S: Source>(alloc: Global, source: &mut S, limit: u32) -> Result<Encoded, ReadFault>
     requires { S.failures source.old < 2 ^ 64 - 1 }
     ensures ok { IfOk result (λ bytes. Consumes (S.told source.old) (S.told source.new) bytes
@@ -33,6 +34,7 @@ pub fn read_all<S: Source>(alloc: Global, source: &mut S, limit: u32) -> Result<
         match get_behind(source, bytes.as_mut_slice(), filled) {
             Ok(0) => {
                 bytes.truncate(filled);
+                bytes.shrink_to_fit();
                 return Ok(Encoded::from_vec(bytes));
             }
             Ok(n) => filled += n,
