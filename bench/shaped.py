@@ -126,6 +126,12 @@ def measures_of_a_unit(n):
     return merging(sheet(), report(numbered([numeric("1", unit="*".join(f"eg:m{n - place:07}" for place in range(n)))])))
 
 
+def measures_beside_a_long_uri(n):
+    """So many measures of a unit, whose namespace URI has 5,000 bytes."""
+    names = {"eg": URI, "u": f"{URI}/{'u' * 5_000}"}
+    return merging(sheet(), report(numbered([numeric("1", unit="*".join(f"u:m{n - place:07}" for place in range(n)))]), names))
+
+
 def text_of_one_value(n):
     return merging(sheet(), report(numbered([fact("ab\"\\\u00e9\n" * n)])))
 
@@ -153,6 +159,11 @@ def extension_members_of_a_report(n):
 
 def extension_members_of_a_fact(n):
     return merging(sheet(), report(numbered([{**fact(), **{f"x:e{place:07}": [place] for place in range(n)}}])))
+
+
+def objects_in_an_extension(n):
+    """So many objects of one member in an extension, which is read and ignored."""
+    return merging(sheet(), {**report(numbered([fact()])), "x:e": [{"a": 1}] * n})
 
 
 def concepts(n):
@@ -201,6 +212,16 @@ def sources_of_one_dimension_set(n):
 def sources_of_one_fact(n):
     words, files = merging(sheet(), report(numbered(fact() for _ in range(n))))
     return ["sources", *words[1:]], files
+
+
+def sources_of_small_reports(n):
+    words, files = reports(n)
+    return ["sources", *words[1:]], files
+
+
+def sources_of_one_file_named_often(n):
+    words, files = merging(sheet(), report(numbered([fact()])))
+    return ["sources", *words[1:3], "--reports-from", "names.txt"], {**files, "names.txt": f"{words[3]}\n" * n}
 
 
 def explaining(*files):
@@ -252,6 +273,18 @@ def texts_sent_and_received(n):
     return replaying(2, events, report(numbered([numeric("1")])), report(numbered([numeric("2")])))
 
 
+def sends_without_a_change(n):
+    """So many texts of one replica of 1,000 facts, whose base stays as it is."""
+    facts = report(numbered(numeric(str(place), period=period(place)) for place in range(FACTS)))
+    return replaying(1, ["take 1 1", *["send 1"] * n], facts)
+
+
+def joins_of_what_is_there(n):
+    """So many joins with a replica that has half of the 1,000 facts of the first."""
+    halves = [report(numbered(numeric(str(place), period=period(place)) for place in range(0, FACTS, step))) for step in (1, 2)]
+    return replaying(2, ["take 1 1", "take 2 2", *["join 1 2"] * n], *halves)
+
+
 def takes_of_different_reports(n):
     return replaying(1, (f"take 1 {place}" for place in range(1, n + 1)), *(report(numbered([numeric(str(place), period=period(place))])) for place in range(n)))
 
@@ -276,6 +309,7 @@ SHAPES = {
     dimensions_of_one_fact: 5_000,
     dimensions_whose_names_fall: 5_000,
     measures_of_a_unit: 5_000,
+    measures_beside_a_long_uri: 1_000,
     text_of_one_value: 100_000,
     identifier_of_an_entity: 500_000,
     name_of_a_member: 500_000,
@@ -283,6 +317,7 @@ SHAPES = {
     zeros_behind_a_point: 500_000,
     extension_members_of_a_report: 5_000,
     extension_members_of_a_fact: 5_000,
+    objects_in_an_extension: 50_000,
     concepts: 5_000,
     dimensions_of_a_sheet: 5_000,
     facts: 5_000,
@@ -294,6 +329,8 @@ SHAPES = {
     reports_of_one_dimension_set: 500,
     sources_of_one_dimension_set: 5_000,
     sources_of_one_fact: 5_000,
+    sources_of_small_reports: 500,
+    sources_of_one_file_named_often: 2_000,
     faults_of_facts: 5_000,
     faults_of_one_fact: 5_000,
     duplicates_that_are_denied: 5_000,
@@ -302,6 +339,8 @@ SHAPES = {
     lines_that_join: 5_000,
     lines_that_take: 1_000,
     texts_sent_and_received: 1_000,
+    sends_without_a_change: 1_000,
+    joins_of_what_is_there: 100,
     takes_of_different_reports: 500,
     events_of_eight_replicas: 500,
 }
