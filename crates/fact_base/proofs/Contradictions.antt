@@ -34,6 +34,7 @@ fact_of_value s (f ∷ fs) v at = by_test (λ there. fact_of_value s fs v there)
   where
     later : (Contains (values_at s fs) v → HasFact s v fs) → Contains (values_at s fs) v → HasFact s v (f ∷ fs)
     later rest there = let found = rest there in (found.0, (later_there f fs found.0 found.1.0, found.1.1))
+
     by_test : (Contains (values_at s fs) v → HasFact s v fs) → (b : Bool) → is_eq (dimensions_cmp s f.dimensions) ≡ b → Contains (cond b (f.value ∷ values_at s fs) (values_at s fs)) v → HasFact s v (f ∷ fs)
     by_test rest true is here = ⊎_elim (λ this. (f, (first_there f fs, (dimensions_cmp_exact s f.dimensions ((Equal-is (dimensions_cmp s f.dimensions)).0 is), this)))) (later rest) (first_or_later f.value (values_at s fs) v here)
     by_test rest false is there = later rest there
