@@ -5,16 +5,16 @@ use Rattle.std.proofs.lemmas.Bool.{eqb-true}
 use Rattle.json.specs.Token.{Token, begin_object, end_object, key, string}
 use Rattle.json.specs.Text.{content}
 use Rattle.json.specs.Word.{is_space}
-use Rattle.json.specs.Lex.{Lexeme, token, comma, colon, between, lex, fresh, after_value, begins_colon, punctuate, tokens}
+use Rattle.json.specs.Lex.{Lexeme, token, comma, colon, between, lex, fresh, after_value, punctuate, tokens}
 use Rattle.json.specs.Json as j
 use Rattle.json.specs.Json.{Members, value}
 use Rattle.json.specs.Tree.{json_tokens, members_tokens, depth, members_depth}
 use Rattle.json.proofs.Printed.Trees.{value-json_tokens}
 use Rattle.serde_json.specs.Data as d
 use Rattle.serde_json.specs.Read.{of_json, of_members, max_depth, read}
-use Rattle.oim_report.specs.Pieces.{Closed, IsPiece, AreSpaces, facts_key, facts_text, put_all}
+use Rattle.oim_report.specs.Pieces.{IsPiece, AreSpaces, facts_key, facts_text, put_all}
 use Rattle.oim_report.proofs.JoinedMembers.{body, plus, closed_body, depth-plus, HasSome, Members_of, members_of, IsKeyed, behind_comma, lex_comma, after_one, room}
-use Rattle.oim_report.proofs.PieceTrees.{ReadAs, some_read}
+use Rattle.oim_report.proofs.PieceTrees.{some_read}
 use Rattle.oim_report.proofs.MembersPut.{both_found}
 use Rattle.oim_report.proofs.PiecesInTurn.{ends_closed, piece_as}
 

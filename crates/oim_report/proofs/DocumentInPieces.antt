@@ -11,7 +11,7 @@ use Rattle.oim_value.specs.declared.level.Level.{Level}
 use Rattle.oim_value.specs.declared.level.Level.TheVariants.{Unique, Complete, Consistent, All as AllLevel}
 use Rattle.oim_value.specs.contracts.level.LevelPartialOrd.TheImpl.{partial_cmp-value as derived}
 use Rattle.oim_dims.specs.declared.fact.Fact.{Fact}
-use Rattle.serde_json.specs.Data.{Data, object, Members, no_members, member, no_items, put}
+use Rattle.serde_json.specs.Data.{Data, object, Members, no_items, put}
 use Rattle.serde_json.specs.Find.{get, as_array, as_object}
 use Rattle.serde_json.proofs.Views.{get_member-put, get_member-put_other}
 use Rattle.oim_report.specs.declared.place.Place.TheVariants.{Document as AtDocument}

@@ -1,5 +1,5 @@
 -- Facts that were found in a text, brought into the order of their identifiers.
-use Rattle.std.proofs.Common.{◌≡◌, ℕ, ◌+◌, ◌<◌, List, [], ◌∷◌, ◌++◌, length, get_or, drop, map, Bool, true, false, cond, Option, Some, None, Result, Ok, Err, String, Global, string_bytes, refl, sym, ap, ◌∙◌, subst, arith, append_assoc}
+use Rattle.std.proofs.Common.{◌≡◌, ℕ, ◌+◌, ◌<◌, List, [], ◌∷◌, ◌++◌, length, get_or, drop, map, Bool, true, false, cond, Option, Some, None, Ok, String, Global, string_bytes, refl, sym, ap, ◌∙◌, subst, arith, append_assoc}
 use Rattle.std.specs.Prelude.{IfSome}
 use Rattle.std.specs.Ordering.{nat_cmp, match_ordering, is_lt}
 use Rattle.std.specs.String.{string_cmp}
@@ -10,7 +10,6 @@ use Rattle.std.specs.declared.cmp.Ordering.TheVariants.{Less, Equal, Greater}
 use Rattle.std.proofs.lemmas.List.{drop_more, length-append}
 use Rattle.std.proofs.lemmas.Bool.{false≢true}
 use Rattle.oim_names.specs.Bindings.{Binding}
-use Rattle.oim_names.specs.declared.reason.Reason.{Reason}
 use Rattle.oim_dims.specs.declared.fact.Fact.{Fact}
 use Rattle.serde_json.specs.Data.{Data, Members, no_members, member, put}
 use Rattle.oim_report.specs.FoundFacts.{AreFound, is_above, rise_after}

@@ -118,7 +118,7 @@ module _ (sheet : Sheet) (bs : List Binding) (fact : Data) (dimensions : Members
       ++ (map a_name (option_map_or pieces (text_at (codes "unit")) [])
       ++ map a_name (if is_kind Name then option_to_list value_text else []))))
 
-  -- whether a condition holds (own: no links or notes; at most 18 digits; decimals from -12 to 12)
+  -- whether a condition holds (own: no links or notes; at most 18 digits; decimals from -18 to 18)
   abbrev pub holds_with : Reason → Bool
   holds_with MemberForm =
       not (is_object fact) || is_none (get (codes "value") fact)

@@ -27,8 +27,8 @@ pub(crate) fn read_json(alloc: Global, bytes: &[u8]) -> Result<Value, Reason>
     }
 }
 
-/// The object that the bytes are, without its last member, `facts`, and the text of that one's
-/// members: once this has been read, the whole has.
+/// The object that the bytes are without its member `facts`, and the text of the fact objects. If
+/// that text can be read, so can the whole. `None` if the text was not cut so, or memory ran out.
 pub(crate) fn read_json_outline(alloc: Global, bytes: &[u8]) -> Option<Outline<'_>>
     ensures { IfSome result (λ o. (before : Members) × (view o.tree ≡ object before)
         × ((found : Members) → IsPiece o.facts.now found

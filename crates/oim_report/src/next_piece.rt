@@ -7,8 +7,8 @@ use crate::spaces::strip_front;
 use serde_json::{Map, Value};
 use std::alloc::Global;
 
-/// The next piece of a text of members, of `size` bytes or more, and what is left after its comma;
-/// `None` where it was not found, or memory ran out.
+/// The next piece of a text of members, of `size` bytes or more, and the text behind its comma.
+/// `None` if it could not be read, or memory ran out.
 pub(crate) fn read_next<'t>(
     alloc: Global,
     buffer: &mut String,

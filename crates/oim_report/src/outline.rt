@@ -25,8 +25,8 @@ struct Split<'t> {
     behind: Option<&'t str>,
 }
 
-/// The document without its member `facts`: once the text of that has been read, the whole has;
-/// `None` where the text is not cut so, or memory ran out: read it whole then.
+/// The document without its member `facts`, and the text of the fact objects. If that text can be
+/// read, so can the whole. `None` if the text was not cut so, or memory ran out.
 pub(crate) fn read_outline(alloc: Global, text: &str) -> Option<Outline<'_>>
     ensures { IfSome result (λ o. IsOutline text.now (view o.tree) o.facts.now) }
 {

@@ -6,8 +6,8 @@ ghost use Rattle.oim_report.specs.Pieces.{alone, one_data, EndsWithBrace, IsPiec
 use serde_json::{Map, Value};
 use std::alloc::Global;
 
-/// The members of a text of members, read as the one object of an array; `None` where the text is no
-/// such text or does not end with a brace, or memory ran out.
+/// The members of a piece, read as the one object of an array. `None` if the piece has no member, is
+/// not the text of members or does not end with a brace, or memory ran out.
 pub(crate) fn read_piece(
     alloc: Global,
     buffer: &mut String,

@@ -1,6 +1,5 @@
 use Rattle.std.proofs.Common.{◌≡◌, length, sym, ap, ◌∙◌}
 use Rattle.serde_json.specs.View.{members_view}
-use Rattle.serde_json.specs.declared.value.Value.{Object}
 use Rattle.oim_report.specs.Pieces.{one_data}
 use Rattle.oim_report.proofs.PieceEntries.{taken_object}
 use Rattle.oim_report.proofs.piece.only_object.Goals as goal
