@@ -1,21 +1,98 @@
 """Writes files whole or not at all."""
+from __future__ import annotations
+
+import contextlib
 import os
+import shutil
+import tempfile
+from dataclasses import dataclass
+from typing import Iterable
+
+from process import signals_held
+
+PERMISSIONS = 0o777  # without setuid, setgid and the sticky bit
 
 
-def write_files(texts):
-    """Writes every file of a list of paths and their pieces, or none: each is written beside its place, then moved there."""
-    made = []
+@dataclass(frozen=True)
+class Output:
+    """A file to make or replace at `place`, and a folder beside it that only this run uses."""
+
+    place: str
+    folder: str
+
+    @property
+    def new(self) -> str:
+        return os.path.join(self.folder, "new")
+
+    @property
+    def old(self) -> str:
+        return os.path.join(self.folder, "old")
+
+    def keep_old(self) -> None:
+        """Keeps the file that is replaced: as a link, or as a copy where the file system has no links."""
+        if os.path.exists(self.place):
+            try:
+                os.link(self.place, self.old)
+            except OSError:
+                shutil.copy2(self.place, self.old)
+
+    def restore_old(self) -> None:
+        if os.path.exists(self.old):
+            os.replace(self.old, self.place)
+        else:
+            os.unlink(self.place)
+
+
+def write_files(texts: Iterable[tuple[str, Iterable[str]]]) -> None:
+    """Writes every file of a list of paths and their pieces, or none.
+
+    Each is written in a new folder beside its place, then moved there. It keeps the permissions of the file that it
+    replaces, and its owner and group where that is permitted. A signal that `process.run` handles removes what was made.
+    Errors: OSError, and what the pieces raise. Then every place is as it was.
+    """
+    with contextlib.ExitStack() as folders:
+        outputs = [write_beside(path, pieces, folders) for path, pieces in texts]
+        with signals_held():
+            put_in_place(outputs)
+
+
+def write_beside(path: str, pieces: Iterable[str], folders: contextlib.ExitStack) -> Output:
+    """Writes a file in a folder beside its place. The folder is removed when the stack ends."""
+    place = os.path.realpath(path)
+    if os.path.exists(place) and not os.path.isfile(place):
+        raise OSError(f"{path} is there and is no file that can be replaced")
+    with signals_held():  # between making the folder and noting it
+        folder = folders.enter_context(tempfile.TemporaryDirectory(prefix=".new-", dir=os.path.dirname(place)))
+    output = Output(place, folder)
+    with open(output.new, "x", encoding="utf-8", newline="") as file:
+        file.writelines(pieces)
+        copy_permissions(place, file.fileno())
+    return output
+
+
+def copy_permissions(place: str, file: int) -> None:
+    """Gives an open file the owner, group and permissions of the one at a place, as far as that is permitted."""
+    if os.path.exists(place):
+        old = os.stat(place)
+        for owner, group in ((old.st_uid, -1), (-1, old.st_gid)):
+            with contextlib.suppress(OSError):
+                os.fchown(file, owner, group)
+        with contextlib.suppress(OSError):
+            os.fchmod(file, old.st_mode & PERMISSIONS)
+
+
+def put_in_place(outputs: list[Output]) -> None:
+    """Moves all outputs to their places, or leaves every place as it was."""
+    if len({output.place for output in outputs}) < len(outputs):
+        raise OSError("two outputs are one file")
+    for output in outputs[:-1]:  # when the last one can't be moved, these move back
+        output.keep_old()
+    moved: list[Output] = []
     try:
-        for path, pieces in texts:
-            place = os.path.realpath(path)
-            if os.path.exists(place) and not os.path.isfile(place):
-                raise OSError(f"{path} is there and is no file that can be replaced")
-            made.append((f"{place}.{os.getpid()}.new", place))
-            with open(made[-1][0], "x", encoding="utf-8", newline="") as file:
-                file.writelines(pieces)
-        for written, place in made:
-            os.replace(written, place)
-    finally:
-        for written, _ in made:
-            if os.path.exists(written):
-                os.unlink(written)
+        for output in outputs:
+            os.replace(output.new, output.place)
+            moved.append(output)
+    except OSError:
+        for output in reversed(moved):
+            output.restore_old()
+        raise

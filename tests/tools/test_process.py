@@ -1,0 +1,121 @@
+"""Tests of tools/process: statuses, lines on standard error, signals."""
+import os
+import resource
+import signal
+import subprocess
+import sys
+import tempfile
+import textwrap
+import unittest
+
+TOOLS = os.path.join(os.path.dirname(os.path.abspath(__file__)), "..", "..", "tools")
+HEAD = f"""
+import argparse, lzma, sys, time
+sys.dont_write_bytecode = True
+sys.path.insert(0, {TOOLS!r})
+from process import NotDone, Status, print_lines, run
+def main():
+"""
+
+
+class ProcessTest(unittest.TestCase):
+    def setUp(self):
+        folder = tempfile.TemporaryDirectory()
+        self.addCleanup(folder.cleanup)
+        self.folder = folder.name
+
+    def shell(self, body, redirected="", **options):
+        """Runs a tool whose `main` has this body, from a shell that redirects its files."""
+        place = os.path.join(self.folder, "tool")
+        with open(place, "w") as file:
+            file.write(HEAD + textwrap.indent(body, "    ") + "\nrun(main)\n")
+        command = f"exec {sys.executable} {place} {redirected}"
+        return subprocess.run(["bash", "-c", command], capture_output=True, **options)
+
+    def check(self, status, errors, body, redirected=""):
+        done = self.shell(body, redirected)
+        self.assertEqual((done.returncode, done.stderr.decode()), (status, errors), body)
+        return done.stdout
+
+
+class Statuses(ProcessTest):
+    def test_a_status_is_the_one_that_is_returned(self):
+        for status in range(4):
+            self.check(status, "", f"return Status({status})")
+
+    def test_no_exception_ends_in_status_1(self):
+        raised = {
+            "NotDone('a', 'b')": "tool: a\ntool: b\n",
+            "KeyError('k')": "tool: KeyError: 'k'\n",
+            "RecursionError()": "tool: nested too deeply\n",
+            "MemoryError()": "tool: out of memory\n",
+            "lzma.LZMAError('bad')": "tool: LZMAError: bad\n",
+            "OSError(5, 'bad')": "tool: OSError: [Errno 5] bad\n",
+        }
+        for exception, errors in raised.items():
+            self.check(3, errors, f"raise {exception}")
+
+    def test_usage_and_help(self):
+        parse = "argparse.ArgumentParser(prog='tool').parse_args({})"
+        self.assertEqual(self.shell(parse.format("['x']")).returncode, 2)
+        self.assertIn(b"usage: tool", self.check(0, "", parse.format("['--help']")))
+        self.check(3, "tool: OSError: [Errno 28] No space left on device\n", parse.format("['--help']"), ">/dev/full")
+        self.assertEqual(self.shell(parse.format("['x']"), "2>/dev/full").returncode, 3)
+
+    def test_a_line_cannot_control_a_terminal(self):
+        self.check(3, r"tool: \n\u001b\u009b\u007f\udcff\udb40\udc01" + "\n",
+                   r"raise NotDone('\n\x1b\x9b\x7f\udcff\U000e0001')")
+
+
+class Devices(ProcessTest):
+    def test_standard_error_full_or_closed(self):
+        for redirected in ("2>/dev/full", "2>&-"):
+            self.check(3, "", "print_lines(['left out']); sys.stdout.buffer.write(b'x'); return Status.LOOK", redirected)
+            self.check(3, "", "raise KeyError", redirected)
+            self.check(0, "", "return Status.DONE", redirected)
+
+    def test_a_line_does_not_land_in_a_file_that_is_opened(self):
+        place = os.path.join(self.folder, "opened")
+        body = f"file = open({place!r}, 'w'); print_lines(['left out']); return Status.DONE"
+        self.assertEqual(self.check(3, "", body, "2>&-"), b"")
+        with open(place) as file:
+            self.assertEqual(file.read(), "")
+
+    def test_standard_output_full_or_closed(self):
+        body = "sys.stdout.buffer.write(b'x'); return Status.DONE"
+        self.check(3, "tool: OSError: [Errno 28] No space left on device\n", body, ">/dev/full")
+        self.check(3, "tool: OSError: [Errno 9] Bad file descriptor\n", body, ">&-")
+        self.check(3, "tool: OSError: [Errno 9] Bad file descriptor\n", "print('x'); return Status.DONE", ">&-")
+
+    def test_a_device_that_takes_a_part_is_full(self):
+        limit = lambda: resource.setrlimit(resource.RLIMIT_FSIZE, (65_536, 65_536))  # noqa: E731
+        for unbuffered in ("", "1"):
+            place = os.path.join(self.folder, "part")
+            done = self.shell("sys.stdout.buffer.write(b'x' * 100_000); return Status.DONE", f">{place}",
+                              env={**os.environ, "PYTHONUNBUFFERED": unbuffered}, preexec_fn=limit)
+            self.assertEqual((done.returncode, done.stderr), (3, b"tool: OSError: [Errno 27] File too large\n"))
+            self.assertEqual(os.path.getsize(place), 65_536)
+
+
+class Signals(ProcessTest):
+    def test_a_signal_cleans_up_and_ends_the_tool(self):
+        place = os.path.join(self.folder, "tool")
+        with open(place, "w") as file:
+            file.write(HEAD + "    try:\n        print('ready', flush=True)\n"
+                       "        while True:\n            time.sleep(0.01)\n"
+                       "    finally:\n        print('clean', flush=True)\nrun(main)\n")
+        for number in (signal.SIGHUP, signal.SIGINT, signal.SIGTERM):
+            with subprocess.Popen([sys.executable, place], stdout=subprocess.PIPE, stderr=subprocess.PIPE) as tool:
+                self.assertEqual(tool.stdout.readline(), b"ready\n")
+                tool.send_signal(number)
+                self.assertEqual(tool.communicate(), (b"clean\n", b""))
+            self.assertEqual(tool.returncode, -number)
+
+    def test_an_ignored_signal_stays_ignored(self):
+        body = "import os, signal; os.kill(os.getpid(), signal.SIGHUP); return Status.DONE"
+        done = self.shell(body, preexec_fn=lambda: signal.signal(signal.SIGHUP, signal.SIG_IGN))
+        self.assertEqual(done.returncode, 0)
+
+
+if __name__ == "__main__":
+    unittest.main()

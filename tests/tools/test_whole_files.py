@@ -1,0 +1,136 @@
+"""Tests of tools/whole_files: outputs that are written whole or not at all."""
+import os
+import signal
+import stat
+import subprocess
+import sys
+import tempfile
+import unittest
+from unittest import mock
+
+TOOLS = os.path.join(os.path.dirname(os.path.abspath(__file__)), "..", "..", "tools")
+sys.path.insert(0, TOOLS)
+import whole_files  # noqa: E402
+
+WAITS = f"""
+import sys, time
+sys.dont_write_bytecode = True
+sys.path.insert(0, {TOOLS!r})
+from process import Status, run
+from whole_files import write_files
+def pieces():
+    yield "first"
+    print("ready", flush=True)
+    while True:
+        time.sleep(0.01)
+run(lambda: write_files([(sys.argv[1], ["x"]), (sys.argv[2], pieces())]) or Status.DONE)
+"""
+
+
+class WholeFiles(unittest.TestCase):
+    def setUp(self):
+        folder = tempfile.TemporaryDirectory()
+        self.addCleanup(folder.cleanup)
+        self.folder = folder.name
+        self.first, self.second = (os.path.join(self.folder, name) for name in ("first", "second"))
+
+    def texts(self):
+        """Returns the text of each file in the folder."""
+        texts = {}
+        for name in os.listdir(self.folder):
+            with open(os.path.join(self.folder, name)) as file:
+                texts[name] = file.read()
+        return texts
+
+    def put(self, path, text="old", mode=0o644):
+        with open(path, "w") as file:
+            file.write(text)
+        os.chmod(path, mode)
+
+    def test_files_are_made_and_replaced(self):
+        self.put(self.first)
+        whole_files.write_files([(self.first, ["n", "ew"]), (self.second, ["new"])])
+        self.assertEqual(self.texts(), {"first": "new", "second": "new"})
+
+    def test_the_mode_is_kept_without_setuid_and_setgid(self):
+        before = os.umask(0o022)
+        self.addCleanup(os.umask, before)
+        for mode, kept in ((0o640, 0o640), (0o4755, 0o755), (0o2755, 0o755), (0o666, 0o666)):
+            self.put(self.first, mode=mode)
+            whole_files.write_files([(self.first, ["new"])])
+            self.assertEqual(stat.S_IMODE(os.stat(self.first).st_mode), kept)
+        whole_files.write_files([(self.second, ["new"])])
+        self.assertEqual(stat.S_IMODE(os.stat(self.second).st_mode), 0o644)
+
+    @unittest.skipIf(os.geteuid(), "only root may give a file to another user")
+    def test_owner_and_group_are_kept(self):
+        self.put(self.first, mode=0o4755)
+        os.chown(self.first, 65534, 65533)
+        whole_files.write_files([(self.first, ["new"])])
+        file = os.stat(self.first)
+        self.assertEqual((file.st_uid, file.st_gid, stat.S_IMODE(file.st_mode)), (65534, 65533, 0o755))
+
+    def test_none_is_replaced_where_one_cannot_be(self):
+        really, third = os.replace, os.path.join(self.folder, "third")
+
+        def replace(old, new):
+            if new == third and old.endswith("new"):
+                raise PermissionError(1, "no")
+            really(old, new)
+
+        self.put(self.first)
+        for has_links in (True, False):
+            refused = mock.patch("os.link", side_effect=None if has_links else OSError, wraps=os.link)
+            with refused, mock.patch("os.replace", replace), self.assertRaises(PermissionError):
+                whole_files.write_files([(path, ["new"]) for path in (self.first, self.second, third)])
+            self.assertEqual(self.texts(), {"first": "old"})
+
+    def test_a_fault_leaves_every_place_as_it_was(self):
+        def pieces():
+            yield "new"
+            raise ValueError
+
+        self.put(self.first)
+        with self.assertRaises(ValueError):
+            whole_files.write_files([(self.first, ["new"]), (self.second, pieces())])
+        with self.assertRaises(UnicodeEncodeError):
+            whole_files.write_files([(self.first, ["new"]), (self.second, ["\ud800"])])
+        with self.assertRaises(OSError):
+            whole_files.write_files([(self.first, ["new"]), (self.folder, ["new"])])
+        with self.assertRaises(OSError):
+            whole_files.write_files([(self.first, ["new"]), (os.path.join(self.folder, ".", "first"), ["newer"])])
+        self.assertEqual(self.texts(), {"first": "old"})
+
+    def test_files_of_other_runs_stay(self):
+        others = [self.first + f".{os.getpid()}.new", os.path.join(self.folder, ".new-other")]
+        for other in others:
+            self.put(other)
+        whole_files.write_files([(self.first, ["new"])])
+        self.assertEqual(self.texts(), {"first": "new", **dict.fromkeys(map(os.path.basename, others), "old")})
+
+    def test_a_name_of_255_bytes(self):
+        path = os.path.join(self.folder, "ö" * 127 + "x")
+        whole_files.write_files([(path, ["new"])])
+        self.assertEqual(self.texts(), {os.path.basename(path): "new"})
+
+    def test_a_link_is_followed(self):
+        self.put(self.first)
+        os.symlink(self.first, self.second)
+        whole_files.write_files([(self.second, ["new"])])
+        self.assertTrue(os.path.islink(self.second))
+        self.assertEqual(self.texts(), {"first": "new", "second": "new"})
+
+    def test_a_signal_leaves_nothing_behind(self):
+        self.put(self.first)
+        for number in (signal.SIGHUP, signal.SIGTERM):
+            words = [sys.executable, "-c", WAITS, self.first, self.second]
+            with subprocess.Popen(words, stdout=subprocess.PIPE, stderr=subprocess.PIPE) as tool:
+                self.assertEqual(tool.stdout.readline(), b"ready\n")
+                tool.send_signal(number)
+                self.assertEqual(tool.communicate(), (b"", b""))
+            self.assertEqual(tool.returncode, -number)
+            self.assertEqual(self.texts(), {"first": "old"})
+
+
+if __name__ == "__main__":
+    unittest.main()

@@ -1,0 +1,160 @@
+"""What the tools share as processes: exit statuses, lines on standard error, and signals that end them."""
+from __future__ import annotations
+
+import contextlib
+import enum
+import json
+import os
+import signal
+import sys
+from types import FrameType
+from typing import Callable, Iterable, Iterator, NoReturn, Optional
+
+STOPPING = (signal.SIGHUP, signal.SIGINT, signal.SIGTERM)
+MOST_CHARACTERS = 80  # of a text from a file that a line shows, as many as `xbrlmerge explain` shows
+
+
+class Status(enum.IntEnum):
+    """How a tool ends, unless a signal ends it."""
+
+    DONE = 0
+    LOOK = 1  # done, with something to look at: a loss, an omission, a contradiction
+    USAGE = 2
+    NOT_DONE = 3
+
+
+class NotDone(Exception):
+    """Why a tool cannot do what it was asked. Each argument is a line for standard error."""
+
+
+class Stopped(BaseException):
+    """A signal that ends the tool once it has cleaned up. `except Exception` lets it pass."""
+
+    def __init__(self, number: int) -> None:
+        super().__init__(number)
+        self.number = number
+
+
+def run(main: Callable[[], Status]) -> NoReturn:
+    """Ends the process with the status that `main` returns.
+
+    Whatever `main` raises becomes a line on standard error and NOT_DONE, so that no traceback ends in status 1. A failed
+    write on standard output or standard error is NOT_DONE as well. After a signal in STOPPING the process cleans up, and
+    then ends by that signal.
+    """
+    fill_standard_files()
+    handled = [number for number in STOPPING if signal.getsignal(number) is not signal.SIG_IGN]  # `nohup` ignores one
+    try:
+        for number in handled:
+            signal.signal(number, stop)
+        status = finished(main)
+        for number in handled:
+            signal.signal(number, signal.SIG_DFL)
+    except Stopped as stopped:
+        signal.signal(stopped.number, signal.SIG_DFL)
+        signal.raise_signal(stopped.number)
+        status = Status.NOT_DONE  # the first process of a container ignores the signal
+    sys.exit(status)
+
+
+def finished(main: Callable[[], Status]) -> Status:
+    """Returns the status of a tool after printing why it failed, if it did."""
+    try:
+        status, lines = outcome(main)
+        print_lines(lines)
+    except (OSError, MemoryError):
+        status = Status.NOT_DONE
+    return status if are_flushed() else Status.NOT_DONE
+
+
+def outcome(main: Callable[[], Status]) -> tuple[Status, tuple[str, ...]]:
+    """Returns the status of a tool, and the lines that say why it failed. The memory that it used is free by then."""
+    try:
+        status = status_of(main)
+        sys.stdout.flush()
+        return status, ()
+    except NotDone as fault:
+        return Status.NOT_DONE, tuple(map(str, fault.args))
+    except Exception as fault:  # files from strangers can raise any
+        return Status.NOT_DONE, (sentence(fault),)
+
+
+def status_of(main: Callable[[], Status]) -> Status:
+    try:
+        return main()
+    except SystemExit as end:  # argparse raises it
+        return Status.USAGE if end.code else Status.DONE
+
+
+def sentence(fault: Exception) -> str:
+    """Returns what a line says of an exception."""
+    if isinstance(fault, MemoryError):
+        return "out of memory"
+    if isinstance(fault, RecursionError):
+        return "nested too deeply"
+    return f"{type(fault).__name__}: {fault}"
+
+
+def stop(number: int, _frame: Optional[FrameType]) -> NoReturn:
+    for each in STOPPING:
+        signal.signal(each, signal.SIG_IGN)  # so that nothing interrupts the cleaning up
+    raise Stopped(number)
+
+
+@contextlib.contextmanager
+def signals_held() -> Iterator[None]:
+    """Holds the signals in STOPPING back until the block ends."""
+    before = signal.pthread_sigmask(signal.SIG_BLOCK, STOPPING)
+    try:
+        yield
+    finally:
+        signal.pthread_sigmask(signal.SIG_SETMASK, before)
+
+
+def fill_standard_files() -> None:
+    """Opens the null device for each standard file that is closed, the wrong way round, so that each use of it fails.
+
+    Without this the next file that is opened takes the number, and lines for standard error go into it. Both files are
+    buffered, whatever PYTHONUNBUFFERED says: an unbuffered one may take a part of the bytes and raise nothing.
+    """
+    for number, mode in enumerate((os.O_WRONLY, os.O_RDONLY, os.O_RDONLY)):
+        try:
+            os.fstat(number)
+        except OSError:
+            os.open(os.devnull, mode)  # takes the lowest free number, which is this one
+    sys.stdout = open(1, "w", closefd=False)
+    sys.stderr = open(2, "w", closefd=False, errors="backslashreplace")
+
+
+def are_flushed() -> bool:
+    """Returns whether standard output and standard error took everything. One that did not is closed."""
+    taken = True
+    for file in (sys.stdout, sys.stderr):
+        try:
+            file.flush()
+        except OSError:
+            os.dup2(os.open(os.devnull, os.O_WRONLY), file.fileno())  # Python would flush again and end in status 120
+            taken = False
+    return taken
+
+
+def print_lines(lines: Iterable[str]) -> None:
+    """Prints lines on standard error, behind the name of the tool.
+
+    Print notes before the output is written: when standard error takes none of them, nothing is done.
+    Errors: OSError.
+    """
+    name = os.path.basename(sys.argv[0])
+    for line in lines:
+        print(f"{name}: {printable(line)}", file=sys.stderr)
+    sys.stderr.flush()
+
+
+def printable(text: str) -> str:
+    """Returns a text with the escapes of JSON for the characters that are not printable."""
+    return "".join(each if each.isprintable() else json.dumps(each)[1:-1] for each in text)
+
+
+def shortened(text: str) -> str:
+    """Returns the first MOST_CHARACTERS of a text and two dots, or all of a shorter one."""
+    return text if len(text) <= MOST_CHARACTERS else text[:MOST_CHARACTERS] + ".."
