@@ -92,6 +92,8 @@ def sentence(fault: Exception) -> str:
         return "out of memory"
     if isinstance(fault, RecursionError):
         return "nested too deeply"
+    if isinstance(fault, OSError) and fault.strerror:
+        return f"{fault.filename}: {fault.strerror}" if fault.filename else fault.strerror
     return f"{type(fault).__name__}: {fault}"
 
 

@@ -61,12 +61,15 @@ def write_beside(path: str, pieces: Iterable[str], folders: contextlib.ExitStack
     place = os.path.realpath(path)
     if os.path.exists(place) and not os.path.isfile(place):
         raise OSError(f"{path} is there and is no file that can be replaced")
-    with signals_held():  # between making the folder and noting it
-        folder = folders.enter_context(tempfile.TemporaryDirectory(prefix=".new-", dir=os.path.dirname(place)))
-    output = Output(place, folder)
-    with open(output.new, "x", encoding="utf-8", newline="") as file:
-        file.writelines(pieces)
-        copy_permissions(place, file.fileno())
+    try:
+        with signals_held():  # between making the folder and noting it
+            folder = folders.enter_context(tempfile.TemporaryDirectory(prefix=".new-", dir=os.path.dirname(place)))
+        output = Output(place, folder)
+        with open(output.new, "x", encoding="utf-8", newline="") as file:
+            file.writelines(pieces)
+            copy_permissions(place, file.fileno())
+    except OSError as fault:  # which names no file, or the new folder
+        raise OSError(f"{path}: {fault.strerror or fault}") from None
     return output
 
 

@@ -50,7 +50,9 @@ class Statuses(ProcessTest):
             "RecursionError()": "tool: nested too deeply\n",
             "MemoryError()": "tool: out of memory\n",
             "lzma.LZMAError('bad')": "tool: LZMAError: bad\n",
-            "OSError(5, 'bad')": "tool: OSError: [Errno 5] bad\n",
+            "OSError('bad')": "tool: OSError: bad\n",
+            "OSError(5, 'bad')": "tool: bad\n",
+            "OSError(5, 'bad', 'a file')": "tool: a file: bad\n",
         }
         for exception, errors in raised.items():
             self.check(3, errors, f"raise {exception}")
@@ -59,7 +61,7 @@ class Statuses(ProcessTest):
         parse = "argparse.ArgumentParser(prog='tool').parse_args({})"
         self.assertEqual(self.shell(parse.format("['x']")).returncode, 2)
         self.assertIn(b"usage: tool", self.check(0, "", parse.format("['--help']")))
-        self.check(3, "tool: OSError: [Errno 28] No space left on device\n", parse.format("['--help']"), ">/dev/full")
+        self.check(3, "tool: No space left on device\n", parse.format("['--help']"), ">/dev/full")
         self.assertEqual(self.shell(parse.format("['x']"), "2>/dev/full").returncode, 3)
 
     def test_a_line_cannot_control_a_terminal(self):
@@ -83,9 +85,9 @@ class Devices(ProcessTest):
 
     def test_standard_output_full_or_closed(self):
         body = "sys.stdout.buffer.write(b'x'); return Status.DONE"
-        self.check(3, "tool: OSError: [Errno 28] No space left on device\n", body, ">/dev/full")
-        self.check(3, "tool: OSError: [Errno 9] Bad file descriptor\n", body, ">&-")
-        self.check(3, "tool: OSError: [Errno 9] Bad file descriptor\n", "print('x'); return Status.DONE", ">&-")
+        self.check(3, "tool: No space left on device\n", body, ">/dev/full")
+        self.check(3, "tool: Bad file descriptor\n", body, ">&-")
+        self.check(3, "tool: Bad file descriptor\n", "print('x'); return Status.DONE", ">&-")
 
     def test_a_device_that_takes_a_part_is_full(self):
         limit = lambda: resource.setrlimit(resource.RLIMIT_FSIZE, (65_536, 65_536))  # noqa: E731
@@ -93,7 +95,7 @@ class Devices(ProcessTest):
             place = os.path.join(self.folder, "part")
             done = self.shell("sys.stdout.buffer.write(b'x' * 100_000); return Status.DONE", f">{place}",
                               env={**os.environ, "PYTHONUNBUFFERED": unbuffered}, preexec_fn=limit)
-            self.assertEqual((done.returncode, done.stderr), (3, b"tool: OSError: [Errno 27] File too large\n"))
+            self.assertEqual((done.returncode, done.stderr), (3, b"tool: File too large\n"))
             self.assertEqual(os.path.getsize(place), 65_536)
 
 
