@@ -25,8 +25,9 @@ LOADER = importlib.machinery.SourceFileLoader("normalise", TOOL)
 normalise = importlib.util.module_from_spec(importlib.util.spec_from_loader("normalise", LOADER))
 LOADER.exec_module(normalise)
 
+import process  # noqa: E402
 from normalising import profile  # noqa: E402
-from normalising.json_text import pointed, read_json, text_of  # noqa: E402
+from normalising.json_text import read_json, text_of  # noqa: E402
 from normalising.names import Sheet  # noqa: E402
 
 
@@ -70,24 +71,27 @@ class ToolTest(unittest.TestCase):
     def run_tool(self, *words):
         """Runs the command in this process, and returns its status and what it tells on standard error."""
         with mock.patch.object(sys, "argv", ["normalise", *words]), contextlib.redirect_stderr(io.StringIO()) as told:
-            try:
-                return normalise.main(), told.getvalue()
-            except SystemExit as end:
-                return end.code, told.getvalue()
+            status, lines = process.outcome(normalise.main)
+            process.print_lines(lines)
+            return status, told.getvalue()
 
     def normalised(self, report, *options):
         """Returns the status, what is told, the output and the changes, and looks at what holds of every run."""
+        with mock.patch.object(process, "MOST_CHARACTERS", sys.maxsize):
+            self.run_tool(report, self.out, self.changes, *options)
+        tree = read_json(self.out)
+        undo(tree, self.changes_told())
+        self.assertEqual(tree, read_json(report), "the changes, taken back, do not give the report")
         status, told = self.run_tool(report, self.out, self.changes, *options)
         self.assertIn(status, (0, 1), told)
-        out, lines = content(self.out), content(self.changes)
-        changes = [self.tree_of(line) for line in lines.splitlines()]
+        out, changes = content(self.out), self.changes_told()
         self.assertEqual(status, int(any(change["loss"] for change in changes)))
-        tree = self.tree_of(out)
-        undo(tree, changes)
-        self.assertEqual(tree, read_json(report), "the changes, taken back, do not give the report")
         again = self.run_tool(self.write("again.json", out), self.place("out2"), self.place("changes2"), *options)
         self.assertEqual((again, content(self.place("out2")), content(self.place("changes2"))), ((0, told), out, ""))
         return status, told, out, changes
+
+    def changes_told(self):
+        return [self.tree_of(line) for line in content(self.changes).splitlines()]
 
     def tree_of(self, text):
         return read_json(self.write("tree.json", text))
@@ -291,7 +295,7 @@ class BadInputs(ToolTest):
         """A line tells why, and nothing is written, not even in part."""
         before = set(os.listdir(self.room))
         status, lines = self.run_tool(*words)
-        self.assertEqual((status, len(lines.splitlines())), (2, 1), lines)
+        self.assertEqual((status, len(lines.splitlines())), (3, 1), lines)
         self.assertIn(told, lines)
         self.assertEqual(set(os.listdir(self.room)), before)
 
@@ -313,7 +317,7 @@ class BadInputs(ToolTest):
         report = self.write("good.json", "{}")
         self.check_refused("nowhere", self.place("nowhere"), self.out, self.changes)
         self.check_refused("nowhere", report, self.out, self.changes, "--sheet", self.place("nowhere"))
-        self.check_refused("no/x", report, self.out, os.path.join(self.room, "no", "x"))
+        self.check_refused("/no", report, self.out, os.path.join(self.room, "no", "x"))
         self.check_refused("no file", report, self.out, self.room)
 
     def test_files_that_were_there_stay_where_it_fails(self):

@@ -1,46 +1,112 @@
 """Keeps account of what is changed in the objects of a report."""
-from normalising.json_text import Fault, pointed, text_of
+from __future__ import annotations
+
+from typing import NamedTuple, Optional
+
+from normalising.json_text import Number, Tree, pointer_of, text_of
+from process import NotDone, printable, shortened
+
+Path = tuple[str, ...]  # the keys that lead to a part of a report
+
+
+class Reason(NamedTuple):
+    """The option that drops a fact, and a sentence with the names that fill its places."""
+
+    rule: str
+    why: str
+    names: tuple[str, ...] = ()
 
 
 class Log:
-    """The changes, and what is left though it stands outside the profile, of one fact or of the document."""
+    """The lines of changes, and what is left though the profile does not have it, of one fact or of the document.
 
-    def __init__(self, fact=None):
-        self.fact, self.changes, self.left = fact, [], []
+    The lines repeat identifiers, URIs and texts, so each of these is shortened; `number` then finds the fact.
+    """
 
-    def tell(self, pointer, rule, loss, **told):
-        self.changes.append({"fact": self.fact, "pointer": pointer, **told, "rule": rule, "loss": loss})
+    def __init__(self, fact: Optional[str] = None, number: int = 0) -> None:
+        self.fact, self.number, self.is_lossy = fact, number, False
+        self.lines: list[str] = []
+        self.left: list[str] = []
+
+    def tell(self, path: Path, rule: str, loss: bool, **values: Tree) -> None:
+        """Adds the line of a change at a path, with the values before and after it."""
+        told = {key: brief_of(value) for key, value in values.items()}
+        self.add(path, told, rule, loss, is_long(path) or told != values)
+
+    def tell_moved(self, path: Path, name: str, rule: str, was: Tree) -> None:
+        """Adds the line of a member that has another name."""
+        told = {"was": brief_of(was), "moved": pointer_of((*path[:-1], name))}
+        self.add(path, told, rule, False, is_long(path) or told["was"] != was)
+
+    def tell_dropped(self, path: Path, reason: Reason, was: Tree) -> None:
+        """Adds the line of a fact that is dropped, the only one of the fact."""
+        self.lines, self.left, self.is_lossy = [], [], False
+        told = {"was": brief_of(was), "why": reason.why.format(*map(shortened, reason.names))}
+        self.add(path, told, reason.rule, True, is_long((*path, *reason.names)) or told["was"] != was)
+
+    def add(self, path: Path, told: dict[str, Tree], rule: str, loss: bool, is_shortened: bool) -> None:
+        line: dict[str, Tree] = {"fact": None if self.fact is None else shortened(self.fact), "pointer": pointer_of(path)}
+        line |= {**told, "rule": rule, "loss": loss}
+        if is_shortened:
+            line["shortened"] = True
+        if self.fact is not None and is_long((self.fact,)):
+            line["number"] = Number(self.number)
+        text = text_of(line)
+        self.lines.append((text if text.isprintable() else printable(text)) + "\n")
+        self.is_lossy |= loss
+
+    def take(self, other: Log) -> None:
+        """Adds what another log tells."""
+        self.lines += other.lines
+        self.left += other.left
+        self.is_lossy |= other.is_lossy
+
+    def leave(self, path: Path, why: str) -> None:
+        self.left.append(f"{pointer_of(path)} is left: {why}")
+
+
+def is_long(path: Path) -> bool:
+    return any(shortened(key) != key for key in path)
+
+
+def brief_of(tree: Tree) -> Tree:
+    """Returns a tree with each text, key and number shortened. A shortened number is a text."""
+    if isinstance(tree, str):
+        return shortened(tree)
+    if isinstance(tree, dict):
+        return {shortened(key): brief_of(part) for key, part in tree.items()}
+    return [*map(brief_of, tree)] if isinstance(tree, list) else tree
 
 
 class Part:
     """An object of a report with its place. Each way to change it tells the change."""
 
-    def __init__(self, members, pointer, log):
-        self.members, self.pointer, self.log = members, pointer, log
+    def __init__(self, members: dict[str, Tree], path: Path, log: Log) -> None:
+        self.members, self.path, self.log = members, path, log
 
-    def get(self, key):
+    def get(self, key: str) -> Tree:
         return self.members.get(key)
 
-    def change(self, key, now, rule, loss=False):
+    def change(self, key: str, now: Tree, rule: str, loss: bool = False) -> None:
         """Puts another value in the place of a member, and tells it where it is another."""
         was = self.members[key]
         if type(was) is not type(now) or was != now:
             self.members[key] = now
-            self.log.tell(pointed(self.pointer, key), rule, loss, was=was, now=now)
+            self.log.tell((*self.path, key), rule, loss, was=was, now=now)
 
-    def remove(self, key, rule, loss=False, **why):
-        self.log.tell(pointed(self.pointer, key), rule, loss, was=self.members.pop(key), **why)
+    def remove(self, key: str, rule: str, loss: bool = False) -> None:
+        self.log.tell((*self.path, key), rule, loss, was=self.members.pop(key))
 
-    def rename(self, key, name, rule):
+    def rename(self, key: str, name: str, rule: str) -> None:
         """Gives a member another key, in its place."""
+        path = (*self.path, key)
         if name in self.members:
-            values = " and ".join(text_of(self.members[each]) for each in (name, key))
-            raise Fault(f"{pointed(self.pointer, key)} and {name} are one member, which stands twice: {values}")
-        told = {"was": self.members[key], "moved": pointed(self.pointer, name)}
-        self.log.tell(pointed(self.pointer, key), rule, False, **told)
+            values = " and ".join(shortened(text_of(self.members[each])) for each in (name, key))
+            raise NotDone(f"{pointer_of(path)} and {name} are one member, which stands twice: {values}")
+        self.log.tell_moved(path, name, rule, self.members[key])
         pairs = [(name if each == key else each, value) for each, value in self.members.items()]
         self.members.clear()
         self.members.update(pairs)
 
-    def leave(self, key, why):
-        self.log.left.append(f"{pointed(self.pointer, key)} is left: {why}")
+    def leave(self, key: str, why: str) -> None:
+        self.log.leave((*self.path, key), why)

@@ -1,75 +1,151 @@
-"""Reads and writes JSON letter by letter: a number stays the text that it is, and no member is lost."""
+"""Reads and writes JSON whose numbers keep their characters and in which no member is lost.
+
+`json` reads it, with hooks. It cannot write it: its encoder spells a number itself, from an int or a float, and has no
+hook for that, so 1.50, -0 and 1e400 would change. Therefore `pieces_of` writes.
+"""
+from __future__ import annotations
+
 import json
+import re
+from typing import Any, Callable, NamedTuple, Optional
 
+from process import NotDone, shortened
 
-class Fault(Exception):
-    """A line that tells why nothing is written."""
+Tree = Any  # None, bool, str, Number, or a dict or list of such trees
+HALF = re.compile(r"\\u[dD][89a-fA-F]")  # an escape of half a character
 
 
 class Number(str):
-    """A JSON number as it stands in the file, so that no digit passes through a float."""
+    """A JSON number as the file spells it, so that no digit passes through a float."""
+
+    __slots__ = ()
 
 
-def read_json(path):
-    """Returns the tree of a file, whose numbers are Number."""
-    twice = []
+class Twins(NamedTuple):
+    """Two members of one name in an object, and the dict that was made of the object."""
 
-    def members(pairs):
+    made: dict[str, Tree]
+    key: str
+    first: Tree
+    second: Tree
+
+
+def read_text(path: str) -> str:
+    try:
+        with open(path, encoding="utf-8-sig") as file:
+            return file.read()
+    except (OSError, ValueError) as fault:
+        raise NotDone(f"{path}: {type(fault).__name__}: {fault}") from None
+
+
+def read_json(path: str) -> Tree:
+    """Returns the tree of a file."""
+    return tree_of(read_text(path), path)
+
+
+def tree_of(text: str, path: str) -> Tree:
+    """Returns the tree of a file's text. Raises NotDone if it is no JSON, or if two members of one object share a name."""
+    twins: list[Twins] = []
+
+    def members(pairs: list[tuple[str, Tree]]) -> dict[str, Tree]:
         made = dict(pairs)
-        if len(made) < len(pairs):
-            twice.append((made, pairs))
+        if len(made) < len(pairs) and not twins:
+            twins.append(twins_in(pairs, made))
         return made
 
     try:
-        with open(path, encoding="utf-8-sig") as file:
-            hooks = dict(parse_int=Number, parse_float=Number, parse_constant=no_constant)
-            tree = json.load(file, object_pairs_hook=members, **hooks)
-        text_of(tree).encode()  # refuses halves of characters, which can't be written
-    except (OSError, ValueError, RecursionError) as fault:
-        raise Fault(f"{path}: {type(fault).__name__}: {fault}") from None
-    if twice:
-        raise Fault(f"{path}: {told_twice(tree, *twice[0])}")
+        tree = json.loads(text, object_pairs_hook=members, parse_int=Number, parse_float=Number, parse_constant=no_constant)
+        if HALF.search(text):
+            text_of(tree).encode()  # refuses halves of characters, which can't be written
+    except RecursionError:
+        raise NotDone(f"{path}: it is nested too deeply") from None
+    except ValueError as fault:
+        raise NotDone(f"{path}: {type(fault).__name__}: {shortened(str(fault))}") from None
+    if twins:
+        raise NotDone(f"{path}: {told_twice(tree, twins[0])}")
     return tree
 
 
-def no_constant(word):
+def no_constant(word: str) -> None:
     raise ValueError(f"{word} is no JSON")
 
 
-def told_twice(tree, made, pairs):
-    """Returns what to say of an object in which a member stands twice."""
-    keys = [key for key, _ in pairs]
-    key = next(key for key in keys if keys.count(key) > 1)
-    first, second, *_ = (text_of(value) for other, value in pairs if other == key)
-    place = next(places_of(tree, made, ""), None)
-    within = "an object" if place is None else place or "the root"
-    return f"the member {text_of(key)} stands twice in {within}: {first} and {second}"
+def twins_in(pairs: list[tuple[str, Tree]], made: dict[str, Tree]) -> Twins:
+    """Returns the first two members of one name."""
+    seen: dict[str, Tree] = {}
+    for key, value in pairs:
+        if key in seen:
+            return Twins(made, key, seen[key], value)
+        seen[key] = value
+    raise LookupError("no name comes twice")
 
 
-def places_of(tree, wanted, pointer):
-    """Yields the pointers under which a very object stands in a tree."""
-    if tree is wanted:
-        yield pointer
-    parts = tree.items() if isinstance(tree, dict) else enumerate(tree) if isinstance(tree, list) else ()
-    for key, part in parts:
-        yield from places_of(part, wanted, pointed(pointer, key))
+def told_twice(tree: Tree, twins: Twins) -> str:
+    """Returns what to say of an object with two members of one name."""
+    path = path_to(tree, twins.made)
+    within = "an object" if path is None else pointer_of(path) or "the root"
+    first, second = (shortened(text_of(value)) for value in (twins.first, twins.second))
+    return f"the member {text_of(shortened(twins.key))} stands twice in {within}: {first} and {second}"
 
 
-def pointed(pointer, key):
-    """Returns the JSON pointer of a member of what a pointer points at."""
-    return f"{pointer}/{str(key).replace('~', '~0').replace('/', '~1')}"
+def path_to(tree: Tree, wanted: Tree) -> Optional[tuple[str, ...]]:
+    """Returns the keys that lead to an object of a tree, None where the object is in another's place no more."""
+    waiting: list[tuple[Tree, Any]] = [(tree, None)]
+    while waiting:
+        part, way = waiting.pop()
+        if part is wanted:
+            return keys_of(way)
+        parts = part.items() if isinstance(part, dict) else enumerate(part) if isinstance(part, list) else ()
+        waiting.extend((each, (way, str(key))) for key, each in parts if isinstance(each, (dict, list)))
+    return None
+
+
+def keys_of(way: Any) -> tuple[str, ...]:
+    """Returns the keys of a way, which is the way before and the last key, or None."""
+    keys = []
+    while way:
+        way, key = way
+        keys.append(key)
+    return tuple(reversed(keys))
+
+
+def pointer_of(path: tuple[str, ...]) -> str:
+    """Returns the JSON pointer of a path, each key of which is shortened."""
+    return "".join("/" + shortened(key).replace("~", "~0").replace("/", "~1") for key in path)
 
 
 quoted = json.JSONEncoder(ensure_ascii=False).encode
 WORDS = {None: "null", True: "true", False: "false"}
 
 
-def text_of(tree):
+def text_of(tree: Tree) -> str:
     """Returns the compact text of a tree."""
+    return "".join(pieces_of(tree))
+
+
+def pieces_of(tree: Tree) -> list[str]:
+    """Returns the pieces of the compact text of a tree."""
+    pieces: list[str] = []
+    put(tree, pieces.append)
+    return pieces
+
+
+def put(tree: Tree, write: Callable[[str], None]) -> None:
     if isinstance(tree, str):
-        return str(tree) if isinstance(tree, Number) else quoted(tree)
-    if isinstance(tree, dict):
-        return "{" + ",".join([f"{quoted(key)}:{text_of(part)}" for key, part in tree.items()]) + "}"
-    if isinstance(tree, list):
-        return "[" + ",".join(map(text_of, tree)) + "]"
-    return WORDS[tree]
+        write(tree if isinstance(tree, Number) else quoted(tree))
+    elif isinstance(tree, dict):
+        sign = "{"
+        for key, part in tree.items():
+            write(f"{sign}{quoted(key)}:")
+            put(part, write)
+            sign = ","
+        write("}" if tree else "{}")
+    elif isinstance(tree, list):
+        sign = "["
+        for part in tree:
+            write(sign)
+            put(part, write)
+            sign = ","
+        write("]" if tree else "[]")
+    else:
+        write(WORDS[tree])

@@ -1,11 +1,17 @@
 """Rewrites the moments of a period: fractions of zero, dates alone and time zones."""
+from __future__ import annotations
+
 import datetime
 import re
+from typing import Callable, Iterator, Optional
 
 MOMENT = re.compile(r"(?P<day>\d{4}-\d\d-\d\d)(?P<time>T\d\d:\d\d:\d\d)?(?P<part>\.\d+)?(?P<zone>Z|[+-]\d\d:\d\d)?", re.ASCII)
+UTC = ("Z", "+00:00", "-00:00")
+
+Rewriting = Callable[["re.Match[str]", bool], Optional[str]]  # of a moment, and whether it is a start
 
 
-def each_moment(period, rewritten):
+def each_moment(period: str, rewritten: Rewriting) -> str:
     """Returns a period with each moment rewritten by a function of its match and of whether it is a start."""
     texts = period.split("/")
     if len(texts) > 2:
@@ -15,12 +21,12 @@ def each_moment(period, rewritten):
     return "/".join(text if new is None else new for text, new in zip(texts, made))
 
 
-def without_zero_fraction(moment, _):
+def without_zero_fraction(moment: re.Match[str], _: bool) -> Optional[str]:
     day, time, part, zone = moment.groups(default="")
     return day + time + zone if time and part and not part.strip(".0") else None
 
 
-def with_time(moment, is_start):
+def with_time(moment: re.Match[str], is_start: bool) -> Optional[str]:
     """Gives a date alone the end of its day, or its beginning where it is a start."""
     day, time, part, zone = moment.groups(default="")
     if time or part or not is_date(day):
@@ -28,33 +34,36 @@ def with_time(moment, is_start):
     return f"{day}T{'00' if is_start else '24'}:00:00{zone}"
 
 
-def in_utc(moment, _):
-    """Takes a moment with a zone to the one of UTC without a zone."""
+def in_utc(moment: re.Match[str], _: bool) -> Optional[str]:
+    """Takes a moment with a zone to the one of UTC without a zone. Midnight of UTC keeps its spelling."""
     day, time, part, zone = moment.groups(default="")
-    if not zone or not time or part or not is_date(day):
+    if not zone or not time or part:
         return None
-    if zone in ("Z", "+00:00", "-00:00"):
-        return day + time
     try:
         is_end = time == "T24:00:00"
         local = datetime.datetime.fromisoformat(day + (time if not is_end else "T00:00:00"))
-        hours, minutes = int(zone[1:3]), int(zone[4:])
-        if hours * 60 + minutes > 14 * 60 or minutes > 59:
-            return None
-        ahead = datetime.timedelta(hours=hours, minutes=minutes) * (-1 if zone[0] == "-" else 1)
-        return (local + datetime.timedelta(days=is_end) - ahead).isoformat()
+        in_zone = local + datetime.timedelta(days=is_end)
+        return day + time if zone in UTC else (in_zone - ahead(zone)).isoformat()
     except (ValueError, OverflowError):
         return None
 
 
-def is_date(day):
+def ahead(zone: str) -> datetime.timedelta:
+    """Returns how much later a zone's clocks are than those of UTC. Raises ValueError if it is no zone."""
+    hours, minutes = int(zone[1:3]), int(zone[4:])
+    if hours * 60 + minutes > 14 * 60 or minutes > 59:
+        raise ValueError(f"{zone} is no zone")
+    return datetime.timedelta(hours=hours, minutes=minutes) * (-1 if zone[0] == "-" else 1)
+
+
+def is_date(day: str) -> bool:
     try:
         return bool(datetime.date.fromisoformat(day))
     except ValueError:
         return False
 
 
-def doubts(period):
+def doubts(period: str) -> Iterator[str]:
     """Yields why the moments of a period stay without the profile."""
     for moment in map(MOMENT.fullmatch, period.split("/")):
         if moment and moment["part"]:
