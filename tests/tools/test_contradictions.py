@@ -63,16 +63,17 @@ class ToolTest(unittest.TestCase):
 
     def written(self, *inputs):
         done = self.run_tool(*inputs)
-        self.assertEqual((done.returncode, done.stderr, done.stdout), (0, b"", b""))
         page = content(self.page)
         with open(self.table, encoding="utf-8-sig", newline="") as file:
-            return page, list(csv.DictReader(file))
+            cells = list(csv.DictReader(file))
+        self.assertEqual((done.returncode, done.stderr, done.stdout), (int(bool(cells)), b"", b""))
+        return page, cells
 
     def check_refused(self, told, *inputs):
         """A line tells why, and nothing is written, not even in part."""
         before = set(os.listdir(self.room))
         done = self.run_tool(*inputs)
-        self.assertEqual((done.returncode, done.stdout), (1, b""), done.stderr)
+        self.assertEqual((done.returncode, done.stdout), (3, b""), done.stderr)
         self.assertEqual(len(done.stderr.splitlines()), 1, done.stderr)
         self.assertIn(told, done.stderr.decode())
         self.assertEqual(set(os.listdir(self.room)), before)
@@ -286,7 +287,7 @@ class BadInputs(Texts):
     def test_a_table_that_cannot_be_written(self):
         self.table = os.path.join(self.room, "no", "table.csv")
         done = self.run_tool(MERGED, SHEET, VERDICTS)
-        self.assertEqual((done.returncode, len(done.stderr.splitlines())), (1, 1))
+        self.assertEqual((done.returncode, len(done.stderr.splitlines())), (3, 1))
         self.assertFalse(os.path.exists(self.page))
 
     def test_usage(self):

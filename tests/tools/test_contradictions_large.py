@@ -48,7 +48,7 @@ class Labels(test_contradictions.ToolTest):
     def written_with(self, options):
         words = [*options, *INPUTS, self.page, self.table]
         done = subprocess.run([sys.executable, test_contradictions.TOOL, *words], capture_output=True)
-        self.assertEqual((done.returncode, done.stderr), (0, b""))
+        self.assertEqual((done.returncode, done.stderr), (1, b""))
         with open(self.table, encoding="utf-8-sig", newline="") as file:
             return test_contradictions.content(self.page), list(csv.DictReader(file))
 
@@ -66,7 +66,7 @@ class Labels(test_contradictions.ToolTest):
     def test_a_taxonomy_that_cannot_be_read(self):
         words = ["--labels", self.write("a.zip", "no zip"), *INPUTS, self.page, self.table]
         done = subprocess.run([sys.executable, test_contradictions.TOOL, *words], capture_output=True)
-        self.assertEqual((done.returncode, len(done.stderr.splitlines())), (1, 1), done.stderr)
+        self.assertEqual((done.returncode, len(done.stderr.splitlines())), (3, 1), done.stderr)
         self.assertFalse(os.path.exists(self.page))
 
 

@@ -4,6 +4,7 @@ import importlib.util
 import os
 
 from contradicting.texts import Name
+from process import NotDone
 
 PLACE = os.path.join(os.path.dirname(os.path.dirname(os.path.abspath(__file__))), "make_sheet")
 LOADER = importlib.machinery.SourceFileLoader("make_sheet", PLACE)
@@ -60,5 +61,5 @@ def read_labels(words, language):
     try:
         labels = Labelled(words, language).labels if words else {}
     except make_sheet.Fault as fault:
-        raise SystemExit("contradictions: " + ascii("; ".join(map(str, fault.args[1:])))) from None
+        raise NotDone("; ".join(map(str, fault.args[1:]))) from None
     return {name: text for name, (_, text) in labels.items() if text}

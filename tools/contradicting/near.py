@@ -1,14 +1,31 @@
 """Finds rows that nobody calls duplicates and everybody should look at."""
-import collections
+from __future__ import annotations
+
 import datetime
 import itertools
+from typing import Iterator, Mapping, NamedTuple, Optional, Sequence, Union
 
-from contradicting.sources import names_of, providers
-from contradicting.tables import DIMENSIONS, dimension_cells
-from contradicting.texts import CORE, Name
+from contradicting.rows import Dimensions, Fact
+from contradicting.sources import Holders, names_of, providers
+from contradicting.tables import DIMENSIONS, Cell, cell, dimension_cells
+from contradicting.texts import Name
 
 COLUMNS = ["pair", "differs", "row", "fact", *DIMENSIONS, *"value decimals low high providers label".split()]
-ABSENT = None
+MOST_PAIRS = 1_000  # that are compared of rows which differ in the same dimension alone
+MOST_FACTS = 10_000  # that these pairs have, at most one pair more
+WORD = (1 << 64) - 1
+
+Axis = Union[str, Name]
+Items = dict[Axis, object]
+
+
+class Kept(NamedTuple):
+    """A row that may have a partner, and who holds it."""
+
+    dimensions: Dimensions
+    facts: Mapping[str, Fact]
+    holders: Mapping[str, Holders]
+    names: frozenset[str]
 
 
 class Near:
@@ -16,70 +33,102 @@ class Near:
 
     A slip is: an entity, a concept or an explicit member of the same local part in another namespace; letter case or
     white space; moments at most a day apart; another unit or language; a dimension that one of the two lacks.
+    Of rows that differ in the same dimension alone, the pairs that are next to each other in the text are compared first,
+    and there are limits to how many are; `cut` counts those that are not compared.
     """
 
-    def __init__(self, providers):
-        self.everybody, self.kept, self.found = set(providers), {}, []
+    def __init__(self, providers: Sequence[str]) -> None:
+        self.everybody, self.cut = {*providers}, 0
+        self.kept: dict[int, Kept] = {}
+        self.items: dict[int, Items] = {}
 
-    def wants(self, holders):
+    def wants(self, holders: Mapping[str, Holders]) -> bool:
         """Tells whether a row can have a partner: somebody holds it, and somebody does not."""
         who = names_of(holders)
         return bool(who) and who < self.everybody
 
-    def add(self, number, facts, holders):
-        self.kept[number] = facts, holders, names_of(holders)
+    def add(self, number: int, dimensions: Dimensions, facts: Mapping[str, Fact], holders: Mapping[str, Holders]) -> None:
+        self.kept[number] = Kept(dimensions, facts, holders, frozenset(names_of(holders)))
 
-    def pairs(self):
-        """Yields two numbers of rows and the dimension in which these differ, in order."""
-        items = {number: items_of(next(iter(facts.values()))) for number, (facts, _, _) in self.kept.items()}
-        whole = {frozenset(of.items()): number for number, of in items.items()}
-        alike, lacking = collections.defaultdict(list), []
-        for number, of in items.items():
-            for axis, value in of.items():
-                rest = frozenset((key, each) for key, each in of.items() if key != axis)
+    def pairs(self) -> list[tuple[int, int, Axis]]:
+        """Returns two numbers of rows and the dimension in which these differ, in order."""
+        self.items = {number: items_of(kept.dimensions) for number, kept in self.kept.items()}
+        found: dict[tuple[int, int], Axis] = {}
+        for numbers in self.groups():
+            found.update(self.compared(numbers))
+        return [(*pair, found[pair]) for pair in sorted(found)]
+
+    def groups(self) -> Iterator[list[int]]:
+        """Yields the numbers of rows that differ in one dimension alone, two or more, in order.
+
+        Dimensions are compared by a sum of hashes, so that leaving one out costs a subtraction. `difference` looks again.
+        """
+        sums = {number: sum(map(hash, items.items())) for number, items in self.items.items()}
+        whole = {total & WORD: number for number, total in sums.items()}
+        first: dict[int, int] = {}
+        alike: dict[int, list[int]] = {}
+        for number, items in self.items.items():
+            for axis, value in items.items():
+                rest = (sums[number] - hash((axis, value))) & WORD
                 for bucket in buckets(axis, value):
-                    alike[hash((axis, bucket, rest))].append(number)
+                    key = hash((axis, bucket, rest))
+                    if first.setdefault(key, number) != number:
+                        alike.setdefault(key, [first[key]]).append(number)
                 if rest in whole:
-                    lacking.append((whole[rest], number))
-        together = (pair for numbers in alike.values() for pair in itertools.combinations(numbers, 2))
-        for one, other in sorted({tuple(sorted(pair)) for pair in itertools.chain(together, lacking)}):
-            axis = self.difference(items[one], items[other])
-            if axis and not self.kept[one][2] & self.kept[other][2]:
-                yield one, other, axis
+                    yield sorted((whole[rest], number))
+        yield from alike.values()
 
-    @staticmethod
-    def difference(one, other):
+    def compared(self, numbers: list[int]) -> Iterator[tuple[tuple[int, int], Axis]]:
+        """Yields the pairs of a group that are listed, within the limits."""
+        count, facts = len(numbers) * (len(numbers) - 1) // 2, 0
+        pairs = itertools.chain.from_iterable(zip(numbers, numbers[step:]) for step in range(1, len(numbers)))
+        for done, (one, other) in enumerate(pairs):
+            if done == MOST_PAIRS or facts > MOST_FACTS:
+                self.cut += count - done
+                return
+            axis = self.difference(one, other) if self.kept[one].names.isdisjoint(self.kept[other].names) else None
+            if axis:
+                facts += len(self.kept[one].facts) + len(self.kept[other].facts)
+                yield (one, other), axis
+
+    def difference(self, first: int, second: int) -> Optional[Axis]:
         """Returns the only dimension in which two rows differ, None where there are several or no slip is likely."""
-        axes = [axis for axis in {**one, **other} if one.get(axis, ABSENT) != other.get(axis, ABSENT)]
+        one, other = self.items[first], self.items[second]
+        axes = [axis for axis in {**one, **other} if one.get(axis) != other.get(axis)]
         if len(axes) != 1:
             return None
         values = [of[axes[0]] for of in (one, other) if axes[0] in of]
         shared = set.intersection(*(set(buckets(axes[0], value)) for value in values))
         return axes[0] if shared else None
 
-    def table(self, labels):
+    def notes(self) -> list[str]:
+        """Returns what to say of the pairs that were not compared."""
+        told = f"{self.cut} pairs of rows were not compared: of rows that differ in the same dimension alone, at most"
+        return [f"--near: {told} {MOST_PAIRS} pairs, or about {MOST_FACTS} facts, are"] if self.cut else []
+
+    def table(self, pairs: list[tuple[int, int, Axis]], labels: Mapping[Name, str]) -> Iterator[Sequence[str]]:
         """Yields the lines of the table: of each pair, the facts of both rows."""
         yield COLUMNS
-        for rank, (one, other, axis) in enumerate(self.pairs(), 1):
+        for rank, (one, other, axis) in enumerate(pairs, 1):
             for number in (one, other):
-                facts, holders, _ = self.kept[number]
-                for name, fact in facts.items():
-                    cells = fact.value, *fact.precision(), providers(holders[name]), labels.get(fact.concept, "")
-                    yield rank, axis, number, name, *dimension_cells(fact), *cells
+                kept = self.kept[number]
+                dimensions, label = dimension_cells(kept.dimensions), labels.get(kept.dimensions.concept, "")
+                for name, fact in kept.facts.items():
+                    cells: list[Cell] = [fact.value, *fact.precision(), providers(kept.holders[name]), label]
+                    yield [cell(rank), cell(axis), cell(number), cell(name), *dimensions, *map(cell, cells)]
 
 
-def items_of(fact):
+def items_of(dimensions: Dimensions) -> Items:
     """Returns what a row is about, by dimension; what is absent is not there."""
-    core = {key: value for key, value in zip(CORE, fact) if value}
-    return {**core, **{axis: (member,) for axis, member in fact.members}}
+    core: Items = {key: value for key, value in dimensions._asdict().items() if value and key != "members"}
+    return {**core, **{axis: (member,) for axis, member in dimensions.members}}
 
 
-def buckets(axis, value):
+def buckets(axis: Axis, value: object) -> list[object]:
     """Returns keys, of which two values that may be one by a slip have one in common."""
-    value = value[0] if isinstance(axis, Name) else value
-    if axis in ("unit", "language") or value is None:
-        return [""]
+    of = value[0] if isinstance(axis, Name) and isinstance(value, tuple) else value
     if axis == "period":
-        days = [datetime.date.fromisoformat(moment[:10]).toordinal() for moment in value.split("/")]
+        days = [datetime.date.fromisoformat(moment[:10]).toordinal() for moment in str(of).split("/")]
         return [*itertools.product(*((day, day + 1) for day in days))]
-    return ["".join((value.local if isinstance(value, Name) else value).split()).casefold()]
+    text = of.local if isinstance(of, Name) else of
+    return ["".join(text.split()).casefold() if isinstance(text, str) and axis != "language" else ""]

@@ -1,63 +1,130 @@
 """The rows of a merged text, and what the lines of `verdicts` say of them."""
+from __future__ import annotations
+
 import collections
 import datetime
 import itertools
 import re
 from decimal import Decimal, getcontext
+from typing import Any, Iterable, Iterator, Mapping, NamedTuple, Optional, Protocol, Union
 
-from contradicting.sources import names_of
-from contradicting.texts import CORE, using
+from contradicting.sources import Holders, names_of
+from contradicting.texts import CORE, Name, Sheet, Text, Tree, using
+from process import shortened
 
 getcontext().prec = 100  # more digits than an end of an interval has: sums are exact
-NUMBER = re.compile(r"-?(?:0|[1-9]\d{0,39})(?:\.\d{1,39})?")
+NUMBER = re.compile(r"-?(?:0|[1-9]\d{0,39})(?:\.\d{1,39})?", re.ASCII)
+MOMENT = re.compile(r"\d{4}-\d\d-\d\dT\d\d:\d\d:\d\d", re.ASCII)
 EVIDENCE = re.compile(r"complete|consistent common (?P<low>\S+) (?P<high>\S+)|inconsistent apart (?P<one>\S+) (?P<two>\S+)")
 
+Interval = tuple[Decimal, Decimal]
+Value = Union[Decimal, Name, str, None]
 
-class Fact(collections.namedtuple("Fact", "concept entity period unit language members value decimals")):
-    """A fact with expanded names; what is absent is empty, and a unit is its numerators and its denominators."""
 
-    def interval(self):
+class Dimensions(NamedTuple):
+    """The dimensions of a row with expanded names; a unit is its numerators and its denominators. Absent ones are empty."""
+
+    concept: Name
+    entity: Optional[Name]
+    period: str
+    unit: tuple[tuple[Name, ...], ...]
+    language: str
+    members: tuple[tuple[Name, Union[Name, str, None]], ...]
+
+
+class Fact(NamedTuple):
+    """A fact, whose row has its dimensions."""
+
+    value: Value
+    decimals: Optional[int]
+
+    def interval(self) -> Interval:
         """Returns the least and the greatest number that the value stands for."""
+        if not isinstance(self.value, Decimal):
+            raise TypeError(f"{self.value} is no number")
         return interval_of(self.value, self.decimals)
 
-    def precision(self):
+    def precision(self) -> tuple[Union[int, str], Union[Decimal, str], Union[Decimal, str]]:
         """Returns the decimals and the interval of a number, nothing of others."""
-        decimals = "exact" if self.decimals is None else self.decimals
-        return (decimals, *self.interval()) if isinstance(self.value, Decimal) else [""] * 3
+        if not isinstance(self.value, Decimal):
+            return "", "", ""
+        low, high = self.interval()
+        return "exact" if self.decimals is None else self.decimals, low, high
 
 
-class Row(collections.namedtuple("Row", "number facts said holders gap")):
+class Row(NamedTuple):
     """The facts of one dimension set by identifier, what a line says of them, and who said each.
 
     The gap has the ends of what lies between the two facts that don't meet, and is None where they are no numbers.
     """
 
-    def share(self):
+    number: int
+    dimensions: Optional[Dimensions]  # None, as there are no facts, where it does not contradict itself
+    facts: Mapping[str, Fact]
+    said: re.Match[str]
+    holders: Mapping[str, Holders]
+    gap: Optional[Interval]
+
+    @property
+    def pair(self) -> tuple[str, str]:
+        """The identifiers of the two facts that don't meet."""
+        return self.said["one"], self.said["two"]
+
+    def share(self) -> Optional[Decimal]:
         """Returns the difference of the pair as a share of the larger value, None where they are no numbers."""
-        one, two = (self.facts[name].value for name in self.said.group("one", "two"))
-        return abs(one - two) / max(abs(one), abs(two)) if self.gap else None
+        one, two = (self.facts[name].value for name in self.pair)
+        if not isinstance(one, Decimal) or not isinstance(two, Decimal):
+            return None
+        return abs(one - two) / max(abs(one), abs(two))
 
 
-def contradiction(number, facts, said, holders):
-    """Returns a row that contradicts itself, None where its facts do not show it."""
-    one, two = (facts.get(name) for name in said.group("one", "two"))
+class Watcher(Protocol):
+    """What looks at rows beside those that contradict themselves."""
+
+    def wants(self, holders: Mapping[str, Holders]) -> bool: ...
+
+    def add(self, number: int, dimensions: Dimensions, facts: Mapping[str, Fact], holders: Mapping[str, Holders]) -> None: ...
+
+
+class Teller(Protocol):
+    """What tells who said a fact, of all facts in order."""
+
+    names: list[str]
+
+    def holders(self, name: str, tree: Tree) -> Holders: ...
+
+    def finish(self) -> None: ...
+
+
+def dimensions_given(fact: tuple[str, Tree]) -> Any:
+    return fact[1].get("dimensions")
+
+
+def contradiction(row: Row) -> Optional[Row]:
+    """Returns a row with its gap, None where its facts do not show that it contradicts itself."""
+    one, two = (row.facts.get(name) for name in row.pair)
     if not one or not two or one is two:
         return None
-    is_numeric = type(one.value) is type(two.value) is Decimal
-    gap = (one.interval()[1], two.interval()[0]) if is_numeric else None
-    return Row(number, facts, said, holders, gap) if not gap or gap[0] < gap[1] else None
+    if not isinstance(one.value, Decimal) or not isinstance(two.value, Decimal):
+        return row
+    gap = one.interval()[1], two.interval()[0]
+    return row._replace(gap=gap) if gap[0] < gap[1] else None
 
 
 class Reader:
     """Reads the rows of a merged text along with their lines, and who said their facts."""
 
-    def __init__(self, text, sheet, sources, near=None, listed=None):
+    def __init__(
+        self, text: Text, sheet: Sheet, sources: Teller, near: Optional[Watcher] = None, listed: Optional[list[Any]] = None
+    ) -> None:
         self.text, self.sheet, self.sources, self.near, self.listed = text, sheet, sources, near, listed
-        self.counts, self.kinds, self.providers = collections.Counter(), {}, len(set(sources.names))
+        self.counts: collections.Counter[str] = collections.Counter()
+        self.kinds: dict[str, str] = {}
+        self.providers = len(set(sources.names))
 
-    def rows(self, path):
+    def rows(self, path: str) -> list[Row]:
         """Returns the rows that contradict themselves. The lines have to tell of just the facts, and what they show."""
-        kept, groups = [], itertools.groupby(self.text.facts(), lambda fact: fact[1].get("dimensions"))
+        kept, groups = [], itertools.groupby(self.text.facts(), dimensions_given)
         with using(path), open(path, encoding="utf-8", newline="\n") as lines:
             for number, (group, line) in enumerate(zip_all(groups, lines), 1):
                 row = self.row(number, dict(group[1]), line)
@@ -69,7 +136,7 @@ class Reader:
         self.sources.finish()
         return kept
 
-    def count(self, row):
+    def count(self, row: Row) -> None:
         verdict, who = row.said[0].split(" ")[0], names_of(row.holders)
         self.counts[verdict] += 1
         self.counts["alone"] += verdict == "complete" and len(who) == 1
@@ -77,11 +144,11 @@ class Reader:
             names = [*row.holders]
             self.listed.append((row.number, verdict, names[0], names[-1], self.said_by(len(who)), ", ".join(sorted(who))))
 
-    def said_by(self, count):
+    def said_by(self, count: int) -> str:
         """Returns in words that so many of the providers said something, nothing where there are no providers."""
         return f"{count} of {self.providers}" if self.providers else ""
 
-    def row(self, number, facts, line):
+    def row(self, number: int, facts: dict[str, Tree], line: str) -> Optional[Row]:
         """Returns a row, None where its line does not fit it. Of one that contradicts itself all facts are expanded."""
         with using(self.text.path):
             is_numeric = [self.kind(tree) == "numeric" for tree in facts.values()][0]
@@ -89,45 +156,69 @@ class Reader:
         said = said_of(line, f"{number} {names[0]} {names[-1]} ")
         holders = {name: self.sources.holders(name, tree) for name, tree in facts.items()}
         if self.near and self.near.wants(holders):
-            self.near.add(number, self.expanded(facts), holders)
-        if said and said["one"]:
-            return contradiction(number, self.expanded(facts), said, holders)
-        is_shown = said and (is_common(said, facts) if said["low"] and is_numeric else len(facts) == 1 and not said["low"])
-        return Row(number, {}, said, holders, None) if is_shown else None
+            self.near.add(number, *self.expanded(facts), holders)
+        if said is None:
+            return None
+        if said["one"]:
+            return contradiction(Row(number, *self.expanded(facts), said, holders, None))
+        is_shown = is_common(said, facts) if said["low"] and is_numeric else len(facts) == 1 and not said["low"]
+        return Row(number, None, {}, said, holders, None) if is_shown else None
 
-    def kind(self, tree):
+    def kind(self, tree: Tree) -> str:
         """Returns the kind of a fact, whose value has to be of it."""
         concept = tree["dimensions"]["concept"]
         if concept not in self.kinds:
             self.kinds[concept] = self.sheet.concepts[self.text.name(concept)]
-        if self.kinds[concept] == "numeric" and tree["value"] is not None:
-            if not NUMBER.fullmatch(tree["value"]) or tree.get("decimals", 0) not in range(-39, 40):
-                raise ValueError(f"it has a number of another form: {tree['value']}")
-        return self.kinds[concept]
+        kind = self.kinds[concept]
+        if kind == "numeric" and tree["value"] is not None:
+            decimals = tree.get("decimals", 0)
+            if not NUMBER.fullmatch(tree["value"]) or type(decimals) is not int or decimals not in range(-39, 40):
+                raise ValueError(f"it has a number of another form: {shortened(tree['value'])}")
+        elif not isinstance(tree["value"], (str, type(None))):
+            raise ValueError("it has a value that is no text")
+        return kind
 
-    def expanded(self, facts):
+    def expanded(self, facts: dict[str, Tree]) -> tuple[Dimensions, dict[str, Fact]]:
+        """Returns the dimensions and the facts of a row."""
         with using(self.text.path):
-            return {name: self.fact_of(tree) for name, tree in facts.items()}
+            dimensions = self.dimensions_of(next(iter(facts.values()))["dimensions"])
+            kind = self.sheet.concepts[dimensions.concept]
+            return dimensions, {name: self.fact_of(tree, kind) for name, tree in facts.items()}
 
-    def fact_of(self, tree):
-        given, value, decimals = dict(tree["dimensions"]), tree["value"], None
+    def dimensions_of(self, tree: Tree) -> Dimensions:
+        given, name = dict(tree), self.text.name
         concept, entity, period, unit, language = (given.pop(core, "") for core in CORE)
-        name = self.text.name
-        concept, entity = name(concept), name(entity) if entity else None
         sides = (side.strip("()").split("*") for side in unit.split("/") if side)
-        unit = tuple(tuple(sorted(map(name, side))) for side in sides)
+        units = tuple(tuple(sorted(map(name, side))) for side in sides)
         members = sorted((name(axis), member) for axis, member in given.items())
         explicit = (member and self.sheet.axes[axis] == "explicit" for axis, member in members)
-        members = tuple((axis, name(member) if named else member) for (axis, member), named in zip(members, explicit))
-        kind = self.sheet.concepts[concept]
-        if kind == "name" and value is not None:
-            value = name(value)
-        elif kind == "numeric" and value is not None:
-            value, decimals = Decimal(value), tree.get("decimals")
-        return Fact(concept, entity, period, unit, language, members, value, decimals)
+        named = tuple((axis, name(member) if has_name else member) for (axis, member), has_name in zip(members, explicit))
+        check_texts(language, *(member for axis, member in members if member is not None))
+        return Dimensions(name(concept), name(entity) if entity else None, checked_period(period), units, language, named)
+
+    def fact_of(self, tree: Tree, kind: str) -> Fact:
+        value = tree["value"]
+        if kind == "numeric" and value is not None:
+            return Fact(Decimal(value), tree.get("decimals"))
+        return Fact(self.text.name(value) if kind == "name" and value is not None else value, None)
 
 
-def zip_all(groups, lines):
+def check_texts(*values: Any) -> None:
+    if not all(isinstance(value, str) for value in values):
+        raise ValueError("it has a dimension that is no text")
+
+
+def checked_period(period: str) -> str:
+    """Returns a period, which is absent, a moment or two of them."""
+    moments = period.split("/") if period else []
+    if len(moments) > 2 or not all(map(MOMENT.fullmatch, moments)):
+        raise ValueError(f"it has a period of another form: {shortened(period)}")
+    for moment in moments:
+        datetime.datetime.fromisoformat(moment)
+    return period
+
+
+def zip_all(groups: Iterable[Any], lines: Iterable[str]) -> Iterator[tuple[Any, str]]:
     """Yields each group with its line; there have to be as many of both."""
     for group, line in itertools.zip_longest(groups, lines):
         if group is None or line is None or not line.endswith("\n"):
@@ -135,16 +226,16 @@ def zip_all(groups, lines):
         yield group, line
 
 
-def said_of(line, start):
+def said_of(line: str, start: str) -> Optional[re.Match[str]]:
     return EVIDENCE.fullmatch(line, len(start), len(line) - 1) if line.startswith(start) else None
 
 
-def interval_of(value, decimals):
-    half = 0 if decimals is None else Decimal(5).scaleb(-decimals - 1)
+def interval_of(value: Decimal, decimals: Optional[int]) -> Interval:
+    half = Decimal(0) if decimals is None else Decimal(5).scaleb(-decimals - 1)
     return value - half, value + half
 
 
-def is_common(said, facts):
+def is_common(said: re.Match[str], facts: Mapping[str, Tree]) -> bool:
     """Tells whether the numbers of facts have just the interval in common that a line says."""
     if any(fact["value"] is None for fact in facts.values()):
         return False
@@ -152,14 +243,14 @@ def is_common(said, facts):
     return (max(lows), min(highs)) == (Decimal(said["low"]), Decimal(said["high"]))
 
 
-def day(moment, is_end):
+def day(moment: str, is_end: bool) -> str:
     """Returns a moment as people say it: midnight is the day that begins or, at an end, the day that ended."""
     read = datetime.datetime.fromisoformat(moment)
     is_midnight = read.time() == datetime.time() and (not is_end or read > datetime.datetime.min)
     return str(read.date() - datetime.timedelta(days=is_end)) if is_midnight else moment.replace("T", " ")
 
 
-def plain(number, minus="-", groups=""):
+def plain(number: Union[int, Decimal], minus: str = "-", groups: str = "") -> str:
     """Returns the exact text of a number."""
     text = f"{abs(number):,f}".replace(",", groups) if groups else f"{abs(number):f}"
     text = text.rstrip("0").rstrip(".") if "." in text else text

@@ -1,27 +1,39 @@
 """Who said the facts of a merged text, as the lines of `sources` tell."""
-import collections
+from __future__ import annotations
+
 import json
 import re
+from typing import Mapping, NamedTuple, Optional
 
-from contradicting.texts import using
+from contradicting.texts import Provider, Tree, using
+from process import shortened
 
-LINE = re.compile(r'(f\d+) ([1-9]\d*) (".*")\n')
+LINE = re.compile(r'(f\d+) ([1-9]\d{0,17}) (".*")\n', re.ASCII)
 
-Holder = collections.namedtuple("Holder", "name identifiers")
+
+class Holder(NamedTuple):
+    """A provider that said a fact, and by which identifiers, where that is known."""
+
+    name: str
+    identifiers: tuple[str, ...]
+
+
+Holders = tuple[Holder, ...]  # of one fact
 
 
 class Sources:
     """The lines of `sources`, of reports whose providers have these names: those of a fact stand together, in its place."""
 
-    def __init__(self, path, names):
+    def __init__(self, path: str, names: list[str]) -> None:
         self.path, self.names = path, names
+        self.head: Optional[tuple[str, str, str]] = None  # a fact, who said it, and by which identifier
         with using(path):
             self.lines = open(path, encoding="utf-8", newline="\n")
             self.advance()
 
-    def advance(self):
+    def advance(self) -> None:
         line = next(self.lines, None)
-        found = line and LINE.fullmatch(line)
+        found = LINE.fullmatch(line) if line else None
         if line is None:
             self.lines.close()
             self.head = None
@@ -32,9 +44,9 @@ class Sources:
             identifier.encode()  # refuses halves of characters, which can't be written
             self.head = found[1], self.names[int(found[2]) - 1], identifier
 
-    def holders(self, name, tree):
+    def holders(self, name: str, _: Tree) -> Holders:
         """Returns who said a fact, by which identifiers; each has to be asked for once, in order."""
-        found = {}
+        found: dict[str, list[str]] = {}
         with using(self.path):
             while self.head and self.head[0] == name:
                 found.setdefault(self.head[1], []).append(self.head[2])
@@ -43,7 +55,7 @@ class Sources:
                 raise ValueError(f"it tells nobody who said {name}, or not in its place")
         return tuple(Holder(provider, tuple(identifiers)) for provider, identifiers in found.items())
 
-    def finish(self):
+    def finish(self) -> None:
         """Refuses lines of facts that are not there."""
         with using(self.path):
             if self.head:
@@ -53,32 +65,33 @@ class Sources:
 class OwnTexts:
     """The merged text of each provider's own reports, which tells no identifiers."""
 
-    def __init__(self, providers):
+    def __init__(self, providers: list[Provider]) -> None:
         self.providers, self.names = providers, [provider.name for provider in providers]
 
-    def holders(self, name, tree):
+    def holders(self, _: str, tree: Tree) -> Holders:
         return tuple(Holder(provider.name, ()) for provider in self.providers if provider.said(tree))
 
-    def finish(self):
+    def finish(self) -> None:
         for provider in self.providers:
             provider.finish()
 
 
-def names_of(holders):
+def names_of(holders: Mapping[str, Holders]) -> set[str]:
     """Returns the names of those who said the facts of a row."""
     return {holder.name for each in holders.values() for holder in each}
 
 
-def providers(holders):
+def providers(holders: Holders) -> str:
     """Returns the names of those who said a fact, as a text."""
     return ", ".join(holder.name for holder in holders)
 
 
-def identifiers(holders):
+def identifiers(holders: Holders) -> str:
     """Returns by which identifiers each of them said it, where that is known, as a text."""
     return "; ".join(f"{holder.name}: {', '.join(holder.identifiers)}" for holder in holders if holder.identifiers)
 
 
-def told(holders):
-    """Returns both, as a text."""
-    return "; ".join(" ".join((holder.name, ", ".join(holder.identifiers))).strip() for holder in holders)
+def told(holders: Holders) -> str:
+    """Returns both, as a text, with each name and each identifier shortened."""
+    brief = ((shortened(holder.name), ", ".join(map(shortened, holder.identifiers))) for holder in holders)
+    return "; ".join(" ".join(each).strip() for each in brief)

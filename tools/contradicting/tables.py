@@ -1,71 +1,98 @@
 """The table of what contradicts, with names as {URI}local and nothing that a spreadsheet would work out."""
+from __future__ import annotations
+
 import csv
 import functools
 import re
 from decimal import Decimal
+from typing import Iterable, Iterator, Mapping, Sequence, Union
 
-from contradicting.rows import plain
+from contradicting.rows import Dimensions, Reader, Row, Value, plain
 from contradicting.sources import identifiers, providers
 from contradicting.texts import Name
+from process import NotDone
 
-FORMULA_START = re.compile(r"(^|[\t\r\n;|])(?=[\s\x00-\x20\ufeff'\"]*[=+\-@\uff1d\uff0b\uff0d\uff20])")
+SIGNS = "=+-@\uff1d\uff0b\uff0d\uff20"  # that a formula begins with
+SKIPPED = "[\\s\x00-\x20\ufeff'\"]+"  # what a spreadsheet may skip before them
+BEFORE_FORMULA = re.compile(f"{SKIPPED}|(?<![^;|])(?=[{re.escape(SIGNS)}])")
+SEPARATOR = re.compile("[\t\r\n]")
 DIMENSIONS = "concept entity period unit language dimensions".split()
 COLUMNS = ["row", "fact", *DIMENSIONS, *"value decimals low high evidence providers identifiers said_by label".split()]
 LISTED = "row verdict first last said_by providers".split()
+LONGEST_CELL = 1 << 24  # characters that the names of a unit, or the dimensions of a row, may have
+LONGEST_TABLE = 1 << 31
+
+Cell = Union[Value, int]
 
 
-class Line(list):
+class Line(list[str]):
     """A file for csv that keeps one line."""
 
     write = list.append
 
 
-def lines_of(table):
-    """Yields the lines of a table of values."""
-    made = Line()
+def lines_of(table: Iterable[Sequence[str]]) -> Iterator[str]:
+    """Yields the lines of a table of cells."""
+    made, room = Line(), LONGEST_TABLE
     writer = csv.writer(made)
     yield "\ufeff"
-    for values in table:
-        writer.writerow(map(cell, values))
+    for cells in table:
+        writer.writerow(cells)
+        room -= len(made[-1])
+        if room < 0:
+            raise NotDone(f"a table, which has each name with its URI, would be longer than {LONGEST_TABLE} characters")
         yield made.pop()
 
 
-def cell(value):
+def cell(value: Cell) -> str:
     """Returns the text of a cell."""
-    if not isinstance(value, (str, tuple, type(None))):
+    if isinstance(value, (int, Decimal)):
         return plain(value)
-    text = "nil" if value is None else "{%s}%s" % value if isinstance(value, Name) else value
+    text = "nil" if value is None else f"{{{value.uri}}}{value.local}" if isinstance(value, Name) else value
     return safe(text) if len(text) > 200 else safe_again(text)
 
 
-def safe(text):
-    """Returns a text that no spreadsheet works out."""
-    return FORMULA_START.sub(r"\1'", text)
+def safe(text: str) -> str:
+    """Returns a text that no spreadsheet works out: a ' stands before what would begin a formula."""
+    return BEFORE_FORMULA.sub(guarded, text)
 
 
 safe_again = functools.lru_cache(10_000)(safe)  # short texts come again in many cells
 
 
-def dimension_cells(fact):
-    unit = "/".join("*".join(map(cell, side)) for side in fact.unit)
-    members = "; ".join(f"{cell(axis)}={cell(member)}" for axis, member in fact.members)
-    return fact.concept, fact.entity or "", fact.period, unit, fact.language, members
+def guarded(found: re.Match[str]) -> str:
+    """Returns what a spreadsheet may skip, and a ' wherever a formula might begin in it."""
+    skipped, text = found[0], found.string
+    if found.end() == len(text) or text[found.end()] not in SIGNS:
+        return skipped
+    first = "'" if found.start() == 0 or text[found.start() - 1] in ";|" else ""
+    return first + SEPARATOR.sub(r"\g<0>'", skipped)
 
 
-def table(rows, labels, said_by):
-    """Yields the lines of the table of contradictions. said_by tells in words how many of the providers said a value."""
+def dimension_cells(of: Dimensions) -> list[str]:
+    """Returns the cells of what a row is about. Raises NotDone where they would be too long."""
+    names = [name for side in of.unit for name in side] + [name for pair in of.members for name in pair if isinstance(name, Name)]
+    if sum(len(name.uri) + len(name.local) + 3 for name in names) > LONGEST_CELL:
+        raise NotDone(f"a row has a unit or dimensions that are longer than {LONGEST_CELL} characters with their URIs")
+    unit = "/".join("*".join(map(cell, side)) for side in of.unit)
+    members = "; ".join(f"{cell(axis)}={cell(member)}" for axis, member in of.members)
+    return [*map(cell, (of.concept, of.entity or "", of.period, unit, of.language, members))]
+
+
+def table(rows: Iterable[Row], labels: Mapping[Name, str], reader: Reader) -> Iterator[Sequence[str]]:
+    """Yields the lines of the table of contradictions."""
     yield COLUMNS
     for row in rows:
-        first = next(iter(row.facts.values()))
-        dimensions, label = dimension_cells(first), labels.get(first.concept, "")
-        for name, fact in row.facts.items():
-            pair = "pair" * (name in row.said.group("one", "two"))
-            who = row.holders[name]
-            cells = providers(who), identifiers(who), said_by(len(who)), label
-            yield row.number, name, *dimensions, fact.value, *fact.precision(), pair, *cells
+        if row.dimensions:
+            dimensions, label = dimension_cells(row.dimensions), labels.get(row.dimensions.concept, "")
+            for name, fact in row.facts.items():
+                who = row.holders[name]
+                value: list[Cell] = [fact.value, *fact.precision(), "pair" * (name in row.pair)]
+                told = providers(who), identifiers(who), reader.said_by(len(who)), label
+                yield [cell(row.number), cell(name), *dimensions, *map(cell, [*value, *told])]
 
 
-def listed_table(listed):
+def listed_table(listed: Iterable[Sequence[Cell]]) -> Iterator[Sequence[str]]:
     """Yields the lines of the table of all rows."""
     yield LISTED
-    yield from listed
+    yield from ([*map(cell, line)] for line in listed)

@@ -1,37 +1,59 @@
 """Reads merged texts, which may be large, fact by fact."""
-import collections
+from __future__ import annotations
+
 import contextlib
 import json
 import re
+import sys
+from typing import Any, Iterator, Mapping, NamedTuple, Optional
 
-Name = collections.namedtuple("Name", "uri local")
+from process import NotDone, shortened
+
+Tree = Any  # what `json` reads
 PIECE = 1 << 18  # characters that are read at a time
 WHITE = " \t\r\n"  # has the empty text too, which stands for the end of a piece
 SPACE = re.compile(r"[ \t\r\n]*")
 FACT = re.compile(r'(,?)[ \t\r\n]*"(f\d+)"[ \t\r\n]*:[ \t\r\n]*(?={)')
 CORE = ("concept", "entity", "period", "unit", "language")
+DIGITS = 18  # that a whole number has at most: longer ones stay texts, since reading them takes the square of their length
+
+
+class Name(NamedTuple):
+    """An expanded name."""
+
+    uri: str
+    local: str
 
 
 @contextlib.contextmanager
-def using(path):
+def using(path: str) -> Iterator[None]:
     """Has a fault name the file that it lies in."""
     try:
         yield
     except (OSError, ValueError, LookupError, TypeError, AttributeError, ArithmeticError, RecursionError) as fault:
-        raise SystemExit("contradictions: " + ascii(f"{path}: {type(fault).__name__}: {fault}")) from None
+        raise NotDone(f"{path}: {type(fault).__name__}: {shortened(str(fault))}") from None
+
+
+def small_number(digits: str) -> Any:
+    return int(digits) if len(digits) <= DIGITS else digits
 
 
 class Sheet:
     """The kinds of concepts and dimensions, by expanded name."""
 
-    def __init__(self, path):
+    def __init__(self, path: str) -> None:
         with using(path), open(path, encoding="utf-8-sig") as file:
-            tree = json.load(file)
-            uris, tables = tree["namespaces"], (tree.get(table, {}) for table in ("concepts", "dimensions"))
+            tree = json.load(file, parse_int=small_number)
+            uris, tables = uris_of(tree["namespaces"]), (tree.get(table, {}) for table in ("concepts", "dimensions"))
             self.concepts, self.axes = ({expanded(name, uris): of[name] for name in of} for of in tables)
 
 
-def expanded(text, uris):
+def uris_of(namespaces: Tree) -> Mapping[str, str]:
+    """Returns the URIs by prefix. Equal ones are one object, so that no comparison reads them."""
+    return {prefix: sys.intern(uri) for prefix, uri in namespaces.items()}
+
+
+def expanded(text: str, uris: Mapping[str, str]) -> Name:
     prefix, _, local = text.partition(":")
     return Name(uris[prefix], local)
 
@@ -39,25 +61,26 @@ def expanded(text, uris):
 class Text:
     """A merged text: the URIs of its prefixes, and then its facts in order. It is closed at its end."""
 
-    def __init__(self, path):
-        self.path, self.piece, self.at, self.scan = path, "", 0, json.JSONDecoder().scan_once
+    def __init__(self, path: str) -> None:
+        self.path, self.piece, self.at = path, "", 0
+        self.scan = json.JSONDecoder(parse_int=small_number).raw_decode
         self.may_have_halves = False
         with using(path):
             self.file = open(path, encoding="utf-8-sig")
             self.expect("{")
-            self.uris = self.member("documentInfo")["namespaces"]
-            self.known = {}  # names are expanded once
+            self.uris = uris_of(self.member("documentInfo")["namespaces"])
+            self.known: dict[str, Name] = {}  # names are expanded once
             self.expect(",")
             self.expect('"facts"')
             self.expect(":")
 
-    def name(self, text):
+    def name(self, text: str) -> Name:
         """Returns an expanded name of the text."""
         if text not in self.known:
             self.known[text] = expanded(text, self.uris)
         return self.known[text]
 
-    def facts(self):
+    def facts(self) -> Iterator[tuple[str, Tree]]:
         """Yields the identifier and the tree of each fact."""
         with using(self.path), self.file:
             self.expect("{")
@@ -78,7 +101,7 @@ class Text:
             if self.next():
                 raise ValueError("something stands behind it")
 
-    def fact(self, is_behind):
+    def fact(self, is_behind: bool) -> tuple[str, Tree]:
         """Returns the next fact and its name; one that stands whole in the piece is found at once."""
         found = FACT.match(self.piece, self.at)
         if found and bool(found[1]) == is_behind:
@@ -88,19 +111,19 @@ class Text:
             self.expect(",")
         return self.pair()
 
-    def member(self, name):
+    def member(self, name: str) -> Tree:
         found, tree = self.pair()
         if found != name:
             raise ValueError(f"{found} stands in the place of {name}")
         return tree
 
-    def pair(self):
+    def pair(self) -> tuple[str, Tree]:
         """Returns the key and the value of the next member."""
         key = self.value('"')
         self.expect(":")
         return key, self.value("{")
 
-    def value(self, start):
+    def value(self, start: str) -> Tree:
         """Returns the next value, a text or an object."""
         if not self.piece.startswith(start, self.at) and self.next() != start:
             raise ValueError(f"{start} is missing")
@@ -108,11 +131,11 @@ class Text:
             try:
                 tree, self.at = self.scan(self.piece, self.at)
                 return tree
-            except (ValueError, StopIteration) as fault:
+            except ValueError as fault:
                 if not self.fill():
                     raise ValueError(f"it ends too soon, or is no JSON: {fault}") from None
 
-    def expect(self, sign):
+    def expect(self, sign: str) -> None:
         self.next()
         while len(self.piece) - self.at < len(sign) and self.fill():
             pass
@@ -120,15 +143,16 @@ class Text:
             raise ValueError(f"{sign} is missing")
         self.at += len(sign)
 
-    def next(self):
+    def next(self) -> str:
         """Returns the next character that is no white space, or an empty text at the end."""
         while self.piece[self.at : self.at + 1] in WHITE:
-            self.at = SPACE.match(self.piece, self.at).end()
+            white = SPACE.match(self.piece, self.at)
+            self.at = white.end() if white else self.at
             if self.at == len(self.piece) and not self.fill():
                 break
         return self.piece[self.at : self.at + 1]
 
-    def fill(self):
+    def fill(self) -> bool:
         """Reads on, twice as much where that was too little, and tells whether there was something."""
         self.piece = self.piece[self.at :]
         self.at = 0
@@ -141,36 +165,39 @@ class Text:
 class Provider:
     """One provider's own text beside the merged one, which has its facts in the same order."""
 
-    def __init__(self, name, path, merged, sheet):
+    def __init__(self, name: str, path: str, merged: Text, sheet: Sheet) -> None:
         self.name, self.text, self.sheet, self.merged = name, Text(path), sheet, merged.path
         self.prefixes = {uri: prefix for prefix, uri in merged.uris.items()}
-        self.spellings, self.units, self.stream = {}, {}, self.text.facts()
+        self.spellings: dict[str, str] = {}
+        self.units: dict[str, str] = {}
+        self.stream = self.text.facts()
+        self.head: Optional[Tree] = None
         self.advance()
 
-    def advance(self):
+    def advance(self) -> None:
         self.head = None
         for _, tree in self.stream:
             with using(self.fault()):
                 self.head = self.respelled(tree)
             return
 
-    def fault(self):
+    def fault(self) -> str:
         return f"{self.text.path}, in which a fact is not of {self.merged}"
 
-    def said(self, tree):
+    def said(self, tree: Tree) -> bool:
         """Tells whether a fact of the merged text is the provider's; each has to be asked for once, in order."""
-        is_said = self.head == tree
+        is_said = bool(self.head == tree)
         if is_said:
             self.advance()
         return is_said
 
-    def finish(self):
+    def finish(self) -> None:
         """Refuses a text with a fact that was not asked for."""
         with using(self.fault()):
             if self.head is not None:
                 raise ValueError("it is none of its facts, or not in its place")
 
-    def respelled(self, tree):
+    def respelled(self, tree: Tree) -> Tree:
         """Returns a fact with the prefixes of the merged text."""
         dimensions = {}
         for key, member in tree["dimensions"].items():
@@ -187,17 +214,17 @@ class Provider:
             value = self.spelled(value)
         return {**tree, "dimensions": dimensions, "value": value}
 
-    def is_explicit(self, axis):
-        return self.sheet.axes[self.text.name(axis)] == "explicit"
+    def is_explicit(self, axis: str) -> bool:
+        return bool(self.sheet.axes[self.text.name(axis)] == "explicit")
 
-    def spelled(self, text):
+    def spelled(self, text: str) -> str:
         """Returns a name or an entity with the prefix of the merged text."""
         prefix, _, local = text.partition(":")
         if prefix not in self.spellings:
             self.spellings[prefix] = self.prefixes[self.text.uris[prefix]]
         return f"{self.spellings[prefix]}:{local}"
 
-    def spelled_unit(self, text):
+    def spelled_unit(self, text: str) -> str:
         if text not in self.units:
             self.units[text] = re.sub(r"[^*/()]+", lambda piece: self.spelled(piece[0]), text)
         return self.units[text]
