@@ -7,7 +7,7 @@ from typing import Iterator, Mapping, NamedTuple, Optional, Sequence, Union
 
 from contradicting.rows import Dimensions, Fact
 from contradicting.sources import Holders, names_of, providers
-from contradicting.tables import DIMENSIONS, Cell, cell, dimension_cells
+from contradicting.tables import DIMENSIONS, Cell, cell, check_lengths, dimension_cells
 from contradicting.texts import Name
 
 COLUMNS = ["pair", "differs", "row", "fact", *DIMENSIONS, *"value decimals low high providers label".split()]
@@ -108,6 +108,8 @@ class Near:
 
     def table(self, pairs: list[tuple[int, int, Axis]], labels: Mapping[Name, str]) -> Iterator[Sequence[str]]:
         """Yields the lines of the table: of each pair, the facts of both rows."""
+        listed = (self.kept[number] for pair in pairs for number in pair[:2])
+        check_lengths((kept.dimensions, len(kept.facts)) for kept in listed)
         yield COLUMNS
         for rank, (one, other, axis) in enumerate(pairs, 1):
             for number in (one, other):

@@ -19,8 +19,7 @@ SEPARATOR = re.compile("[\t\r\n]")
 DIMENSIONS = "concept entity period unit language dimensions".split()
 COLUMNS = ["row", "fact", *DIMENSIONS, *"value decimals low high evidence providers identifiers said_by label".split()]
 LISTED = "row verdict first last said_by providers".split()
-LONGEST_CELL = 1 << 24  # characters that the names of a unit, or the dimensions of a row, may have
-LONGEST_TABLE = 1 << 31
+LONGEST_ROW, LONGEST_TABLE = 1 << 24, 1 << 30  # characters of the dimensions of one row, and of all lines
 
 Cell = Union[Value, int]
 
@@ -33,14 +32,11 @@ class Line(list[str]):
 
 def lines_of(table: Iterable[Sequence[str]]) -> Iterator[str]:
     """Yields the lines of a table of cells."""
-    made, room = Line(), LONGEST_TABLE
+    made = Line()
     writer = csv.writer(made)
     yield "\ufeff"
     for cells in table:
         writer.writerow(cells)
-        room -= len(made[-1])
-        if room < 0:
-            raise NotDone(f"a table, which has each name with its URI, would be longer than {LONGEST_TABLE} characters")
         yield made.pop()
 
 
@@ -69,18 +65,36 @@ def guarded(found: re.Match[str]) -> str:
     return first + SEPARATOR.sub(r"\g<0>'", skipped)
 
 
+def check_lengths(rows: Iterable[tuple[Dimensions, int]]) -> None:
+    """Raises NotDone if a table would be too long. Each row has so many facts, each fact a line with all names and URIs."""
+    total = 0
+    for dimensions, facts in rows:
+        length = length_of(dimensions)
+        total += length * facts
+        if length > LONGEST_ROW:
+            raise NotDone(f"the dimensions of one row, with the URI of each name, have over {LONGEST_ROW} characters")
+    if total > LONGEST_TABLE:
+        raise NotDone(f"a table, with the URI of each name in each line, would have over {LONGEST_TABLE} characters")
+
+
+def length_of(dimensions: Dimensions) -> int:
+    """Returns how many characters dimensions have in a line, but for signs between them."""
+    given: list[Cell] = [dimensions.concept, dimensions.entity, dimensions.period, dimensions.language]
+    given += [name for side in dimensions.unit for name in side]
+    given += [name for pair in dimensions.members for name in pair]
+    return sum(len(each.uri) + len(each.local) if isinstance(each, Name) else len(str(each)) for each in given)
+
+
 def dimension_cells(of: Dimensions) -> list[str]:
-    """Returns the cells of what a row is about. Raises NotDone where they would be too long."""
-    names = [name for side in of.unit for name in side] + [name for pair in of.members for name in pair if isinstance(name, Name)]
-    if sum(len(name.uri) + len(name.local) + 3 for name in names) > LONGEST_CELL:
-        raise NotDone(f"a row has a unit or dimensions that are longer than {LONGEST_CELL} characters with their URIs")
+    """Returns the cells of what a row is about."""
     unit = "/".join("*".join(map(cell, side)) for side in of.unit)
     members = "; ".join(f"{cell(axis)}={cell(member)}" for axis, member in of.members)
     return [*map(cell, (of.concept, of.entity or "", of.period, unit, of.language, members))]
 
 
-def table(rows: Iterable[Row], labels: Mapping[Name, str], reader: Reader) -> Iterator[Sequence[str]]:
+def table(rows: Sequence[Row], labels: Mapping[Name, str], reader: Reader) -> Iterator[Sequence[str]]:
     """Yields the lines of the table of contradictions."""
+    check_lengths((row.dimensions, len(row.facts)) for row in rows if row.dimensions)
     yield COLUMNS
     for row in rows:
         if row.dimensions:

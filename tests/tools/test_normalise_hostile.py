@@ -1,0 +1,208 @@
+"""Tests of tools/normalise on reports that are made to take long, to fill the list of changes, or to fail."""
+import json
+import os
+import random
+import re
+import subprocess
+import sys
+import tracemalloc
+import unittest
+
+import in_process
+from test_normalise import TOOL, ToolTest, content, normalise
+
+SPACES = "\u00a0\u2003\u3000\x85\x1f"  # white space of Unicode that the format takes as other characters
+SHEET = {
+    "namespaces": {"eg": "http://example.org/t", "long": "http://example.org/" + "u" * 5_000},
+    "concepts": {"eg:A": "numeric", "eg:Q": "name", "eg:S": "text", "eg:T": "text"},
+    "dimensions": {"eg:Reg": "explicit"},
+    "xbrlmerge:sets": ["eg:S"],
+}
+ALL = "--drop-links --drop-notes --drop-unknown --dates=xbrl21 --zones=utc --drop-null --drop-unreadable".split()
+
+
+def fact(value="1", concept="eg:A", **dimensions):
+    return {"value": value, "dimensions": {"concept": concept, **dimensions}}
+
+
+def report(facts):
+    return json.dumps({"documentInfo": {"namespaces": SHEET["namespaces"]}, "facts": facts})
+
+
+def twins(size):
+    return '{"facts":{%s,"k":1,"k":2}}' % ",".join(f'"f{number}":1' for number in range(size))
+
+
+# reports of a size, each with options
+LONG = {
+    "zeros before digits": (lambda size: report({"f": fact("0" * size + "x")}), ALL),
+    "digits in whole": (lambda size: report({"f": fact("1" * size)}), ALL),
+    "spaces in a unit": (lambda size: report({"f": fact(unit="a" + " " * size + "b")}), []),
+    "spaces in a period": (lambda size: report({"f": fact(period="a" + " " * size + "b")}), []),
+    "slashes": (lambda size: report({"f": fact(period="/" * size)}), ALL),
+    "measures": (lambda size: report({"f": fact(unit="(" + "*".join(["eg:a"] * size))}), ALL),
+    "parts of a language": (lambda size: report({"f": fact("x", "eg:T", language="a-" * size)}), ALL),
+    "zeros before an exponent": (lambda size: report({"f": fact("1" + "0" * size + "e-5")}), []),
+    "digits of an exponent": (lambda size: report({"f": fact("1e" + "9" * size)}), []),
+    "digits of decimals": (lambda size: '{"facts":{"f":{"value":"1","decimals":%s}}}' % ("9" * size), ALL),
+    "members that stand twice": (twins, []),
+    "members that are unknown": (lambda size: report({"f": {f"m{number}": 1 for number in range(size)}}), []),
+    "dimensions": (lambda size: report({"f": fact(**{f"eg:d{number}": "" for number in range(size)})}), ALL),
+    "names of a set": (lambda size: report({"f": fact(" ".join(f"eg:n{number}" for number in range(size)), "eg:S")}), []),
+    "depth": (lambda size: '{"a:a":' * (size // 10) + "1" + "}" * (size // 10), []),
+}
+
+
+class Long(ToolTest):
+    def setUp(self):
+        super().setUp()
+        self.sheet = self.write("sheet.json", json.dumps(SHEET))
+
+    def words(self, text, *options):
+        return self.write("report.json", text), self.out, self.changes, "--sheet", self.sheet, *options
+
+    def test_the_time_of_no_report_grows_with_its_square(self):
+        for name, (made, options) in LONG.items():
+            with self.subTest(name):
+                def run(size):
+                    self.assertIn(in_process.run(normalise, *self.words(made(size), *options))[0], (0, 1, 3))
+
+                self.assertLess(in_process.growth(run, 6_000), 9)
+
+    def test_memory_is_in_proportion_to_what_is_read_and_written(self):
+        identifier, uri = "f" * 20_000, "long:"
+        for name, text, options in (
+            ("an identifier", report({identifier: {f"m{number}": 1 for number in range(3_000)}}), []),
+            ("a URI", report({f"f{number}": fact("1", uri + "B") for number in range(3_000)}), ["--drop-unknown"]),
+            *((name, made(20_000), options) for name, (made, options) in LONG.items()),
+        ):
+            with self.subTest(name):
+                words = self.words(text, *options)
+                tracemalloc.start()
+                in_process.run(normalise, *words)
+                _, peak = tracemalloc.get_traced_memory()
+                tracemalloc.stop()
+                written = sum(os.path.getsize(path) for path in (self.out, self.changes) if os.path.exists(path))
+                self.assertLess(peak, 100 * (len(text) + written) + 1_000_000)
+
+    def test_no_line_repeats_a_long_identifier_or_uri(self):
+        long = {"f" * 5_000 + str(number): fact("x" * 5_000, "long:" + "B" * 5_000, extra="y") for number in range(20)}
+        text = report({**long, "short": {"value": "1", "m" * 5_000: "z" * 5_000}})
+        status, _, _, changes = self.normalised(self.write("report.json", text), "--sheet", self.sheet, "--drop-unknown")
+        lines = content(self.changes).splitlines()
+        self.assertEqual((status, len(lines)), (1, 21))
+        self.assertLess(max(map(len, lines)), 1_000)
+        dropped, removed = changes[0], changes[-1]
+        self.assertEqual((dropped["fact"], dropped["number"], dropped["shortened"]), ("f" * 80 + "..", "1", True))
+        self.assertEqual(dropped["pointer"], "/facts/" + "f" * 80 + "..")
+        self.assertEqual(dropped["why"], "the sheet does not list {http://example.org/" + "u" * 61 + "..}" + "B" * 80 + "..")
+        self.assertEqual(dropped["was"]["value"], "x" * 80 + "..")
+        self.assertEqual(removed["pointer"], "/facts/short/" + "m" * 80 + "..")
+        self.assertEqual((removed["was"], removed["shortened"], "number" in removed), ("z" * 80 + "..", True, False))
+
+    def test_texts_of_eighty_characters_are_whole(self):
+        text = report({"f" * 80: {**fact(), "m" * 80: "z" * 80}})
+        (change,) = self.normalised(self.write("report.json", text), "--sheet", self.sheet)[3]
+        self.assertEqual((change["fact"], change["was"], "shortened" in change), ("f" * 80, "z" * 80, False))
+
+    def test_sets_that_would_be_far_longer_are_refused(self):
+        text = report({f"f{number}": fact("long:a eg:b", "eg:S") for number in range(400)})
+        status, told = self.run_tool(*self.words(text))
+        self.assertEqual((status, os.listdir(self.room).count("out.json")), (3, 0))
+        self.assertIn("the names of its sets, spelled with their URIs, are over 16 times as long", told)
+
+
+class Exact(ToolTest):
+    """What was wrong, and silent."""
+
+    def setUp(self):
+        super().setUp()
+        self.sheet = self.write("sheet.json", json.dumps(SHEET))
+
+    def run_on(self, facts, *options):
+        return self.normalised(self.write("report.json", report(facts)), "--sheet", self.sheet, *options)
+
+    def test_a_fact_without_a_concept_is_dropped(self):
+        facts = {"f": {"value": "1", "dimensions": {"period": "2023-12-31T00:00:00"}}, "g": {"value": "1", "dimensions": {}}}
+        status, _, out, changes = self.run_on(facts, "--drop-unreadable")
+        self.assertEqual((status, self.tree_of(out)["facts"]), (1, {}))
+        self.assertEqual([change["why"] for change in changes], ["15 MissingConcept"] * 2)
+
+    def test_what_is_no_moment_is_not_taken_to_utc(self):
+        for moment in ("25:00:00", "24:00:01", "23:60:00", "23:59:60", "99:99:99"):
+            for zone in ("Z", "+00:00", "-00:00", "+01:00"):
+                period = f"2023-12-31T{moment}{zone}"
+                _, told, out, changes = self.run_on({"f": fact(period=period)}, "--zones=utc")
+                self.assertEqual((self.tree_of(out)["facts"]["f"]["dimensions"]["period"], changes), (period, []))
+                self.assertIn("is left", told)
+
+    def test_white_space_is_that_of_the_format(self):
+        odd = f"eg:B{SPACES}"
+        facts = {
+            "f": {"value": f"{SPACES}1", "dimensions": {"concept": f"eg:A{SPACES}", "unit": f"{SPACES}x:a"}},
+            "g": fact(f"eg:C {odd}", "eg:S"),
+        }
+        _, told, out, _ = self.run_on(facts)
+        made = self.tree_of(out)["facts"]
+        self.assertEqual((made["f"], told), (facts["f"], ""))
+        self.assertEqual(made["g"]["value"], f"http://example.org/t#B{SPACES} http://example.org/t#C")
+        changes = self.run_on({"h": fact("1", odd)}, "--drop-unknown")[3]
+        self.assertIn("does not list {http://example.org/t}B", changes[0]["why"])
+
+    def test_zero_has_no_exponent(self):
+        for zero in ("0e999999999999999999999", "-0.000e-999999999999999999999", "0E" + "9" * 5_000):
+            _, told, out, _ = self.run_on({"f": fact(zero)})
+            self.assertEqual((self.tree_of(out)["facts"]["f"]["value"], told), ("0", ""))
+
+    def test_the_changes_have_no_character_that_a_terminal_obeys(self):
+        odd = "\x7f\x9b31m\u202e\u2028\ud83d\ude00".encode("utf-16", "surrogatepass").decode("utf-16")
+        facts = {odd: {**fact(), odd: odd}}
+        _, _, out, changes = self.run_on(facts)
+        raw = content(self.changes)
+        self.assertFalse(re.search("[\x00-\x09\x0b-\x1f\x7f-\x9f\u202e\u2028]", raw))
+        self.assertEqual((changes[0]["fact"], changes[0]["was"]), (odd, odd))
+
+    def test_lines_on_standard_error_have_none_either(self):
+        facts = {"\x9b": fact(period="2023-12-31"), "\x7f": fact("1e99")}
+        told = self.run_on(facts)[1]
+        self.assertIn("/facts/\\u009b/dimensions/period is left", told)
+        self.assertTrue(told.replace("\n", "").isprintable())
+
+    def test_statuses_are_those_of_the_process(self):
+        run = [sys.executable, TOOL]
+        deep = self.write("deep.json", '{"a:a":' * 100_000)
+        good = self.write("good.json", report({"f": fact(period="2023-12-31")}))
+        for status, words in (
+            (0, [good, self.out, self.changes]),
+            (1, [good, self.out, self.changes, "--dates=xbrl21"]),
+            (2, [good, self.out]),
+            (3, [deep, self.out, self.changes]),
+            (3, [good, self.room, self.changes]),
+        ):
+            done = subprocess.run([*run, *words], capture_output=True)
+            self.assertEqual((done.returncode, b"Traceback" in done.stderr), (status, False), words)
+
+
+class Numbers(unittest.TestCase):
+    """Numbers with exponents, against the decimal module at a precision that holds them."""
+
+    def test_drawn_exponents(self):
+        from decimal import Context, Decimal
+
+        from normalising.rules import SCIENTIFIC, plain_number
+
+        chance, context = random.Random(7), Context(prec=200)
+        for _ in range(2_000):
+            digits = "".join(chance.choice("0019") for _ in range(chance.randint(1, 20)))
+            point = chance.randint(0, len(digits))
+            text = f"{chance.choice(['', '-', '+'])}{digits[:point]}.{digits[point:]}e{chance.randint(-25, 25)}"
+            plain, value = plain_number(SCIENTIFIC.fullmatch(text)), Decimal(text)
+            reduced = value.normalize(context).as_tuple()
+            counting = max(len(reduced.digits) + reduced.exponent, 0) + max(-reduced.exponent, 0)
+            self.assertEqual(plain is None, bool(value) and counting > 18, text)
+            if plain is not None:
+                self.assertEqual((Decimal(plain), "e" in plain.lower()), (value, False), text)
+
+
+if __name__ == "__main__":
+    unittest.main()
