@@ -1,65 +1,117 @@
 """Reads the standard labels of concepts from the taxonomies that tools/make_sheet reads."""
-import importlib.machinery
-import importlib.util
-import os
+from __future__ import annotations
+
+from typing import NamedTuple, Optional, Sequence
 
 from contradicting.texts import Name
-from process import NotDone
+from sheet_making.files import Files, Limits, reading
+from sheet_making.schemas import Part
+from sheet_making.taxonomy import Taxonomy
+from sheet_making.xml_reading import XML, Element, Visitor, read_xml
 
-PLACE = os.path.join(os.path.dirname(os.path.dirname(os.path.abspath(__file__))), "make_sheet")
-LOADER = importlib.machinery.SourceFileLoader("make_sheet", PLACE)
-make_sheet = importlib.util.module_from_spec(importlib.util.spec_from_loader("make_sheet", LOADER))
-LOADER.exec_module(make_sheet)
-
-LINK, XLINK = "{http://www.xbrl.org/2003/linkbase}", "{http://www.w3.org/1999/xlink}"
+LINK, XLINK = "http://www.xbrl.org/2003/linkbase", "http://www.w3.org/1999/xlink"
 STANDARD = "http://www.xbrl.org/2003/role/label"
-LANGUAGE = "{http://www.w3.org/XML/1998/namespace}lang"
 
 
-class Labelled(make_sheet.Taxonomy):
+class Label(NamedTuple):
+    """A label, which counts before those of dialects when its language is the one that is wanted."""
+
+    is_of_dialect: bool
+    text: str
+
+    def counts_before(self, other: Optional[Label]) -> bool:
+        """Returns whether it takes the place of a label that came before it. Texts are not compared: they may be long."""
+        return other is None or self.is_of_dialect < other.is_of_dialect
+
+
+class Labelled(Taxonomy):
     """A taxonomy with its label linkbases: the files that end in .xml, of the folders and packages that are named."""
 
-    kept = (*make_sheet.Taxonomy.kept, ".xml")
+    def __init__(self, files: Files, language: str) -> None:
+        self.language = language.lower()
+        self.identified: dict[tuple[str, str], Name] = {}
+        self.labels: dict[Name, Label] = {}
+        super().__init__(files)
+        for place in files.linkbases():
+            with reading(place):
+                read_xml(files.read(place), Linkbase(self, place))
 
-    def __init__(self, words, language):
-        self.identified, self.place, self.labels, self.language = {}, None, {}, language.lower()
-        super().__init__(words)
-        for place in sorted(place for place in self.places if place.endswith(".xml")):
-            with make_sheet.reading(place):
-                for link in self.tree(place).iter(LINK + "labelLink"):
-                    self.read_link(link, place)
+    def declare(self, part: Part, place: str) -> None:
+        super().declare(part, place)
+        if part.identifier is not None:
+            self.identified[place, part.identifier] = Name(*part.name)
 
-    def read_schema(self, place, wanted):
-        self.place = place
-        super().read_schema(place, wanted)
+    def name_at(self, href: str, base: str) -> Optional[Name]:
+        """Returns the name that a reference in the document at `base` means."""
+        location, _, identifier = href.partition("#")
+        return self.identified.get((self.rewrites.place_of(location, base)[0], identifier))
 
-    def declare(self, part, namespace):
-        super().declare(part, namespace)
-        if "id" in part.attrib:
-            self.identified[self.place, part.get("id")] = Name(namespace, part.get("name").strip())
-
-    def read_link(self, link, place):
-        """Keeps the standard labels of an extended link, of its language before those of its dialects."""
-        names, texts = {}, {}
-        for part in link:
-            if part.tag == LINK + "loc":
-                location, _, fragment = part.get(XLINK + "href").partition("#")
-                names[part.get(XLINK + "label")] = self.identified.get((self.place_of(location, place)[0], fragment))
-            elif part.tag == LINK + "label" and part.get(XLINK + "role", STANDARD) == STANDARD:
-                language = part.get(LANGUAGE, "").lower()
-                if language == self.language or language.startswith(self.language + "-"):
-                    text = " ".join("".join(part.itertext()).split())
-                    texts.setdefault(part.get(XLINK + "label"), []).append((language, text))
-        for arc in link.iter(LINK + "labelArc"):
-            name, given = names.get(arc.get(XLINK + "from")), texts.get(arc.get(XLINK + "to"), [])
-            if name and arc.get("use") != "prohibited":
-                self.labels[name] = min([*given, *([self.labels[name]] if name in self.labels else [])], default=("", ""))
+    def keep(self, name: Name, label: Label) -> None:
+        if label.counts_before(self.labels.get(name)):
+            self.labels[name] = label
 
 
-def read_labels(words, language):
+class Link:
+    """The parts of an extended link. Several labels may have one place in it; the one that counts is kept."""
+
+    def __init__(self, level: int) -> None:
+        self.level = level
+        self.names: dict[str, Optional[Name]] = {}
+        self.labels: dict[str, Label] = {}
+        self.arcs: list[tuple[str, str]] = []
+
+    def keep(self, place: str, label: Label) -> None:
+        if label.counts_before(self.labels.get(place)):
+            self.labels[place] = label
+
+
+class Linkbase(Visitor):
+    """Reads the standard labels of one language and its dialects."""
+
+    def __init__(self, taxonomy: Labelled, place: str) -> None:
+        self.taxonomy, self.place = taxonomy, place
+        self.link: Optional[Link] = None
+        self.opened: Optional[tuple[str, bool]] = None  # the label that is being read: its place, and whether of a dialect
+        self.pieces: list[str] = []
+
+    def start(self, element: Element, level: int) -> None:
+        if not self.link:
+            self.link = Link(level) if element.name == (LINK, "labelLink") else None
+        elif level == self.link.level + 1 and element.name.uri == LINK:
+            self.open_part(element, self.link)
+
+    def open_part(self, element: Element, link: Link) -> None:
+        if element.name.local == "loc":
+            name = self.taxonomy.name_at(element.get_in(XLINK, "href") or "", self.place)
+            link.names[element.get_in(XLINK, "label") or ""] = name
+        elif element.name.local == "labelArc" and element.get("use") != "prohibited":
+            link.arcs.append((element.get_in(XLINK, "from") or "", element.get_in(XLINK, "to") or ""))
+        elif element.name.local == "label" and (element.get_in(XLINK, "role") or STANDARD) == STANDARD:
+            language, wanted = (element.get_in(XML, "lang") or "").lower(), self.taxonomy.language
+            if language == wanted or language.startswith(wanted + "-"):
+                self.opened = element.get_in(XLINK, "label") or "", language != wanted
+
+    def text(self, text: str) -> None:
+        if self.opened:
+            self.pieces.append(text)
+
+    def end(self, level: int) -> None:
+        if self.link and self.opened and level == self.link.level + 1:
+            place, is_of_dialect = self.opened
+            self.link.keep(place, Label(is_of_dialect, " ".join("".join(self.pieces).split())))
+            self.opened, self.pieces = None, []
+        elif self.link and level == self.link.level:
+            self.close(self.link)
+            self.link = None
+
+    def close(self, link: Link) -> None:
+        for start, end in link.arcs:
+            name, label = link.names.get(start), link.labels.get(end)
+            if name and label:
+                self.taxonomy.keep(name, label)
+
+
+def read_labels(words: Sequence[str], language: str) -> dict[Name, str]:
     """Returns the standard labels by name. One whose language is as asked for stands before those of its dialects."""
-    try:
-        labels = Labelled(words, language).labels if words else {}
-    except make_sheet.Fault as fault:
-        raise NotDone("; ".join(map(str, fault.args[1:]))) from None
-    return {name: text for name, (_, text) in labels.items() if text}
+    labels = Labelled(Files(words, Limits()), language).labels if words else {}
+    return {name: label.text for name, label in labels.items() if label.text}

@@ -1,0 +1,60 @@
+"""The catalogs of taxonomy packages: which URLs stand for which files."""
+from __future__ import annotations
+
+import bisect
+import os
+from dataclasses import dataclass
+from typing import Optional
+from urllib.parse import unquote
+
+from sheet_making.names import Name
+from sheet_making.xml_reading import Element, Visitor
+
+REWRITE = Name("urn:oasis:names:tc:entity:xmlns:xml:catalog", "rewriteURI")
+MOST_LENGTHS = 1_000  # of different starts; a location is looked up once for each
+
+
+@dataclass(frozen=True)
+class Rewrite:
+    """A URL that begins so lies at a path beside this catalog."""
+
+    start: str
+    prefix: str
+    catalog: str
+
+
+class Rewrites(Visitor):
+    """The rules of all catalogs."""
+
+    def __init__(self) -> None:
+        self.rules: dict[str, Rewrite] = {}
+        self.lengths: list[int] = []  # of the starts, the shortest first
+        self.catalog = ""
+
+    def start(self, element: Element, level: int) -> None:
+        if element.name == REWRITE:
+            start, prefix = element.get("uriStartString"), element.get("rewritePrefix")
+            if not start or prefix is None:
+                raise ValueError("a rewriteURI has no uriStartString or no rewritePrefix")
+            self.rules.setdefault(start, Rewrite(start, prefix, self.catalog))
+            self.note_length(len(start))
+
+    def note_length(self, length: int) -> None:
+        at = bisect.bisect_left(self.lengths, length)
+        if self.lengths[at : at + 1] != [length]:
+            self.lengths.insert(at, length)
+        if len(self.lengths) > MOST_LENGTHS:
+            raise ValueError(f"the uriStartStrings have more than {MOST_LENGTHS} different lengths")
+
+    def rule_of(self, location: str) -> Optional[Rewrite]:
+        """Returns the rule with the longest start of a location. Of equal starts the first counts."""
+        lengths = self.lengths[: bisect.bisect_right(self.lengths, len(location))]
+        starts = (location[:length] for length in reversed(lengths))
+        return next((self.rules[start] for start in starts if start in self.rules), None)
+
+    def place_of(self, location: str, base: str) -> tuple[str, str]:
+        """Returns the place that a location in the document at `base` means, and the document that it is relative to."""
+        rule = self.rule_of(location)
+        if rule:
+            location, base = rule.prefix + location[len(rule.start) :], rule.catalog
+        return os.path.normpath(os.path.join(os.path.dirname(base), unquote(location))), base

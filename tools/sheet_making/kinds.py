@@ -1,0 +1,122 @@
+"""The kinds of concepts and dimensions."""
+from __future__ import annotations
+
+import functools
+import re
+from typing import Mapping, Optional
+
+from sheet_making.names import RESERVED, Name, in_order
+from sheet_making.schemas import ANY_TYPE, XBRLDT, Declaration
+
+TABLES = {"concepts": ("numeric", "text", "name"), "dimensions": ("explicit", "typed")}
+Kinds = dict[str, dict[Name, str]]  # for each table of a sheet; the kind "set" is written as text, and named
+
+XBRLI = "http://www.xbrl.org/2003/instance"
+ENUMERATIONS_1, ENUMERATIONS_2 = "http://xbrl.org/2014/extensible-enumerations", "http://xbrl.org/2020/extensible-enumerations-2.0"
+REGISTRY = "registry"  # in the place of each namespace of the data type registry
+HEADS = {Name(XBRLI, "item"): "concepts", Name(XBRLDT, "dimensionItem"): "dimensions"}
+# Of the specifications, no other head leads to a concept; taxonomies at xbrl.org have other paths.
+SPECIFICATION = re.compile(r"https?://(www\.w3\.org/|(www\.)?xbrl\.org/(\d{4}|dtr|lrr)/)")
+REGISTERED = re.compile(r"http://www\.xbrl\.org/dtr/type/(numeric|non-numeric|\d{4}-\d\d-\d\d)")
+# From memory: the item types of XBRL 2.1 (section 5.1.1.3), those of extensible enumerations 1.0 and 2.0, and some of
+# the data type registry (http://www.xbrl.org/dtr/dtr.xml), whose other types are followed where its schema is read.
+ITEM_TYPES = (
+    ("numeric", XBRLI, "decimal float double integer nonPositiveInteger negativeInteger long int short byte monetary"),
+    ("numeric", XBRLI, "nonNegativeInteger unsignedLong unsignedInt unsignedShort unsignedByte positiveInteger shares"),
+    ("numeric", XBRLI, "pure"),
+    ("text", XBRLI, "string boolean hexBinary base64Binary anyURI duration dateTime time date gYearMonth gYear"),
+    ("text", XBRLI, "gMonthDay gDay gMonth normalizedString token language Name NCName"),
+    ("name", XBRLI, "QName"),
+    ("name", ENUMERATIONS_1, "enumeration"),
+    ("name", ENUMERATIONS_2, "enumeration"),
+    ("set", ENUMERATIONS_2, "enumerationSet"),
+    ("numeric", REGISTRY, "area energy force frequency ghgEmissions length mass memory noDecimalsMonetary"),
+    ("numeric", REGISTRY, "nonNegativeMonetary nonNegativeNoDecimalsMonetary perShare percent power pressure"),
+    ("numeric", REGISTRY, "temperature voltage volume weight"),
+    ("text", REGISTRY, "domain escaped textBlock xml xmlNodes"),
+    (None, REGISTRY, "prefixedContent SQName SQNames"),
+)
+KINDS = {Name(uri, f"{stem}ItemType"): kind for kind, uri, stems in ITEM_TYPES for stem in stems.split()}
+
+
+@functools.lru_cache(maxsize=None)
+def is_specification(uri: str) -> bool:
+    return bool(SPECIFICATION.match(uri))
+
+
+@functools.lru_cache(maxsize=None)
+def is_of_enumerations(uri: str) -> bool:
+    return "/extensible-enumerations" in uri
+
+
+def listed(name: Name) -> Name:
+    """Returns a type's name as KINDS has it."""
+    return Name(REGISTRY, name.local) if REGISTERED.fullmatch(name.uri) else name
+
+
+def kinds_of(elements: Mapping[Name, Declaration], types: Mapping[Name, Optional[Name]]) -> tuple[Kinds, list[str]]:
+    """Returns the kinds of concepts and dimensions, and a line for each element that is left out."""
+    judge = Judge({name: each for name, each in elements.items() if not is_specification(name.uri)}, types)
+    kinds: Kinds = {table: {} for table in TABLES}
+    lines = []
+    for name in in_order(judge.elements):
+        table, kind, reason = judge.judged(name)
+        if table and kind:
+            kinds[table][name] = kind
+        elif reason:
+            lines.append(f"{name.shown()} is left out: {reason}")
+    return kinds, lines
+
+
+class Judge:
+    """Elements with what their heads and types lead to."""
+
+    def __init__(self, elements: Mapping[Name, Declaration], types: Mapping[Name, Optional[Name]]) -> None:
+        self.elements = elements
+        self.heads = ends_of({name: each.head for name, each in elements.items()})
+        # an element without a type has that of its head
+        self.typed = ends_of({name: each.head for name, each in elements.items() if not each.type})
+        self.bases = ends_of({name: base for name, base in types.items() if is_followed(name)})
+
+    def judged(self, name: Name) -> tuple[Optional[str], Optional[str], Optional[str]]:
+        """Returns the table and the kind of an element, or the reason why it has none; neither for what is no concept."""
+        head, element = self.heads[name], self.elements[name]
+        if head and not is_specification(head.uri):
+            return None, None, f"its head {head.shown()} is not known, or comes again"
+        table = HEADS.get(head) if head else None
+        if table and name.uri in ("", RESERVED):
+            return None, None, "no concept can have its namespace"
+        if table == "dimensions":
+            return table, "typed" if element.is_typed else "explicit", None
+        if not table or element.is_abstract:
+            return None, None, None
+        last = self.last_type(name)
+        return table, KINDS.get(listed(last)), f"its type {last.shown()} is not known, or has no kind"
+
+    def last_type(self, name: Name) -> Name:
+        """Returns the type that the type of an element derives from in the end."""
+        having = self.elements.get(self.typed.get(name, name) or name)
+        first = having.type if having and having.type else ANY_TYPE
+        return self.bases.get(first, first) or ANY_TYPE
+
+
+def is_followed(name: Name) -> bool:
+    """Returns whether a type is judged by what it derives from."""
+    return listed(name) not in KINDS and not is_of_enumerations(name.uri)
+
+
+def ends_of(following: Mapping[Name, Optional[Name]]) -> dict[Name, Optional[Name]]:
+    """Returns, for each name, the first one behind it that nothing follows, or one that comes again.
+
+    Each name is passed once, since the names behind it that are known already are not passed again.
+    """
+    ends: dict[Name, Optional[Name]] = {}
+    for start in following:
+        path: dict[Name, None] = {}
+        name: Optional[Name] = start
+        while name and name in following and name not in ends and name not in path:
+            path[name] = None
+            name = following[name]
+        end = ends.get(name, name) if name else None
+        ends.update(dict.fromkeys(path, end))
+    return ends

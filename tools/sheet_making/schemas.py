@@ -1,0 +1,123 @@
+"""Reads one schema: what it declares, and which schemas it refers to."""
+from __future__ import annotations
+
+from dataclasses import dataclass
+from typing import NamedTuple, Optional
+
+from process import shortened
+from sheet_making.names import LOCAL, WHITE, Name, interned
+from sheet_making.xml_reading import Element, Visitor
+
+XS = "http://www.w3.org/2001/XMLSchema"
+XBRLDT = "http://xbrl.org/2005/xbrldt"
+ANY_TYPE = Name(XS, "anyType")
+TYPES = (Name(XS, "complexType"), Name(XS, "simpleType"))
+ELEMENT, IMPORT = Name(XS, "element"), Name(XS, "import")
+REFERENCES = (Name(XS, "include"), IMPORT, Name(XS, "redefine"))
+DERIVATIONS = (Name(XS, "restriction"), Name(XS, "extension"))
+
+
+class Declaration(NamedTuple):
+    """What a schema says of an element: all that the sheet depends on."""
+
+    head: Optional[Name]  # of its substitution group
+    type: Optional[Name]  # of an inner type, what that derives from
+    is_abstract: bool
+    is_typed: bool  # has a typed domain
+
+
+@dataclass
+class Part:
+    """An element or a type that a schema declares, while it is read."""
+
+    name: Name
+    identifier: Optional[str]
+    is_type: bool
+    head: Optional[Name] = None
+    type: Optional[Name] = None
+    is_abstract: bool = False
+    is_typed: bool = False
+    type_level: int = 0  # of the type whose derivation is looked for; 0 outside one
+    base_level: int = 0  # of the derivation that was found
+
+    def declaration(self) -> Declaration:
+        return Declaration(self.head, self.type, self.is_abstract, self.is_typed)
+
+
+class SchemaVisitor(Visitor):
+    """Reads a schema that is wanted for a namespace; None stands for its own, which an included schema may lack."""
+
+    def __init__(self, wanted: Optional[str]) -> None:
+        self.wanted = wanted
+        self.target: Optional[str] = None  # the namespace that the schema itself names
+        self.namespace: Optional[str] = None  # of what it declares; without one nothing is declared
+        self.part: Optional[Part] = None
+
+    def declare(self, part: Part) -> None:
+        """Takes an element or a type."""
+
+    def refer(self, location: str, wanted: str) -> None:
+        """Takes the location of a schema, and the namespace that it is wanted for."""
+
+    def start(self, element: Element, level: int) -> None:
+        if level == 1:
+            self.open_schema(element)
+        elif level == 2 and self.namespace is not None:
+            self.open_part(element, self.namespace)
+        elif level > 2 and self.part:
+            self.look_for_base(element, level, self.part)
+
+    def end(self, level: int) -> None:
+        if level == 2 and self.part:
+            self.declare(self.part)
+            self.part = None
+        elif self.part and level == self.part.type_level:
+            self.part.type_level = 0
+
+    def open_schema(self, element: Element) -> None:
+        target = element.get("targetNamespace")
+        self.target = None if target is None else interned(target)
+        self.namespace = self.wanted if self.target is None else self.target
+        if element.name != (XS, "schema") or self.wanted not in (None, self.namespace):
+            raise ValueError(f"it is no schema of the namespace {shortened(self.wanted or '')}")
+
+    def open_part(self, element: Element, namespace: str) -> None:
+        if element.name in REFERENCES:
+            location = element.get("schemaLocation")
+            imported = interned(element.get("namespace") or "") if element.name == IMPORT else namespace
+            if location is not None:
+                self.refer(location.strip(WHITE), imported)
+        elif element.name == ELEMENT or element.name in TYPES:
+            name = Name(namespace, (element.get("name") or "").strip(WHITE))
+            if not LOCAL.fullmatch(name.local):
+                raise ValueError(f"{name.shown()} is no name")
+            self.part = Part(name, element.get("id"), element.name in TYPES)
+            if self.part.is_type:
+                self.open_type(2, self.part)
+            else:
+                self.open_element(element, self.part)
+
+    def open_element(self, element: Element, part: Part) -> None:
+        part.head, part.type = (self.expanded(element, key) for key in ("substitutionGroup", "type"))
+        part.is_abstract = (element.get("abstract") or "").strip(WHITE) in ("true", "1")
+        part.is_typed = element.get_in(XBRLDT, "typedDomainRef") is not None
+
+    def open_type(self, level: int, part: Part) -> None:
+        part.type, part.type_level, part.base_level = ANY_TYPE, level, 0
+
+    def look_for_base(self, element: Element, level: int, part: Part) -> None:
+        """Notes what a type derives from: in itself, or in its simpleContent or complexContent."""
+        if level == 3 and not part.is_type and element.name in TYPES:
+            self.open_type(level, part)
+        elif part.type_level and level - part.type_level in (1, 2) and element.name in DERIVATIONS:
+            base = self.expanded(element, "base")
+            if base and not (part.base_level and part.base_level <= level):
+                part.type, part.base_level = base, level
+
+    def expanded(self, element: Element, key: str) -> Optional[Name]:
+        """Returns the name in an attribute. In a schema without a namespace, no prefix means the wanted one."""
+        text = element.get(key)
+        if text is None:
+            return None
+        name = element.bindings.expanded(text.strip(WHITE))
+        return name if name.uri or self.target else Name(self.wanted or "", name.local)

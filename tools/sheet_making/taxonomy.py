@@ -1,0 +1,97 @@
+"""What the schemas of a taxonomy declare."""
+from __future__ import annotations
+
+from typing import Optional
+
+from process import NotDone, shortened
+from sheet_making.catalogs import Rewrites
+from sheet_making.files import Files, reading
+from sheet_making.kinds import is_specification
+from sheet_making.names import Name
+from sheet_making.schemas import Declaration, Part, SchemaVisitor
+from sheet_making.xml_reading import read_xml
+
+MOST_LINES = 100
+
+
+class Taxonomy:
+    """The elements and types of the named schemas and of those they refer to. A type has the name it derives from."""
+
+    def __init__(self, files: Files) -> None:
+        self.files, self.rewrites = files, Rewrites()
+        self.elements: dict[Name, Declaration] = {}
+        self.types: dict[Name, Optional[Name]] = {}
+        self.read: dict[str, set[Optional[str]]] = {}  # places with the namespaces that they were read for
+        self.targets: dict[str, Optional[str]] = {}  # places with the namespaces that they name
+        self.read_again = 0  # bytes of schemas without a namespace, for each further one
+        self.missing: list[str] = []
+        for catalog in files.catalogs():
+            with reading(catalog):
+                self.rewrites.catalog = catalog
+                read_xml(files.read(catalog), self.rewrites)
+        self.waiting: list[tuple[str, Optional[str]]] = [(place, None) for place in files.schemas()]
+        for place, wanted in self.waiting:
+            with reading(place):
+                self.read_schema(place, wanted)
+        if self.missing or not self.read:
+            raise NotDone(*shown_lines(self.missing or ["nothing that is named is a schema"]))
+
+    def read_schema(self, place: str, wanted: Optional[str]) -> None:
+        """Keeps what a schema declares. One without a namespace has the wanted one, where it is included."""
+        namespaces = self.read.setdefault(place, set())
+        target = self.targets.get(place)
+        if target is not None and wanted not in (None, target):
+            raise ValueError(f"it is no schema of the namespace {shortened(wanted or '')}")
+        if target is not None or wanted in namespaces or wanted is None and namespaces:
+            return
+        data = self.files.read(place)
+        self.read_again += len(data) if namespaces else 0
+        if self.read_again > self.files.limits.file:
+            raise ValueError(f"schemas without a namespace, read for each that includes them, are longer than "
+                             f"{self.files.limits.megabytes} MB (--megabytes)")
+        visitor = Declaring(self, place, wanted)
+        read_xml(data, visitor)
+        self.targets[place] = visitor.target
+        namespaces.add(visitor.namespace)
+
+    def refer(self, location: str, base: str, wanted: str) -> None:
+        """Has the schema wait that a location in the document at `base` means."""
+        place, origin = self.rewrites.place_of(location, base)
+        found = self.files.found(place, origin)
+        if found:
+            self.waiting.append((found, wanted))
+        elif not is_specification(wanted):
+            self.missing.append(f"{base}: {shortened(location)} is in nothing that is named")
+
+    def declare(self, part: Part, place: str) -> None:
+        """Keeps an element or a type of the schema at a place."""
+        if part.is_type:
+            is_same = self.types.setdefault(part.name, part.type) == part.type
+        else:
+            is_same = self.elements.setdefault(part.name, part.declaration()) == part.declaration()
+        if not is_same:
+            raise ValueError(f"{part.name.shown()} is declared in two ways")
+
+    def without_namespace(self) -> list[str]:
+        """Returns the schemas that have no namespace, and that no schema includes."""
+        return sorted(place for place, namespaces in self.read.items() if namespaces == {None})
+
+
+class Declaring(SchemaVisitor):
+    """Hands what a schema declares to a taxonomy."""
+
+    def __init__(self, taxonomy: Taxonomy, place: str, wanted: Optional[str]) -> None:
+        super().__init__(wanted)
+        self.taxonomy, self.place = taxonomy, place
+
+    def declare(self, part: Part) -> None:
+        self.taxonomy.declare(part, self.place)
+
+    def refer(self, location: str, wanted: str) -> None:
+        self.taxonomy.refer(location, self.place, wanted)
+
+
+def shown_lines(lines: list[str]) -> list[str]:
+    """Returns the first lines, and the number of the others."""
+    more = len(lines) - MOST_LINES
+    return lines if more <= 0 else [*lines[:MOST_LINES], f"and {more} more"]

@@ -1,0 +1,102 @@
+"""Reads XML tag by tag, and keeps nothing but the tags that are open.
+
+Prefixes are resolved here and not by expat, which copies the namespace into each name: a long one would take memory with
+the square of its length.
+"""
+from __future__ import annotations
+
+from typing import Optional, Sequence
+from xml.parsers import expat  # nosec: a document type is refused, and so there are no entities
+
+from process import shortened
+from sheet_making.names import Name, interned
+
+MOST_LEVELS = 1_000
+XML = "http://www.w3.org/XML/1998/namespace"
+
+
+class Bindings:
+    """What the prefixes mean at one place of a document."""
+
+    def __init__(self) -> None:
+        self.uris: dict[str, list[str]] = {"": [""], "xml": [XML]}  # for each prefix the innermost namespace is last
+
+    def bind(self, attributes: dict[str, str]) -> Sequence[str]:
+        """Binds the prefixes that a tag declares, and returns them."""
+        declared = [key for key in attributes if key.startswith("xmlns") and key[5:6] in ("", ":")]
+        prefixes = [key[6:] for key in declared]
+        for key, prefix in zip(declared, prefixes):
+            if prefix and not attributes[key]:
+                raise ValueError(f"the prefix {shortened(prefix)} is bound to no namespace")
+            self.uris.setdefault(prefix, []).append(interned(attributes[key]))
+        return prefixes
+
+    def unbind(self, prefixes: Sequence[str]) -> None:
+        for prefix in prefixes:
+            self.uris[prefix].pop()
+
+    def expanded(self, text: str) -> Name:
+        """Returns the name that a text with or without a prefix means."""
+        prefix, _, local = text.rpartition(":")
+        uris = self.uris.get(prefix)
+        if not uris:
+            raise ValueError(f"the prefix {shortened(prefix)} is not bound")
+        return Name(uris[-1], local)
+
+
+class Element:
+    """A start tag."""
+
+    def __init__(self, tag: str, attributes: dict[str, str], bindings: Bindings) -> None:
+        self.name, self.attributes, self.bindings = bindings.expanded(tag), attributes, bindings
+
+    def get(self, local: str) -> Optional[str]:
+        """Returns an attribute without a prefix."""
+        return self.attributes.get(local)
+
+    def get_in(self, uri: str, local: str) -> Optional[str]:
+        """Returns an attribute of a namespace."""
+        keys = (key for key in self.attributes if key.endswith(":" + local))
+        return next((self.attributes[key] for key in keys if self.bindings.expanded(key) == (uri, local)), None)
+
+
+class Visitor:
+    """What reads a document. Levels count from 1, which is the root."""
+
+    def start(self, element: Element, level: int) -> None:
+        """Takes a start tag."""
+
+    def end(self, level: int) -> None:
+        """Takes an end tag."""
+
+    def text(self, text: str) -> None:
+        """Takes a piece of text."""
+
+
+def read_xml(data: bytes, visitor: Visitor) -> None:
+    """Passes the tags and texts of a document to a visitor.
+
+    Errors: ExpatError where it is not well-formed; ValueError for a document type, more than MOST_LEVELS levels or a
+    prefix that is not bound; what the visitor raises.
+    """
+    bindings, opened = Bindings(), []
+
+    def start(tag: str, attributes: dict[str, str]) -> None:
+        opened.append(bindings.bind(attributes))
+        if len(opened) > MOST_LEVELS:
+            raise ValueError(f"it has more than {MOST_LEVELS} levels")
+        visitor.start(Element(tag, attributes, bindings), len(opened))
+
+    def end(_tag: str) -> None:
+        visitor.end(len(opened))
+        bindings.unbind(opened.pop())
+
+    def doctype(*_declared: object) -> None:
+        raise ValueError("it has a document type; none is read, and so no entity")
+
+    parser = expat.ParserCreate(intern=None)
+    parser.StartElementHandler, parser.EndElementHandler = start, end
+    parser.StartDoctypeDeclHandler = doctype
+    if type(visitor).text is not Visitor.text:
+        parser.CharacterDataHandler = visitor.text
+    parser.Parse(data, True)
