@@ -6,6 +6,7 @@ import io
 import os
 import sys
 import time
+import warnings
 from unittest import mock
 
 TOOLS = os.path.join(os.path.dirname(os.path.abspath(__file__)), "..", "..", "tools")
@@ -25,6 +26,7 @@ def run(tool, *words):
     """Runs a tool, and returns its status and what it prints on standard error."""
     argv = mock.patch.object(sys, "argv", [tool.__name__, *words])
     with argv, contextlib.redirect_stderr(io.StringIO()) as told, contextlib.redirect_stdout(io.TextIOWrapper(io.BytesIO())):
+        warnings.simplefilter("ignore", ResourceWarning)  # a process that ends leaves files open
         status, lines = process.outcome(tool.main)
         process.print_lines(lines)
         return status, told.getvalue()

@@ -3,6 +3,7 @@ from __future__ import annotations
 
 import collections
 import datetime
+import functools
 import itertools
 import re
 from decimal import Decimal, getcontext
@@ -16,6 +17,7 @@ getcontext().prec = 100  # more digits than an end of an interval has: sums are 
 NUMBER = re.compile(r"-?(?:0|[1-9]\d{0,39})(?:\.\d{1,39})?", re.ASCII)
 MOMENT = re.compile(r"\d{4}-\d\d-\d\dT\d\d:\d\d:\d\d", re.ASCII)
 EVIDENCE = re.compile(r"complete|consistent common (?P<low>\S+) (?P<high>\S+)|inconsistent apart (?P<one>\S+) (?P<two>\S+)")
+LONGEST_LINE = 1_000  # characters; two numbers and four identifiers of facts have fewer
 
 Interval = tuple[Decimal, Decimal]
 Value = Union[Decimal, Name, str, None]
@@ -125,7 +127,8 @@ class Reader:
     def rows(self, path: str) -> list[Row]:
         """Returns the rows that contradict themselves. The lines have to tell of just the facts, and what they show."""
         kept, groups = [], itertools.groupby(self.text.facts(), dimensions_given)
-        with using(path), open(path, encoding="utf-8", newline="\n") as lines:
+        with using(path), open(path, encoding="utf-8", newline="\n") as file:
+            lines = iter(functools.partial(file.readline, LONGEST_LINE), "")
             for number, (group, line) in enumerate(zip_all(groups, lines), 1):
                 row = self.row(number, dict(group[1]), line)
                 if row is None:

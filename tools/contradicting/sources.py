@@ -9,6 +9,7 @@ from contradicting.texts import Provider, Tree, using
 from process import shortened
 
 LINE = re.compile(r'(f\d+) ([1-9]\d{0,17}) (".*")\n', re.ASCII)
+LONGEST_LINE = 1 << 26  # characters
 
 
 class Holder(NamedTuple):
@@ -28,14 +29,14 @@ class Sources:
         self.path, self.names = path, names
         self.head: Optional[tuple[str, str, str]] = None  # a fact, who said it, and by which identifier
         with using(path):
-            self.lines = open(path, encoding="utf-8", newline="\n")
+            self.file = open(path, encoding="utf-8", newline="\n")
             self.advance()
 
     def advance(self) -> None:
-        line = next(self.lines, None)
-        found = LINE.fullmatch(line) if line else None
-        if line is None:
-            self.lines.close()
+        line = self.file.readline(LONGEST_LINE)
+        found = LINE.fullmatch(line)
+        if not line:
+            self.file.close()
             self.head = None
         elif not found or int(found[2]) > len(self.names):
             raise ValueError(f"{line[:80]!r} is no line of the sources of {len(self.names)} reports")

@@ -8,6 +8,7 @@ import sys
 from typing import Any, Iterator, Mapping, NamedTuple, Optional
 
 from process import NotDone, shortened
+from text_files import read_text
 
 Tree = Any  # what `json` reads
 PIECE = 1 << 18  # characters that are read at a time
@@ -42,8 +43,8 @@ class Sheet:
     """The kinds of concepts and dimensions, by expanded name."""
 
     def __init__(self, path: str) -> None:
-        with using(path), open(path, encoding="utf-8-sig") as file:
-            tree = json.load(file, parse_int=small_number)
+        with using(path):
+            tree = json.loads(read_text(path), parse_int=small_number)
             uris, tables = uris_of(tree["namespaces"]), (tree.get(table, {}) for table in ("concepts", "dimensions"))
             self.concepts, self.axes = ({expanded(name, uris): of[name] for name in of} for of in tables)
 

@@ -10,6 +10,7 @@ import re
 from typing import Any, Callable, NamedTuple, Optional
 
 from process import NotDone, shortened
+from text_files import read_text
 
 Tree = Any  # None, bool, str, Number, or a dict or list of such trees
 HALF = re.compile(r"\\u[dD][89a-fA-F]")  # an escape of half a character
@@ -30,21 +31,24 @@ class Twins(NamedTuple):
     second: Tree
 
 
-def read_text(path: str) -> str:
-    try:
-        with open(path, encoding="utf-8-sig") as file:
-            return file.read()
-    except (OSError, ValueError) as fault:
-        raise NotDone(f"{path}: {type(fault).__name__}: {fault}") from None
-
-
 def read_json(path: str) -> Tree:
     """Returns the tree of a file."""
-    return tree_of(read_text(path), path)
+    return read_json_of_length(path)[0]
+
+
+def read_json_of_length(path: str) -> tuple[Tree, int]:
+    """Returns the tree of a file, and how many characters it has.
+
+    Raises NotDone if it cannot be read, if it is no JSON, or if two members of one object share a name.
+    """
+    try:
+        text = read_text(path)
+    except (OSError, ValueError) as fault:
+        raise NotDone(f"{path}: {type(fault).__name__}: {fault}") from None
+    return tree_of(text, path), len(text)
 
 
 def tree_of(text: str, path: str) -> Tree:
-    """Returns the tree of a file's text. Raises NotDone if it is no JSON, or if two members of one object share a name."""
     twins: list[Twins] = []
 
     def members(pairs: list[tuple[str, Tree]]) -> dict[str, Tree]:

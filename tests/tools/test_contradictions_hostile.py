@@ -1,0 +1,194 @@
+"""Tests of tools/contradictions on texts that are made to take long, to fill the page, or to fail."""
+import csv
+import itertools
+import json
+import os
+import subprocess
+import sys
+import tracemalloc
+import unittest
+
+import in_process
+from test_contradictions import TOOL, ToolTest, content
+
+contradictions = in_process.loaded("contradictions")
+
+LONG_URI = "http://long.example/" + "u" * 5_000
+URIS = {"e": "http://e.example/t", "l": LONG_URI}
+DIMENSIONS = {"e:Reg": "explicit", **{f"e:d{number}": "typed" for number in range(2_000)}}
+CONCEPTS = {"e:A": "numeric", "e:T": "text", "l:A": "numeric", "l:T": "text"}
+SHEET = {"namespaces": URIS, "concepts": CONCEPTS, "dimensions": DIMENSIONS}
+
+
+def number(value, **dimensions):
+    """Returns a fact. Whole numbers that differ are apart."""
+    return {"decimals": 1, "dimensions": {"concept": "e:A", **dimensions}, "value": str(value)}
+
+
+def text(value, **dimensions):
+    return {"dimensions": {"concept": "e:T", **dimensions}, "value": value}
+
+
+def typed(size):
+    return {f"e:d{each}": "" for each in range(size)}
+
+
+# facts of a size, in the order of a merged text; rows alternate between two providers
+LONG = {
+    "a row of numbers": (lambda size: [number(each) for each in range(size)], False),
+    "a row of texts": (lambda size: [text(f"t{each:07}") for each in range(size)], False),
+    "rows that differ in unit": (lambda size: [number(1, unit=f"e:u{each:07}") for each in range(size)], True),
+    "rows that differ in a namespace": (lambda size: [number(1, entity=f"{prefix}:{each:07}") for prefix in "el" for each in range(size)], True),
+    "rows of many facts": (lambda size: [number(value, unit=f"e:u{unit}") for unit in range(size // 25) for value in range(25)], True),
+    "dimensions": (lambda size: [number(each, **typed(size)) for each in range(2)], True),
+    "measures": (lambda size: [number(each, unit="*".join(["e:m"] * size)) for each in range(2)], False),
+    "line ends": (lambda size: [text("\n" * 20 * size), text("\n" * 20 * size + "a")], False),
+    "long texts": (lambda size: [text("a" * 20 * size), text("a" * 20 * size + "b")], False),
+}
+
+
+class Hostile(ToolTest):
+    def setUp(self):
+        super().setUp()
+        self.sheet, self.near = self.write("sheet.json", json.dumps(SHEET)), os.path.join(self.room, "near.csv")
+
+    def words(self, facts, is_near=False, providers="ab"):
+        """Writes facts, their lines and who said them, each row by the next of the providers. Returns the words of a run."""
+        names = [f"f{rank:0{len(str(len(facts)))}}" for rank in range(1, len(facts) + 1)]
+        tree = {"documentInfo": {"namespaces": URIS}, "facts": dict(zip(names, facts))}
+        merged, lines, sources, start = self.write("merged.json", json.dumps(tree)), [], [], 0
+        for rank, (_, row) in enumerate(itertools.groupby(facts, lambda fact: fact["dimensions"]), 1):
+            of = names[start : start + len([*row])]
+            start += len(of)
+            lines.append(f"{rank} {of[0]} {of[-1]} " + ("complete" if len(of) == 1 else f"inconsistent apart {of[0]} {of[-1]}"))
+            sources += [f'{name} {1 + rank % len(providers)} "i"' for name in of]
+        inputs = [merged, self.sheet, self.write("lines", "".join(f"{line}\n" for line in lines)), self.page, self.table]
+        told = self.write("sources", "".join(f"{line}\n" for line in sources))
+        return ["--sources", told, "--names", ",".join(providers), *["--near", self.near] * is_near, *inputs]
+
+    def rows_near(self):
+        with open(self.near, encoding="utf-8-sig", newline="") as file:
+            return list(csv.DictReader(file))
+
+    def test_the_time_of_no_text_grows_with_its_square(self):
+        for name, (made, is_near) in LONG.items():
+            with self.subTest(name):
+                size = 500 if is_near else 1_000
+                words = {at: self.kept_words(made(at), is_near) for at in (size, 4 * size)}
+
+                def run(at):
+                    self.assertIn(in_process.run(contradictions, *words[at])[0], (0, 1))
+
+                self.assertLess(in_process.growth(run, size), 9)
+
+    def kept_words(self, facts, is_near):
+        """Returns the words of a run whose inputs the next ones leave as they are."""
+        words = self.words(facts, is_near)
+        for name in ("merged.json", "lines", "sources"):
+            kept = self.write(f"{len(facts)}.{len(content(words[1]))}.{name}", content(os.path.join(self.room, name)))
+            words = [kept if word == os.path.join(self.room, name) else word for word in words]
+        return words
+
+    def test_memory_is_in_proportion_to_what_is_read_and_written(self):
+        for name, (made, is_near) in LONG.items():
+            with self.subTest(name):
+                words = self.words(made(600), is_near)
+                tracemalloc.start()
+                in_process.run(contradictions, *words)
+                _, peak = tracemalloc.get_traced_memory()
+                tracemalloc.stop()
+                files = {path for path in words if os.path.exists(path)}
+                self.assertLess(peak, 30 * sum(map(os.path.getsize, files)) + 3_000_000)
+
+    def test_pairs_that_are_not_compared_are_told(self):
+        facts = [number(1, unit=f"e:u{each:04}") for each in range(100)]
+        status, told = in_process.run(contradictions, *self.words(facts, is_near=True))
+        pairs = {tuple(row["fact"] for row in pair) for pair in zip(*[iter(self.rows_near())] * 2)}
+        self.assertEqual(status, 1)
+        self.assertIn("contradictions: --near: 3950 pairs of rows were not compared", told)  # of 100 * 99 / 2
+        distances = {int(two[1:]) - int(one[1:]) for one, two in pairs}
+        self.assertEqual(distances, {1, 3, 5, 7, 9, 11})  # the next ones first; every other row has the same provider
+        self.assertLess(len(pairs), 1_001)
+
+    def test_as_many_pairs_as_are_compared_are_all_listed(self):
+        facts = [number(1, unit=f"e:u{each:04}") for each in range(45)]
+        status, told = in_process.run(contradictions, *self.words(facts, is_near=True))
+        self.assertEqual((status, told, len(self.rows_near())), (0, "", 2 * 22 * 23))
+
+    def test_the_page_has_eighty_characters_of_a_name_and_the_table_all(self):
+        long = "z" * 5_000
+        dimensions = {"concept": f"l:{long}", "entity": f"l:{long}", "unit": f"l:{long}", "l:" + long: f"l:{long}"}
+        sheet = {"namespaces": URIS, "concepts": {f"l:{long}": "numeric"}, "dimensions": {f"l:{long}": "explicit"}}
+        self.sheet = self.write("sheet.json", json.dumps(sheet))
+        facts = [{"dimensions": {**dimensions, "period": f"20{year}-01-01T00:00:00"}, "decimals": 1, "value": f"{value}"}
+                 for year in range(10, 30) for value in (1, 2)]
+        status, told = in_process.run(contradictions, *self.words(facts))
+        page, table = content(self.page), content(self.table)
+        self.assertEqual((status, told, long[:81] in page, LONG_URI[:81] in page), (1, "", False, False))
+        self.assertIn(f'<abbr title="{LONG_URI[:80]}.."><bdi>{long[:80]}..</bdi></abbr>', page)
+        self.assertEqual((table.count(LONG_URI), table.count(long)), (40 * 5, 40 * 5))
+
+    def test_long_texts_are_cut_near_the_first_that_differs(self):
+        for shared, start, rest in ((0, 0, "..</bdi>"), (30, 0, "..</bdi>"), (500, 460, "..</bdi>")):
+            facts = [text("s" * shared + sign * 200) for sign in "ab"]
+            in_process.run(contradictions, *self.words(facts))
+            page = content(self.page)
+            for sign in "ab":
+                shown = ("s" * shared + sign * 200)[start : start + 80]
+                self.assertIn(f"<td><bdi>{'..' * bool(start)}{shown}{rest}", page)
+            self.assertIn("s" * shared + "b" * 200, content(self.table))
+
+    def test_a_table_that_would_be_too_long_is_refused_before_it_is_written(self):
+        for limit, told in (("LONGEST_ROW", "one row"), ("LONGEST_TABLE", "a table")):
+            with in_process.mock.patch.dict(in_process.sys.modules["contradicting.tables"].__dict__, {limit: 12_000}):
+                facts = [number(each, unit="l:a*l:b*l:c") for each in range(2)]
+                status, line = in_process.run(contradictions, *self.words(facts))
+                self.assertEqual((status, os.path.exists(self.page), os.path.exists(self.table)), (3, False, False))
+                self.assertIn(told, line)
+
+    def test_an_output_that_is_an_input_is_refused(self):
+        words = self.words([number(1), number(2)])
+        before = {name: content(os.path.join(self.room, name)) for name in os.listdir(self.room)}
+        os.symlink(words[4], os.path.join(self.room, "link"))
+        for place, path in ((-1, words[4]), (-2, words[5]), (-2, self.table), (-1, words[1]), (-1, os.path.join(self.room, "link"))):
+            changed = [*words]
+            changed[place] = path
+            status, told = in_process.run(contradictions, *changed)
+            self.assertEqual(status, 2, told)
+            self.assertIn("an output is an input, or two outputs are one file", told)
+        for option in ("--rows", "--near"):
+            self.assertEqual(in_process.run(contradictions, option, words[4], *words)[0], 2)
+        self.assertEqual({name: content(os.path.join(self.room, name)) for name in before}, before)
+
+    def test_what_no_merged_text_has_is_a_sentence(self):
+        odd = {"period": ["2020", "a/b/c", "/".join(["2020-01-01T00:00:00"] * 30), "2020-13-01T00:00:00", 5], "unit": [5, [], {}],
+               "language": [5], "entity": ["q:a", 5, {}], "e:d1": [5, {}], "concept": ["", "e:A:B", None], "x:y": ["a"]}
+        cases = [number(1, **{key: value}) for key, values in odd.items() for value in values]
+        cases += [{**number(1), "value": value} for value in ("1" * 50, "\u0661", 5, {})]
+        cases += [{**number(1), "decimals": value} for value in (True, "1", None, 10**30, 1.5)]
+        cases += [text(5), text([]), {"value": "1"}, {"dimensions": 5, "value": "1"}]
+        for case in cases:
+            other = {**case, "dimensions": {**case["dimensions"], "unit": "e:z"}} if isinstance(case.get("dimensions"), dict) else case
+            for is_near in (False, True):
+                words = self.lenient_words([case, case, other], is_near)
+                status, told = in_process.run(contradictions, *words)
+                self.assertEqual((status, len(told.splitlines())), (3, 1), (case, told))
+
+    def lenient_words(self, facts, is_near):
+        names = [f"f{rank}" for rank in range(1, len(facts) + 1)]
+        merged = self.write("merged.json", json.dumps({"documentInfo": {"namespaces": URIS}, "facts": dict(zip(names, facts))}))
+        lines = self.write("lines", "1 f1 f2 inconsistent apart f1 f2\n2 f3 f3 complete\n")
+        sources = self.write("sources", "".join(f'f{rank} {1 + rank // 3} "i"\n' for rank in (1, 2, 3)))
+        files = [merged, self.sheet, lines, self.page, self.table]
+        return ["--sources", sources, "--names", "a,b", *["--near", self.near] * is_near, *files]
+
+    def test_statuses_are_those_of_the_process(self):
+        apart, one = self.kept_words([number(1), number(2)], False), self.kept_words([number(1)], False)
+        run = [sys.executable, TOOL]
+        for status, words in ((0, one), (1, apart), (2, one[:-1]), (3, [*one[:-1], self.room]), (3, [*apart[:-3], one[-3], *one[-2:]])):
+            done = subprocess.run([*run, *words], capture_output=True)
+            self.assertEqual((done.returncode, b"Traceback" in done.stderr), (status, False), (words, done.stderr))
+
+
+if __name__ == "__main__":
+    unittest.main()
