@@ -156,6 +156,8 @@ def print_lines(lines: Iterable[str]) -> None:
 
 def printable(text: str) -> str:
     """Returns a text with the escapes of JSON for the characters that are not printable."""
+    if text.isprintable():
+        return text
     return "".join(each if each.isprintable() else json.dumps(each)[1:-1] for each in text)
 
 

@@ -32,7 +32,12 @@ class Limits:
     @property
     def total(self) -> int:
         """The bytes of all files."""
-        return 16 * self.file
+        return 8 * self.file
+
+    @property
+    def again(self) -> int:
+        """The bytes of schemas without a namespace that are read for a further one."""
+        return self.file // 16
 
 
 @contextlib.contextmanager
@@ -113,32 +118,46 @@ class Files:
         zipfile raises.
         """
         data = self.read_packed(*self.packed[place]) if place in self.packed else self.read_on_disk(place)
-        if len(data) > self.limits.file:
-            raise ValueError(f"it is longer than {self.limits.megabytes} MB (--megabytes)")
         self.total += len(data)
         if self.total > self.limits.total:
-            raise ValueError(f"with it more than {16 * self.limits.megabytes} MB are read (--megabytes)")
+            raise ValueError(f"with it, more than {8 * self.limits.megabytes} MB are read (--megabytes)")
         return data
 
     def read_packed(self, package: zipfile.ZipFile, entry: zipfile.ZipInfo) -> bytes:
         if entry.compress_type not in METHODS:
             raise ValueError("it is compressed by another method than deflate")
         with package.open(entry) as file:
-            return file.read(self.limits.file + 1)
+            data = file.read(self.limits.file + 1)
+        if len(data) > self.limits.file:
+            raise too_long(self.limits)
+        return data
 
     def read_on_disk(self, place: str) -> bytes:
         really = os.path.realpath(place)
         if not self.limits.outside and self.folders.isdisjoint(map(str, pathlib.PurePath(really).parents)):
             raise ValueError("it is outside the folders that are named (--outside)")
-        return read_regular(really, self.limits.file + 1)
+        return read_regular(really, self.limits)
 
 
-def read_regular(place: str, most: int) -> bytes:
-    """Returns at most so many bytes of a regular file. A FIFO does not have it wait."""
+def read_regular(place: str, limits: Limits) -> bytes:
+    """Returns the bytes of a regular file. A FIFO does not have it wait.
+
+    Errors: ValueError where it is none or is too long; OSError.
+    """
     with open(place, "rb", opener=lambda path, flags: os.open(path, flags | os.O_NONBLOCK)) as file:
-        if not stat.S_ISREG(os.fstat(file.fileno()).st_mode):
+        status = os.fstat(file.fileno())
+        if not stat.S_ISREG(status.st_mode):
             raise ValueError("it is no regular file")
-        return file.read(most)
+        data = file.read(min(status.st_size, limits.file) + 1)  # which takes so much memory beforehand
+    if len(data) > limits.file:
+        raise too_long(limits)
+    if len(data) > status.st_size:
+        raise ValueError("it grows while it is read")
+    return data
+
+
+def too_long(limits: Limits) -> ValueError:
+    return ValueError(f"it is longer than {limits.megabytes} MB (--megabytes)")
 
 
 def fail(fault: OSError) -> None:

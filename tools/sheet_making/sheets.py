@@ -58,10 +58,8 @@ def union(paths: Iterable[str], limits: Limits) -> Kinds:
     kinds: Kinds = {table: {} for table in TABLES}
     for path in paths:
         with reading(path):
-            data = read_regular(path, limits.file + 1)
-            if len(data) > limits.file:
-                raise ValueError(f"it is longer than {limits.megabytes} MB (--megabytes)")
-            for table, name, kind in Sheet(json.loads(data.decode("utf-8-sig"))).kinds():
+            tree = json.loads(read_regular(path, limits).decode("utf-8-sig"))
+            for table, name, kind in Sheet(tree).kinds():
                 before = kinds[table].setdefault(name, kind)
                 if {before, kind} == {"text", "set"}:
                     kinds[table][name] = "set"

@@ -46,9 +46,9 @@ class Taxonomy:
             return
         data = self.files.read(place)
         self.read_again += len(data) if namespaces else 0
-        if self.read_again > self.files.limits.file:
-            raise ValueError(f"schemas without a namespace, read for each that includes them, are longer than "
-                             f"{self.files.limits.megabytes} MB (--megabytes)")
+        if self.read_again > self.files.limits.again:
+            raise ValueError(f"schemas without a namespace that are included in further ones have more than"
+                             f" {self.files.limits.again} bytes together (--megabytes)")
         visitor = Declaring(self, place, wanted)
         read_xml(data, visitor)
         self.targets[place] = visitor.target

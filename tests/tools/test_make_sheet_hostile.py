@@ -1,0 +1,377 @@
+"""Tests of tools/make_sheet, and of labels, on files that are made to take long, to leave their folder or to fail."""
+import json
+import os
+import resource
+import signal
+import subprocess
+import sys
+import tracemalloc
+import unittest
+import zipfile
+from unittest import mock
+
+import in_process
+from test_make_sheet import ITEM, SCHEMA, TOOL, ToolTest, run
+
+from contradicting.labels import read_labels
+from sheet_making import files
+
+make_sheet = in_process.loaded("make_sheet")
+HEAD = '<xs:element name="{}" type="xbrli:stringItemType" substitutionGroup="{}"/>'
+TYPE = '<xs:complexType name="{}"><xs:simpleContent><xs:restriction base="{}"/></xs:simpleContent></xs:complexType>'
+TYPED = '<xs:element name="{}" type="{}" substitutionGroup="xbrli:item"/>'
+IMPORT = '<xs:import namespace="{}" schemaLocation="{}"/>'
+INCLUDE = '<xs:include schemaLocation="{}"/>'
+CATALOG = '<catalog xmlns="urn:oasis:names:tc:entity:xmlns:xml:catalog">%s</catalog>'
+REWRITE = '<rewriteURI uriStartString="{}" rewritePrefix="{}"/>'
+WITHOUT_NAMESPACE = SCHEMA.replace('targetNamespace="http://made.example"', "")
+LINKBASE = """<link:linkbase xmlns:link="http://www.xbrl.org/2003/linkbase" xmlns:xlink="http://www.w3.org/1999/xlink">
+    <link:labelLink>%s</link:labelLink></link:linkbase>"""
+LOC = '<link:loc xlink:href="a.xsd#made_{0}" xlink:label="{0}"/>'
+LABEL = '<link:label xlink:label="{}" xml:lang="en">{}</link:label>'
+ARC = '<link:labelArc xlink:from="{}" xlink:to="{}"/>'
+
+
+def each(form, size, *more):
+    """Returns a form for each number below a size: its fields are the number and the next one, spelled as `more` says."""
+    return "".join(form.format(*(spelled.format(number, number + 1) for spelled in more)) for number in range(size))
+
+
+def long_uri(size):
+    return "http://made.example/" + "m" * 10 * size
+
+
+def rewrites_and_imports(size):
+    return {
+        "META-INF/catalog.xml": CATALOG % each(REWRITE, size, "http://{0:05}/", "../"),
+        "a.xsd": SCHEMA % each(INCLUDE, size, "http://{0:05}/a.xsd"),
+    }
+
+
+def rewrites_of_each_length(size):
+    lengths = range(1, min(size, 900))
+    return {
+        "META-INF/catalog.xml": CATALOG % "".join(REWRITE.format("b" * length, "../") for length in lengths),
+        "a.xsd": SCHEMA % each(INCLUDE, size // 3, "c" * 30 + "/{0}/../../a.xsd"),
+    }
+
+
+def alike(size):
+    """Returns two schemas whose long namespaces differ in the last character."""
+    made = SCHEMA % each(HEAD, size, "C{0}", "this:item")
+    return {f"{end}.xsd": made.replace("http://made.example", long_uri(size) + end) for end in "ab"}
+
+
+# packages of a size
+LONG = {
+    "chains of heads": lambda size: {"a.xsd": SCHEMA % each(HEAD, size, "C{0}", "this:C{1}")},
+    "a ring of heads": lambda size: {"a.xsd": SCHEMA % (each(HEAD, size, "C{0}", "this:C{1}") + HEAD.format(f"C{size}", "this:C0"))},
+    "chains of types": lambda size: {
+        "a.xsd": SCHEMA % (each(TYPE, size, "T{0}", "this:T{1}") + each(TYPED, size, "C{0}", "this:T{0}"))
+    },
+    "prefixes and references": lambda size: {
+        "a.xsd": SCHEMA.replace(" target", each(' xmlns:p{}="http://p/{}"', size, "{0}", "{0}") + " target")
+        % each(HEAD, size, "C{0}", "p{0}:C")
+    },
+    "prefixes one in another": lambda size: {
+        "a.xsd": SCHEMA % ((f'<a xmlns:p="{"u" * (size // 10)}">' * 900 + "</a>" * 900) + each(ITEM.replace("%s", "{}"), size, "C{0}", "string"))
+    },
+    "rewrites and imports": rewrites_and_imports,
+    "rewrites of each length": rewrites_of_each_length,
+    "imports that are missing": lambda size: {"a.xsd": SCHEMA % each(IMPORT, size, "http://n{0}", "n{0}.xsd")},
+    "a long namespace": lambda size: {
+        "a.xsd": (SCHEMA % each(HEAD, size, "C{0}", "xbrli:item")).replace("http://made.example", long_uri(size))
+    },
+    "a long namespace that is left out": lambda size: {
+        "a.xsd": (SCHEMA % each(HEAD, size, "C{0}", "this:item")).replace("http://made.example", long_uri(size))
+    },
+    "a long namespace of attributes": lambda size: {
+        "a.xsd": SCHEMA.replace(" target", f' xmlns:u="{long_uri(size)}" target') % each('<xs:element name="{}" u:{}=""/>', size, "C{0}", "a{0}")
+    },
+    "a long namespace of tags": lambda size: {
+        "a.xsd": SCHEMA.replace(" target", f' xmlns:u="{long_uri(size)}" target') % each("<u:{}/>", size, "a{0}")
+    },
+    "long namespaces that begin alike": alike,
+    "attributes": lambda size: {"a.xsd": SCHEMA % f"<a{each(' {}=%s' % repr(''), size, 'a{0}')}/>"},
+    "a long comment": lambda size: {"a.xsd": SCHEMA % f"<!--{'x' * 100 * size}-->"},
+}
+
+
+class HostileTest(ToolTest):
+    def pack(self, texts, name="a.zip", method=zipfile.ZIP_DEFLATED):
+        place = os.path.join(self.room, name)
+        with zipfile.ZipFile(place, "w", method) as made:
+            for path, text in texts.items():
+                made.writestr(path, text)
+        return place
+
+    def refused(self, told, *words):
+        """The tool ends with status 3 and a line, in this process."""
+        status, lines = in_process.run(make_sheet, *words)
+        self.assertEqual((status, len(lines.splitlines())), (3, 1), lines)
+        self.assertIn(told, lines)
+
+
+class Long(HostileTest):
+    def test_time_is_in_proportion(self):
+        for name, made in LONG.items():
+            with self.subTest(name):
+                packages = {size: self.pack(made(size), f"{size}.zip") for size in (800, 3_200)}
+
+                def run_at(size):
+                    self.assertIn(in_process.run(make_sheet, packages[size])[0], (0, 1, 3))
+
+                self.assertLess(in_process.growth(run_at, 800), 9)
+
+    def test_memory_is_in_proportion(self):
+        for name, made in LONG.items():
+            with self.subTest(name):
+                texts = made(3_000)
+                package = self.pack(texts)
+                tracemalloc.start()
+                in_process.run(make_sheet, package)
+                _, peak = tracemalloc.get_traced_memory()
+                tracemalloc.stop()
+                self.assertLess(peak, 30 * sum(map(len, texts.values())) + 1_000_000)
+
+    def test_labels_and_arcs(self):
+        def packed(size):
+            """Returns a package in which so many arcs lead from so many concepts to so many labels, each of which is long."""
+            items = each(HEAD.replace("<xs:element", '<xs:element id="made_{}"'), size, "{0}", "C{0}", "xbrli:item")
+            labels = each(LABEL, size, "labels", "x" * 50 + "{0}")
+            arcs = each(ARC, size, "0", "labels") + each(ARC, size, "{0}", "labels")
+            linkbase = LINKBASE % (each(LOC, size, "{0}") + labels + arcs)
+            return self.pack({"a.xsd": SCHEMA % items, "a.xml": linkbase}, f"labels{size}.zip")
+
+        packages = {size: packed(size) for size in (600, 2_400)}
+        labels = read_labels([packages[600]], "en")
+        self.assertEqual(labels["http://made.example", "C599"], "x" * 50 + "0")
+        self.assertLess(in_process.growth(lambda size: read_labels([packages[size]], "en"), 600), 9)
+
+    def test_one_schema_in_many_namespaces(self):
+        def made(size):
+            schemas = {f"n{number}.xsd": (SCHEMA % INCLUDE.format("c.xsd")).replace("made", f"n{number}") for number in range(size)}
+            return self.pack({"c.xsd": WITHOUT_NAMESPACE % each(HEAD, 100, "C{0}", "xbrli:item"), **schemas})
+
+        sheet = json.loads(run(made(4)).stdout)
+        self.assertEqual((len(sheet["namespaces"]), len(sheet["concepts"])), (4, 400))
+        self.refused("included in further ones have more than 62500 bytes together", made(20), "--megabytes", "1")
+
+    def test_zips_of_blanks(self):
+        blanks = self.pack({"a.xsd": SCHEMA % (" " * 1_000_000)})
+        self.assertLess(os.path.getsize(blanks), 10_000)
+        self.assertEqual(in_process.run(make_sheet, blanks), (0, ""))
+        self.refused("a.zip/a.xsd: it is longer than 1 MB (--megabytes)", blanks, "--megabytes", "1")
+        many = self.pack({f"{number}.xsd": SCHEMA % (" " * 900_000) for number in range(9)})
+        self.refused("a.zip/8.xsd: with it, more than 8 MB are read (--megabytes)", many, "--megabytes", "1")
+        self.assertEqual(in_process.run(make_sheet, many), (0, ""))
+
+    def test_levels(self):
+        for levels, fits in ((999, True), (1_000, False), (300_000, False)):
+            package = self.pack({"a.xsd": SCHEMA % ("<a>" * levels + "</a>" * levels)})
+            tracemalloc.start()
+            if fits:
+                self.assertEqual(in_process.run(make_sheet, package), (0, ""))
+            else:
+                self.refused("it has more than 1000 levels", package)
+            _, peak = tracemalloc.get_traced_memory()
+            tracemalloc.stop()
+            self.assertLess(peak, 80_000_000)  # expat goes on to the end of what it was given, which is 1 MB
+
+    def test_files_of_a_package(self):
+        package = self.pack({f"{number}.xsd": SCHEMA % "" for number in range(5)})
+        with mock.patch.object(files, "MOST_ENTRIES", 4):
+            self.refused("more than 4 files", package)
+        self.refused("a path of more than 1024 characters", self.pack({"a" * 1_100 + ".xsd": SCHEMA % ""}))
+
+    def test_lengths_of_rewrites(self):
+        rules = "".join(REWRITE.format("b" * length, "../") for length in range(1, 1_002))
+        self.refused("more than 1000 different lengths", self.pack({"META-INF/catalog.xml": CATALOG % rules}))
+
+
+class Packages(HostileTest):
+    def test_entries_of_the_package_itself(self):
+        package = self.pack({"./": "", "./a.xsd": SCHEMA % (ITEM % ("A", "string") + INCLUDE.format("b/B.XSD"))})
+        with zipfile.ZipFile(package, "a") as made:
+            made.writestr("b/", "")
+            made.writestr("b/B.XSD", SCHEMA % ITEM % ("B", "string"))
+            made.writestr("b/C.XSD", SCHEMA % ITEM % ("C", "string"))
+        self.assertEqual(list(json.loads(run(package).stdout)["concepts"]), ["n1:A", "n1:B", "n1:C"])
+
+    def test_a_schema_with_another_ending_is_read_when_it_is_referred_to(self):
+        package = self.pack({"a.xsd": SCHEMA % INCLUDE.format("b.schema"), "b.schema": SCHEMA % ITEM % ("B", "string")})
+        self.assertEqual(list(json.loads(run(package).stdout)["concepts"]), ["n1:B"])
+
+    def test_a_rewrite_without_a_start(self):
+        for rule in ('<rewriteURI rewritePrefix="../"/>', REWRITE.format("", "../"), '<rewriteURI uriStartString="a"/>'):
+            package = self.pack({"META-INF/catalog.xml": CATALOG % rule, "a.xsd": SCHEMA % INCLUDE.format("a.xsd")})
+            self.refused("catalog.xml: a rewriteURI has no uriStartString or no rewritePrefix", package)
+
+    def test_methods_that_unpack_without_a_limit(self):
+        for method in (zipfile.ZIP_BZIP2, zipfile.ZIP_LZMA):
+            package = self.pack({"a.xsd": SCHEMA % ""}, method=method)
+            self.refused("a.xsd: it is compressed by another method than deflate", package)
+
+    def test_an_entry_with_a_password(self):
+        package = self.pack({"a.xsd": SCHEMA % ""}, method=zipfile.ZIP_STORED)
+        with open(package, "r+b") as file:
+            data = bytearray(file.read())
+            for at in (data.index(b"PK\3\4") + 6, data.index(b"PK\1\2") + 8):
+                data[at] |= 1
+            file.seek(0)
+            file.write(data)
+        self.refused("a.xsd: RuntimeError: File", package)
+
+    def test_a_document_type_in_any_encoding(self):
+        for encoding in ("utf-8", "utf-16", "latin-1", "cp1252"):
+            text = f'<?xml version="1.0" encoding="{encoding}"?><!DOCTYPE a [<!ENTITY e "x">]>' + SCHEMA % "&e;"
+            self.refused("it has a document type", self.pack({"a.xsd": text.encode(encoding)}))
+        comment = self.pack({"a.xsd": SCHEMA % "<!-- <!DOCTYPE a> -->"})
+        self.assertEqual(in_process.run(make_sheet, comment), (0, ""))
+
+
+class Folders(HostileTest):
+    def folder(self, **texts):
+        """Makes a folder with files and returns its path."""
+        folder = os.path.join(self.room, "folder")
+        os.makedirs(folder, exist_ok=True)
+        for name, text in texts.items():
+            self.write(os.path.join("folder", name.replace("_", ".")), text)
+        return folder
+
+    def test_files_that_are_none(self):
+        folder = self.folder(a_xsd=SCHEMA % ITEM % ("A", "string"))
+        os.mkfifo(os.path.join(folder, "fifo"))
+        os.symlink("/dev/zero", os.path.join(folder, "zero"))
+        self.assertEqual(run(folder).returncode, 0)  # they are not read
+        fifo = os.path.join(folder, "b.xsd")
+        os.mkfifo(fifo)
+        self.refused("folder/b.xsd: it is no regular file", folder)
+        self.refused("folder/b.xsd: it is no file", fifo)
+        os.unlink(fifo)
+        os.symlink("/dev/zero", os.path.join(folder, "c.xsd"))
+        self.refused("folder/c.xsd: it is outside the folders that are named (--outside)", folder)
+        self.refused("folder/c.xsd: it is no regular file", folder, "--outside")
+        self.refused("/dev/zero: it is no file", "/dev/zero")
+
+    def test_references_stay_in_the_named_folders(self):
+        outside = self.write("outside.xsd", SCHEMA % ITEM % ("Secret", "string"))
+        folder = self.folder()
+        for location in (outside, "../outside.xsd", "%2e%2e/outside.xsd", "link.xsd", "http://c.example/outside.xsd"):
+            self.folder(a_xsd=SCHEMA % INCLUDE.format(location))
+            link = os.path.join(folder, "link.xsd")
+            if location == "link.xsd":
+                os.symlink("../outside.xsd", link)
+            if location.startswith("http"):
+                os.makedirs(os.path.join(folder, "META-INF"))
+                self.folder(**{"META-INF/catalog_xml": CATALOG % REWRITE.format("http://c.example/", "../../")})
+            for named in (folder, os.path.join(folder, "a.xsd")):
+                if location.startswith("http") and named != folder:
+                    continue  # the catalog is not read
+                self.refused(": it is outside the folders that are named (--outside)", named)
+                done = run("--outside", named)
+                self.assertEqual(list(json.loads(done.stdout)["concepts"]), ["n1:Secret"], done.stderr)
+            if location == "link.xsd":
+                os.unlink(link)
+        self.refused("/etc/passwd", self.folder(a_xsd=SCHEMA % INCLUDE.format("/etc/passwd")))
+
+    def test_a_file_in_a_named_folder_may_be_referred_to_from_another(self):
+        self.folder(a_xsd=SCHEMA % INCLUDE.format("../other/b.xsd"))
+        os.mkdir(os.path.join(self.room, "other"))
+        self.write("other/b.xsd", SCHEMA % ITEM % ("B", "string"))
+        done = run(os.path.join(self.room, "folder", "a.xsd"), os.path.join(self.room, "other"))
+        self.assertEqual((done.returncode, list(json.loads(done.stdout)["concepts"])), (0, ["n1:B"]))
+
+    def test_a_long_file(self):
+        self.refused("a.xsd: it is longer than 1 MB", self.folder(a_xsd=SCHEMA % (" " * 1_000_000)), "--megabytes", "1")
+        self.refused("a.json: it is longer than 1 MB", "--union", self.write("a.json", " " * 1_000_001), "--megabytes", "1")
+
+    @unittest.skipUnless(os.geteuid(), "root reads each folder")
+    def test_a_folder_that_cannot_be_read(self):
+        os.makedirs(os.path.join(self.folder(a_xsd=SCHEMA % ""), "b"), mode=0)
+        self.refused("folder/b: Permission denied", self.folder())
+
+
+class Statuses(HostileTest):
+    def shell(self, redirected, *words, **options):
+        command = " ".join([sys.executable, TOOL, *words, redirected])
+        return subprocess.run(["bash", "-c", command], capture_output=True, **options)
+
+    def large(self):
+        return self.write("a.xsd", SCHEMA % (each(HEAD, 5_000, "C{0}", "xbrli:item") + HEAD.format("Lost", "this:head")))
+
+    def test_a_full_device(self):
+        limit = lambda: resource.setrlimit(resource.RLIMIT_FSIZE, (65_536, 65_536))  # noqa: E731
+        for unbuffered in ("", "1"):
+            options = {"env": {**os.environ, "PYTHONUNBUFFERED": unbuffered}, "preexec_fn": limit}
+            done = self.shell(f">{self.room}/sheet", self.large(), **options)
+            self.assertEqual((done.returncode, done.stderr.splitlines()[-1]), (3, b"make_sheet: File too large"))
+
+    def test_standard_error_full_or_closed(self):
+        for redirected in ("2>/dev/full", "2>&-"):
+            done = self.shell(redirected, self.large())
+            self.assertEqual((done.returncode, done.stdout, done.stderr), (3, b"", b""))
+        good = self.write("a.xsd", SCHEMA % ITEM % ("A", "string"))
+        self.assertEqual(json.loads(self.shell("2>&-", good).stdout)["concepts"], {"n1:A": "text"})
+        self.assertEqual(self.shell("2>&-", os.path.join(self.room, "nowhere")).returncode, 3)
+
+    def test_what_input_can_raise(self):
+        self.refused("a.json: nested too deeply", "--union", self.write("a.json", '{"x:x":' * 100_000))
+        place = self.write("a.xsd", SCHEMA % "")
+        with mock.patch.object(files, "read_regular", side_effect=MemoryError):
+            self.refused("a.xsd: out of memory", place)
+        self.refused("there is no such file", os.path.join(self.room, "no\0where"))
+
+    def test_usage(self):
+        for words in ((), ("--megabytes", "0", "a"), ("--megabytes", "x", "a"), ("--unknown",)):
+            self.assertEqual(run(*words).returncode, 2)
+
+    def test_signals(self):
+        self.assertEqual(signal.getsignal(signal.SIGTERM), signal.SIG_DFL)  # a run in this process leaves it as it was
+
+
+class Unions(HostileTest):
+    def sheet(self, uri="http://a.example", name="p:A", **more):
+        return self.write("a.json", json.dumps({"namespaces": {"p": uri}, "concepts": {name: "text"}, **more}))
+
+    def test_uris_that_are_none(self):
+        for uri in (1, 1.5, None, True, [], ["u"], {}, ""):
+            self.refused("its URI is no text or empty", "--union", self.sheet(uri))
+        self.refused("https://xbrl.org/2021, which no concept can have", "--union", self.sheet("https://xbrl.org/2021"))
+        self.assertEqual(run("--union", self.sheet("https://xbrl.org/2021/")).returncode, 0)
+
+    def test_prefixes_and_names_that_are_none(self):
+        for prefix in ("", "a b", "a:b"):
+            path = self.write("a.json", json.dumps({"namespaces": {prefix: "u"}}))
+            self.refused("is no prefix", "--union", path)
+        for name in ("A", ":A", "p:", "p: A", "p:A:B", "p:A\n", "q:A"):
+            self.refused("is no name, or its prefix is not bound", "--union", self.sheet(name=name))
+        self.assertEqual(run("--union", self.sheet(name="p:{A}\u00a0")).returncode, 0)
+
+    def test_sets_that_are_none(self):
+        for sets in ("p:A", {"p:A": 1}, 1):
+            self.refused("xbrlmerge:sets is no list", "--union", self.sheet(**{"xbrlmerge:sets": sets}))
+        for sets in ([1], [["p:A"]], ["q:A"]):
+            self.refused("is no name", "--union", self.sheet(**{"xbrlmerge:sets": sets}))
+
+    def test_kinds_that_are_none(self):
+        for kind in ("numerical", 1, None, [], {}):
+            path = self.write("a.json", json.dumps({"namespaces": {"p": "u"}, "concepts": {"p:A": kind}}))
+            self.refused("has a kind that is none of", "--union", path)
+
+    def test_time_and_memory_are_in_proportion(self):
+        def run_at(size):
+            uris = {f"p{number}": f"u{number}" for number in range(size)} | {"long": long_uri(size)}
+            names = {f"long:A{number}": "text" for number in range(size)} | {f"p{number}:A": "text" for number in range(size)}
+            text = json.dumps({"namespaces": uris, "concepts": names, "xbrlmerge:sets": list(names)})
+            tracemalloc.start()
+            self.assertEqual(in_process.run(make_sheet, "--union", self.write("a.json", text)), (0, ""))
+            _, peak = tracemalloc.get_traced_memory()
+            tracemalloc.stop()
+            self.assertLess(peak, 30 * len(text) + 1_000_000)
+
+        self.assertLess(in_process.growth(run_at, 1_000), 9)
+
+
+if __name__ == "__main__":
+    unittest.main()
