@@ -14,9 +14,9 @@ sys.path.insert(0, TOOLS)
 import process  # noqa: E402
 
 
-def loaded(name):
-    """Returns a tool, which has no .py behind its name, as a module."""
-    loader = importlib.machinery.SourceFileLoader(name, os.path.join(TOOLS, name))
+def loaded(name, folder=TOOLS):
+    """Returns a script, which has no .py behind its name, as a module."""
+    loader = importlib.machinery.SourceFileLoader(name, os.path.join(folder, name))
     module = importlib.util.module_from_spec(importlib.util.spec_from_loader(name, loader))
     loader.exec_module(module)
     return module
@@ -24,12 +24,17 @@ def loaded(name):
 
 def run(tool, *words):
     """Runs a tool, and returns its status and what it prints on standard error."""
-    argv = mock.patch.object(sys, "argv", [tool.__name__, *words])
-    with argv, contextlib.redirect_stderr(io.StringIO()) as told, contextlib.redirect_stdout(io.TextIOWrapper(io.BytesIO())):
+    return run_whole(tool, *words)[:2]
+
+
+def run_whole(tool, *words):
+    """Runs a tool, and returns its status and what it prints on standard error and on standard output, there as bytes."""
+    argv, out = mock.patch.object(sys, "argv", [tool.__name__, *words]), io.TextIOWrapper(io.BytesIO())
+    with argv, contextlib.redirect_stderr(io.StringIO()) as told, contextlib.redirect_stdout(out), warnings.catch_warnings():
         warnings.simplefilter("ignore", ResourceWarning)  # a process that ends leaves files open
         status, lines = process.outcome(tool.main)
         process.print_lines(lines)
-        return status, told.getvalue()
+        return status, told.getvalue(), out.buffer.getvalue()
 
 
 def growth(run_at, size):
