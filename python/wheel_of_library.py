@@ -5,6 +5,7 @@ import hashlib
 import os
 import re
 import zipfile
+from typing import Dict, Tuple
 
 HERE = os.path.dirname(os.path.abspath(__file__))
 LIBRARY = os.path.join(HERE, "..", "lib", "libxbrlmerge.so")
@@ -15,19 +16,22 @@ OLDEST = 5
 TIME = (1980, 1, 1, 0, 0, 0)
 
 
-def _project(key):
+def _project(key: str) -> str:
     with open(os.path.join(HERE, "pyproject.toml"), encoding="utf-8") as file:
-        return re.search(rf'^{key} = "(.*)"$', file.read(), re.MULTILINE)[1]
+        found = re.search(rf'^{key} = "(.*)"$', file.read(), re.MULTILINE)
+    if not found:
+        raise ValueError(f"pyproject.toml has no {key}")
+    return found[1]
 
 
-def _platform(library):
+def _platform(library: bytes) -> str:
     """Returns the tag of the machines that the library runs on, by the versions of the C library that it asks for."""
     minors = [int(it) for it in re.findall(rb"GLIBC_2\.(\d+)", library)]
     is_plain = set(re.findall(rb"\x00([\w+.-]*\.so[.\d]*)(?=\x00)", library)) - {b"libxbrlmerge.so"} <= SYSTEM
     return f"manylinux_2_{max([OLDEST, *minors])}_x86_64" if is_plain and minors else "linux_x86_64"
 
 
-def _files(tag):
+def _files(tag: str) -> Tuple[Dict[str, bytes], str]:
     name, version = _project("name"), _project("version")
     with open(LIBRARY, "rb") as file:
         files = {f"{name}/libxbrlmerge.so": file.read()}
@@ -41,15 +45,15 @@ def _files(tag):
     return files, info
 
 
-def _record(files, info):
-    def line(path, content):
+def _record(files: Dict[str, bytes], info: str) -> str:
+    def line(path: str, content: bytes) -> str:
         digest = base64.urlsafe_b64encode(hashlib.sha256(content).digest()).rstrip(b"=").decode()
         return f"{path},sha256={digest},{len(content)}\n"
 
     return "".join(line(*it) for it in files.items()) + f"{info}/RECORD,,\n"
 
 
-def build_wheel(wheel_directory, config_settings=None, metadata_directory=None):
+def build_wheel(wheel_directory: str, config_settings: object = None, metadata_directory: object = None) -> str:
     """Makes the wheel in a folder, and returns its name (PEP 517)."""
     with open(LIBRARY, "rb") as file:
         tag = f"py3-none-{_platform(file.read())}"

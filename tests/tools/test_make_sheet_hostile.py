@@ -14,7 +14,7 @@ import in_process
 from test_make_sheet import ITEM, SCHEMA, TOOL, ToolTest, run
 
 from contradicting.labels import read_labels
-from sheet_making import files
+from sheet_making import files, packages
 
 make_sheet = in_process.loaded("make_sheet")
 HEAD = '<xs:element name="{}" type="xbrli:stringItemType" substitutionGroup="{}"/>'
@@ -163,7 +163,7 @@ class Long(HostileTest):
         self.assertEqual(in_process.run(make_sheet, blanks), (0, ""))
         self.refused("a.zip/a.xsd: it is longer than 1 MB (--megabytes)", blanks, "--megabytes", "1")
         many = self.pack({f"{number}.xsd": SCHEMA % (" " * 900_000) for number in range(9)})
-        self.refused("a.zip/8.xsd: with it, more than 8 MB are read (--megabytes)", many, "--megabytes", "1")
+        self.refused("with it, the package unpacks to more than 100 times its size and 1 MB", many, "--megabytes", "1")
         self.assertEqual(in_process.run(make_sheet, many), (0, ""))
 
     def test_levels(self):
@@ -180,7 +180,7 @@ class Long(HostileTest):
 
     def test_files_of_a_package(self):
         package = self.pack({f"{number}.xsd": SCHEMA % "" for number in range(5)})
-        with mock.patch.object(files, "MOST_ENTRIES", 4):
+        with mock.patch.object(packages, "MOST_ENTRIES", 4):
             self.refused("more than 4 files", package)
         self.refused("a path of more than 1024 characters", self.pack({"a" * 1_100 + ".xsd": SCHEMA % ""}))
 

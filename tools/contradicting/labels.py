@@ -4,7 +4,8 @@ from __future__ import annotations
 from typing import NamedTuple, Optional, Sequence
 
 from contradicting.texts import Name
-from sheet_making.files import Files, Limits, reading
+from sheet_making.files import Files
+from sheet_making.limits import Limits, reading
 from sheet_making.schemas import Part
 from sheet_making.taxonomy import Taxonomy
 from sheet_making.xml_reading import XML, Element, Visitor, read_xml
@@ -67,6 +68,8 @@ class Link:
 
 class Linkbase(Visitor):
     """Reads the standard labels of one language and its dialects."""
+
+    takes_text = True
 
     def __init__(self, taxonomy: Labelled, place: str) -> None:
         self.taxonomy, self.place = taxonomy, place

@@ -1,62 +1,24 @@
 """The files and packages that are named, and what may be read of them."""
 from __future__ import annotations
 
-import contextlib
 import os
 import pathlib
 import stat
 import zipfile
-from dataclasses import dataclass
-from typing import Iterable, Iterator, Optional
+from typing import Iterable, Optional
 
-from process import NotDone, sentence, shortened
+from sheet_making.limits import Limits, reading, too_long
+from sheet_making.packages import Package
 
 CATALOG = os.path.join(os.sep, "META-INF", "catalog.xml")
-MOST_ENTRIES = 100_000  # of a package
-LONGEST_PATH = 1_024  # characters, in a package
-METHODS = (zipfile.ZIP_STORED, zipfile.ZIP_DEFLATED)  # `zipfile` unpacks others without a limit
-
-
-@dataclass(frozen=True)
-class Limits:
-    """How much is read, and whether schemas may refer to files outside the folders that are named."""
-
-    megabytes: int = 64
-    outside: bool = False
-
-    @property
-    def file(self) -> int:
-        """The bytes of a file."""
-        return self.megabytes * 1_000_000
-
-    @property
-    def total(self) -> int:
-        """The bytes of all files."""
-        return 8 * self.file
-
-    @property
-    def again(self) -> int:
-        """The bytes of schemas without a namespace that are read for a further one."""
-        return self.file // 16
-
-
-@contextlib.contextmanager
-def reading(path: str) -> Iterator[None]:
-    """Has a fault name the file that it lies in."""
-    try:
-        yield
-    except NotDone:
-        raise
-    except Exception as fault:  # expat, zipfile and zlib have exceptions of their own
-        raise NotDone(f"{path}: {sentence(fault)}") from None
 
 
 class Files:
     """Files on disk and in packages. A place is a path; in a package it goes on behind the package's own."""
 
     def __init__(self, words: Iterable[str], limits: Limits) -> None:
-        self.limits, self.total = limits, 0
-        self.packed: dict[str, tuple[zipfile.ZipFile, zipfile.ZipInfo]] = {}
+        self.limits = limits
+        self.packed: dict[str, Package] = {}
         self.listed: list[str] = []  # what is named, or is in a folder or package that is named
         self.named: set[str] = set()
         self.folders: set[str] = set()  # what is on disk is read in these alone
@@ -72,27 +34,12 @@ class Files:
         if not os.path.isfile(word):
             raise ValueError("it is no file" if os.path.exists(word) else "there is no such file")
         if zipfile.is_zipfile(word):
-            return self.open_package(word)
+            package = Package(word, self.limits)
+            self.packed.update(dict.fromkeys(package.entries, package))
+            return package.entries
         self.named.add(word)
-        self.folders.add(os.path.dirname(os.path.realpath(word)))
+        self.folders |= {os.path.dirname(os.path.realpath(word)), os.path.realpath(os.path.dirname(word))}
         return [word]
-
-    def open_package(self, word: str) -> list[str]:
-        """Returns the places of a package's files. They are read when they are needed, so it stays open."""
-        folder, entries = os.path.join(word, ""), {}
-        package = zipfile.ZipFile(word)
-        for entry in package.infolist():
-            place = os.path.normpath(folder + entry.filename)
-            if entry.filename.startswith("/") or not os.path.join(place, "").startswith(folder) or place in entries:
-                raise ValueError(f"it has a path outside of it, or one twice: {shortened(entry.filename)}")
-            if len(entry.filename) > LONGEST_PATH:
-                raise ValueError(f"it has a path of more than {LONGEST_PATH} characters: {shortened(entry.filename)}")
-            if not entry.is_dir():
-                entries[place] = (package, entry)
-        if len(entries) > MOST_ENTRIES:
-            raise ValueError(f"it has more than {MOST_ENTRIES} files")
-        self.packed.update(entries)
-        return list(entries)
 
     def schemas(self) -> list[str]:
         """Returns the files that are named, and those whose name ends in .xsd."""
@@ -117,22 +64,8 @@ class Files:
         Errors: ValueError where it is no regular file, leads out of the named folders or is too long; OSError; what
         zipfile raises.
         """
-        data = self.read_packed(*self.packed[place]) if place in self.packed else self.read_on_disk(place)
-        self.total += len(data)
-        if self.total > self.limits.total:
-            raise ValueError(f"with it, more than {8 * self.limits.megabytes} MB are read (--megabytes)")
-        return data
-
-    def read_packed(self, package: zipfile.ZipFile, entry: zipfile.ZipInfo) -> bytes:
-        if entry.compress_type not in METHODS:
-            raise ValueError("it is compressed by another method than deflate")
-        with package.open(entry) as file:
-            data = file.read(self.limits.file + 1)
-        if len(data) > self.limits.file:
-            raise too_long(self.limits)
-        return data
-
-    def read_on_disk(self, place: str) -> bytes:
+        if place in self.packed:
+            return self.packed[place].read(place)
         really = os.path.realpath(place)
         if not self.limits.outside and self.folders.isdisjoint(map(str, pathlib.PurePath(really).parents)):
             raise ValueError("it is outside the folders that are named (--outside)")
@@ -154,10 +87,6 @@ def read_regular(place: str, limits: Limits) -> bytes:
     if len(data) > status.st_size:
         raise ValueError("it grows while it is read")
     return data
-
-
-def too_long(limits: Limits) -> ValueError:
-    return ValueError(f"it is longer than {limits.megabytes} MB (--megabytes)")
 
 
 def fail(fault: OSError) -> None:

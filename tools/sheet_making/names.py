@@ -2,7 +2,6 @@
 from __future__ import annotations
 
 import re
-import sys
 from typing import Iterable, NamedTuple
 
 from process import shortened
@@ -21,10 +20,6 @@ class Name(NamedTuple):
     def shown(self) -> str:
         """Returns the name as lines show it."""
         return f"{{{shortened(self.uri)}}}{shortened(self.local)}"
-
-
-def interned(uri: str) -> str:
-    return sys.intern(str(uri))
 
 
 def in_order(names: Iterable[Name]) -> list[Name]:

@@ -1,11 +1,12 @@
 """Reads one schema: what it declares, and which schemas it refers to."""
 from __future__ import annotations
 
+import sys
 from dataclasses import dataclass
 from typing import NamedTuple, Optional
 
 from process import shortened
-from sheet_making.names import LOCAL, WHITE, Name, interned
+from sheet_making.names import LOCAL, WHITE, Name
 from sheet_making.xml_reading import Element, Visitor
 
 XS = "http://www.w3.org/2001/XMLSchema"
@@ -76,7 +77,7 @@ class SchemaVisitor(Visitor):
 
     def open_schema(self, element: Element) -> None:
         target = element.get("targetNamespace")
-        self.target = None if target is None else interned(target)
+        self.target = None if target is None else sys.intern(target)
         self.namespace = self.wanted if self.target is None else self.target
         if element.name != (XS, "schema") or self.wanted not in (None, self.namespace):
             raise ValueError(f"it is no schema of the namespace {shortened(self.wanted or '')}")
@@ -84,7 +85,7 @@ class SchemaVisitor(Visitor):
     def open_part(self, element: Element, namespace: str) -> None:
         if element.name in REFERENCES:
             location = element.get("schemaLocation")
-            imported = interned(element.get("namespace") or "") if element.name == IMPORT else namespace
+            imported = sys.intern(element.get("namespace") or "") if element.name == IMPORT else namespace
             if location is not None:
                 self.refer(location.strip(WHITE), imported)
         elif element.name == ELEMENT or element.name in TYPES:

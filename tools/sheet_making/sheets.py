@@ -2,12 +2,14 @@
 from __future__ import annotations
 
 import json
+import sys
 from typing import Any, Iterable, Iterator
 
 from process import NotDone, shortened
-from sheet_making.files import Limits, read_regular, reading
+from sheet_making.files import read_regular
 from sheet_making.kinds import TABLES, Kinds
-from sheet_making.names import LOCAL, PREFIX, RESERVED, Name, interned
+from sheet_making.limits import Limits, reading
+from sheet_making.names import LOCAL, PREFIX, RESERVED, Name
 
 SETS = "xbrlmerge:sets"
 MEMBERS = (*TABLES, "namespaces")
@@ -50,7 +52,7 @@ class Sheet:
 def uri_of(prefix: str, uri: Any) -> str:
     if not PREFIX.fullmatch(prefix) or not isinstance(uri, str) or not uri:
         raise ValueError(f"the prefix {shortened(prefix)} is no prefix, or its URI is no text or empty")
-    return interned(uri)
+    return sys.intern(uri)
 
 
 def union(paths: Iterable[str], limits: Limits) -> Kinds:

@@ -5,8 +5,9 @@ from typing import Optional
 
 from process import NotDone, shortened
 from sheet_making.catalogs import Rewrites
-from sheet_making.files import Files, reading
+from sheet_making.files import Files
 from sheet_making.kinds import is_specification
+from sheet_making.limits import reading
 from sheet_making.names import Name
 from sheet_making.schemas import Declaration, Part, SchemaVisitor
 from sheet_making.xml_reading import read_xml

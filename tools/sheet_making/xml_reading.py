@@ -5,11 +5,14 @@ the square of its length.
 """
 from __future__ import annotations
 
+import sys
 from typing import Optional, Sequence
-from xml.parsers import expat  # nosec: a document type is refused, and so there are no entities
+
+# read_xml refuses a document type, and so there are no entities
+from xml.parsers import expat  # nosec
 
 from process import shortened
-from sheet_making.names import Name, interned
+from sheet_making.names import Name
 
 MOST_LEVELS = 1_000
 XML = "http://www.w3.org/XML/1998/namespace"
@@ -28,7 +31,7 @@ class Bindings:
         for key, prefix in zip(declared, prefixes):
             if prefix and not attributes[key]:
                 raise ValueError(f"the prefix {shortened(prefix)} is bound to no namespace")
-            self.uris.setdefault(prefix, []).append(interned(attributes[key]))
+            self.uris.setdefault(prefix, []).append(sys.intern(attributes[key]))
         return prefixes
 
     def unbind(self, prefixes: Sequence[str]) -> None:
@@ -63,6 +66,8 @@ class Element:
 class Visitor:
     """What reads a document. Levels count from 1, which is the root."""
 
+    takes_text = False
+
     def start(self, element: Element, level: int) -> None:
         """Takes a start tag."""
 
@@ -76,8 +81,8 @@ class Visitor:
 def read_xml(data: bytes, visitor: Visitor) -> None:
     """Passes the tags and texts of a document to a visitor.
 
-    Errors: ExpatError where it is not well-formed; ValueError for a document type, more than MOST_LEVELS levels or a
-    prefix that is not bound; what the visitor raises.
+    Errors: ValueError where it is not well-formed, has a document type, more than MOST_LEVELS levels or a prefix that is
+    not bound; what the visitor raises.
     """
     bindings, opened = Bindings(), []
 
@@ -97,6 +102,9 @@ def read_xml(data: bytes, visitor: Visitor) -> None:
     parser = expat.ParserCreate(intern=None)
     parser.StartElementHandler, parser.EndElementHandler = start, end
     parser.StartDoctypeDeclHandler = doctype
-    if type(visitor).text is not Visitor.text:
+    if visitor.takes_text:
         parser.CharacterDataHandler = visitor.text
-    parser.Parse(data, True)
+    try:
+        parser.Parse(data, True)
+    except expat.ExpatError as fault:
+        raise ValueError(f"it is no XML: {fault}") from None
