@@ -8,7 +8,7 @@ from __future__ import annotations
 import sys
 from typing import Optional, Sequence
 
-# read_xml refuses a document type, and so there are no entities
+# read_xml rejects document types, so a document has no entities
 from xml.parsers import expat  # nosec
 
 from process import shortened
@@ -107,4 +107,6 @@ def read_xml(data: bytes, visitor: Visitor) -> None:
     try:
         parser.Parse(data, True)
     except expat.ExpatError as fault:
+        if expat.ErrorString(fault.code) == expat.errors.XML_ERROR_NO_MEMORY:
+            raise MemoryError from None
         raise ValueError(f"it is no XML: {fault}") from None
