@@ -1,7 +1,6 @@
 """Tests of tools/make_sheet on the toy taxonomy beside them."""
 import json
 import os
-import resource
 import subprocess
 import sys
 import tempfile
@@ -126,14 +125,6 @@ class Taxonomies(ToolTest):
         )
         sheet = json.loads(run(DOUBTFUL, registry).stdout)
         self.assertEqual(sheet["concepts"], {"n1:NewInRegistry": "numeric", "n1:Set": "text", "n1:Sure": "numeric"})
-
-    def test_twenty_thousand_elements_take_seconds(self):
-        place = self.write("large.xsd", SCHEMA % "".join(ITEM % (f"C{n}", "monetary") for n in range(20_000)))
-        before = resource.getrusage(resource.RUSAGE_CHILDREN)
-        sheet = json.loads(run(place).stdout)
-        after = resource.getrusage(resource.RUSAGE_CHILDREN)
-        self.assertEqual(len(sheet["concepts"]), 20_000)
-        self.assertLess(after.ru_utime - before.ru_utime, 10)
 
 
 class BadInputs(ToolTest):
