@@ -305,7 +305,7 @@ class Statuses(HostileTest):
         for unbuffered in ("", "1"):
             options = {"env": {**os.environ, "PYTHONUNBUFFERED": unbuffered}, "preexec_fn": limit}
             done = self.shell(f">{self.room}/sheet", self.large(), **options)
-            self.assertEqual((done.returncode, done.stderr.splitlines()[-1]), (3, b"make_sheet: File too large"))
+            self.assertEqual((done.returncode, done.stderr.splitlines()[-1]), (3, b"make_sheet: standard output: File too large"))
 
     def test_standard_error_full_or_closed(self):
         for redirected in ("2>/dev/full", "2>&-"):
