@@ -56,12 +56,6 @@ def rewrites_of_each_length(size):
     }
 
 
-def alike(size):
-    """Returns two schemas whose long namespaces differ in the last character."""
-    made = SCHEMA % each(HEAD, size, "C{0}", "this:item")
-    return {f"{end}.xsd": made.replace("http://made.example", long_uri(size) + end) for end in "ab"}
-
-
 # packages of a size
 LONG = {
     "chains of heads": lambda size: {"a.xsd": SCHEMA % each(HEAD, size, "C{0}", "this:C{1}")},
@@ -70,7 +64,7 @@ LONG = {
         "a.xsd": SCHEMA % (each(TYPE, size, "T{0}", "this:T{1}") + each(TYPED, size, "C{0}", "this:T{0}"))
     },
     "prefixes and references": lambda size: {
-        "a.xsd": SCHEMA.replace(" target", each(' xmlns:p{}="http://p/{}"', size, "{0}", "{0}") + " target")
+        "a.xsd": SCHEMA.replace(" target", each(' xmlns:p{}="p{}"', 4 * size, "{0}", "{0}") + " target")
         % each(HEAD, size, "C{0}", "p{0}:C")
     },
     "prefixes one in another": lambda size: {
@@ -91,7 +85,6 @@ LONG = {
     "a long namespace of tags": lambda size: {
         "a.xsd": SCHEMA.replace(" target", f' xmlns:u="{long_uri(size)}" target') % each("<u:{}/>", size, "a{0}")
     },
-    "long namespaces that begin alike": alike,
     "attributes": lambda size: {"a.xsd": SCHEMA % f"<a{each(' {}=%s' % repr(''), size, 'a{0}')}/>"},
     "a long comment": lambda size: {"a.xsd": SCHEMA % f"<!--{'x' * 100 * size}-->"},
 }

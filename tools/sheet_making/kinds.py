@@ -5,7 +5,7 @@ import functools
 import re
 from typing import Mapping, Optional
 
-from sheet_making.names import RESERVED, Name, in_order
+from sheet_making.names import RESERVED, Name
 from sheet_making.schemas import ANY_TYPE, XBRLDT, Declaration
 
 TABLES = {"concepts": ("numeric", "text", "name"), "dimensions": ("explicit", "typed")}
@@ -59,7 +59,7 @@ def kinds_of(elements: Mapping[Name, Declaration], types: Mapping[Name, Optional
     judge = Judge({name: each for name, each in elements.items() if not is_specification(name.uri)}, types)
     kinds: Kinds = {table: {} for table in TABLES}
     lines = []
-    for name in in_order(judge.elements):
+    for name in sorted(judge.elements):
         table, kind, reason = judge.judged(name)
         if table and kind:
             kinds[table][name] = kind

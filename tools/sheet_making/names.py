@@ -2,7 +2,7 @@
 from __future__ import annotations
 
 import re
-from typing import Iterable, NamedTuple
+from typing import NamedTuple
 
 from process import shortened
 
@@ -20,10 +20,3 @@ class Name(NamedTuple):
     def shown(self) -> str:
         """Returns the name as lines show it."""
         return f"{{{shortened(self.uri)}}}{shortened(self.local)}"
-
-
-def in_order(names: Iterable[Name]) -> list[Name]:
-    """Returns names by namespace, then by local part. Each namespace is compared once, since it may be long."""
-    listed = list(names)
-    ranks = {uri: rank for rank, uri in enumerate(sorted({name.uri for name in listed}))}
-    return sorted(listed, key=lambda name: (ranks[name.uri], name.local))

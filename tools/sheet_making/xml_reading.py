@@ -87,7 +87,7 @@ def read_xml(data: bytes, visitor: Visitor) -> None:
     bindings, opened = Bindings(), []
 
     def start(tag: str, attributes: dict[str, str]) -> None:
-        opened.append(bindings.bind(attributes))
+        opened.append(bindings.bind(attributes) if attributes else ())
         if len(opened) > MOST_LEVELS:
             raise ValueError(f"it has more than {MOST_LEVELS} levels")
         visitor.start(Element(tag, attributes, bindings), len(opened))
