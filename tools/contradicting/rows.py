@@ -80,16 +80,16 @@ class Row(NamedTuple):
         return abs(one - two) / max(abs(one), abs(two))
 
 
-class Watcher(Protocol):
-    """What looks at rows beside those that contradict themselves."""
+class RowObserver(Protocol):
+    """Takes rows that need not contradict themselves."""
 
     def wants(self, holders: Mapping[str, Holders]) -> bool: ...
 
     def add(self, number: int, dimensions: Dimensions, facts: Mapping[str, Fact], holders: Mapping[str, Holders]) -> None: ...
 
 
-class Teller(Protocol):
-    """What tells who said a fact, of all facts in order."""
+class FactSources(Protocol):
+    """Knows who said a fact. Each fact has to be asked for once, in order."""
 
     names: list[str]
 
@@ -117,7 +117,7 @@ class Reader:
     """Reads the rows of a merged text along with their lines, and who said their facts."""
 
     def __init__(
-        self, text: Text, sheet: Sheet, sources: Teller, near: Optional[Watcher] = None, listed: Optional[list[Any]] = None
+        self, text: Text, sheet: Sheet, sources: FactSources, near: Optional[RowObserver] = None, listed: Optional[list[Any]] = None
     ) -> None:
         self.text, self.sheet, self.sources, self.near, self.listed = text, sheet, sources, near, listed
         self.counts: collections.Counter[str] = collections.Counter()
