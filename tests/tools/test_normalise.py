@@ -1,8 +1,4 @@
 """Tests of tools/normalise: the reports of tests/normalise, the examples of its docs, drawn reports and bad inputs."""
-import contextlib
-import importlib.machinery
-import importlib.util
-import io
 import json
 import os
 import random
@@ -15,15 +11,13 @@ from decimal import Decimal
 from unittest import mock
 
 import drawn_reports
+import in_process
 
 HERE = os.path.dirname(os.path.abspath(__file__))
 ROOT = os.path.join(HERE, "..", "..")
 TOOL = os.path.join(ROOT, "tools", "normalise")
 REPORTS = os.path.join(ROOT, "tests", "normalise")
-sys.path.insert(0, os.path.join(ROOT, "tools"))
-LOADER = importlib.machinery.SourceFileLoader("normalise", TOOL)
-normalise = importlib.util.module_from_spec(importlib.util.spec_from_loader("normalise", LOADER))
-LOADER.exec_module(normalise)
+normalise = in_process.loaded("normalise")
 
 import process  # noqa: E402
 from normalising import profile  # noqa: E402
@@ -70,10 +64,7 @@ class ToolTest(unittest.TestCase):
 
     def run_tool(self, *words):
         """Runs the command in this process, and returns its status and what it tells on standard error."""
-        with mock.patch.object(sys, "argv", ["normalise", *words]), contextlib.redirect_stderr(io.StringIO()) as told:
-            status, lines = process.outcome(normalise.main)
-            process.print_lines(lines)
-            return status, told.getvalue()
+        return in_process.run(normalise, *words)
 
     def normalised(self, report, *options):
         """Returns the status, what is told, the output and the changes, and looks at what holds of every run."""
