@@ -1,6 +1,7 @@
 -- What is kept of texts, and sent texts that are held once.
-use Rattle.std.proofs.Common.{◌≡◌, ℕ, suc, ◌<◌, ◌≤◌, List, [], ◌∷◌, ◌++◌, length, length-append, get_or, replicate, Bor, Option, None, Some, MatchOption, HoldsAt, option_map, Result, Ok, Err, refl, sym, ap, subst, ◌∙◌, arith}
+use Rattle.std.proofs.Common.{◌≡◌, ℕ, suc, ◌<◌, ◌≤◌, zero, List, [], ◌∷◌, ◌++◌, length, length-append, get_or, set, replicate, Bor, Option, None, Some, MatchOption, HoldsAt, option_map, Result, Ok, Err, refl, sym, ap, subst, ◌∙◌, arith}
 use Rattle.std.specs.Prelude.{IfOk}
+use Rattle.std.specs.List.{AllZip}
 use Rattle.std.specs.Result.{result_err}
 use Rattle.std.proofs.Math.Seq.{get_or-append_seam}
 use Rattle.std.proofs.lemmas.List.{get_or_append_left}
@@ -10,12 +11,13 @@ use Rattle.oim_report.specs.Outcome.{outcome}
 use Rattle.oim_report.specs.Sheet.{Sheet}
 use Rattle.oim_report.specs.declared.refusal.Refusal.{Refusal}
 use Rattle.fact_base.specs.Contents.{Contents}
-use Rattle.oim_merge.specs.Held.{AreWithin, IsTextAt, texts_at}
+use Rattle.oim_write.specs.Bytes.{canonical}
+use Rattle.oim_merge.specs.Held.{AreWithin, IsCurrent, IsTextAt, Stay, texts_at}
 use Rattle.oim_merge.specs.Kept.{AreKept, IsKept, read_as, with_read}
 use Rattle.oim_merge.specs.Replicas.{with_outcome}
 use Rattle.oim_merge.specs.Schedule.{numbered}
 use Rattle.oim_merge.proofs.Schedules.{slice_there}
-use Rattle.oim_merge.proofs.Zips.{zip_at, zip_long, zip_push, zip_same}
+use Rattle.oim_merge.proofs.Zips.{zip_at, zip_both, zip_long, zip_push, zip_same, zip_set, zip_weaker}
 
 -- ---- what was read
 
@@ -39,6 +41,9 @@ module _ (sheet : Sheet) (texts : List (List ℕ)) (kept : List (Option (Result 
   -- what is kept of a text is what it is read as
   pub kept_is : (found : Option (Result Contents Refusal)) (read : Result Contents Refusal) → get_or kept place found ≡ Some read → read ≡ read_as sheet (outcome sheet (get_or texts place []))
   kept_is found read is = subst (IsKept sheet (get_or texts place [])) is (zip_at (IsKept sheet) texts kept each place [] found there)
+
+pub kept_long : (sheet : Sheet) (texts : List (List ℕ)) (kept more : List (Option (Result Contents Refusal))) → AreKept sheet texts kept → AreKept sheet texts more → length more ≡ length kept
+kept_long sheet texts kept more before after = zip_long (IsKept sheet) texts more after ∙ sym (zip_long (IsKept sheet) texts kept before)
 
 pub none_is_kept : (sheet : Sheet) (texts : List (List ℕ)) → AreKept sheet texts (replicate (length texts) None)
 none_is_kept sheet texts = zip_same (IsKept sheet) texts None (λ text. tt)
@@ -65,6 +70,42 @@ module _ (texts : List (List ℕ)) (sent : List ℕ) (text : List ℕ) where
       let earlier = within k d less in
       let longer = length-append texts (text ∷ []) in
       omega (arith, earlier, longer)
+
+-- ---- current texts
+
+pub stay_with_more : (texts : List (List ℕ)) (text : List ℕ) → Stay texts (texts ++ text ∷ [])
+stay_with_more texts text other place there =
+    let longer = length-append texts (text ∷ []) in
+    let here = there.0 in
+    (omega (arith, here, longer), get_or_append_left texts (text ∷ []) [] place here ∙ there.1)
+
+still_current : (texts more : List (List ℕ)) → Stay texts more → (base : Contents) (place : Option ℕ) → IsCurrent texts base place → IsCurrent more base place
+still_current texts more stay base None is = tt
+still_current texts more stay base (Some place) is = stay (canonical base.body) place is
+
+pub current_at : (texts : List (List ℕ)) (bases : List Contents) (places : List (Option ℕ)) → AllZip (IsCurrent texts) bases places →
+    (k : ℕ) (base : Contents) (place : Option ℕ) → k < length bases → base ≡ get_or bases k base → place ≡ get_or places k place → IsCurrent texts base place
+current_at texts bases places each k base place within there known =
+    subst (λ b. IsCurrent texts b place) (sym there)
+    (subst (IsCurrent texts (get_or bases k base)) (sym known) (zip_at (IsCurrent texts) bases places each k base place within))
+
+-- a replica sent its text
+pub current_after_send : (texts more : List (List ℕ)) (bases : List Contents) (places : List (Option ℕ)) → AllZip (IsCurrent texts) bases places → Stay texts more →
+    (k : ℕ) (base : Contents) (place : Option ℕ) → base ≡ get_or bases k base → IsCurrent more base place → AllZip (IsCurrent more) bases (set places k place)
+current_after_send texts more bases places each stay k base place there is =
+    zip_set (IsCurrent more) bases places (zip_weaker (IsCurrent texts) (IsCurrent more) (still_current texts more stay) bases places each) k base place
+    (subst (λ b. IsCurrent more b place) there is)
+
+-- the base of a replica changed
+pub current_after_change : (texts : List (List ℕ)) (bases more : List Contents) (places left : List (Option ℕ)) → AllZip (IsCurrent texts) bases places →
+    (k : ℕ) (base : Contents) → more ≡ set bases k base → left ≡ set places k None → AllZip (IsCurrent texts) more left
+current_after_change texts bases more places left each k base changed forgotten =
+    subst (λ bs. AllZip (IsCurrent texts) bs left) (sym changed)
+    (subst (AllZip (IsCurrent texts) (set bases k base)) (sym forgotten) (zip_both (IsCurrent texts) bases places each k base None tt))
+
+pub none_is_current : (texts : List (List ℕ)) (n : ℕ) (base : Contents) → AllZip (IsCurrent texts) (replicate n base) (replicate n None)
+none_is_current texts zero base = tt
+none_is_current texts (suc n) base = (tt, none_is_current texts n base)
 
 pub kept_new : (sheet : Sheet) (texts : List (List ℕ)) (kept : List (Option (Result Contents Refusal))) (text : List ℕ) → AreKept sheet texts kept → AreKept sheet (texts ++ text ∷ []) (kept ++ None ∷ [])
 kept_new sheet texts kept text each = zip_push (IsKept sheet) texts kept text None each tt

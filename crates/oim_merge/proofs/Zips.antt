@@ -41,6 +41,20 @@ zip_set R (x ∷ xs) [] h k d y one = absurd h
 zip_set R (x ∷ xs) (w ∷ ys) h zero d y one = (one, h.1)
 zip_set R (x ∷ xs) (w ∷ ys) h (suc k) d y one = (h.0, zip_set R xs ys h.1 k d y one)
 
+-- both get another at a place
+pub zip_both : {A B : Type 0} (R : A → B → Type 0) (xs : List A) (ys : List B) → AllZip R xs ys → (k : ℕ) (x : A) (y : B) → R x y → AllZip R (set xs k x) (set ys k y)
+zip_both R [] [] h k x y one = tt
+zip_both R [] (w ∷ ys) h k x y one = absurd h
+zip_both R (z ∷ xs) [] h k x y one = absurd h
+zip_both R (z ∷ xs) (w ∷ ys) h zero x y one = (one, h.1)
+zip_both R (z ∷ xs) (w ∷ ys) h (suc k) x y one = (h.0, zip_both R xs ys h.1 k x y one)
+
+pub zip_weaker : {A B : Type 0} (R S : A → B → Type 0) → ((x : A) (y : B) → R x y → S x y) → (xs : List A) (ys : List B) → AllZip R xs ys → AllZip S xs ys
+zip_weaker R S weaker [] [] h = tt
+zip_weaker R S weaker [] (y ∷ ys) h = absurd h
+zip_weaker R S weaker (x ∷ xs) [] h = absurd h
+zip_weaker R S weaker (x ∷ xs) (y ∷ ys) h = (weaker x y h.0, zip_weaker R S weaker xs ys h.1)
+
 pub zip_long : {A B : Type 0} (R : A → B → Type 0) (xs : List A) (ys : List B) → AllZip R xs ys → length ys ≡ length xs
 zip_long R [] [] h = refl
 zip_long R [] (y ∷ ys) h = absurd h

@@ -1,6 +1,6 @@
 -- Replicas that hold each different text once that was sent, and what was read of it and of the reports (own).
-use Rattle.std.specs.Prelude.{◌≡◌, ℕ, ◌<◌, List, [], length, map}
-use Rattle.std.specs.List.{All, slice_index_or}
+use Rattle.std.specs.Prelude.{◌≡◌, ℕ, ◌<◌, List, [], length, map, Option, None, Some}
+use Rattle.std.specs.List.{All, AllZip, slice_index_or}
 use Rattle.oim_report.specs.Sheet.{Sheet}
 use Rattle.fact_base.specs.Body.{Body}
 use Rattle.fact_base.specs.Contents.{Contents}
@@ -24,6 +24,15 @@ AreWithin texts places = All (λ place. place < length texts) places
 abbrev pub IsTextAt : List (List ℕ) → List ℕ → ℕ → Type 0
 IsTextAt texts text place = (place < length texts) × (slice_index_or texts place [] ≡ text)
 
+-- the current text of a base, if there is one, stands at this place
+abbrev pub IsCurrent : List (List ℕ) → Contents → Option ℕ → Type 0
+IsCurrent texts base None = Unit {0}
+IsCurrent texts base (Some place) = IsTextAt texts (canonical base.body) place
+
+-- a text that stands at a place in the one list stands there in the other too
+abbrev pub Stay : List (List ℕ) → List (List ℕ) → Type 0
+Stay texts more = (text : List ℕ) (place : ℕ) → IsTextAt texts text place → IsTextAt more text place
+
 -- a text is written of a body that fits the sheet
 pub record IsWritten (sheet : Sheet) (text : List ℕ) : Type 0 where
   pub body : Body
@@ -44,7 +53,8 @@ pub record AreHeld (sheet : Sheet) (messages : Messages) : Type 0 where
 abbrev pub world_in : Replicas → World Contents (List ℕ)
 world_in replicas = world_of replicas.bases.items (sent_texts replicas.messages)
 
--- what they keep of these reports and of what they sent is what was read of each
+-- what they keep of these reports and of what they sent is what was read of each, and the current text of each is that of its base
 pub record KeepReadings (sheet : Sheet) (reports : List (List ℕ)) (replicas : Replicas) : Type 0 where
   pub taken : AreKept sheet reports replicas.reports.items
   pub held : AreHeld sheet replicas.messages
+  pub current : AllZip (IsCurrent replicas.messages.texts.items) replicas.bases.items replicas.current.items

@@ -2,7 +2,7 @@ ghost use Rattle.std.specs.Prelude.{◌≡◌, ◌<◌, ◌≤◌, [], ◌∷◌
 ghost use Rattle.std.specs.List.{slice_index_or};
 ghost use Rattle.oim_report.specs.Outcome.{outcome};
 ghost use Rattle.oim_report.specs.Sheet.{Sheet as SheetSeen};
-ghost use Rattle.oim_merge.specs.Held.{AreHeld, IsTextAt, sent_texts};
+ghost use Rattle.oim_merge.specs.Held.{AreHeld, IsCurrent, IsTextAt, Stay, sent_texts};
 ghost use Rattle.oim_merge.specs.Replicas.{with_outcome};
 ghost use Rattle.oim_write.specs.Bytes.{canonical};
 
@@ -40,26 +40,46 @@ impl<'s> Messages<'s> {
         }
     }
 
-    /// The text of a base is sent.
+    /// The text of a base is sent, and its place kept as the current one. Where there is one, the
+    /// text is not written again.
     ///
     /// Errors: want of memory.
-    pub(crate) fn send(&mut self, alloc: Global, base: &Base<'_>) -> Result<(), AllocError>
-        requires { AreHeld base.now.sheet self.old }
+    pub(crate) fn send(
+        &mut self,
+        alloc: Global,
+        base: &Base<'_>,
+        current: &mut Option<usize>,
+    ) -> Result<(), AllocError>
+        requires held { AreHeld base.now.sheet self.old }
+        requires current { IsCurrent self.old.texts.items base.now current.old }
         ensures sent { OnOk result (sent_texts self.new ≡ sent_texts self.old ++ canonical base.now.body ∷ []) }
         ensures held { OnOk result (AreHeld base.now.sheet self.new) }
+        ensures current { OnOk result (IsCurrent self.new.texts.items base.now current.new) }
+        ensures stay { OnOk result (Stay self.old.texts.items self.new.texts.items) }
     {
-        let place = self.place_of(alloc, base)?;
+        let place = self.place_of(alloc, base, *current)?;
         self.sent.push(place)?;
+        *current = Some(place);
         Ok(())
     }
 
-    /// The place of the text of a base, which is written.
-    fn place_of(&mut self, alloc: Global, base: &Base<'_>) -> Result<usize, AllocError>
-        requires { AreHeld base.now.sheet self.old }
+    /// The place of the text of a base, which is written where there is no current one.
+    fn place_of(
+        &mut self,
+        alloc: Global,
+        base: &Base<'_>,
+        current: Option<usize>,
+    ) -> Result<usize, AllocError>
+        requires held { AreHeld base.now.sheet self.old }
+        requires current { IsCurrent self.old.texts.items base.now current }
         ensures place { IfOk result (IsTextAt self.new.texts.items (canonical base.now.body)) }
         ensures sent { OnOk result (sent_texts self.new ≡ sent_texts self.old) }
         ensures held { OnOk result (AreHeld base.now.sheet self.new) }
+        ensures stay { OnOk result (Stay self.old.texts.items self.new.texts.items) }
     {
+        if let Some(place) = current {
+            return Ok(place);
+        }
         let text = text(alloc, base)?;
         base.known();
         match self.find(&text) {
@@ -115,6 +135,7 @@ impl<'s> Messages<'s> {
         requires number { number < length self.old.sent.items }
         requires held { AreHeld sheet.now self.old }
         requires sheet { base.old.sheet ≡ sheet.now }
+        ensures texts { self.new.texts ≡ self.old.texts }
         ensures sent { sent_texts self.new ≡ sent_texts self.old }
         ensures held { OnOk result (AreHeld sheet.now self.new) }
         ensures base { OnOk result (base.new

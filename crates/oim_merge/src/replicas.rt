@@ -1,4 +1,4 @@
-ghost use Rattle.std.specs.Prelude.{◌≡◌, ◌<◌, false, IsTrue, ◌↔◌, ◌++◌, [], length, slice_set, IfOk, OnOk};
+ghost use Rattle.std.specs.Prelude.{◌≡◌, ◌<◌, None, false, IsTrue, ◌↔◌, ◌++◌, [], length, slice_set, IfOk, OnOk};
 ghost use Rattle.std.specs.List.{All, slice_index_or};
 ghost use Rattle.oim_merge.specs.Bases.{base_of};
 ghost use Rattle.oim_merge.specs.Held.{KeepReadings, sent_texts, world_in};
@@ -20,6 +20,9 @@ use std::alloc::{AllocError, Global};
 #[derive(Drop)]
 pub(crate) struct Replicas<'s> {
     pub bases: Vec<Base<'s>>,
+    /// The place among the messages of each replica's text, where it was sent and no event came since
+    /// that can change its base.
+    pub current: Vec<Option<usize>>,
     pub messages: Messages<'s>,
     pub refused: Refusals,
     pub reports: Vec<Kept<'s>>,
@@ -38,11 +41,14 @@ impl<'s> Replicas<'s> {
         ensures kept { IfOk result (KeepReadings sheet.now reports.now) }
     {
         let mut bases = Vec::new(alloc);
+        let mut current = Vec::new(alloc);
         for _made in 0..n {
             bases.push(Base::new(alloc, sheet))?;
+            current.push(None)?;
         }
         Ok(Replicas {
             bases,
+            current,
             messages: Messages::new(alloc),
             refused: Refusals::new(alloc),
             reports: none_kept(alloc, reports.len())?,
@@ -85,20 +91,26 @@ impl<'s> Replicas<'s> {
         match event {
             Event::Take(i, r) => self.take(alloc, sheet, reports, i, r)?,
             Event::Join(i, j) => {
-                join_at(
-                    alloc,
-                    sheet,
-                    &mut self.bases,
-                    i as usize - 1,
-                    j as usize - 1,
-                )?
+                let (place, other) = (i as usize - 1, j as usize - 1);
+                forget(&mut self.current, place);
+                join_at(alloc, sheet, &mut self.bases, place, other)?
             }
-            Event::Send(i) => self.messages.send(alloc, &self.bases[i as usize - 1])?,
+            Event::Send(i) => {
+                let place = i as usize - 1;
+                let current = &mut self.current[place];
+                self.messages.send(alloc, &self.bases[place], current)?;
+            }
             Event::Receive(i, k) => {
-                let base = &mut self.bases[i as usize - 1];
+                let place = i as usize - 1;
+                forget(&mut self.current, place);
+                let base = &mut self.bases[place];
                 self.messages.give(alloc, sheet, k as usize - 1, base)?;
             }
-            Event::Restart(i) => self.bases[i as usize - 1] = Base::new(alloc, sheet),
+            Event::Restart(i) => {
+                let place = i as usize - 1;
+                forget(&mut self.current, place);
+                self.bases[place] = Base::new(alloc, sheet);
+            }
         }
         Ok(())
     }
@@ -122,8 +134,10 @@ impl<'s> Replicas<'s> {
             (self.new.refused ≡ self.old.refused ++ refused_by sheet.now reports.now (Event.Take i r)) }
         ensures kept { OnOk result (KeepReadings sheet.now reports.now self.new) }
     {
+        let place = i as usize - 1;
+        forget(&mut self.current, place);
         let kept = self.reports.as_mut_slice();
-        let base = &mut self.bases[i as usize - 1];
+        let base = &mut self.bases[place];
         if let Some(refusal) = take_at(alloc, sheet, reports, kept, r as usize - 1, base)? {
             self.refused.push(u64::from(r), refusal)?;
         }
@@ -135,6 +149,15 @@ fn is_there(number: u32, greatest: usize) -> bool
     ensures { IsTrue result ↔ (is_outside greatest number ≡ false) }
 {
     number >= 1 && number as usize <= greatest
+}
+
+/// A replica has no current text, since its base can change.
+fn forget(current: &mut Vec<Option<usize>>, place: usize)
+    ensures { current.new.items ≡ slice_set current.old.items place None }
+{
+    if let Some(known) = current.get_mut(place) {
+        *known = None;
+    }
 }
 
 /// The base at the one place joins that at the other.
