@@ -6,7 +6,7 @@ import os
 import shutil
 import tempfile
 from dataclasses import dataclass
-from typing import Iterable
+from typing import Iterable, Iterator
 
 from process import signals_held
 
@@ -50,8 +50,16 @@ def write_files(texts: Iterable[tuple[str, Iterable[str]]]) -> None:
     replaces, and its owner and group where that is permitted. A signal that `process.run` handles removes what was made.
     Errors: OSError, and what the pieces raise. Then every place is as it was.
     """
+    with files_written(texts):
+        pass
+
+
+@contextlib.contextmanager
+def files_written(texts: Iterable[tuple[str, Iterable[str]]]) -> Iterator[None]:
+    """Writes files as `write_files` does, and moves them to their places when the block ends. If it raises, none is moved."""
     with contextlib.ExitStack() as folders:
         outputs = [write_beside(path, pieces, folders) for path, pieces in texts]
+        yield
         with signals_held():
             put_in_place(outputs)
 

@@ -49,7 +49,11 @@ class ToolTest(unittest.TestCase):
         room = tempfile.TemporaryDirectory()
         self.addCleanup(room.cleanup)
         self.room = room.name
-        self.page, self.table = (os.path.join(self.room, name) for name in ("page.html", "table.csv"))
+        self.set_output(os.path.join(self.room, "out"))
+
+    def set_output(self, folder):
+        self.output = folder
+        self.page, self.table, self.listed = (os.path.join(folder, name) for name in ("page.html", "contradictions.csv", "rows.csv"))
 
     def write(self, name, text):
         place = os.path.join(self.room, name)
@@ -58,7 +62,7 @@ class ToolTest(unittest.TestCase):
         return place
 
     def run_tool(self, *inputs):
-        words = [*inputs[:3], self.page, self.table, *inputs[3:]]
+        words = ["--from", *inputs[:3], "-o", self.output, *inputs[3:]]
         return subprocess.run([sys.executable, TOOL, *words], capture_output=True)
 
     def written(self, *inputs):
@@ -66,7 +70,8 @@ class ToolTest(unittest.TestCase):
         page = content(self.page)
         with open(self.table, encoding="utf-8-sig", newline="") as file:
             cells = list(csv.DictReader(file))
-        self.assertEqual((done.returncode, done.stderr, done.stdout), (int(bool(cells)), b"", b""))
+        self.assertEqual((done.returncode, done.stderr), (int(bool(cells)), b""))
+        self.assertTrue(done.stdout.decode().endswith(f"; page: {self.page}\n"), done.stdout)
         return page, cells
 
     def check_refused(self, told, *inputs):
@@ -90,8 +95,8 @@ class Pages(ToolTest):
         self.assertEqual(lines_of_verdicts.lines(content(MERGED)), content(VERDICTS))
 
     def test_counts_come_first(self):
-        start = self.words.index("6contradicting")
-        self.assertIn("6contradicting1agreeing within rounding1reported in one way", self.words)
+        start = self.words.index("6contradictions")
+        self.assertIn("6contradictions1consistent within rounding1reported once", self.words)
         self.assertLess(start, self.words.index("Auditor"))
 
     def test_periods_are_told_by_days(self):
@@ -196,7 +201,7 @@ class Texts(ToolTest):
         self.assertEqual(self.table_of()[1], [])
         page, cells = self.table_of(self.number("100", 0), self.number("101", 0))
         self.assertEqual(cells, [])
-        self.assertIn("<b>0</b>contradicting", page)
+        self.assertIn("<b>0</b>contradictions", page)
 
     def test_the_pair_is_that_of_the_evidence(self):
         cells = self.table_of(self.number("100", 0), self.number("101", 0), self.number("102", 0))[1]
@@ -242,8 +247,9 @@ class BadInputs(Texts):
             self.check_refused("cut", MERGED, SHEET, self.write("cut", lines[:length]))
 
     def test_files_that_were_there_stay(self):
+        os.mkdir(self.output)
         for path in (self.page, self.table):
-            self.write(os.path.basename(path), "of a run before")
+            self.write(path, "of a run before")
         self.check_refused("merged.json", MERGED, self.inputs[1], VERDICTS)
         self.assertEqual((content(self.page), content(self.table)), ("of a run before",) * 2)
 
@@ -284,8 +290,8 @@ class BadInputs(Texts):
         self.check_refused("merged.json", self.merged(self.text("\ud800")), self.inputs[1], lines)
         self.check_refused("other.json", self.write("other.json", "[" * 100_000), self.inputs[1], lines)
 
-    def test_a_table_that_cannot_be_written(self):
-        self.table = os.path.join(self.room, "no", "table.csv")
+    def test_a_folder_that_cannot_be_made(self):
+        self.set_output(os.path.join(self.room, "no", "out"))
         done = self.run_tool(MERGED, SHEET, VERDICTS)
         self.assertEqual((done.returncode, len(done.stderr.splitlines())), (3, 1))
         self.assertFalse(os.path.exists(self.page))

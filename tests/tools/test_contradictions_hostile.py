@@ -62,9 +62,9 @@ class Hostile(ToolTest):
             start += len(of)
             lines.append(f"{rank} {of[0]} {of[-1]} " + ("complete" if len(of) == 1 else f"inconsistent apart {of[0]} {of[-1]}"))
             sources += [f'{name} {1 + rank % len(providers)} "i"' for name in of]
-        inputs = [merged, self.sheet, self.write("lines", "".join(f"{line}\n" for line in lines)), self.page, self.table]
+        inputs = [merged, self.sheet, self.write("lines", "".join(f"{line}\n" for line in lines))]
         told = self.write("sources", "".join(f"{line}\n" for line in sources))
-        return ["--sources", told, "--names", ",".join(providers), *["--near", self.near] * is_near, *inputs]
+        return ["--sources", told, "--names", ",".join(providers), *["--near", self.near] * is_near, "-o", self.output, "--from", *inputs]
 
     def rows_near(self):
         with open(self.near, encoding="utf-8-sig", newline="") as file:
@@ -143,21 +143,19 @@ class Hostile(ToolTest):
             with in_process.mock.patch.dict(in_process.sys.modules["contradicting.tables"].__dict__, {limit: 12_000}):
                 facts = [number(each, unit="l:a*l:b*l:c") for each in range(2)]
                 status, line = in_process.run(contradictions, *self.words(facts))
-                self.assertEqual((status, os.path.exists(self.page), os.path.exists(self.table)), (3, False, False))
+                self.assertEqual((status, os.path.exists(self.output)), (3, False))
                 self.assertIn(told, line)
 
     def test_an_output_that_is_an_input_is_refused(self):
         words = self.words([number(1), number(2)])
         before = {name: content(os.path.join(self.room, name)) for name in os.listdir(self.room)}
-        os.symlink(words[4], os.path.join(self.room, "link"))
-        for place, path in ((-1, words[4]), (-2, words[5]), (-2, self.table), (-1, words[1]), (-1, os.path.join(self.room, "link"))):
-            changed = [*words]
-            changed[place] = path
+        os.mkdir(self.output)
+        os.symlink(self.sheet, self.listed)
+        inside = [*words[:-1], self.write(os.path.join("out", "merged.json"), "")]
+        for changed in (words, inside, ["--near", self.sheet, *words], ["--near", self.page, *words]):
             status, told = in_process.run(contradictions, *changed)
             self.assertEqual(status, 2, told)
             self.assertIn("an output is an input, or two outputs are one file", told)
-        for option in ("--rows", "--near"):
-            self.assertEqual(in_process.run(contradictions, option, words[4], *words)[0], 2)
         self.assertEqual({name: content(os.path.join(self.room, name)) for name in before}, before)
 
     def test_what_no_merged_text_has_is_a_sentence(self):
@@ -179,14 +177,15 @@ class Hostile(ToolTest):
         merged = self.write("merged.json", json.dumps({"documentInfo": {"namespaces": URIS}, "facts": dict(zip(names, facts))}))
         lines = self.write("lines", "1 f1 f2 inconsistent apart f1 f2\n2 f3 f3 complete\n")
         sources = self.write("sources", "".join(f'f{rank} {1 + rank // 3} "i"\n' for rank in (1, 2, 3)))
-        files = [merged, self.sheet, lines, self.page, self.table]
+        files = ["-o", self.output, "--from", merged, self.sheet, lines]
         return ["--sources", sources, "--names", "a,b", *["--near", self.near] * is_near, *files]
 
     def test_statuses_are_those_of_the_process(self):
         apart, one = self.kept_words([number(1), number(2)], False), self.kept_words([number(1)], False)
-        run = [sys.executable, TOOL]
-        for status, words in ((0, one), (1, apart), (2, one[:-1]), (3, [*one[:-1], self.room]), (3, [*apart[:-3], one[-3], *one[-2:]])):
-            done = subprocess.run([*run, *words], capture_output=True)
+        nowhere = os.path.join(self.room, "nowhere")
+        for status, words in ((0, one), (1, apart), (0, [*apart, "--exit-zero"]), (2, one[:-1]), (3, [*one[:-1], nowhere]),
+                              (3, [*apart[:-1], one[-1]]), (3, [*apart[:-1], one[-1], "--exit-zero"])):
+            done = subprocess.run([sys.executable, TOOL, *words], capture_output=True)
             self.assertEqual((done.returncode, b"Traceback" in done.stderr), (status, False), (words, done.stderr))
 
 

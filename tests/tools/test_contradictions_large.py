@@ -46,7 +46,7 @@ class Labels(test_contradictions.ToolTest):
         return page, {cell["concept"].split("}")[1]: cell["label"] for cell in cells}
 
     def written_with(self, options):
-        words = [*options, *INPUTS, self.page, self.table]
+        words = [*options, "--from", *INPUTS, "-o", self.output]
         done = subprocess.run([sys.executable, test_contradictions.TOOL, *words], capture_output=True)
         self.assertEqual((done.returncode, done.stderr), (1, b""))
         with open(self.table, encoding="utf-8-sig", newline="") as file:
@@ -64,7 +64,7 @@ class Labels(test_contradictions.ToolTest):
         self.assertEqual(labels["Dividend"], "Dividend a share (GB)")
 
     def test_a_taxonomy_that_cannot_be_read(self):
-        words = ["--labels", self.write("a.zip", "no zip"), *INPUTS, self.page, self.table]
+        words = ["--labels", self.write("a.zip", "no zip"), "--from", *INPUTS, "-o", self.output]
         done = subprocess.run([sys.executable, test_contradictions.TOOL, *words], capture_output=True)
         self.assertEqual((done.returncode, len(done.stderr.splitlines())), (3, 1), done.stderr)
         self.assertFalse(os.path.exists(self.page))
@@ -97,7 +97,8 @@ class Nearby(test_contradictions.ToolTest):
         own = [f"{who}=" + self.text(f"{who}.json", [fact for fact, has in facts if who in has]) for who in "AB"]
         lines = self.write("lines", "".join(f"{n} f{n} f{n} complete\n" for n in range(1, len(facts) + 1)))
         place = os.path.join(self.room, "near.csv")
-        words = ["--near", place, merged, self.write("sheet.json", json.dumps(self.SHEET)), lines, self.page, self.table, *own]
+        sheet = self.write("sheet.json", json.dumps(self.SHEET))
+        words = ["--near", place, "--from", merged, sheet, lines, "-o", self.output, *own]
         done = subprocess.run([sys.executable, test_contradictions.TOOL, *words], capture_output=True)
         self.assertEqual((done.returncode, done.stderr), (0, b""))
         with open(place, encoding="utf-8-sig", newline="") as file:
@@ -158,14 +159,15 @@ class Large(test_contradictions.ToolTest):
         self.check_order(page, cells)
 
     def check_order(self, page, cells):
-        """First 200 rows by size, then the index, then each other row once, by concept."""
-        first, index, rest = re.split(r'<h2>By concept</h2>|<h2>The others</h2>', page)
+        """First 100 rows by size, then the index, then each other row once, by concept, as the text of a data block."""
+        first, index, rest = re.split(r'<h2>By concept</h2>|<h2>The other rows</h2>', page)
         rows = [re.findall(r'<section class="row \w+" id="row(\d+)">', each) for each in (first, index, rest)]
-        self.assertEqual([len(each) for each in rows], [200, 0, self.COUNT - 200])
+        self.assertEqual([len(each) for each in rows], [100, 0, self.COUNT - 100])
         self.assertEqual({*rows[0], *rows[2]}, {cell["row"] for cell in cells})
         sizes = {}
         for cell in (cell for cell in cells if cell["evidence"]):
             sizes.setdefault(cell["row"], []).append(cell)
+        self.assertNotIn("<section", re.sub('<script type="text/html">.*?</script>', "", rest, flags=re.DOTALL))
         shares = [self.share(sizes[row]) for row in rows[0]]
         self.assertEqual(shares, sorted(shares, reverse=True))
         self.assertGreaterEqual(shares[-1], max(self.share(sizes[row]) for row in rows[2]))

@@ -25,13 +25,12 @@ class Sources(ToolTest):
         self.assertEqual(told["f018"], ("issuer", "issuer: f56", "1 of 3"))
         self.assertEqual(told["f019"], ("statfeed", "statfeed: TS08780", "1 of 3"))
         self.assertEqual(told["f066"], ("issuer, statfeed", "issuer: f33; statfeed: TS08474", "2 of 3"))
-        for text in ("<bdi>issuer f56</bdi>", "<bdi>statfeed TS08780</bdi>", "<dt>Said by<dd>2 of 3", "of these said by 1 of 3"):
+        for text in ("<bdi>issuer f56</bdi>", "<bdi>statfeed TS08780</bdi>", "<dt>Reported by<dd>2 of 3", "of these reported by 1 of 3"):
             self.assertIn(text, page)
 
     def test_a_row_that_one_provider_reports_is_told_apart(self):
-        rows = os.path.join(self.room, "rows.csv")
-        self.written(*self.inputs, *self.words(), "--rows", rows)
-        with open(rows, encoding="utf-8-sig", newline="") as file:
+        self.written(*self.inputs, *self.words())
+        with open(self.listed, encoding="utf-8-sig", newline="") as file:
             listed = {row["row"]: row for row in csv.DictReader(file)}
         self.assertEqual(len(listed), 64)
         self.assertEqual((listed["10"]["verdict"], listed["10"]["said_by"]), ("complete", "2 of 3"))

@@ -1,17 +1,41 @@
-// Hides the rows that lack a typed word. Without scripts the field is not shown, and every row is.
+// Shows more rows when they are asked for. Without scripts there is no filter, and `noscript` says where the rows are.
 const box = document.querySelector(".filter"), [field, told] = [box.querySelector("input"), box.querySelector("output")];
-const groups = [...document.querySelectorAll(".group")];
+const list = document.querySelector(".list"), found = document.querySelector(".found"), MOST = 100;
+const groups = [...document.querySelectorAll("details.group")], texts = groups.map(group => group.querySelector("script"));
 let rows, waiting;
-function filter() {
-  rows ??= [...document.querySelectorAll(".row")].map(row => [row, row.textContent.toLowerCase()]);
-  const words = field.value.toLowerCase().split(/\s+/).filter(word => word);
-  let count = 0;
-  for (const [row, text] of rows) {
-    row.hidden = !words.every(word => text.includes(word));
-    count += !row.hidden;
-  }
-  for (const group of groups) group.hidden = !group.querySelector(".row:not([hidden])");
-  told.value = words.length ? `${count} of ${rows.length}` : "";
+
+// A closed group has its rows as text, which costs the browser next to nothing.
+function load(group) {
+  const text = group.querySelector("script");
+  if (text) text.outerHTML = text.textContent;
 }
+
+function open(hash) {
+  const group = document.getElementById(hash?.slice(1));
+  if (group?.matches("details.group")) group.open = true;
+}
+
+function bare(html) {
+  return html.replace(/<[^>]*>/g, " ").toLowerCase();
+}
+
+function escaped(word) {
+  return word.replace(/[&<>"']/g, sign => ({"&": "&amp;", "<": "&lt;", ">": "&gt;", '"': "&quot;", "'": "&#x27;"})[sign]);
+}
+
+function filter() {
+  rows ??= [...list.querySelectorAll("section.row")].filter(row => !row.closest("details.group")).map(row => row.outerHTML)
+    .concat(texts.flatMap(text => text.textContent.split(/(?=<section )/).filter(part => part.startsWith("<section"))))
+    .map(html => [html, bare(html)]);
+  const words = field.value.toLowerCase().split(/\s+/).filter(word => word).map(escaped);
+  const kept = words.length ? rows.filter(([, text]) => words.every(word => text.includes(word))) : [];
+  found.innerHTML = kept.slice(0, MOST).map(([html]) => html).join("");
+  list.hidden = words.length > 0;
+  told.value = !words.length ? "" : `${kept.length} of ${rows.length}` + (kept.length > MOST ? `, the first ${MOST} are shown` : "");
+}
+
+document.addEventListener("toggle", event => event.target.matches("details.group") && load(event.target), true);
+document.addEventListener("click", event => open(event.target.closest("a[href]")?.hash));
+open(location.hash);
 field.addEventListener("input", () => { clearTimeout(waiting); waiting = setTimeout(filter, 150); });
 box.hidden = false;

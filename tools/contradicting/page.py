@@ -1,6 +1,6 @@
-"""The page of what contradicts: the largest differences first, then an index by concept, and the rest behind it.
+"""The page of contradictions: the largest differences first, then an index by concept, and groups with the other rows.
 
-Of an identifier, a URI or a text it shows 80 characters: the page repeats them, and the table has them whole.
+It shows 80 characters of an identifier, a URI or a text, because it repeats them. The table has them whole.
 """
 from __future__ import annotations
 
@@ -12,17 +12,18 @@ import os
 from decimal import Decimal
 from typing import Iterable, Iterator, Mapping, NamedTuple, Optional, Union
 
+from contradicting.refusals import Refusals
 from contradicting.rows import Dimensions, Fact, Interval, Reader, Row, Value, day, plain
 from contradicting.sources import names_of, told
 from contradicting.texts import Name
-from process import MOST_CHARACTERS, shortened
+from process import MOST_CHARACTERS, printable, shortened
 
 Labels = Mapping[Name, str]
 
-FIRST = 200  # rows that stand before the index
-CHUNK = 50  # rows of one concept that are drawn together
+FIRST = 100  # rows before the index; the others are loaded on request, so that the browser paints these at once
+CHUNK = 100  # rows of one concept that are loaded together
 HERE = os.path.dirname(os.path.abspath(__file__))
-WORDS = {"inconsistent": "contradicting", "consistent": "agreeing within rounding", "complete": "reported in one way"}
+WORDS = {"inconsistent": "contradictions", "consistent": "consistent within rounding", "complete": "reported once"}
 ROW_HEAD = '<table cellspacing="0"><tr><th>Fact<th>Reported by<th>Value<th>Decimals<th>From<th>To'
 
 
@@ -31,32 +32,49 @@ def part(name: str) -> str:
         return file.read()
 
 
-def page(rows: list[Row], reader: Reader, labels: Labels) -> Iterator[str]:
-    """Yields the pieces of the page. Only the script that is of it may run."""
+def page(rows: list[Row], reader: Reader, labels: Labels, refusals: Refusals) -> Iterator[str]:
+    """Yields the pieces of the page. Its policy permits no script but its own."""
     script = part("page.js")
     known = base64.b64encode(hashlib.sha256(script.encode()).digest()).decode()
     policy = f"default-src 'none'; style-src 'unsafe-inline'; script-src 'sha256-{known}'"
-    yield f"""<!DOCTYPE html><html lang="en"><head><meta charset="utf-8"><title>Contradicting figures</title>
+    yield f"""<!DOCTYPE html><html lang="en"><head><meta charset="utf-8"><title>Contradictions</title>
 <meta http-equiv="Content-Security-Policy" content="{policy}">
-<meta name="viewport" content="width=device-width"><style>{part("page.css")}</style></head><body><h1>Contradicting figures</h1>
-<p class="counts">{"".join(f"<span><b>{count}</b>{word}</span>" for count, word in counts(reader))}</p>
-<p>A value with decimals stands for all numbers within half of its last place. A pair that has none in common is red.
-Of a long text {MOST_CHARACTERS} characters are shown, near the first that differs; the table has all.</p>
-<p class="filter" hidden><label>Rows with the words <input type="search"></label> <output></output></p>"""
+<meta name="viewport" content="width=device-width"><style>{part("page.css")}</style></head><body><h1>Contradictions</h1>
+<p class="counts">{"".join(f"<span><b>{count}</b>{word}</span>" for count, word in counts(reader, refusals))}</p>
+<p>A value with decimals represents all numbers within half of its last decimal place. The two facts in red have no number
+in common. A row that is reported once has one value, from one provider or several. Long texts are cut to {MOST_CHARACTERS}
+characters near the first difference; contradictions.csv has them whole.</p>
+"""
+    yield from refused(refusals)
+    yield """<p class="filter" hidden><label>Rows with the words <input type="search"></label> <output></output></p>
+<div class="found"></div><div class="list">"""
     largest = sorted(rows, key=order)
     if len(rows) > FIRST:
-        yield f"<h2>The {FIRST} largest differences</h2>\n<p>Those with a text or a nil value stand first.</p>"
+        yield f"<h2>The {FIRST} largest differences</h2>\n<p>Rows with a text or a nil value come first.</p>"
     for row in largest[:FIRST]:
         yield from section(row, reader, labels)
     yield from by_concept(largest, reader, labels)
-    yield f"<script>{script}</script></body></html>\n"
+    yield f"</div><script>{script}</script></body></html>\n"
 
 
-def counts(reader: Reader) -> Iterator[tuple[int, str]]:
-    """Yields how many rows there are of each kind, and where there are providers, how many a single one reported."""
+def counts(reader: Reader, refusals: Refusals) -> Iterator[tuple[int, str]]:
+    """Yields how many rows there are of each kind, how many a single provider reported, and how many reports are refused."""
     yield from ((reader.counts[verdict], word) for verdict, word in WORDS.items())
     if reader.providers:
-        yield reader.counts["alone"], f"of these said by {reader.said_by(1)}"
+        yield reader.counts["alone"], f"of these reported by {reader.said_by(1)}"
+    if refusals.reports:
+        yield len(refusals.reports), "refused reports"
+
+
+def refused(refusals: Refusals) -> Iterator[str]:
+    """Yields the pieces that list the refused reports, with what `explain` prints for each."""
+    if refusals.reports:
+        yield '<section class="refused"><h2>Refused reports</h2><p>The page has no figures from these reports.</p>'
+        yield "".join(f"<p>{html.escape(printable(line))}</p>" for line in refusals.lacking_lines())
+        for report in refusals.reports:
+            lines = "".join(f"<li><bdi>{html.escape(printable(line))}</bdi>" for line in report.shown())
+            yield f"<h3><bdi>{html.escape(printable(report.path))}</bdi></h3><ul>{lines}</ul>\n"
+        yield "</section>\n"
 
 
 def order(row: Row) -> tuple[int, Decimal, int]:
@@ -66,7 +84,7 @@ def order(row: Row) -> tuple[int, Decimal, int]:
 
 
 def by_concept(rows: Iterable[Row], reader: Reader, labels: Labels) -> Iterator[str]:
-    """Yields the index, and behind it the rows that do not stand before it."""
+    """Yields the index, and then the groups with the rows that are not before it."""
     concepts: dict[Name, list[Row]] = {}
     rest: dict[Name, list[Row]] = {}
     for place, row in enumerate(rows):
@@ -79,15 +97,24 @@ def by_concept(rows: Iterable[Row], reader: Reader, labels: Labels) -> Iterator[
     for rank, concept in enumerate(ranked, 1):
         anchor = f"c{rank}" if concept in rest else f"row{concepts[concept][0].number}"
         yield f'<li><a href="#{anchor}"><b>{len(concepts[concept])}</b></a>{heading(concept, labels, "span")}'
-    yield "</ul>\n" + "<h2>The others</h2>" * bool(rest)
+    yield "</ul>\n"
+    if rest:
+        yield "<h2>The other rows</h2>\n<noscript><p>They need JavaScript. contradictions.csv has them too.</p></noscript>"
     for rank, concept in enumerate(ranked, 1):
         for start in range(0, len(rest.get(concept, ())), CHUNK):
-            some = rest[concept][start : start + CHUNK]
-            anchor = f'id="c{rank}" ' * (start == 0)
-            yield f'<div class="group" {anchor}style="contain-intrinsic-size:auto {15 * len(some)}rem">'
-            for row in some:
-                yield from section(row, reader, labels)
-            yield "</div>\n"
+            anchor = f' id="c{rank}"' * (start == 0)
+            yield from group(rest[concept], start, anchor, reader, labels)
+
+
+def group(rows: list[Row], start: int, anchor: str, reader: Reader, labels: Labels) -> Iterator[str]:
+    """Yields the pieces of some rows of one concept. They are the text of a data block until the group is opened."""
+    concept, last = concept_of(rows[0]), min(start + CHUNK, len(rows))
+    name = f"<bdi>{escaped(labels[concept])}</bdi>" if concept in labels else shown_name(concept)
+    told = f"{last} rows" if len(rows) <= CHUNK else f"{start + 1} to {last} of {len(rows)} rows"
+    yield f'<details class="group"{anchor}><summary><b>{name}</b> {told}</summary><script type="text/html">'
+    for row in rows[start:last]:
+        yield from section(row, reader, labels)
+    yield "</script></details>\n"
 
 
 def dimensions_of(row: Row) -> Dimensions:
@@ -116,7 +143,7 @@ def section(row: Row, reader: Reader, labels: Labels) -> Iterator[str]:
     kind = "number" if "Unit" in terms else "text"
     yield f'<section class="row {kind}" id="row{row.number}">{heading(dimensions.concept, labels, "h3")}<dl>'
     said_by = reader.said_by(len(names_of(row.holders)))
-    yield "".join(f"<dt>{term}<dd>{text}" for term, text in (*terms.items(), *[("Said by", said_by)] * bool(said_by)))
+    yield "".join(f"<dt>{term}<dd>{text}" for term, text in (*terms.items(), *[("Reported by", said_by)] * bool(said_by)))
     yield "</dl>" + ROW_HEAD
     start = start_of_cut(fact.value for fact in row.facts.values())
     for name, fact in row.facts.items():
@@ -126,25 +153,38 @@ def section(row: Row, reader: Reader, labels: Labels) -> Iterator[str]:
         yield "".join(f"<td>{each}</td>" for each in cells)
         yield drawn(fact, line) if line else ""
     if line:
-        sums = (f"{shown(end)} {terms['Unit'] * bool(dimensions.unit)}" for end in (line.low, line.high, line.gap[1] - line.gap[0]))
-        yield """<tr><td colspan="6"><td class="line"><div class="ends"><span>{}</span><span>{}</span></div></table>
-<p class="gap">No number fits both: {} lie between {} and {}.</p><table>""".format(*sums, *map(shown, line.gap))
+        yield below(line, terms["Unit"] * bool(dimensions.unit))
     yield "</table></section>\n"
 
 
 class NumberLine(NamedTuple):
-    """The line on which the intervals of a row are drawn: its ends, and the gap that nothing fills."""
+    """The line on which the intervals of a row are drawn: its ends, and the gap that contains no interval, if any."""
 
     low: Decimal
     high: Decimal
-    gap: Interval
+    gap: Optional[Interval]
+
+    def place(self, number: Decimal) -> str:
+        """Returns where a number lies on the line."""
+        return f"{(number - self.low) * 100 / (self.high - self.low):.2f}%" if self.low < self.high else "50%"
 
 
 def number_line(row: Row) -> Optional[NumberLine]:
-    if row.gap is None:
-        return None
-    lows, highs = zip(*(fact.interval() for fact in row.facts.values()))
-    return NumberLine(min(lows), max(highs), row.gap)
+    """Returns the line of a row, or None if it has no number. A nil value has no place on it."""
+    intervals = [fact.interval() for fact in row.facts.values() if isinstance(fact.value, Decimal)]
+    return NumberLine(min(low for low, _ in intervals), max(high for _, high in intervals), row.gap) if intervals else None
+
+
+def below(line: NumberLine, unit: str) -> str:
+    """Returns the ends of a number line, and the reason why its row is a contradiction."""
+    ends = "".join(f"<span>{shown(end)} {unit}".rstrip() + "</span>" for end in dict.fromkeys((line.low, line.high)))
+    why = "A nil value contradicts every number."
+    if line.gap:
+        low, high = line.gap
+        width = f"{shown(high - low)} {unit}".rstrip()
+        why = f"No number fits both: {width} lie between {shown(low)} and {shown(high)}."
+    return f"""<tr><td colspan="6"><td class="line"><div class="ends">{ends}</div></table>
+<p class="gap">{why}</p><table>"""
 
 
 def start_of_cut(values: Iterable[Value]) -> int:
@@ -167,12 +207,14 @@ def details(row: Row) -> Iterator[tuple[str, str]]:
 
 
 def drawn(fact: Fact, line: NumberLine) -> str:
-    """Returns an interval on a number line, to scale, over the gap."""
-    ends = fact.interval()
-    middle = (ends[0] + ends[1]) / 2
-    x = [f"{(number - line.low) * 100 / (line.high - line.low):.2f}%" for number in (*ends, middle, *line.gap)]
-    return f"""<td class="line" style="--a:{x[3]};--b:{x[4]}"><svg height="26">
-<line x1="{x[0]}" x2="{x[1]}" y1="13" y2="13"/><circle cx="{x[2]}" cy="13" r="5"/></svg>"""
+    """Returns the interval of a fact on a number line, to scale, over the gap."""
+    if not isinstance(fact.value, Decimal):
+        return '<td class="line nil"><i>not reported as a number</i>'
+    low, high = fact.interval()
+    x1, x2, middle = map(line.place, (low, high, (low + high) / 2))
+    gap = ' style="--a:{};--b:{}"'.format(*map(line.place, line.gap)) if line.gap else ""
+    return f"""<td class="line"{gap}><svg height="26">
+<line x1="{x1}" x2="{x2}" y1="13" y2="13"/><circle cx="{middle}" cy="13" r="5"/></svg>"""
 
 
 def shown(value: Union[Value, int], start: int = 0) -> str:

@@ -117,7 +117,7 @@ class Reader:
     """Reads the rows of a merged text along with their lines, and who said their facts."""
 
     def __init__(
-        self, text: Text, sheet: Sheet, sources: FactSources, near: Optional[RowObserver] = None, listed: Optional[list[Any]] = None
+        self, text: Text, sheet: Sheet, sources: FactSources, near: Optional[RowObserver], listed: list[Any]
     ) -> None:
         self.text, self.sheet, self.sources, self.near, self.listed = text, sheet, sources, near, listed
         self.counts: collections.Counter[str] = collections.Counter()
@@ -143,9 +143,8 @@ class Reader:
         verdict, who = row.said[0].split(" ")[0], names_of(row.holders)
         self.counts[verdict] += 1
         self.counts["alone"] += verdict == "complete" and len(who) == 1
-        if self.listed is not None:
-            names = [*row.holders]
-            self.listed.append((row.number, verdict, names[0], names[-1], self.said_by(len(who)), ", ".join(sorted(who))))
+        names = [*row.holders]
+        self.listed.append((row.number, verdict, names[0], names[-1], self.said_by(len(who)), ", ".join(sorted(who))))
 
     def said_by(self, count: int) -> str:
         """Returns in words that so many of the providers said something, nothing where there are no providers."""

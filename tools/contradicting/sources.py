@@ -3,7 +3,7 @@ from __future__ import annotations
 
 import json
 import re
-from typing import Mapping, NamedTuple, Optional
+from typing import Container, Mapping, NamedTuple, Optional
 
 from contradicting.texts import Provider, Tree, using
 from process import shortened
@@ -23,10 +23,14 @@ Holders = tuple[Holder, ...]  # of one fact
 
 
 class Sources:
-    """The lines of `sources`, of reports whose providers have these names: those of a fact stand together, in its place."""
+    """The lines of `sources`, in the order of the facts. `reports` has the provider of each report.
 
-    def __init__(self, path: str, names: list[str]) -> None:
-        self.path, self.names = path, names
+    The names are those of the providers that have a report which is not refused.
+    """
+
+    def __init__(self, path: str, reports: list[str], refused: Container[int] = ()) -> None:
+        self.path, self.reports = path, reports
+        self.names = [name for number, name in enumerate(reports, 1) if number not in refused]
         self.head: Optional[tuple[str, str, str]] = None  # a fact, who said it, and by which identifier
         with using(path):
             self.file = open(path, encoding="utf-8", newline="\n")
@@ -38,12 +42,12 @@ class Sources:
         if not line:
             self.file.close()
             self.head = None
-        elif not found or int(found[2]) > len(self.names):
-            raise ValueError(f"{line[:80]!r} is no line of the sources of {len(self.names)} reports")
+        elif not found or int(found[2]) > len(self.reports):
+            raise ValueError(f"{line[:80]!r} is no line of the sources of {len(self.reports)} reports")
         else:
             identifier = json.loads(found[3])
             identifier.encode()  # refuses halves of characters, which can't be written
-            self.head = found[1], self.names[int(found[2]) - 1], identifier
+            self.head = found[1], self.reports[int(found[2]) - 1], identifier
 
     def holders(self, name: str, _: Tree) -> Holders:
         """Returns who said a fact, by which identifiers; each has to be asked for once, in order."""

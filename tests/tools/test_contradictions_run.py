@@ -1,0 +1,313 @@
+"""Tests of tools/contradictions on reports, with a program that prints prepared lines."""
+import csv
+import json
+import os
+import pty
+import resource
+import shutil
+import signal
+import subprocess
+import sys
+import time
+import unittest
+
+from test_contradictions import TOOL, ToolTest, content
+from test_contradictions_sources import example
+
+HERE = os.path.dirname(os.path.abspath(__file__))
+REPORTS = [os.path.realpath(example(f"{name}.json")) for name in ("issuer", "ledgerline", "statfeed")]
+SHEET = example("sheet.json")
+SUMMARY = "64 rows: 3 contradictions, 45 consistent, 16 reported once"
+SCHEMA = """<xs:schema xmlns:xs="http://www.w3.org/2001/XMLSchema" xmlns:xbrli="http://www.xbrl.org/2003/instance"
+    targetNamespace="http://made.example/t">
+    <xs:element name="Sales" type="xbrli:monetaryItemType" substitutionGroup="xbrli:item"/>%s</xs:schema>"""
+FRACTION = '<xs:element name="Share" type="xbrli:fractionItemType" substitutionGroup="xbrli:item"/>'
+NONE = '{"documentInfo":{"namespaces":{}},"facts":{}}'
+OTHER_TOOLS = """{"documentInfo":{"documentType":"https://xbrl.org/2021/xbrl-json","namespaces":{"m":"http://made.example/t"}},
+    "facts":{"a":{"value":1e3,"decimals":"INF","links":{"x":{"y":["a"]}},"dimensions":{"concept":"m:Sales"}}}}"""
+
+
+class Stubbed(ToolTest):
+    """A folder `bin` with the program, which has the lines of the examples."""
+
+    def setUp(self):
+        super().setUp()
+        self.bin = os.path.join(self.room, "bin")
+        os.mkdir(self.bin)
+        self.program = os.path.join(self.bin, "xbrlmerge")
+        with open(self.program, "w", encoding="utf-8") as file:
+            file.write(f"#!{sys.executable} -IS\n{content(os.path.join(HERE, 'stub_program.py'))}")
+        os.chmod(self.program, 0o755)
+        for command, name in (("merge", "merged.json"), ("verdicts", "verdicts.txt"), ("sources", "sources.txt")):
+            shutil.copy(example(name), os.path.join(self.bin, f"{command}.out"))
+
+    def prints(self, command, out=None, err=None, status=None):
+        """Prepares what a command prints."""
+        for part, text in (("out", out), ("err", err), ("status", status)):
+            if text is not None:
+                self.write(os.path.join("bin", f"{command}.{part}"), str(text))
+
+    def prints_nothing(self):
+        for command, text in (("merge", NONE), ("verdicts", ""), ("sources", "")):
+            self.prints(command, text)
+
+    def refuses(self, refusals, explained):
+        for command in ("merge", "verdicts", "sources"):
+            self.prints(command, err=refusals, status=1)
+        self.prints("explain", explained, status=1)
+
+    def run_on(self, *words, sheet=("--sheet", SHEET), **options):
+        run = [sys.executable, TOOL, "--program", self.program, *sheet, "-o", self.output, *words]
+        return subprocess.run(run, capture_output=True, text=True, **options)
+
+    def refused_run(self, told, *words, status=3, **options):
+        """Runs the tool, which has to refuse in one sentence and leave every file as it was."""
+        before = sorted(os.walk(self.room))
+        done = self.run_on(*words, **options)
+        self.assertEqual((done.returncode, done.stdout), (status, ""), done.stderr)
+        self.assertIn(told, done.stderr.splitlines()[-1])
+        self.assertEqual(len(done.stderr.splitlines()), 1 if status == 3 else 2, done.stderr)
+        self.forget_log()
+        self.assertEqual(sorted(os.walk(self.room)), before)
+
+    def log(self):
+        """Returns the commands that were run, each with its reports."""
+        lines = content(os.path.join(self.bin, "log")).split("\n")[:-1]
+        return [(line.split("\0")[0], line.split("\0")[1:-1]) for line in lines]
+
+    def forget_log(self):
+        for name in ("log", "sheet"):
+            if os.path.exists(os.path.join(self.bin, name)):
+                os.unlink(os.path.join(self.bin, name))
+
+    def cells(self, name):
+        with open(os.path.join(self.output, name), encoding="utf-8-sig", newline="") as file:
+            return list(csv.DictReader(file))
+
+
+class Files(Stubbed):
+    def test_one_command_writes_every_file(self):
+        done = self.run_on(*REPORTS)
+        self.assertEqual((done.returncode, done.stderr), (1, ""))
+        self.assertEqual(done.stdout, f"{SUMMARY}; page: {self.page}\n")
+        self.assertEqual(sorted(os.listdir(self.output)), ["contradictions.csv", "merged.json", "page.html", "rows.csv"])
+        self.assertEqual(content(os.path.join(self.output, "merged.json")), content(example("merged.json")))
+        self.assertEqual(len(self.cells("rows.csv")), 64)
+        told = {cell["fact"]: (cell["identifiers"], cell["said_by"]) for cell in self.cells("contradictions.csv")}
+        self.assertEqual(told["f066"], ("issuer: f33; statfeed: TS08474", "2 of 3"))
+        self.assertEqual(self.log(), [(command, REPORTS) for command in ("merge", "verdicts", "sources")])
+        for text in ("<title>Contradictions</title>", "<h1>Contradictions</h1>", "<b>3</b>contradictions",
+                     "<b>45</b>consistent within rounding", "<b>16</b>reported once", "<dt>Reported by<dd>2 of 3"):
+            self.assertIn(text, content(self.page))
+
+    def test_a_nil_against_a_number_has_a_bar(self):
+        self.run_on(*REPORTS)
+        section = next(part for part in content(self.page).split("<section")[1:] if "<i>nil</i>" in part)
+        self.assertIn("not reported as a number", section)
+        self.assertIn('<circle cx="50%"', section)
+        self.assertIn("A nil value contradicts every number.", section)
+
+    def test_the_status_is_zero_without_a_contradiction_or_with_an_option(self):
+        self.assertEqual(self.run_on(*REPORTS, "--exit-zero").returncode, 0)
+        self.prints_nothing()
+        done = self.run_on(*REPORTS)
+        self.assertEqual((done.returncode, done.stderr), (0, ""))
+        self.assertTrue(done.stdout.startswith("0 rows: 0 contradictions, 0 consistent, 0 reported once; page: "))
+
+    def test_names_are_those_of_the_files_or_are_given(self):
+        self.run_on(f"A={REPORTS[0]}", f"B; \u00e4={REPORTS[1]}", f"A={REPORTS[2]}")
+        told = {cell["fact"]: (cell["identifiers"], cell["said_by"]) for cell in self.cells("contradictions.csv")}
+        self.assertEqual((told["f066"], told["f065"][0][:6]), (("A: f33, TS08474", "1 of 2"), "B; \u00e4: "))
+
+    def test_a_path_may_have_an_equals_sign(self):
+        odd = self.write("a=b.json", "{}")
+        self.prints_nothing()
+        self.assertEqual(self.run_on(odd, REPORTS[0], odd).returncode, 0)
+        self.assertEqual(self.log()[0][1], [odd, REPORTS[0]])
+
+    def test_the_program_beside_the_tool_or_on_the_path(self):
+        tools = os.path.join(self.room, "checkout", "tools")
+        shutil.copytree(os.path.dirname(TOOL), tools)
+        words = [sys.executable, os.path.join(tools, "contradictions"), "--sheet", SHEET, "-o", self.output, *REPORTS]
+        for path, status in ((self.room, 3), (self.bin, 1)):
+            done = subprocess.run(words, capture_output=True, text=True, env={**os.environ, "PATH": path})
+            self.assertEqual(done.returncode, status, done.stderr)
+        shutil.copytree(self.bin, os.path.join(self.room, "checkout"), dirs_exist_ok=True)
+        done = subprocess.run(words, capture_output=True, text=True, env={**os.environ, "PATH": self.room})
+        self.assertEqual(done.returncode, 1, done.stderr)
+
+    def test_progress_is_shown_on_a_terminal(self):
+        main, terminal = pty.openpty()
+        run = [sys.executable, TOOL, "--program", self.program, "--sheet", SHEET, "-o", self.output, *REPORTS]
+        with subprocess.Popen(run, stdout=subprocess.PIPE, stderr=terminal) as child:
+            os.close(terminal)
+            seen = b""
+            try:
+                while piece := os.read(main, 1000):
+                    seen += piece
+            except OSError:  # the terminal is closed
+                pass
+            child.communicate()
+        os.close(main)
+        self.assertIn(b"running verdicts on 3 reports ..", seen)
+        self.assertTrue(seen.endswith(b"\r\x1b[K"))
+
+
+class Refused(Stubbed):
+    def test_a_refused_report_is_explained_and_the_others_go_on(self):
+        bad = self.write("<b>.json", "no report")
+        self.refuses("report 4: 1 NotJson at document\n", "report: 1 NotJson: the file is no JSON text\nreports: 1, with faults: 1, faults: 1\n")
+        done = self.run_on(*REPORTS, bad)
+        self.assertEqual(done.returncode, 1)
+        self.assertEqual(done.stderr, f"contradictions: {bad}: 1 NotJson: the file is no JSON text\n")
+        self.assertEqual(done.stdout, f"{SUMMARY}; 1 report refused; page: {self.page}\n")
+        self.assertEqual(self.log()[3], ("explain", [bad]))
+        page = content(self.page)
+        for text in ("<b>1</b>refused reports", "&lt;b&gt;.json", "<li><bdi>1 NotJson: the file is no JSON text</bdi>", "<dd>2 of 3"):
+            self.assertIn(text, page)
+
+    def test_what_explain_prints_is_bounded(self):
+        self.refuses("report 1: 13 UnboundPrefix at fact 1\n", "".join(f'report: fact "{n}": 13 UnboundPrefix\n' for n in range(5_000)))
+        done = self.run_on(*REPORTS)
+        self.assertEqual(len(done.stderr.splitlines()), 21)
+        self.assertIn("and 4980 more", done.stderr)
+
+    def test_a_refusal_that_explain_does_not_know_is_told(self):
+        self.refuses("report 2: 31 DisallowedDuplicates at document\n", "")
+        self.assertIn(f"{REPORTS[1]}: 31 DisallowedDuplicates at document\n", self.run_on(*REPORTS).stderr)
+
+    def test_a_sheet_that_lacks_concepts(self):
+        line = 'report: fact "f{}": 1{} Unknown{}: the {} "eg:N{}" is not in the sheet\n'
+        lines = [line.format(n, 6, "Concept", "concept", n % 30) for n in range(60)] + [line.format(1, 7, "Dimension", "dimension", "Axis")]
+        self.refuses("report 1: 16 UnknownConcept at fact 1\n", "".join(lines))
+        told = self.run_on(*REPORTS).stderr
+        self.assertIn("the sheet lacks 30 concepts: eg:N0, eg:N1, ", told)
+        self.assertIn("and 10 more\n", told)
+        self.assertIn("the sheet lacks 1 dimension: eg:NAxis\n", told)
+        self.assertIn("--taxonomy PACKAGE, in place of --sheet, makes a sheet that lists all", told)
+        self.assertIn("eg:N29</p>", content(self.page))
+
+
+class Prepared(Stubbed):
+    def package(self, more=""):
+        os.makedirs(os.path.join(self.room, "package"), exist_ok=True)
+        self.write(os.path.join("package", "t.xsd"), SCHEMA % more)
+        return ["--taxonomy", os.path.join(self.room, "package")]
+
+    def test_a_taxonomy_in_place_of_a_sheet(self):
+        self.prints_nothing()
+        for more, status, told in (("", 0, ""), (FRACTION, 1, "1 omission from the taxonomy")):
+            done = self.run_on(*REPORTS, sheet=self.package(more))
+            self.assertEqual((done.returncode, told in done.stdout), (status, True), done)
+            self.assertEqual(bool(done.stderr), bool(more))
+            sheet = json.loads(content(os.path.join(self.output, "sheet.json")))
+            self.assertEqual(sheet["concepts"], {"n1:Sales": "numeric"})
+            self.assertEqual(content(os.path.join(self.bin, "sheet")), content(os.path.join(self.output, "sheet.json")))
+
+    def test_reports_are_normalised_first(self):
+        self.prints_nothing()
+        own = [self.write("A.json", OTHER_TOOLS), self.write("B.json", OTHER_TOOLS)]
+        for option, losses in (([], 0), (["--drop-links"], 2)):
+            done = self.run_on("--normalise", *option, f"+A={own[0]}", own[1], sheet=self.package())
+            self.assertEqual(done.returncode, int(losses > 0), done.stderr)
+            self.assertEqual("; 2 losses in changes.csv; " in done.stdout, losses > 0)
+            changes = self.cells("changes.csv")
+            self.assertEqual([change["rule"] for change in changes[: len(changes) // 2]],
+                             ["decimals-infinite", "value-text", "exponent"] + ["drop-links"] * bool(losses))
+            self.assertEqual({change["provider"] for change in changes}, {"'+A", "B"})
+            self.assertEqual([changes[1][key] for key in ("report", "fact", "was", "now", "loss")], [own[0], "a", "1e3", '"1e3"', "false"])
+            self.assertEqual(sum(change["loss"] == "true" for change in changes), losses)
+        self.assertTrue(all(path.startswith(self.output) for path in self.log()[0][1]))
+
+    def test_what_cannot_be_normalised_goes_to_the_program(self):
+        bad = self.write("bad.json", "[" * 100_000)
+        self.prints_nothing()
+        self.refuses("report 1: 1 NotJson at document\n", "report: 1 NotJson: it is no JSON\n")
+        done = self.run_on("--normalise", bad)
+        self.assertEqual(done.returncode, 1)
+        self.assertIn("1 report refused; 1 report not normalised", done.stdout)
+        self.assertIn(f"{bad} is not normalised: ", done.stderr)
+        self.assertEqual(self.log()[0][1], [bad])
+
+
+class BadInputs(Stubbed):
+    def test_names_with_two_meanings(self):
+        os.mkdir(os.path.join(self.room, "other"))
+        other = self.write(os.path.join("other", "issuer.json"), "{}")
+        for words, told in (
+            ([REPORTS[0], other], "both get the name issuer: write NAME=FILE for both"),
+            ([f"issuer={REPORTS[1]}", other], "both get the name issuer"),
+            ([REPORTS[0], f"issuer={other}"], "both get the name issuer"),
+            ([f"A={other}", f"B={other}"], "is named twice, for A and for B"),
+            ([f"={other}"], "an empty name or file"),
+            (["A="], "an empty name or file"),
+        ):
+            self.refused_run(told, *words, status=2)
+
+    def test_usage(self):
+        for words in ([], [*REPORTS, "--sources", "x"], [*REPORTS, "--names", "a"], [*REPORTS, "--drop-links"], [*REPORTS, "--from", "a", "b", "c"],
+                      [*REPORTS, "--near", REPORTS[0]], [*REPORTS, "--taxonomy", "x"], [*REPORTS, self.page]):
+            self.refused_run("error: ", *words, status=2)
+        self.assertEqual(self.run_on(*REPORTS, sheet=()).returncode, 2)
+
+    def test_inputs_that_are_missing_or_no_files(self):
+        os.mkfifo(os.path.join(self.room, "fifo"))
+        self.refused_run("nowhere.json: No such file or directory", REPORTS[0], "nowhere.json")
+        self.refused_run("fifo is not a regular file", os.path.join(self.room, "fifo"))
+        self.refused_run("is not a regular file", "B=" + self.bin)
+        self.refused_run("No such file or directory", *REPORTS, sheet=("--sheet", "nowhere"))
+        self.refused_run("there is no such file", *REPORTS, sheet=("--taxonomy", "nowhere"))
+
+    def test_an_output_folder_that_is_a_file(self):
+        self.write("out", "a file")
+        self.refused_run("out is a file; -o needs a folder", *REPORTS)
+        self.assertEqual(content(self.output), "a file")
+
+    def test_a_program_that_fails(self):
+        self.prints("verdicts", "1 f", "device: 3 bytes written\n", 3)
+        self.refused_run("xbrlmerge verdicts: its output cannot be written, perhaps for lack of room", *REPORTS)
+        self.prints("verdicts", "1 f", "out of memory\n", 3)
+        self.refused_run("xbrlmerge verdicts: out of memory", *REPORTS)
+        self.prints("merge", "", "", 101)
+        self.refused_run("xbrlmerge merge: it ended with status 101", *REPORTS)
+        self.prints("merge", "", "sheet: 32 SheetKind\n", 3)
+        self.prints("explain", "", 'sheet.json: the entry "x:A": "numberic" has an unknown kind\nsheet: 32 SheetKind\n', 3)
+        self.refused_run("has an unknown kind", *REPORTS)
+        self.refused_run("No such file or directory", *REPORTS, "--program", os.path.join(self.room, "nowhere"))
+
+    def test_reports_that_change_meanwhile(self):
+        self.prints("verdicts", err="report 1: 1 NotJson at document\n", status=1)
+        self.refused_run("has changed while it was read", *REPORTS)
+        self.prints("verdicts", "1 f1 f1 complete\n", "", 0)
+        self.refused_run("verdicts: ValueError: ", *REPORTS)
+
+    def test_no_room_on_the_disk(self):
+        def limit():
+            resource.setrlimit(resource.RLIMIT_FSIZE, (20_000, 20_000))
+            signal.signal(signal.SIGXFSZ, signal.SIG_IGN)
+
+        self.refused_run("File too large", *REPORTS, sheet=self.large_taxonomy(), preexec_fn=limit)
+        self.prints_nothing()
+        self.prints("merge", NONE.replace("{}}", "{}}" + " " * 15_000, 1))
+        large = OTHER_TOOLS.replace('"a":', "".join(f'"{n}":{{"value":"1","dimensions":{{}}}},' for n in range(2_000)) + '"a":')
+        self.refused_run("File too large", "--normalise", self.write("large.json", large), preexec_fn=limit)
+
+    def large_taxonomy(self):
+        elements = "".join(f'<xs:element name="E{n}" type="xbrli:stringItemType" substitutionGroup="xbrli:item"/>' for n in range(2_000))
+        return ["--taxonomy", self.write("large.xsd", SCHEMA % elements)]
+
+    def test_a_signal_leaves_nothing(self):
+        self.write(os.path.join("bin", "verdicts.waits"), "")
+        before = sorted(os.walk(self.room))
+        run = [sys.executable, TOOL, "--program", self.program, "--sheet", SHEET, "-o", self.output, *REPORTS]
+        with subprocess.Popen(run, stdout=subprocess.PIPE, stderr=subprocess.PIPE) as child:
+            while not os.path.exists(os.path.join(self.bin, "log")) or "verdicts" not in content(os.path.join(self.bin, "log")):
+                time.sleep(0.01)
+            child.terminate()
+            self.assertEqual((child.wait(30), child.communicate()), (-signal.SIGTERM, (b"", b"")))
+        self.forget_log()
+        self.assertEqual(sorted(os.walk(self.room)), before)
+
+
+if __name__ == "__main__":
+    unittest.main()

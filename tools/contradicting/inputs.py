@@ -1,0 +1,132 @@
+"""What a page is made of: texts that are named, or those that the program makes of reports."""
+from __future__ import annotations
+
+import argparse
+import contextlib
+import os
+from dataclasses import dataclass, field
+from typing import Iterable, Iterator, Optional
+
+from contradicting.normalised import Normalised, pieces_of_file
+from contradicting.program import Program
+from contradicting.progress import Progress
+from contradicting.refusals import Refusals
+from contradicting.reports import Report, check_files
+from contradicting.rows import Teller
+from contradicting.sources import OwnTexts, Sources
+from contradicting.texts import Provider, Sheet, Text
+from process import NotDone, printable
+from sheet_making.limits import Limits
+from sheet_making.making import kinds_in
+from sheet_making.sheets import sheet_text
+
+ADVICE = "--taxonomy PACKAGE, in place of --sheet, makes a sheet that lists all concepts and dimensions of a taxonomy"
+
+
+@dataclass
+class Inputs:
+    """The inputs of a page, the files that are written beside it, and what there is to look at."""
+
+    text: Text
+    sheet: Sheet
+    verdicts: str
+    sources: Teller
+    refusals: Refusals = field(default_factory=Refusals)
+    files: dict[str, Iterable[str]] = field(default_factory=dict)  # pieces by name
+    losses: list[str] = field(default_factory=list)  # for the summary
+    notes: list[str] = field(default_factory=list)  # lines for standard error
+
+
+def inputs_named(options: argparse.Namespace) -> Inputs:
+    """Returns the inputs that --from names."""
+    (merged, sheet_at, verdicts), sources = options.texts, None
+    sheet, text = Sheet(sheet_at), Text(merged)
+    if options.sources:
+        sources = Sources(options.sources, options.names.split(","))
+    owned = (word.partition("=")[::2] for word in options.words)
+    return Inputs(text, sheet, verdicts, sources or OwnTexts([Provider(name, path, text, sheet) for name, path in owned]))
+
+
+class Run:
+    """A run of the program on reports, in a folder of its own."""
+
+    def __init__(self, program: str, options: argparse.Namespace, reports: list[Report], folder: str, progress: Progress) -> None:
+        self.options, self.reports, self.folder, self.progress = options, reports, folder, progress
+        self.files: dict[str, Iterable[str]] = {}
+        self.losses: list[str] = []
+        self.notes: list[str] = []
+        check_files(report.path for report in reports)
+        self.program = Program(program, self.sheet(), folder)
+
+    def inputs(self) -> Inputs:
+        paths = self.normalised() if self.options.normalise else [report.path for report in self.reports]
+        found = [self.read(command, paths) for command in ("merge", "verdicts", "sources")]
+        if found[1:] != found[:-1]:
+            raise NotDone("a report or the sheet has changed while it was read")
+        merged, verdicts, sources = map(self.program.place, ("merge", "verdicts", "sources"))
+        names = [report.provider for report in self.reports]
+        files = {"merged.json": pieces_of_file(merged), **self.files}
+        return Inputs(Text(merged), Sheet(self.program.sheet), verdicts, Sources(sources, names, found[0]),
+                      self.refusals(found[0], paths), files, self.losses, self.notes)
+
+    def sheet(self) -> str:
+        """Returns the path of the sheet, which is made first if taxonomies are named."""
+        if not self.options.taxonomy:
+            check_files([self.options.sheet])
+            return str(self.options.sheet)
+        self.progress.show("making the sheet")
+        kinds, left_out = kinds_in(self.options.taxonomy, Limits())
+        path = os.path.join(self.folder, "sheet")
+        with open(path, "w", encoding="utf-8") as file:
+            file.write(sheet_text(kinds))
+        self.files["sheet.json"] = pieces_of_file(path)
+        self.notes += left_out
+        self.losses += [f"{counted(len(left_out), 'omission')} from the taxonomy"] * bool(left_out)
+        return path
+
+    def normalised(self) -> list[str]:
+        """Returns the paths of the normalised reports."""
+        made = Normalised(self.program.sheet, self.options, self.folder)
+        for number, report in enumerate(self.reports, 1):
+            self.progress.show(f"normalising {printable(report.path)} ({number} of {len(self.reports)})")
+            made.add(report)
+        self.files["changes.csv"] = made.pieces()
+        self.notes += made.notes
+        self.losses += [f"{counted(len(made.notes), 'report')} not normalised"] * bool(made.notes)
+        self.losses += [f"{counted(made.losses, 'loss', 'losses')} in changes.csv"] * bool(made.losses)
+        return made.paths
+
+    def read(self, command: str, paths: list[str]) -> dict[int, str]:
+        self.progress.show(f"running {command} on {counted(len(paths), 'report')}")
+        return self.program.read_reports(command, paths)
+
+    def refusals(self, found: dict[int, str], paths: list[str]) -> Refusals:
+        """Returns the refused reports, explained."""
+        refusals = Refusals("" if self.options.taxonomy else ADVICE)
+        for number, refusal in sorted(found.items()):
+            path = self.reports[number - 1].path
+            self.progress.show(f"explaining why {printable(path)} is refused")
+            refusals.add(path, self.program.explained(paths[number - 1], refusal))
+        return refusals
+
+
+def counted(count: int, word: str, words: Optional[str] = None) -> str:
+    """Returns a number and a word, in the plural unless the number is 1."""
+    return f"{count} {word if count == 1 else words or word + 's'}"
+
+
+@contextlib.contextmanager
+def output_folder(path: str) -> Iterator[None]:
+    """Makes a folder, unless it is there. If the block fails, a folder that was made here is removed."""
+    is_made = not os.path.isdir(path)
+    if is_made and os.path.lexists(path):
+        raise NotDone(f"{path} is a file; -o needs a folder")
+    try:
+        if is_made:
+            os.mkdir(path)
+        yield
+    except BaseException:
+        with contextlib.suppress(OSError):
+            if is_made:
+                os.rmdir(path)  # which only removes an empty one
+        raise

@@ -1,0 +1,73 @@
+"""Brings reports into the profile before the program reads them, by the rules of tools/normalise."""
+from __future__ import annotations
+
+import argparse
+import itertools
+import json
+import os
+from typing import Iterator
+
+from contradicting.reports import Report, written
+from contradicting.tables import cell, lines_of
+from normalising.changes import Log
+from normalising.json_text import Number, Tree, pieces_of, read_json_of_length, text_of
+from normalising.names import Sheet
+from normalising.rules import Normaliser
+from process import NotDone, sentence
+
+VALUES = ("was", "now")  # JSON texts, so that 5 and "5" differ
+COLUMNS = ["provider", "report", *"fact number pointer rule loss".split(), *VALUES, *"moved why shortened".split()]
+
+
+class Normalised:
+    """Reports in a folder, as they are after normalising, with a table of the changes."""
+
+    def __init__(self, sheet: str, options: argparse.Namespace, folder: str) -> None:
+        self.normaliser, self.folder = Normaliser(Sheet(sheet), options), folder
+        self.table = os.path.join(folder, "changes")
+        self.paths: list[str] = []
+        self.losses = 0
+        self.notes: list[str] = []  # about reports that are left as they are
+
+    def add(self, report: Report) -> None:
+        """Normalises the next report. One that the rules cannot read is left as it is, so that the program refuses it."""
+        try:
+            tree, length = read_json_of_length(report.path)
+            log = self.normaliser.normalise(tree, length)
+        except (NotDone, ValueError, RecursionError) as fault:
+            why = "; ".join(map(str, fault.args)) if isinstance(fault, NotDone) else sentence(fault)
+            self.notes.append(f"{report.path} is not normalised: {why.removeprefix(f'{report.path}: ')}")
+            self.paths.append(report.path)
+            return
+        self.paths.append(os.path.join(self.folder, f"normalised{len(self.paths)}"))
+        with open(self.paths[-1], "w", encoding="utf-8", newline="") as file:
+            file.writelines(pieces_of(tree))
+        self.losses += self.write_changes(report, log)
+
+    def write_changes(self, report: Report, log: Log) -> int:
+        """Adds the changes of a report to the table. Returns how many lose something."""
+        changes = [json.loads(line, parse_int=Number, parse_float=Number) for line in log.lines]
+        source = [cell(report.provider), cell(written(report.path))]
+        with open(self.table, "a", encoding="utf-8", newline="") as file:
+            table = ([*source, *(cell(shown(change, key)) for key in COLUMNS[2:])] for change in changes)
+            file.writelines(itertools.islice(lines_of(table), 1, None))  # without its byte order mark
+        return sum(change["loss"] for change in changes)
+
+    def pieces(self) -> Iterator[str]:
+        """Yields the pieces of the table."""
+        yield from lines_of([COLUMNS])
+        if os.path.exists(self.table):
+            yield from pieces_of_file(self.table)
+
+
+def shown(change: dict[str, Tree], key: str) -> str:
+    """Returns what a change has under a key, as a text."""
+    value = change.get(key)
+    if key in VALUES and key in change:
+        return text_of(value)
+    return "" if value is None else value if isinstance(value, str) else text_of(value)
+
+
+def pieces_of_file(path: str) -> Iterator[str]:
+    with open(path, encoding="utf-8", newline="") as file:
+        yield from iter(lambda: file.read(1 << 20), "")

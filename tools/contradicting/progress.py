@@ -1,0 +1,29 @@
+"""Shows on a terminal what is being done."""
+from __future__ import annotations
+
+import sys
+
+CLEAR = "\r\x1b[K"
+
+
+class Progress:
+    """A line on standard error, if that is a terminal. It is gone when the block ends."""
+
+    def __init__(self) -> None:
+        self.is_shown = sys.stderr.isatty()
+
+    def show(self, text: str) -> None:
+        self.write(f"{CLEAR}{text} ..")
+
+    def clear(self) -> None:
+        self.write(CLEAR)
+
+    def write(self, text: str) -> None:
+        if self.is_shown:
+            print(text, end="", file=sys.stderr, flush=True)
+
+    def __enter__(self) -> Progress:
+        return self
+
+    def __exit__(self, *_: object) -> None:
+        self.clear()

@@ -1,0 +1,56 @@
+"""The reports that are named on the command line, each with its provider."""
+from __future__ import annotations
+
+import os
+import stat
+from typing import Iterable, NamedTuple
+
+from process import NotDone
+
+
+class Report(NamedTuple):
+    """A file with a report, and the name of the provider that made it."""
+
+    provider: str
+    path: str
+
+
+def reports_of(words: Iterable[str]) -> list[Report]:
+    """Returns the reports that words name as FILE or NAME=FILE. A file that is repeated under one name is returned once.
+
+    Without NAME the provider has the name of the file. Errors: ValueError if a name or a file has two meanings.
+    """
+    reports: dict[str, Report] = {}
+    first: dict[str, tuple[bool, str]] = {}
+    for word in words:
+        is_named, report = report_of(word)
+        before = reports.setdefault(os.path.realpath(report.path), report)
+        if before.provider != report.provider:
+            raise ValueError(f"{report.path} is named twice, for {before.provider} and for {report.provider}")
+        was_named, path = first.setdefault(report.provider, (is_named, report.path))
+        if before is report and path != report.path and not (was_named and is_named):
+            raise ValueError(f"{path} and {report.path} both get the name {report.provider}: write NAME=FILE for both,"
+                             " with the same NAME if one provider made both")
+    return list(reports.values())
+
+
+def report_of(word: str) -> tuple[bool, Report]:
+    """Returns whether a word names a provider, and its report. What has a / before the first = is a path."""
+    name, sign, path = word.partition("=")
+    is_named = bool(sign) and "/" not in name
+    if is_named and not (name and path):
+        raise ValueError(f"{word} has an empty name or file")
+    provider = name if is_named else os.path.splitext(os.path.basename(word))[0]
+    return is_named, Report(written(provider), path if is_named else word)
+
+
+def written(name: str) -> str:
+    """Returns a name that can be written as UTF-8."""
+    return os.fsencode(name).decode("utf-8", "backslashreplace")
+
+
+def check_files(paths: Iterable[str]) -> None:
+    """Refuses what the program could not read several times. Errors: NotDone, OSError."""
+    for path in paths:
+        if not stat.S_ISREG(os.stat(path).st_mode):
+            raise NotDone(f"{path} is not a regular file")

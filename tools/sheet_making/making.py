@@ -1,0 +1,18 @@
+"""Makes a sheet of taxonomies."""
+from __future__ import annotations
+
+from typing import Iterable
+
+from sheet_making.files import Files
+from sheet_making.kinds import Kinds, kinds_of
+from sheet_making.limits import Limits
+from sheet_making.taxonomy import Taxonomy
+
+NO_NAMESPACE = "it has no namespace, and no schema includes it"
+
+
+def kinds_in(inputs: Iterable[str], limits: Limits) -> tuple[Kinds, list[str]]:
+    """Returns the kinds of the concepts and dimensions in taxonomies, and a line for each thing that is left out."""
+    taxonomy = Taxonomy(Files(inputs, limits))
+    kinds, left_out = kinds_of(taxonomy.elements, taxonomy.types)
+    return kinds, [f"{place} is left out: {NO_NAMESPACE}" for place in taxonomy.without_namespace()] + left_out
