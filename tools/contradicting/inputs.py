@@ -5,7 +5,7 @@ import argparse
 import contextlib
 import os
 from dataclasses import dataclass, field
-from typing import Iterable, Iterator, Optional
+from typing import Iterator, Optional
 
 from contradicting.normalised import Normalised, pieces_of_file
 from contradicting.program import Program
@@ -20,6 +20,8 @@ from sheet_making.limits import Limits
 from sheet_making.making import kinds_in
 from sheet_making.sheets import sheet_text
 
+File = tuple[str, Iterator[str]]  # the name of a file that is written beside the page, and its pieces
+
 ADVICE = "--taxonomy PACKAGE, in place of --sheet, makes a sheet that lists all concepts and dimensions of a taxonomy"
 
 
@@ -32,7 +34,7 @@ class Inputs:
     verdicts: str
     sources: Teller
     refusals: Refusals = field(default_factory=Refusals)
-    files: dict[str, Iterable[str]] = field(default_factory=dict)  # pieces by name
+    files: list[File] = field(default_factory=list)
     losses: list[str] = field(default_factory=list)  # for the summary
     notes: list[str] = field(default_factory=list)  # lines for standard error
 
@@ -52,7 +54,7 @@ class Run:
 
     def __init__(self, program: str, options: argparse.Namespace, reports: list[Report], folder: str, progress: Progress) -> None:
         self.options, self.reports, self.folder, self.progress = options, reports, folder, progress
-        self.files: dict[str, Iterable[str]] = {}
+        self.files: list[File] = []
         self.losses: list[str] = []
         self.notes: list[str] = []
         check_files(report.path for report in reports)
@@ -65,7 +67,7 @@ class Run:
             raise NotDone("a report or the sheet has changed while it was read")
         merged, verdicts, sources = map(self.program.place, ("merge", "verdicts", "sources"))
         names = [report.provider for report in self.reports]
-        files = {"merged.json": pieces_of_file(merged), **self.files}
+        files = [("merged.json", pieces_of_file(merged)), *self.files]
         return Inputs(Text(merged), Sheet(self.program.sheet), verdicts, Sources(sources, names, found[0]),
                       self.refusals(found[0], paths), files, self.losses, self.notes)
 
@@ -79,7 +81,7 @@ class Run:
         path = os.path.join(self.folder, "sheet")
         with open(path, "w", encoding="utf-8") as file:
             file.write(sheet_text(kinds))
-        self.files["sheet.json"] = pieces_of_file(path)
+        self.files.append(("sheet.json", pieces_of_file(path)))
         self.notes += left_out
         self.losses += [f"{counted(len(left_out), 'omission')} from the taxonomy"] * bool(left_out)
         return path
@@ -90,7 +92,7 @@ class Run:
         for number, report in enumerate(self.reports, 1):
             self.progress.show(f"normalising {printable(report.path)} ({number} of {len(self.reports)})")
             made.add(report)
-        self.files["changes.csv"] = made.pieces()
+        self.files.append(("changes.csv", made.pieces()))
         self.notes += made.notes
         self.losses += [f"{counted(len(made.notes), 'report')} not normalised"] * bool(made.notes)
         self.losses += [f"{counted(made.losses, 'loss', 'losses')} in changes.csv"] * bool(made.losses)

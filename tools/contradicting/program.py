@@ -4,7 +4,7 @@ from __future__ import annotations
 import os
 import re
 import shutil
-import subprocess
+import subprocess  # nosec B404: it runs the program that the user names, without a shell
 from typing import Iterable, Iterator, Optional, Sequence
 
 from process import NotDone
@@ -35,8 +35,8 @@ class Program:
     def run(self, command: str, words: Sequence[str]) -> tuple[int, list[str]]:
         """Runs a command whose output goes into the file of that name. Returns its status and its other lines."""
         with open(self.place(command), "wb") as out:
-            done = subprocess.run([self.path, command, "--sheet", self.sheet, *words], stdin=subprocess.DEVNULL, stdout=out,
-                                  stderr=subprocess.PIPE, cwd=self.folder)
+            run = [self.path, command, "--sheet", self.sheet, *words]
+            done = subprocess.run(run, stdin=subprocess.DEVNULL, stdout=out, stderr=subprocess.PIPE, cwd=self.folder)  # nosec B603
         return done.returncode, done.stderr.decode(errors="replace").splitlines()
 
     def read_reports(self, command: str, paths: Iterable[str]) -> dict[int, str]:
