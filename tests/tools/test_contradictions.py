@@ -111,7 +111,8 @@ class Pages(ToolTest):
         self.assertIn("2\u202f399 NOK lie between \u22121\u202f199.5 and 1\u202f199.5.", self.words)
 
     def test_only_numbers_have_a_line(self):
-        self.assertEqual(self.seen.tags.count("svg"), 4 + 2 + 2)
+        self.assertEqual(self.seen.tags.count("svg"), 4 + 2 + 2 + 1)
+        self.assertEqual(self.text.count("not reported as a number"), 1)
         # of 4.75 to 4.95, the gap from 4.815 to 4.93 begins at 0.325 and ends at 0.9
         self.assertEqual(self.text.count('style="--a:32.50%;--b:90.00%"'), 4)
         self.assertIn('<line x1="27.50%" x2="32.50%" y1="13" y2="13"/><circle cx="30.00%" cy="13" r="5"/>', self.text)

@@ -167,7 +167,7 @@ class Large(test_contradictions.ToolTest):
         sizes = {}
         for cell in (cell for cell in cells if cell["evidence"]):
             sizes.setdefault(cell["row"], []).append(cell)
-        self.assertNotIn("<section", re.sub('<script type="text/html">.*?</script>', "", rest, flags=re.DOTALL))
+        self.assertFalse("<section" in re.sub("<script.*?</script>", "", rest, flags=re.DOTALL))
         shares = [self.share(sizes[row]) for row in rows[0]]
         self.assertEqual(shares, sorted(shares, reverse=True))
         self.assertGreaterEqual(shares[-1], max(self.share(sizes[row]) for row in rows[2]))

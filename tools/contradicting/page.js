@@ -2,6 +2,7 @@
 const box = document.querySelector(".filter"), [field, told] = [box.querySelector("input"), box.querySelector("output")];
 const list = document.querySelector(".list"), found = document.querySelector(".found"), MOST = 100;
 const groups = [...document.querySelectorAll("details.group")], texts = groups.map(group => group.querySelector("script"));
+const SIGNS = {"&amp;": "&", "&lt;": "<", "&gt;": ">", "&quot;": '"', "&#x27;": "'"};
 let rows, waiting;
 
 // A closed group has its rows as text, which costs the browser next to nothing.
@@ -16,18 +17,15 @@ function open(hash) {
 }
 
 function bare(html) {
-  return html.replace(/<[^>]*>/g, " ").toLowerCase();
-}
-
-function escaped(word) {
-  return word.replace(/[&<>"']/g, sign => ({"&": "&amp;", "<": "&lt;", ">": "&gt;", '"': "&quot;", "'": "&#x27;"})[sign]);
+  const text = html.replace(/<[^>]*>/g, " ");
+  return text.replace(/&(amp|lt|gt|quot|#x27);/g, sign => SIGNS[sign]).toLowerCase();
 }
 
 function filter() {
   rows ??= [...list.querySelectorAll("section.row")].filter(row => !row.closest("details.group")).map(row => row.outerHTML)
     .concat(texts.flatMap(text => text.textContent.split(/(?=<section )/).filter(part => part.startsWith("<section"))))
     .map(html => [html, bare(html)]);
-  const words = field.value.toLowerCase().split(/\s+/).filter(word => word).map(escaped);
+  const words = field.value.toLowerCase().split(/\s+/).filter(word => word);
   const kept = words.length ? rows.filter(([, text]) => words.every(word => text.includes(word))) : [];
   found.innerHTML = kept.slice(0, MOST).map(([html]) => html).join("");
   list.hidden = words.length > 0;

@@ -110,7 +110,7 @@ def group(rows: list[Row], start: int, anchor: str, reader: Reader, labels: Labe
     """Yields the pieces of some rows of one concept. They are the text of a data block until the group is opened."""
     concept, last = concept_of(rows[0]), min(start + CHUNK, len(rows))
     name = f"<bdi>{escaped(labels[concept])}</bdi>" if concept in labels else shown_name(concept)
-    told = f"{last} rows" if len(rows) <= CHUNK else f"{start + 1} to {last} of {len(rows)} rows"
+    told = f"{start + 1} to {last} of {len(rows)} rows" if len(rows) > CHUNK else f"{last} row{'s' * (last > 1)}"
     yield f'<details class="group"{anchor}><summary><b>{name}</b> {told}</summary><script type="text/html">'
     for row in rows[start:last]:
         yield from section(row, reader, labels)
