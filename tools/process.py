@@ -94,7 +94,7 @@ def sentence(fault: Exception) -> str:
         return "nested too deeply"
     if isinstance(fault, OSError) and fault.strerror:
         return f"{fault.filename}: {fault.strerror}" if fault.filename else fault.strerror
-    if isinstance(fault, ValueError):
+    if isinstance(fault, (OSError, ValueError)) and str(fault):
         return str(fault)
     return f"{type(fault).__name__}: {fault}"
 

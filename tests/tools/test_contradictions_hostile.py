@@ -138,6 +138,13 @@ class Hostile(ToolTest):
                 self.assertIn(f"<td><bdi>{'..' * bool(start)}{shown}{rest}", page)
             self.assertIn("s" * shared + "b" * 200, content(self.table))
 
+    def test_no_text_ends_the_block_that_its_row_waits_in(self):
+        facts = [text(f"</script><!--<script>{sign}", entity=f"e:{row:03}") for row in range(102) for sign in "ab"]
+        self.assertEqual(in_process.run(contradictions, *self.words(facts)), (1, ""))
+        page = content(self.page)
+        self.assertEqual([page.count(part) for part in ("<script", "</script>", "<!--", '<section class="row')], [2, 2, 0, 102])
+        self.assertIn("<b><abbr title=\"http://e.example/t\"><bdi>T</bdi></abbr></b> 2 rows</summary>", page)
+
     def test_a_table_that_would_be_too_long_is_refused_before_it_is_written(self):
         for limit, told in (("LONGEST_ROW", "one row"), ("LONGEST_TABLE", "a table")):
             with in_process.mock.patch.dict(in_process.sys.modules["contradicting.tables"].__dict__, {limit: 12_000}):

@@ -50,7 +50,8 @@ class Statuses(ProcessTest):
             "RecursionError()": "tool: nested too deeply\n",
             "MemoryError()": "tool: out of memory\n",
             "lzma.LZMAError('bad')": "tool: LZMAError: bad\n",
-            "OSError('bad')": "tool: OSError: bad\n",
+            "OSError('bad')": "tool: bad\n",
+            "OSError()": "tool: OSError: \n",
             "OSError(5, 'bad')": "tool: bad\n",
             "OSError(5, 'bad', 'a file')": "tool: a file: bad\n",
         }
