@@ -158,7 +158,7 @@ class Hostile(ToolTest):
         before = {name: content(os.path.join(self.room, name)) for name in os.listdir(self.room)}
         os.mkdir(self.output)
         os.symlink(self.sheet, self.listed)
-        inside = [*words[:-1], self.write(os.path.join("out", "merged.json"), "")]
+        inside = [*words[:-1], self.write(os.path.join("out", "contradictions.csv"), "")]
         for changed in (words, inside, ["--near", self.sheet, *words], ["--near", self.page, *words]):
             status, told = in_process.run(contradictions, *changed)
             self.assertEqual(status, 2, told)

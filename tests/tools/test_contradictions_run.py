@@ -100,6 +100,21 @@ class Files(Stubbed):
                      "<b>45</b>consistent within rounding", "<b>16</b>reported once", "<dt>Reported by<dd>2 of 3"):
             self.assertIn(text, content(self.page))
 
+    def test_inputs_may_be_in_the_folder_if_they_are_not_written(self):
+        os.mkdir(self.output)
+        sheet = shutil.copy(SHEET, self.output)
+        self.assertEqual(self.run_on(*REPORTS, sheet=("--sheet", sheet)).returncode, 1)
+        words = [os.path.join(self.output, "merged.json"), sheet, example("verdicts.txt")]
+        done = self.run_tool(*words)
+        self.assertEqual((done.returncode, done.stderr), (1, b""))
+        self.assertEqual(self.run_on(os.path.join(self.output, "merged.json")).returncode, 2)
+
+    def test_a_folder_of_any_name(self):
+        self.set_output(os.path.join(self.room, "a\udcff\n"))
+        done = self.run_on(*REPORTS)
+        self.assertEqual((done.returncode, done.stderr), (1, ""))
+        self.assertTrue(done.stdout.endswith("a\\udcff\\n/page.html\n"), done.stdout)
+
     def test_a_nil_against_a_number_has_a_bar(self):
         self.run_on(*REPORTS)
         section = next(part for part in content(self.page).split("<section")[1:] if "<i>nil</i>" in part)
