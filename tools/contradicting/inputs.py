@@ -12,7 +12,7 @@ from contradicting.program import Program
 from contradicting.progress import Progress
 from contradicting.refusals import Refusals
 from contradicting.reports import Report, check_files
-from contradicting.rows import Teller
+from contradicting.rows import FactSources
 from contradicting.sources import OwnTexts, Sources
 from contradicting.texts import Provider, Sheet, Text
 from process import NotDone, printable
@@ -32,7 +32,7 @@ class Inputs:
     text: Text
     sheet: Sheet
     verdicts: str
-    sources: Teller
+    sources: FactSources
     refusals: Refusals = field(default_factory=Refusals)
     files: list[File] = field(default_factory=list)
     losses: list[str] = field(default_factory=list)  # for the summary
