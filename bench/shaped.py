@@ -9,6 +9,8 @@ MONTHS = 12
 YEARS = 9_000
 REPLICAS = 8
 FACTS = 1_000
+# a report of this name is refused
+REFUSED = "refused.json"
 
 
 # ---- the parts of an input
@@ -174,8 +176,38 @@ def dimensions_of_a_sheet(n):
     return merging(sheet(dimensions={f"eg:D{place:07}": "typed" for place in range(n)}), report(numbered([fact()])))
 
 
+def apart(n):
+    """So many facts of different months, by their identifiers."""
+    return numbered(numeric(str(place), period=period(place)) for place in range(n))
+
+
 def facts(n):
-    return merging(sheet(), report(numbered(numeric(str(place), period=period(place)) for place in range(n))))
+    return merging(sheet(), report(apart(n)))
+
+
+def facts_on_lines_of_their_own(n):
+    return merging(sheet(), json.dumps(report(apart(n)), indent=2))
+
+
+def facts_before_document_info(n):
+    return merging(sheet(), dict(reversed(report(apart(n)).items())))
+
+
+def facts_in_no_order(n):
+    members = list(apart(n).items())
+    random.Random(1).shuffle(members)
+    return merging(sheet(), report(dict(members)))
+
+
+def facts_one_of_which_stands_twice(n):
+    text = json.dumps(report(apart(n)), separators=(",", ":"))
+    return merging(sheet(), text.removesuffix("}}") + f',"f{0:07}":{json.dumps(numeric("0", period=period(0)))}}}}}')
+
+
+def facts_the_last_of_which_is_refused(n):
+    words, files = merging(sheet(), report(apart(n) | {"g": fact(concept="eg:Unknown")}))
+    files[REFUSED] = files.pop("report0.json")
+    return [*words[:-1], REFUSED], files
 
 
 def reports(n):
@@ -321,6 +353,11 @@ SHAPES = {
     concepts: 5_000,
     dimensions_of_a_sheet: 5_000,
     facts: 5_000,
+    facts_on_lines_of_their_own: 5_000,
+    facts_before_document_info: 5_000,
+    facts_in_no_order: 5_000,
+    facts_one_of_which_stands_twice: 5_000,
+    facts_the_last_of_which_is_refused: 5_000,
     reports: 500,
     facts_of_one_dimension_set: 5_000,
     numbers_of_one_dimension_set: 5_000,

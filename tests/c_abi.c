@@ -1,4 +1,4 @@
-/* Calls the library for C as tests/c_abi asks it to: c_abi merge LEVEL SHEET REPORT ..; c_abi verdicts|sources SHEET
+/* Calls the library for C as tests/c_abi asks it to: c_abi merge LEVEL SHEET REPORT ..; c_abi verdicts|verdicts-json|sources|sources-json SHEET
    REPORT ..; c_abi check SHEET REPORT; c_abi edges SHEET. Texts go to standard output, the lines of refused reports to
    standard error, as the program has them, and the status is the call's. Each call is made with rooms that are too short
    first, and then with each request for memory refused in turn: these lines go to standard error too, at the end, where
@@ -90,9 +90,15 @@ static uint32_t call(const struct asked *asked, struct room *room) {
     else if (strcmp(asked->command, "verdicts") == 0)
         status = xbrlmerge_verdicts(asked->sheet, asked->sheet_length, asked->reports, asked->reports_length, asked->ends, asked->count,
                                     room->out, room->out_length, &room->needed, room->rows, room->rows_length, &room->refused);
+    else if (strcmp(asked->command, "verdicts-json") == 0)
+        status = xbrlmerge_verdicts_json(asked->sheet, asked->sheet_length, asked->reports, asked->reports_length, asked->ends,
+                                         asked->count, room->out, room->out_length, &room->needed, room->rows, room->rows_length, &room->refused);
     else if (strcmp(asked->command, "sources") == 0)
         status = xbrlmerge_sources(asked->sheet, asked->sheet_length, asked->reports, asked->reports_length, asked->ends, asked->count,
                                    room->out, room->out_length, &room->needed, room->rows, room->rows_length, &room->refused);
+    else if (strcmp(asked->command, "sources-json") == 0)
+        status = xbrlmerge_sources_json(asked->sheet, asked->sheet_length, asked->reports, asked->reports_length, asked->ends,
+                                        asked->count, room->out, room->out_length, &room->needed, room->rows, room->rows_length, &room->refused);
     inside = 0;
     return status;
 }
@@ -200,9 +206,9 @@ static int check(const struct asked *asked) {
 
 /* a call that ends in this status, with all as it was */
 static void ends_in(struct asked asked, uint32_t wanted, size_t count, size_t first, size_t second) {
-    static const char *const commands[] = {"merge", "verdicts", "sources"};
+    static const char *const commands[] = {"merge", "verdicts", "verdicts-json", "sources", "sources-json"};
     asked.count = count, asked.ends[0] = first, asked.ends[1] = second;
-    for (int place = 0; place < 3; place++) {
+    for (int place = 0; place < 5; place++) {
         struct room room = make_room(40, 2);
         asked.command = commands[place];
         made = 0;

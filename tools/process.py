@@ -38,7 +38,7 @@ class Stopped(BaseException):
 def run(main: Callable[[], Status]) -> NoReturn:
     """Ends the process with the status that `main` returns.
 
-    Whatever `main` raises becomes a line on standard error and NOT_DONE, so that no traceback ends in status 1. A failed
+    Any exception of `main` becomes a line on standard error and NOT_DONE, so a traceback never ends in status 1. A failed
     write on standard output or standard error is NOT_DONE as well. After a signal in STOPPING the process cleans up, and
     then ends by that signal.
     """
@@ -87,7 +87,7 @@ def status_of(main: Callable[[], Status]) -> Status:
 
 
 def sentence(fault: Exception) -> str:
-    """Returns what a line says of an exception."""
+    """Returns the message for an exception."""
     if isinstance(fault, MemoryError):
         return "out of memory"
     if isinstance(fault, RecursionError):
@@ -143,7 +143,7 @@ def are_flushed() -> bool:
 
 
 def print_lines(lines: Iterable[str]) -> None:
-    """Prints lines on standard error, behind the name of the tool.
+    """Prints lines on standard error, after the name of the tool.
 
     Print notes before the output is written: when standard error takes none of them, nothing is done.
     Errors: OSError.

@@ -1,11 +1,11 @@
 #!/usr/bin/env python3
-"""Folds reports in two levels on Dask: examples/fold/fold_dask.py [--calls] SHEET OUT WIDTH FILE ..
+"""Merges reports in two levels on Dask: examples/fold/fold_dask.py [--calls] SHEET OUT WIDTH FILE ..
 
-WIDTH files go to a node, which is a process that writes its text to a file. With --calls it is a call of the Python
-module xbrlmerge, and the texts go to the last node as bytes. On a cluster, make a Client first; set TMPDIR to a folder
-that all machines have, or with --calls install the module on each.
-Status 0: OUT has every file. 1: files were refused, as standard error says, and OUT has the rest; or a node
-failed: then do not use OUT, which may be missing or in part (with --calls it is as it was). 2: usage.
+Each step merges WIDTH files. It is a process that writes to a file, or with --calls a call of the Python module xbrlmerge,
+whose result goes to the last step as bytes. On a cluster, make a Client first; set TMPDIR to a folder that all machines
+share, or with --calls install the module on each.
+Status 0: OUT has every file. 1: files were refused, as standard error says, and OUT has the others; or a step failed: then
+do not use OUT, which may be missing or incomplete (with --calls it is unchanged). 2: invalid arguments.
 """
 import os
 import shlex
@@ -20,7 +20,7 @@ NODE = os.path.join(os.path.dirname(os.path.abspath(__file__)), "merge_files")
 
 @dask.delayed
 def merge(sheet, out, files, most, _after=()):
-    """Merges files once those before are there. Status 1 is for the lowest level: no text of a node is refused."""
+    """Merges files after the steps before. Only the first step may return status 1: the output of a step is not refused."""
     status = subprocess.run([NODE, sheet, out, *files]).returncode
     if not 0 <= status <= most:
         raise SystemExit(f"{out} is not made: status {status}")
@@ -36,7 +36,7 @@ def fold(sheet, out, width, files):
 
 @dask.delayed
 def merge_here(sheet, files):
-    """Merges files by a call, and returns the text, with a line for each refused file."""
+    """Merges files by a call, and returns the merged report, with a line for each refused file."""
     import xbrlmerge
 
     merged = xbrlmerge.merge(sheet, files)
@@ -45,7 +45,7 @@ def merge_here(sheet, files):
 
 @dask.delayed
 def join_here(sheet, lower):
-    """Merges the texts of nodes by a call. No text of a node is refused."""
+    """Merges the results of steps by a call. None of them is refused."""
     import xbrlmerge
 
     merged = xbrlmerge.merge(sheet, [text for text, _ in lower])

@@ -1,4 +1,4 @@
-"""xBRL-JSON reports of one entity as one canonical text, the verdicts on their duplicates, and who said what.
+"""Merges xBRL-JSON reports about one entity, judges their duplicates, and lists who reported what.
 
     import xbrlmerge
 
@@ -7,10 +7,10 @@
     merged.refusals       # the refused reports; each prints as the program's line
 
 A sheet or a report is given as its bytes, or as the path of its file. Each call does what the program's command of
-its name does, with the same bytes and the same refusals, in this process; other threads go on meanwhile. Refused
-reports are answered, and raise nothing. Raised are SheetRefused and TooLoose, both a ValueError; MemoryError; OSError
-where a file cannot be read; TypeError where `reports` is one file or one report's bytes, not a list of them; and
-ValueError where `allow` is none of "none", "complete", "consistent", "all".
+its name does, with the same bytes and the same refusals, in this process. Other threads continue to run. Refused
+reports are returned, not raised. Exceptions: SheetRefused and TooLoose, both subclasses of ValueError; MemoryError;
+OSError if a file cannot be read; TypeError if `reports` is one file or one report's bytes instead of a list; and
+ValueError if `allow` is not "none", "complete", "consistent" or "all".
 """
 import dataclasses
 import decimal
@@ -20,8 +20,8 @@ from typing import Any, Dict, Iterable, List, Optional, Tuple, Union
 
 from . import _library
 
-__all__ = ["Checked", "Merged", "Refusal", "Row", "Rows", "SheetRefused", "Source", "Sources", "TooLoose",
-           "check", "merge", "sources", "verdicts"]
+__all__ = ["Checked", "Columns", "Merged", "Refusal", "Row", "Rows", "SheetRefused", "Source", "Sources", "TooLoose",
+           "check", "merge", "source_columns", "sources", "verdict_columns", "verdicts"]
 
 Given = Union[bytes, bytearray, memoryview, str, "os.PathLike[str]"]
 
@@ -29,6 +29,9 @@ Given = Union[bytes, bytearray, memoryview, str, "os.PathLike[str]"]
 LEVELS = ("none", "complete", "consistent", "all")
 _LINE_END, _SPACE = "\n", " "
 _CORE = ("concept", "entity", "period", "unit", "language")
+_VERDICT_COLUMNS = ("row", "verdict", "fact", *_CORE, "dimensions", "value", "decimals",
+                    "common_low", "common_high", "apart_first", "apart_second")
+_SOURCE_COLUMNS = ("fact", "report", "identifier")
 
 
 @dataclasses.dataclass(frozen=True)
@@ -37,7 +40,7 @@ class Refusal:
 
     report: int  #: its number, from 1
     number: int  #: the number of the refusal, as docs/REFUSALS.md lists them
-    name: str  #: its name, as UnboundPrefix
+    name: str  #: its name, such as UnboundPrefix
     fact: Optional[int]  #: the fact's number, from 1 in byte order of identifiers; None for the document
 
     def __str__(self) -> str:
@@ -57,7 +60,7 @@ class SheetRefused(ValueError):
 
 
 class TooLoose(ValueError):
-    """A row has duplicates above the level that is allowed; `row` is the number of the first, from 1."""
+    """A row exceeds the allowed level; `row` is the number of the first, from 1."""
 
     def __init__(self, row: int, refusals: List[Refusal]) -> None:
         self.row, self.refusals = row, refusals
@@ -69,35 +72,35 @@ class TooLoose(ValueError):
 
 @dataclasses.dataclass(frozen=True)
 class Merged:
-    """A merged text, and the reports that were refused."""
+    """A merged report, and the reports that were refused."""
 
     text: bytes
     refusals: List[Refusal]
 
     def rows(self) -> List[Dict[str, Any]]:
-        """Returns a plain record for each fact, as pandas.DataFrame takes them: its identifier, its value, its
-        decimals and core dimensions, None where it has none, and its other dimensions under their names. A value is a
-        text as it is written, None of a nil fact. Names have the prefixes of this text, n1, n2 and so on, which its
-        documentInfo binds; another text may bind them to other namespaces."""
+        """Returns a plain record for each fact, for example for pandas.DataFrame: its identifier, value, decimals and
+        core dimensions, None if it lacks one, and its other dimensions under their names. A value is a text as it is
+        written, or None if the fact is nil. Names have the prefixes of this report, n1, n2 and so on, which its
+        documentInfo binds; another report may bind them to other namespaces."""
         facts = json.loads(self.text)["facts"]
         return [_record(identifier, fact) for identifier, fact in facts.items()]
 
 
 @dataclasses.dataclass(frozen=True)
 class Row:
-    """The verdict on a dimension set."""
+    """The verdict on a row: all facts with the same dimensions."""
 
     number: int  #: from 1, in the order of the canonical text
     first: str  #: the identifier of its first fact in the canonical text
-    last: str  #: that of its last one
+    last: str  #: the identifier of its last fact
     verdict: str  #: complete, consistent or inconsistent
-    common: Optional[Tuple[decimal.Decimal, decimal.Decimal]] = None  #: what lies in every rounding interval
-    apart: Optional[Tuple[str, str]] = None  #: the identifiers of two facts that do not meet
+    common: Optional[Tuple[decimal.Decimal, decimal.Decimal]] = None  #: the lowest and the highest number that fit all facts
+    apart: Optional[Tuple[str, str]] = None  #: the identifiers of two facts that contradict each other
 
 
 @dataclasses.dataclass(frozen=True)
 class Source:
-    """That a report says a fact."""
+    """Where a fact comes from."""
 
     fact: str  #: the fact's identifier in the canonical text
     report: int  #: the report's number, from 1
@@ -105,7 +108,7 @@ class Source:
 
 
 class Rows(List[Row]):
-    """The verdicts, in order; `text` has the program's lines, and `refusals` the reports that were refused."""
+    """The verdicts, in order; `text` contains the program's lines, and `refusals` the refused reports."""
 
     def __init__(self, rows: Iterable[Row], text: bytes, refusals: List[Refusal]) -> None:
         super().__init__(rows)
@@ -113,30 +116,40 @@ class Rows(List[Row]):
 
 
 class Sources(List[Source]):
-    """Who said what, in order; `text` has the program's lines, and `refusals` the reports that were refused."""
+    """Who reported what, in order; `text` contains the program's lines, and `refusals` the refused reports."""
 
     def __init__(self, found: Iterable[Source], text: bytes, refusals: List[Refusal]) -> None:
         super().__init__(found)
         self.text, self.refusals = text, refusals
 
 
+class Columns(Dict[str, List[Any]]):
+    """Columns by their names, as pandas.DataFrame and pyarrow.table take them; `text` has the JSON objects, one a line, that
+    the program prints, and `refusals` the reports that were refused."""
+
+    def __init__(self, names: Iterable[str], rows: Iterable[Tuple[Any, ...]], text: bytes, refusals: List[Refusal]) -> None:
+        found = [*rows]
+        super().__init__((name, [row[place] for row in found]) for place, name in enumerate(names))
+        self.text, self.refusals = text, refusals
+
+
 @dataclasses.dataclass(frozen=True)
 class Checked:
-    """What an accepted report comes to. It prints as the program's line."""
+    """The result for an accepted report. It prints as the program's line."""
 
-    facts: int  #: how many facts it has, repeats counted
+    facts: int  #: how many facts it has, repeats included
     level: str  #: the strictest level that allows its duplicates
-    canonical: bool  #: whether its bytes are the canonical text of what it says
+    canonical: bool  #: whether its bytes are the canonical text of its facts
 
     def __str__(self) -> str:
         return f"accepted {self.facts} {self.level} {'canonical' if self.canonical else 'other'}"
 
 
 def merge(sheet: Given, reports: Iterable[Given], allow: str = "all") -> Merged:
-    """Merges reports that are read under a sheet. Refused reports are left out, and answered.
+    """Merges reports that are read under a sheet. Refused reports are skipped, and returned.
 
-    `allow` is the level of duplicates that a dimension set may have: none, complete, consistent or all. Raises TooLoose
-    where one has duplicates above it, SheetRefused, and MemoryError.
+    `allow` is the level of duplicates that a row may have: none, complete, consistent or all. Raises TooLoose if a row
+    exceeds it, SheetRefused, and MemoryError.
     """
     if allow not in LEVELS:
         raise ValueError(f"allow is one of {', '.join(LEVELS)}")
@@ -147,21 +160,39 @@ def merge(sheet: Given, reports: Iterable[Given], allow: str = "all") -> Merged:
 
 
 def verdicts(sheet: Given, reports: Iterable[Given]) -> Rows:
-    """Returns the verdict on each dimension set of what the accepted reports say. Raises SheetRefused and MemoryError."""
+    """Returns the verdict on each row of the accepted reports. Raises SheetRefused and MemoryError."""
     answer = _library.verdicts(_bytes(sheet), _each(reports))
     text = _text(answer)
     return Rows(map(_row, _lines(text)), text, _refusals(answer))
 
 
 def sources(sheet: Given, reports: Iterable[Given]) -> Sources:
-    """Returns which accepted report says which fact, and by which identifier. Raises SheetRefused and MemoryError."""
+    """Returns the report that each fact comes from, and its identifier there. Raises SheetRefused and MemoryError."""
     answer = _library.sources(_bytes(sheet), _each(reports))
     text = _text(answer)
     return Sources(map(_source, _lines(text)), text, _refusals(answer))
 
 
+def verdict_columns(sheet: Given, reports: Iterable[Given]) -> Columns:
+    """Returns the verdicts as columns with an item for each fact: the number and the verdict of its row, its identifier in
+    the canonical text, its dimensions with names as {URI}local, its value and its decimals, and the evidence of the row.
+    `dimensions` has those that a taxonomy defines, as a JSON object. What is absent is None. Values, `common_low` and
+    `common_high` are texts, so that no digit is lost. Raises SheetRefused and MemoryError."""
+    answer = _library.verdicts_json(_bytes(sheet), _each(reports))
+    text = _text(answer)
+    return Columns(_VERDICT_COLUMNS, (fact for line in _lines(text) for fact in _facts(json.loads(line))), text, _refusals(answer))
+
+
+def source_columns(sheet: Given, reports: Iterable[Given]) -> Columns:
+    """Returns as columns which accepted report says which fact, and by which identifier. Raises SheetRefused and
+    MemoryError."""
+    answer = _library.sources_json(_bytes(sheet), _each(reports))
+    text = _text(answer)
+    return Columns(_SOURCE_COLUMNS, (tuple(map(json.loads(line).get, _SOURCE_COLUMNS)) for line in _lines(text)), text, _refusals(answer))
+
+
 def check(sheet: Given, report: Given) -> Union[Checked, Refusal]:
-    """Returns what an accepted report comes to, or the refusal of one that is not. Raises SheetRefused and MemoryError."""
+    """Returns the result for an accepted report, or its refusal. Raises SheetRefused and MemoryError."""
     status, checked, row = _library.check(_bytes(sheet), _bytes(report))
     if status == _library.SHEET_REFUSED:
         raise SheetRefused(row[2])
@@ -176,13 +207,13 @@ def _bytes(given: Given) -> bytes:
         return given
     if isinstance(given, (bytearray, memoryview)):
         return bytes(given)
-    # a number is no path, and open would take it for a file that is open already
+    # open would take a number for a file that is already open
     with open(os.fspath(given), "rb") as file:
         return file.read()
 
 
 def _each(reports: Iterable[Given]) -> List[bytes]:
-    """Returns the bytes of each report. A text and bytes have members too, so one alone would be taken for a list."""
+    """Returns the bytes of each report. A str or bytes can be iterated too, so a single one is rejected."""
     if isinstance(reports, (str, bytes, bytearray, memoryview, os.PathLike)):
         raise TypeError("reports is a list of files or bytes, not one of them")
     return [_bytes(it) for it in reports]
@@ -204,7 +235,7 @@ def _text(answer: _library.Answer) -> bytes:
 
 
 def _lines(text: bytes) -> List[str]:
-    """Returns the lines. Each ends in a line end, and has no other, whatever other characters end lines elsewhere."""
+    """Returns the lines. str.splitlines would also split at other characters."""
     return text.decode("utf-8").split(_LINE_END)[:-1]
 
 
@@ -213,6 +244,18 @@ def _row(line: str) -> Row:
     common = (decimal.Decimal(shown[1]), decimal.Decimal(shown[2])) if verdict == "consistent" else None
     apart = (shown[1], shown[2]) if verdict == "inconsistent" else None
     return Row(int(number), first, last, verdict, common, apart)
+
+
+def _facts(row: Dict[str, Any]) -> Iterable[Tuple[Any, ...]]:
+    """Returns the items of the columns for each fact of a row."""
+    given = row["dimensions"]
+    defined = {name: member for name, member in given.items() if name not in _CORE}
+    dimensions = (*map(given.get, _CORE), json.dumps(defined, ensure_ascii=False, separators=(",", ":")) if defined else None)
+    evidence = row.get("evidence", {})
+    common = evidence.get("common", {})
+    shown = (common.get("low"), common.get("high"), *evidence.get("apart", (None, None)))
+    for fact in row["facts"]:
+        yield row["row"], row["verdict"], fact["identifier"], *dimensions, fact["value"], fact.get("decimals"), *shown
 
 
 def _source(line: str) -> Source:

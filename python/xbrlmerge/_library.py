@@ -45,6 +45,8 @@ def _call(name: str, result: Any, arguments: List[Any]) -> Callable[..., int]:
 _merge = _call("xbrlmerge_merge", _NUMBER, [*_GIVEN, _NUMBER, *_TAKEN])
 _verdicts = _call("xbrlmerge_verdicts", _NUMBER, [*_GIVEN, *_TAKEN])
 _sources = _call("xbrlmerge_sources", _NUMBER, [*_GIVEN, *_TAKEN])
+_verdicts_json = _call("xbrlmerge_verdicts_json", _NUMBER, [*_GIVEN, *_TAKEN])
+_sources_json = _call("xbrlmerge_sources_json", _NUMBER, [*_GIVEN, *_TAKEN])
 _check = _call("xbrlmerge_check", _NUMBER, [_POINTER, _SIZE, _POINTER, _SIZE, _POINTER, _POINTER])
 _refusal_name = _call("xbrlmerge_refusal_name", _SIZE, [_NUMBER, _POINTER, _SIZE])
 
@@ -108,6 +110,14 @@ def verdicts(sheet: bytes, reports: Sequence[bytes]) -> Answer:
 
 def sources(sheet: bytes, reports: Sequence[bytes]) -> Answer:
     return _answered(_sources, sheet, reports)
+
+
+def verdicts_json(sheet: bytes, reports: Sequence[bytes]) -> Answer:
+    return _answered(_verdicts_json, sheet, reports)
+
+
+def sources_json(sheet: bytes, reports: Sequence[bytes]) -> Answer:
+    return _answered(_sources_json, sheet, reports)
 
 
 def check(sheet: bytes, report: bytes) -> Tuple[int, Tuple[int, int, int], Row]:

@@ -7,7 +7,7 @@ SHEET = {
     "dimensions": {"eg:Reg": "explicit", "eg:Sku": "typed"},
     "xbrlmerge:sets": ["eg:S"],
 }
-OPTIONS = """--drop-links --drop-notes --drop-unknown --dates=xbrl21 --zones=utc --drop-null --drop-unreadable""".split()
+OPTIONS = "--drop-links --drop-notes --drop-unknown --dates=xbrl21 --zones=utc --drop-null".split()
 URIS = {"eg": "http://example.org/t", "x": "http://example.org/u", "xbrl": "https://xbrl.org/2021"}
 MOMENTS = "2023-01-01T00:00:00 2023-12-31T24:00:00 2024-01-01T00:00:00 9999-12-31T23:59:59".split()
 NAMES = ["http://example.org/t#B http://example.org/t#C", "", "http://example.org/t#C"]

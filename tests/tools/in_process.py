@@ -1,25 +1,46 @@
 """Runs the tools in this process, where a run takes milliseconds, and measures how their work grows."""
 import contextlib
-import importlib.machinery
-import importlib.util
 import io
 import os
 import sys
+import tempfile
 import time
+import unittest
 import warnings
 from unittest import mock
 
-TOOLS = os.path.join(os.path.dirname(os.path.abspath(__file__)), "..", "..", "tools")
-sys.path.insert(0, TOOLS)
+TESTS = os.path.dirname(os.path.dirname(os.path.abspath(__file__)))
+TOOLS = os.path.join(os.path.dirname(TESTS), "tools")
+sys.path[:0] = [TOOLS, TESTS]
 import process  # noqa: E402
+from support import content  # noqa: E402
 
 
-def loaded(name, folder=TOOLS):
-    """Returns a script, which has no .py behind its name, as a module."""
-    loader = importlib.machinery.SourceFileLoader(name, os.path.join(folder, name))
-    module = importlib.util.module_from_spec(importlib.util.spec_from_loader(name, loader))
-    loader.exec_module(module)
-    return module
+class RoomTest(unittest.TestCase):
+    """Tests that have a folder, `room`, each its own."""
+
+    def setUp(self):
+        room = tempfile.TemporaryDirectory()
+        self.addCleanup(room.cleanup)
+        self.room = room.name
+
+    def place(self, name):
+        return os.path.join(self.room, name)
+
+    def write(self, name, text):
+        """Writes a text, or bytes, and returns the place of the file."""
+        with open(self.place(name), "wb") as file:
+            file.write(text if isinstance(text, bytes) else text.encode())
+        return self.place(name)
+
+
+def stub_program(folder):
+    """Writes the program that prints what it finds in its folder, and returns its path."""
+    path = os.path.join(folder, "xbrlmerge")
+    with open(path, "w", encoding="utf-8") as file:
+        file.write(f"#!{sys.executable} -IS\n{content('tests/tools/stub_program.py')}")
+    os.chmod(path, 0o755)
+    return path
 
 
 def run(tool, *words):

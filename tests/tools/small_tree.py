@@ -4,7 +4,7 @@ import shutil
 import subprocess
 import tempfile
 
-TOP = os.path.dirname(os.path.dirname(os.path.dirname(os.path.abspath(__file__))))
+from in_process import TESTS
 
 
 class SmallTree:
@@ -15,7 +15,8 @@ class SmallTree:
         test.addCleanup(shutil.rmtree, self.folder)
         self.script = os.path.join(self.folder, "tests", script)
         os.makedirs(os.path.dirname(self.script))
-        shutil.copy(os.path.join(TOP, "tests", script), self.script)
+        for name in (script, "support.py"):
+            shutil.copy(os.path.join(TESTS, name), os.path.dirname(self.script))
 
     def put(self, path, text):
         path = os.path.join(self.folder, path)

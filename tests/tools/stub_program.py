@@ -1,8 +1,9 @@
 """A program in place of `xbrlmerge`: each command prints what a folder has for it, and notes its words.
 
 The folder is that of the program. COMMAND.out and COMMAND.err are printed, COMMAND.status is the status, if they are there.
-A file COMMAND.waits has it wait.
+A file COMMAND.waits has it wait. Of a report that is named `normalised`, `explain` prints only the faults of facts that it has.
 """
+import json
 import os
 import sys
 import time
@@ -23,8 +24,8 @@ def main(command, *words):
     if "--reports-from" in words:
         with open(words[words.index("--reports-from") + 1], "rb") as file:
             reports = file.read()
-    elif os.path.exists("report"):
-        reports = os.path.realpath(b"report") + b"\0"
+    elif "--format" in words:
+        reports = words[-1].encode() + b"\0"
     with open(os.path.join(FOLDER, "log"), "ab") as file:
         file.write(command.encode() + b"\0" + reports + b"\n")
     with open(words[words.index("--sheet") + 1], "rb") as file, open(os.path.join(FOLDER, "sheet"), "wb") as kept:
@@ -32,7 +33,12 @@ def main(command, *words):
     if os.path.exists(os.path.join(FOLDER, f"{command}.waits")):
         print("waiting", file=sys.stderr, flush=True)
         time.sleep(60)
-    sys.stdout.buffer.write(read(f"{command}.out"))
+    out = read(f"{command}.out")
+    if words[-1] == "normalised":
+        with open(words[-1], encoding="utf-8") as file:
+            facts = json.load(file)["facts"]
+        out = b"".join(line for line in out.splitlines(True) if json.loads(line)["identifier"] in (None, *facts))
+    sys.stdout.buffer.write(out)
     sys.stdout.flush()
     sys.stderr.buffer.write(read(f"{command}.err"))
     return int(read(f"{command}.status") or 0)

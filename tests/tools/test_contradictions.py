@@ -8,21 +8,16 @@ import os
 import re
 import subprocess
 import sys
-import tempfile
 import unittest
 
+import in_process
 import lines_of_verdicts
+from support import content
 
-HERE = os.path.dirname(os.path.abspath(__file__))
-TOOL = os.path.join(HERE, "..", "..", "tools", "contradictions")
-NORLAKE = os.path.join(HERE, "norlake")
+TOOL = os.path.join(in_process.TOOLS, "contradictions.py")
+NORLAKE = os.path.join(in_process.TESTS, "tools", "norlake")
 MERGED, SHEET, VERDICTS = (os.path.join(NORLAKE, name) for name in ("merged.json", "sheet.json", "verdicts.txt"))
 VOID = ("meta", "line", "rect", "circle")
-
-
-def content(path):
-    with open(path, encoding="utf-8") as file:
-        return file.read()
 
 
 class Seen(html.parser.HTMLParser):
@@ -44,22 +39,14 @@ class Seen(html.parser.HTMLParser):
         self.texts.append(text)
 
 
-class ToolTest(unittest.TestCase):
+class ToolTest(in_process.RoomTest):
     def setUp(self):
-        room = tempfile.TemporaryDirectory()
-        self.addCleanup(room.cleanup)
-        self.room = room.name
-        self.set_output(os.path.join(self.room, "out"))
+        super().setUp()
+        self.set_output(self.place("out"))
 
     def set_output(self, folder):
         self.output = folder
         self.page, self.table, self.listed = (os.path.join(folder, name) for name in ("page.html", "contradictions.csv", "rows.csv"))
-
-    def write(self, name, text):
-        place = os.path.join(self.room, name)
-        with open(place, "w", encoding="utf-8", newline="\n") as file:
-            file.write(text)
-        return place
 
     def run_tool(self, *inputs):
         words = ["--from", *inputs[:3], "-o", self.output, *inputs[3:]]
@@ -255,7 +242,7 @@ class BadInputs(Texts):
         self.assertEqual((content(self.page), content(self.table)), ("of a run before",) * 2)
 
     def test_inputs_that_are_missing(self):
-        nowhere = os.path.join(self.room, "nowhere")
+        nowhere = self.place("nowhere")
         for place, word in enumerate((nowhere, nowhere, nowhere, f"A={nowhere}")):
             inputs = [MERGED, SHEET, VERDICTS]
             inputs[place : place + 1] = [word]

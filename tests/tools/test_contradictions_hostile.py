@@ -9,9 +9,10 @@ import tracemalloc
 import unittest
 
 import in_process
-from test_contradictions import TOOL, ToolTest, content
+import contradictions
+from support import content
+from test_contradictions import TOOL, ToolTest
 
-contradictions = in_process.loaded("contradictions")
 
 LONG_URI = "http://long.example/" + "u" * 5_000
 URIS = {"e": "http://e.example/t", "l": LONG_URI}
@@ -50,7 +51,7 @@ LONG = {
 class Hostile(ToolTest):
     def setUp(self):
         super().setUp()
-        self.sheet, self.near = self.write("sheet.json", json.dumps(SHEET)), os.path.join(self.room, "near.csv")
+        self.sheet, self.near = self.write("sheet.json", json.dumps(SHEET)), self.place("near.csv")
 
     def words(self, facts, is_near=False, providers="ab"):
         """Writes facts, their lines and who said them, each row by the next of the providers. Returns the words of a run."""
@@ -85,8 +86,8 @@ class Hostile(ToolTest):
         """Returns the words of a run whose inputs the next ones leave as they are."""
         words = self.words(facts, is_near)
         for name in ("merged.json", "lines", "sources"):
-            kept = self.write(f"{len(facts)}.{len(content(words[1]))}.{name}", content(os.path.join(self.room, name)))
-            words = [kept if word == os.path.join(self.room, name) else word for word in words]
+            kept = self.write(f"{len(facts)}.{len(content(words[1]))}.{name}", content(self.place(name)))
+            words = [kept if word == self.place(name) else word for word in words]
         return words
 
     def test_memory_is_in_proportion_to_what_is_read_and_written(self):
@@ -155,7 +156,7 @@ class Hostile(ToolTest):
 
     def test_an_output_that_is_an_input_is_refused(self):
         words = self.words([number(1), number(2)])
-        before = {name: content(os.path.join(self.room, name)) for name in os.listdir(self.room)}
+        before = {name: content(self.place(name)) for name in os.listdir(self.room)}
         os.mkdir(self.output)
         os.symlink(self.sheet, self.listed)
         inside = [*words[:-1], self.write(os.path.join("out", "contradictions.csv"), "")]
@@ -163,7 +164,7 @@ class Hostile(ToolTest):
             status, told = in_process.run(contradictions, *changed)
             self.assertEqual(status, 2, told)
             self.assertIn("an output is an input, or two outputs are one file", told)
-        self.assertEqual({name: content(os.path.join(self.room, name)) for name in before}, before)
+        self.assertEqual({name: content(self.place(name)) for name in before}, before)
 
     def test_what_no_merged_text_has_is_a_sentence(self):
         odd = {"period": ["2020", "a/b/c", "/".join(["2020-01-01T00:00:00"] * 30), "2020-13-01T00:00:00", 5], "unit": [5, [], {}],
@@ -189,7 +190,7 @@ class Hostile(ToolTest):
 
     def test_statuses_are_those_of_the_process(self):
         apart, one = self.kept_words([number(1), number(2)], False), self.kept_words([number(1)], False)
-        nowhere = os.path.join(self.room, "nowhere")
+        nowhere = self.place("nowhere")
         for status, words in ((0, one), (1, apart), (0, [*apart, "--exit-zero"]), (2, one[:-1]), (3, [*one[:-1], nowhere]),
                               (3, [*apart[:-1], one[-1]]), (3, [*apart[:-1], one[-1], "--exit-zero"])):
             done = subprocess.run([sys.executable, TOOL, *words], capture_output=True)

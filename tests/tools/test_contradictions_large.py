@@ -11,6 +11,7 @@ import zipfile
 import lines_of_verdicts
 import test_contradictions
 import workload
+from support import content
 
 SCHEMA = """<xs:schema xmlns:xs="http://www.w3.org/2001/XMLSchema" xmlns:xbrli="http://www.xbrl.org/2003/instance"
     targetNamespace="https://norlake.example/2023">%s</xs:schema>"""
@@ -30,7 +31,7 @@ CATALOG = """<catalog xmlns="urn:oasis:names:tc:entity:xmlns:xml:catalog">
 
 class Labels(test_contradictions.ToolTest):
     def package(self):
-        path = os.path.join(self.room, "taxonomy.zip")
+        path = self.place("taxonomy.zip")
         labels = LABEL.format(href="core.xsd", name="Revenue", text="Revenue from\n <contracts>".replace("<", "&lt;"), use="")
         labels += LABEL.format(href="http://norlake.example/xbrl/t/core.xsd", name="Dividend", text="Dividend a share", use="")
         labels += LABEL.format(href="core.xsd", name="Goodwill", text="No label", use=' use="prohibited"')
@@ -50,7 +51,7 @@ class Labels(test_contradictions.ToolTest):
         done = subprocess.run([sys.executable, test_contradictions.TOOL, *words], capture_output=True)
         self.assertEqual((done.returncode, done.stderr), (1, b""))
         with open(self.table, encoding="utf-8-sig", newline="") as file:
-            return test_contradictions.content(self.page), list(csv.DictReader(file))
+            return content(self.page), list(csv.DictReader(file))
 
     def test_standard_labels_of_a_language(self):
         page, labels = self.labelled("--labels", self.package())
@@ -96,7 +97,7 @@ class Nearby(test_contradictions.ToolTest):
         merged = self.text("merged.json", [fact for fact, _ in facts])
         own = [f"{who}=" + self.text(f"{who}.json", [fact for fact, has in facts if who in has]) for who in "AB"]
         lines = self.write("lines", "".join(f"{n} f{n} f{n} complete\n" for n in range(1, len(facts) + 1)))
-        place = os.path.join(self.room, "near.csv")
+        place = self.place("near.csv")
         sheet = self.write("sheet.json", json.dumps(self.SHEET))
         words = ["--near", place, "--from", merged, sheet, lines, "-o", self.output, *own]
         done = subprocess.run([sys.executable, test_contradictions.TOOL, *words], capture_output=True)
@@ -150,7 +151,7 @@ class Large(test_contradictions.ToolTest):
 
     def test_a_large_text(self):
         workload.make(self.room, self.COUNT)
-        inputs = [os.path.join(self.room, name) for name in ("merged.json", "sheet.json", "verdicts.txt")]
+        inputs = [self.place(name) for name in ("merged.json", "sheet.json", "verdicts.txt")]
         own = [f"{name}=" + os.path.join(self.room, f"{name}.json") for name in workload.PROVIDERS]
         page, cells = self.written(*inputs, *own)
         self.assertEqual(len({cell["row"] for cell in cells}), self.COUNT)
@@ -186,7 +187,7 @@ class Large(test_contradictions.ToolTest):
         sys.path.insert(0, os.path.join(os.path.dirname(test_contradictions.TOOL)))
         from contradicting import texts
 
-        tree = json.loads(test_contradictions.content(test_contradictions.MERGED))
+        tree = json.loads(content(test_contradictions.MERGED))
         size, texts.PIECE = texts.PIECE, 1
         try:
             for indent in (None, 1):
@@ -196,13 +197,13 @@ class Large(test_contradictions.ToolTest):
             texts.PIECE = size
 
     def test_a_text_with_features(self):
-        tree = json.loads(test_contradictions.content(test_contradictions.MERGED))
+        tree = json.loads(content(test_contradictions.MERGED))
         tree["documentInfo"]["namespaces"]["xbrl"] = "https://xbrl.org/2021"
         tree["documentInfo"]["features"] = {"xbrl:allowedDuplicates": "all"}
         merged = self.write("merged.json", json.dumps(tree))
         _, cells = self.written(merged, *INPUTS[1:], f"A={merged}", f"B={INPUTS[0]}")
         self.assertEqual({cell["providers"] for cell in cells}, {"A, B"})
-        self.assertEqual(lines_of_verdicts.lines(test_contradictions.content(merged)), test_contradictions.content(INPUTS[2]))
+        self.assertEqual(lines_of_verdicts.lines(content(merged)), content(INPUTS[2]))
 
 
 if __name__ == "__main__":

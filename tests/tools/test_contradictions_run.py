@@ -11,10 +11,11 @@ import sys
 import time
 import unittest
 
-from test_contradictions import TOOL, ToolTest, content
+import in_process
+from support import content
+from test_contradictions import TOOL, ToolTest
 from test_contradictions_sources import example
 
-HERE = os.path.dirname(os.path.abspath(__file__))
 REPORTS = [os.path.realpath(example(f"{name}.json")) for name in ("issuer", "ledgerline", "statfeed")]
 SHEET = example("sheet.json")
 SUMMARY = "64 rows: 3 contradictions, 45 consistent, 16 reported once"
@@ -32,12 +33,9 @@ class Stubbed(ToolTest):
 
     def setUp(self):
         super().setUp()
-        self.bin = os.path.join(self.room, "bin")
+        self.bin = self.place("bin")
         os.mkdir(self.bin)
-        self.program = os.path.join(self.bin, "xbrlmerge")
-        with open(self.program, "w", encoding="utf-8") as file:
-            file.write(f"#!{sys.executable} -IS\n{content(os.path.join(HERE, 'stub_program.py'))}")
-        os.chmod(self.program, 0o755)
+        self.program = in_process.stub_program(self.bin)
         for command, name in (("merge", "merged.json"), ("verdicts", "verdicts.txt"), ("sources", "sources.txt")):
             shutil.copy(example(name), os.path.join(self.bin, f"{command}.out"))
 
@@ -51,10 +49,13 @@ class Stubbed(ToolTest):
         for command, text in (("merge", NONE), ("verdicts", ""), ("sources", "")):
             self.prints(command, text)
 
-    def refuses(self, refusals, explained):
+    def refuses(self, refusals, *faults):
+        """Has each command refuse, and `explain` print faults: each a sentence, and what else its object has."""
         for command in ("merge", "verdicts", "sources"):
             self.prints(command, err=refusals, status=1)
-        self.prints("explain", explained, status=1)
+        usual = {"number": 1, "name": "NotJson", "identifier": None, "part": None}
+        lines = (json.dumps({**usual, "sentence": sentence, **more}) + "\n" for sentence, more in faults)
+        self.prints("explain", "".join(lines), status=1)
 
     def run_on(self, *words, sheet=("--sheet", SHEET), **options):
         run = [sys.executable, TOOL, "--program", self.program, *sheet, "-o", self.output, *words]
@@ -110,7 +111,7 @@ class Files(Stubbed):
         self.assertEqual(self.run_on(os.path.join(self.output, "merged.json")).returncode, 2)
 
     def test_a_folder_of_any_name(self):
-        self.set_output(os.path.join(self.room, "a\udcff\n"))
+        self.set_output(self.place("a\udcff\n"))
         done = self.run_on(*REPORTS)
         self.assertEqual((done.returncode, done.stderr), (1, ""))
         self.assertTrue(done.stdout.endswith("a\\udcff\\n/page.html\n"), done.stdout)
@@ -143,11 +144,11 @@ class Files(Stubbed):
     def test_the_program_beside_the_tool_or_on_the_path(self):
         tools = os.path.join(self.room, "checkout", "tools")
         shutil.copytree(os.path.dirname(TOOL), tools)
-        words = [sys.executable, os.path.join(tools, "contradictions"), "--sheet", SHEET, "-o", self.output, *REPORTS]
+        words = [sys.executable, os.path.join(tools, "contradictions.py"), "--sheet", SHEET, "-o", self.output, *REPORTS]
         for path, status in ((self.room, 3), (self.bin, 1)):
             done = subprocess.run(words, capture_output=True, text=True, env={**os.environ, "PATH": path})
             self.assertEqual(done.returncode, status, done.stderr)
-        shutil.copytree(self.bin, os.path.join(self.room, "checkout"), dirs_exist_ok=True)
+        shutil.copytree(self.bin, self.place("checkout"), dirs_exist_ok=True)
         done = subprocess.run(words, capture_output=True, text=True, env={**os.environ, "PATH": self.room})
         self.assertEqual(done.returncode, 1, done.stderr)
 
@@ -171,7 +172,7 @@ class Files(Stubbed):
 class Refused(Stubbed):
     def test_a_refused_report_is_explained_and_the_others_go_on(self):
         bad = self.write("<b>.json", "no report")
-        self.refuses("report 4: 1 NotJson at document\n", "report: 1 NotJson: the file is no JSON text\nreports: 1, with faults: 1, faults: 1\n")
+        self.refuses("report 4: 1 NotJson at document\n", ("the file is no JSON text", {}))
         done = self.run_on(*REPORTS, bad)
         self.assertEqual(done.returncode, 1)
         self.assertEqual(done.stderr, f"contradictions: {bad}: 1 NotJson: the file is no JSON text\n")
@@ -182,19 +183,22 @@ class Refused(Stubbed):
             self.assertIn(text, page)
 
     def test_what_explain_prints_is_bounded(self):
-        self.refuses("report 1: 13 UnboundPrefix at fact 1\n", "".join(f'report: fact "{n}": 13 UnboundPrefix\n' for n in range(5_000)))
+        more = {"number": 13, "name": "UnboundPrefix"}
+        faults = [("it is not bound", {**more, "identifier": f'"{number}' + "f" * 100}) for number in range(5_000)]
+        self.refuses("report 1: 13 UnboundPrefix at fact 1\n", *faults)
         done = self.run_on(*REPORTS)
+        self.assertIn(f': fact "\\"0{"f" * 78}..": 13 UnboundPrefix: it is not bound\n', done.stderr)
         self.assertEqual(len(done.stderr.splitlines()), 21)
         self.assertIn("and 4980 more", done.stderr)
 
     def test_a_refusal_that_explain_does_not_know_is_told(self):
-        self.refuses("report 2: 31 DisallowedDuplicates at document\n", "")
+        self.refuses("report 2: 31 DisallowedDuplicates at document\n")
         self.assertIn(f"{REPORTS[1]}: 31 DisallowedDuplicates at document\n", self.run_on(*REPORTS).stderr)
 
     def test_a_sheet_that_lacks_concepts(self):
-        line = 'report: fact "f{}": 1{} Unknown{}: the {} "eg:N{}" is not in the sheet\n'
-        lines = [line.format(n, 6, "Concept", "concept", n % 30) for n in range(60)] + [line.format(1, 7, "Dimension", "dimension", "Axis")]
-        self.refuses("report 1: 16 UnknownConcept at fact 1\n", "".join(lines))
+        faults = [("", {"number": 16, "name": "UnknownConcept", "part": f"eg:N{number % 30}"}) for number in range(60)]
+        faults.append(("", {"number": 17, "name": "UnknownDimension", "part": "eg:NAxis"}))
+        self.refuses("report 1: 16 UnknownConcept at fact 1\n", *faults)
         told = self.run_on(*REPORTS).stderr
         self.assertIn("the sheet lacks 30 concepts: eg:N0, eg:N1, ", told)
         self.assertIn("and 10 more\n", told)
@@ -205,9 +209,9 @@ class Refused(Stubbed):
 
 class Prepared(Stubbed):
     def package(self, more=""):
-        os.makedirs(os.path.join(self.room, "package"), exist_ok=True)
+        os.makedirs(self.place("package"), exist_ok=True)
         self.write(os.path.join("package", "t.xsd"), SCHEMA % more)
-        return ["--taxonomy", os.path.join(self.room, "package")]
+        return ["--taxonomy", self.place("package")]
 
     def test_a_taxonomy_in_place_of_a_sheet(self):
         self.prints_nothing()
@@ -237,7 +241,7 @@ class Prepared(Stubbed):
     def test_what_cannot_be_normalised_goes_to_the_program(self):
         bad = self.write("bad.json", "[" * 100_000)
         self.prints_nothing()
-        self.refuses("report 1: 1 NotJson at document\n", "report: 1 NotJson: it is no JSON\n")
+        self.refuses("report 1: 1 NotJson at document\n", ("it is no JSON", {}))
         done = self.run_on("--normalise", bad)
         self.assertEqual(done.returncode, 1)
         self.assertIn("1 report refused; 1 report not normalised", done.stdout)
@@ -247,7 +251,7 @@ class Prepared(Stubbed):
 
 class BadInputs(Stubbed):
     def test_names_with_two_meanings(self):
-        os.mkdir(os.path.join(self.room, "other"))
+        os.mkdir(self.place("other"))
         other = self.write(os.path.join("other", "issuer.json"), "{}")
         for words, told in (
             ([REPORTS[0], other], "both get the name issuer: write NAME=FILE for both"),
@@ -266,9 +270,9 @@ class BadInputs(Stubbed):
         self.assertEqual(self.run_on(*REPORTS, sheet=()).returncode, 2)
 
     def test_inputs_that_are_missing_or_no_files(self):
-        os.mkfifo(os.path.join(self.room, "fifo"))
+        os.mkfifo(self.place("fifo"))
         self.refused_run("nowhere.json: No such file or directory", REPORTS[0], "nowhere.json")
-        self.refused_run("fifo is not a regular file", os.path.join(self.room, "fifo"))
+        self.refused_run("fifo is not a regular file", self.place("fifo"))
         self.refused_run("is not a regular file", "B=" + self.bin)
         self.refused_run("No such file or directory", *REPORTS, sheet=("--sheet", "nowhere"))
         self.refused_run("there is no such file", *REPORTS, sheet=("--taxonomy", "nowhere"))
@@ -288,7 +292,7 @@ class BadInputs(Stubbed):
         self.prints("merge", "", "sheet: 32 SheetKind\n", 3)
         self.prints("explain", "", 'sheet.json: the entry "x:A": "numberic" has an unknown kind\nsheet: 32 SheetKind\n', 3)
         self.refused_run("has an unknown kind", *REPORTS)
-        self.refused_run("No such file or directory", *REPORTS, "--program", os.path.join(self.room, "nowhere"))
+        self.refused_run("No such file or directory", *REPORTS, "--program", self.place("nowhere"))
 
     def test_reports_that_change_meanwhile(self):
         self.prints("verdicts", err="report 1: 1 NotJson at document\n", status=1)

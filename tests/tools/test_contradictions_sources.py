@@ -3,9 +3,10 @@ import csv
 import os
 import unittest
 
-from test_contradictions import ToolTest, content
+from test_contradictions import ToolTest
+from support import TOP, content
 
-EXAMPLES = os.path.join(os.path.dirname(os.path.abspath(__file__)), "..", "..", "examples")
+EXAMPLES = os.path.join(TOP, "examples")
 NAMES = "issuer,ledgerline,statfeed"
 
 

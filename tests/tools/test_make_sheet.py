@@ -3,12 +3,13 @@ import json
 import os
 import subprocess
 import sys
-import tempfile
 import unittest
 import zipfile
 
-HERE = os.path.dirname(os.path.abspath(__file__))
-TOOL = os.path.join(HERE, "..", "..", "tools", "make_sheet")
+import in_process
+
+HERE = os.path.join(in_process.TESTS, "tools")
+TOOL = os.path.join(in_process.TOOLS, "make_sheet.py")
 TOY = os.path.join(HERE, "taxonomy")
 EXTENSION = os.path.join(HERE, "extension", "extension.xsd")
 DOUBTFUL = os.path.join(HERE, "doubtful", "doubtful.xsd")
@@ -52,18 +53,7 @@ def pack(package, folder):
                 made.write(place, os.path.join("toy", os.path.relpath(place, folder)))
 
 
-class ToolTest(unittest.TestCase):
-    def setUp(self):
-        room = tempfile.TemporaryDirectory()
-        self.addCleanup(room.cleanup)
-        self.room = room.name
-
-    def write(self, name, text):
-        place = os.path.join(self.room, name)
-        with open(place, "wb" if isinstance(text, bytes) else "w") as file:
-            file.write(text)
-        return place
-
+class ToolTest(in_process.RoomTest):
     def check_refused(self, status, told, *words):
         """Nothing is written, and a line tells why."""
         done = run(*words)
@@ -84,7 +74,7 @@ class Taxonomies(ToolTest):
         self.check_sheet(TOY_SHEET, os.path.join(TOY, "toy", "core.xsd"))
 
     def test_file_folder_and_package_give_the_same_bytes(self):
-        package = os.path.join(self.room, "toy.zip")
+        package = self.place("toy.zip")
         pack(package, TOY)
         text = self.check_sheet(TOY_SHEET, package)
         self.assertEqual(run(TOY).stdout, text)
@@ -93,7 +83,7 @@ class Taxonomies(ToolTest):
         self.assertEqual((text.count(b"\n"), text[-1:]), (1, b"\n"))
 
     def test_what_is_imported_by_url_comes_from_a_named_package(self):
-        package = os.path.join(self.room, "toy.zip")
+        package = self.place("toy.zip")
         pack(package, TOY)
         sheet = json.loads(run(EXTENSION, package).stdout)
         self.assertEqual(sheet["concepts"]["n1:OnlineRevenue"], "numeric")
@@ -131,8 +121,8 @@ class BadInputs(ToolTest):
     def test_no_xml_and_no_schema(self):
         self.check_refused(3, "not well-formed", self.write("a.xsd", "{}"))
         self.check_refused(3, "unclosed token", self.write("b.xsd", SCHEMA[:30]))
-        self.check_refused(3, "no schema", self.write("c.xsd", "<a/>"))
-        self.check_refused(3, "nowhere.xsd", os.path.join(self.room, "nowhere.xsd"))
+        self.check_refused(3, "not a schema", self.write("c.xsd", "<a/>"))
+        self.check_refused(3, "nowhere.xsd", self.place("nowhere.xsd"))
         self.check_refused(3, "no element found", TOY, self.write("d.xsd", ""))
         lines = self.check_refused(3, "xsd", TOY, self.write("e.xsd", "no XML"), self.write("f.xsd", "nor this"))
         self.assertEqual(len(lines), 1)
@@ -147,14 +137,14 @@ class BadInputs(ToolTest):
             self.assertEqual(len(self.check_refused(3, "document type", place)), 1)
         imported = self.write("b.xsd", SCHEMA % '<xs:include schemaLocation="a.xsd"/>')
         self.check_refused(3, "a.xsd: it has a document type", imported)
-        package = os.path.join(self.room, "a.zip")
+        package = self.place("a.zip")
         with zipfile.ZipFile(package, "w") as made:
             made.write(place, "a.xsd")
         self.check_refused(3, "document type", package)
 
     def test_a_package_keeps_to_itself(self):
         outside = self.write("outside.xsd", SCHEMA % ITEM % ("A", "string"))
-        package = os.path.join(self.room, "a.zip")
+        package = self.place("a.zip")
         for name in ("../b.xsd", "a/../../b.xsd", outside):
             with zipfile.ZipFile(package, "w") as made:
                 made.writestr(name, SCHEMA % "")
@@ -162,10 +152,10 @@ class BadInputs(ToolTest):
         self.assertEqual(sorted(os.listdir(self.room)), ["a.zip", "outside.xsd"])  # nothing is unpacked
         with zipfile.ZipFile(package, "w") as made:
             made.writestr("b.xsd", SCHEMA % '<xs:include schemaLocation="../outside.xsd"/>')
-        self.check_refused(3, "../outside.xsd is in nothing", package)
+        self.check_refused(3, "../outside.xsd is not in the named files", package)
 
     def test_a_broken_package(self):
-        package = os.path.join(self.room, "a.zip")
+        package = self.place("a.zip")
         pack(package, TOY)
         with open(package, "rb") as file:
             data = file.read()
@@ -213,12 +203,12 @@ class Unions(ToolTest):
             self.assertEqual(sheet["concepts"], {"n1:A": "text", "n1:B": "text"})
         self.assertNotIn("xbrlmerge:sets", json.loads(run("--union", second).stdout))
         numeric = self.write("c.json", json.dumps({**concepts, "concepts": {"p:A": "numeric"}}))
-        self.check_refused(3, "{http://a.example}A is set, and numeric", "--union", numeric, first)
+        self.check_refused(3, "{http://a.example}A is set, but numeric", "--union", numeric, first)
 
     def test_a_concept_of_two_kinds_is_named(self):
         first = self.sheet("a.json", "http://a.example", {"p:A": "numeric"}, {})
         second = self.sheet("b.json", "http://a.example", {"p:A": "text"}, {})
-        self.check_refused(3, "{http://a.example}A is text, and numeric", "--union", first, second)
+        self.check_refused(3, "{http://a.example}A is text, but numeric", "--union", first, second)
 
     def test_what_is_no_sheet(self):
         texts = ["", "[]", "{", '{"facts":{}}', '{"concepts":{"p:A":"text"}}', '{"concepts":[]}']

@@ -11,12 +11,12 @@ import zipfile
 from unittest import mock
 
 import in_process
+import make_sheet
 from test_make_sheet import ITEM, SCHEMA, TOOL, ToolTest, run
 
 from contradicting.labels import read_labels
 from sheet_making import files, packages
 
-make_sheet = in_process.loaded("make_sheet")
 HEAD = '<xs:element name="{}" type="xbrli:stringItemType" substitutionGroup="{}"/>'
 TYPE = '<xs:complexType name="{}"><xs:simpleContent><xs:restriction base="{}"/></xs:simpleContent></xs:complexType>'
 TYPED = '<xs:element name="{}" type="{}" substitutionGroup="xbrli:item"/>'
@@ -92,7 +92,7 @@ LONG = {
 
 class HostileTest(ToolTest):
     def pack(self, texts, name="a.zip", method=zipfile.ZIP_DEFLATED):
-        place = os.path.join(self.room, name)
+        place = self.place(name)
         with zipfile.ZipFile(place, "w", method) as made:
             for path, text in texts.items():
                 made.writestr(path, text)
@@ -148,7 +148,7 @@ class Long(HostileTest):
 
         sheet = json.loads(run(made(4)).stdout)
         self.assertEqual((len(sheet["namespaces"]), len(sheet["concepts"])), (4, 400))
-        self.refused("included in further ones have more than 62500 bytes together", made(20), "--megabytes", "1")
+        self.refused("included in others have more than 62500 bytes together", made(20), "--megabytes", "1")
 
     def test_zips_of_blanks(self):
         blanks = self.pack({"a.xsd": SCHEMA % (" " * 1_000_000)})
@@ -198,12 +198,12 @@ class Packages(HostileTest):
     def test_a_rewrite_without_a_start(self):
         for rule in ('<rewriteURI rewritePrefix="../"/>', REWRITE.format("", "../"), '<rewriteURI uriStartString="a"/>'):
             package = self.pack({"META-INF/catalog.xml": CATALOG % rule, "a.xsd": SCHEMA % INCLUDE.format("a.xsd")})
-            self.refused("catalog.xml: a rewriteURI has no uriStartString or no rewritePrefix", package)
+            self.refused("catalog.xml: a rewriteURI lacks uriStartString or rewritePrefix", package)
 
     def test_methods_that_unpack_without_a_limit(self):
         for method in (zipfile.ZIP_BZIP2, zipfile.ZIP_LZMA):
             package = self.pack({"a.xsd": SCHEMA % ""}, method=method)
-            self.refused("a.xsd: it is compressed by another method than deflate", package)
+            self.refused("a.xsd: it is compressed by a method other than deflate", package)
 
     def test_an_entry_with_a_password(self):
         package = self.pack({"a.xsd": SCHEMA % ""}, method=zipfile.ZIP_STORED)
@@ -226,7 +226,7 @@ class Packages(HostileTest):
 class Folders(HostileTest):
     def folder(self, **texts):
         """Makes a folder with files and returns its path."""
-        folder = os.path.join(self.room, "folder")
+        folder = self.place("folder")
         os.makedirs(folder, exist_ok=True)
         for name, text in texts.items():
             self.write(os.path.join("folder", name.replace("_", ".")), text)
@@ -239,13 +239,13 @@ class Folders(HostileTest):
         self.assertEqual(run(folder).returncode, 0)  # they are not read
         fifo = os.path.join(folder, "b.xsd")
         os.mkfifo(fifo)
-        self.refused("folder/b.xsd: it is no regular file", folder)
-        self.refused("folder/b.xsd: it is no file", fifo)
+        self.refused("folder/b.xsd: it is not a regular file", folder)
+        self.refused("folder/b.xsd: it is not a file", fifo)
         os.unlink(fifo)
         os.symlink("/dev/zero", os.path.join(folder, "c.xsd"))
-        self.refused("folder/c.xsd: it is outside the folders that are named (--outside)", folder)
-        self.refused("folder/c.xsd: it is no regular file", folder, "--outside")
-        self.refused("/dev/zero: it is no file", "/dev/zero")
+        self.refused("folder/c.xsd: it is outside the named folders (--outside)", folder)
+        self.refused("folder/c.xsd: it is not a regular file", folder, "--outside")
+        self.refused("/dev/zero: it is not a file", "/dev/zero")
 
     def test_references_stay_in_the_named_folders(self):
         outside = self.write("outside.xsd", SCHEMA % ITEM % ("Secret", "string"))
@@ -261,7 +261,7 @@ class Folders(HostileTest):
             for named in (folder, os.path.join(folder, "a.xsd")):
                 if location.startswith("http") and named != folder:
                     continue  # the catalog is not read
-                self.refused(": it is outside the folders that are named (--outside)", named)
+                self.refused(": it is outside the named folders (--outside)", named)
                 done = run("--outside", named)
                 self.assertEqual(list(json.loads(done.stdout)["concepts"]), ["n1:Secret"], done.stderr)
             if location == "link.xsd":
@@ -270,9 +270,9 @@ class Folders(HostileTest):
 
     def test_a_file_in_a_named_folder_may_be_referred_to_from_another(self):
         self.folder(a_xsd=SCHEMA % INCLUDE.format("../other/b.xsd"))
-        os.mkdir(os.path.join(self.room, "other"))
+        os.mkdir(self.place("other"))
         self.write("other/b.xsd", SCHEMA % ITEM % ("B", "string"))
-        done = run(os.path.join(self.room, "folder", "a.xsd"), os.path.join(self.room, "other"))
+        done = run(os.path.join(self.room, "folder", "a.xsd"), self.place("other"))
         self.assertEqual((done.returncode, list(json.loads(done.stdout)["concepts"])), (0, ["n1:B"]))
 
     def test_a_long_file(self):
@@ -306,14 +306,14 @@ class Statuses(HostileTest):
             self.assertEqual((done.returncode, done.stdout, done.stderr), (3, b"", b""))
         good = self.write("a.xsd", SCHEMA % ITEM % ("A", "string"))
         self.assertEqual(json.loads(self.shell("2>&-", good).stdout)["concepts"], {"n1:A": "text"})
-        self.assertEqual(self.shell("2>&-", os.path.join(self.room, "nowhere")).returncode, 3)
+        self.assertEqual(self.shell("2>&-", self.place("nowhere")).returncode, 3)
 
     def test_what_input_can_raise(self):
         self.refused("a.json: nested too deeply", "--union", self.write("a.json", '{"x:x":' * 100_000))
         place = self.write("a.xsd", SCHEMA % "")
         with mock.patch.object(files, "read_regular", side_effect=MemoryError):
             self.refused("a.xsd: out of memory", place)
-        self.refused("there is no such file", os.path.join(self.room, "no\0where"))
+        self.refused("there is no such file", self.place("no\0where"))
 
     def test_usage(self):
         for words in ((), ("--megabytes", "0", "a"), ("--megabytes", "x", "a"), ("--unknown",)):
@@ -329,28 +329,28 @@ class Unions(HostileTest):
 
     def test_uris_that_are_none(self):
         for uri in (1, 1.5, None, True, [], ["u"], {}, ""):
-            self.refused("its URI is no text or empty", "--union", self.sheet(uri))
-        self.refused("https://xbrl.org/2021, which no concept can have", "--union", self.sheet("https://xbrl.org/2021"))
+            self.refused("its URI is empty or not a text", "--union", self.sheet(uri))
+        self.refused("https://xbrl.org/2021, which is reserved", "--union", self.sheet("https://xbrl.org/2021"))
         self.assertEqual(run("--union", self.sheet("https://xbrl.org/2021/")).returncode, 0)
 
     def test_prefixes_and_names_that_are_none(self):
         for prefix in ("", "a b", "a:b"):
             path = self.write("a.json", json.dumps({"namespaces": {prefix: "u"}}))
-            self.refused("is no prefix", "--union", path)
+            self.refused("is not a prefix", "--union", path)
         for name in ("A", ":A", "p:", "p: A", "p:A:B", "p:A\n", "q:A"):
-            self.refused("is no name, or its prefix is not bound", "--union", self.sheet(name=name))
+            self.refused("is not a name, or its prefix is not bound", "--union", self.sheet(name=name))
         self.assertEqual(run("--union", self.sheet(name="p:{A}\u00a0")).returncode, 0)
 
     def test_sets_that_are_none(self):
         for sets in ("p:A", {"p:A": 1}, 1):
-            self.refused("xbrlmerge:sets is no list", "--union", self.sheet(**{"xbrlmerge:sets": sets}))
+            self.refused("xbrlmerge:sets is not a list", "--union", self.sheet(**{"xbrlmerge:sets": sets}))
         for sets in ([1], [["p:A"]], ["q:A"]):
-            self.refused("is no name", "--union", self.sheet(**{"xbrlmerge:sets": sets}))
+            self.refused("is not a name", "--union", self.sheet(**{"xbrlmerge:sets": sets}))
 
     def test_kinds_that_are_none(self):
         for kind in ("numerical", 1, None, [], {}):
             path = self.write("a.json", json.dumps({"namespaces": {"p": "u"}, "concepts": {"p:A": kind}}))
-            self.refused("has a kind that is none of", "--union", path)
+            self.refused("has a kind that is not one of", "--union", path)
 
     def test_time_and_memory_are_in_proportion(self):
         def run_at(size):

@@ -5,29 +5,19 @@ import random
 import re
 import subprocess
 import sys
-import tempfile
 import unittest
 from decimal import Decimal
 from unittest import mock
 
 import drawn_reports
 import in_process
+import normalise
+import process
+from normalising.json_text import read_json, text_of
+from support import content
 
-HERE = os.path.dirname(os.path.abspath(__file__))
-ROOT = os.path.join(HERE, "..", "..")
-TOOL = os.path.join(ROOT, "tools", "normalise")
-REPORTS = os.path.join(ROOT, "tests", "normalise")
-normalise = in_process.loaded("normalise")
-
-import process  # noqa: E402
-from normalising import profile  # noqa: E402
-from normalising.json_text import read_json, text_of  # noqa: E402
-from normalising.names import Sheet  # noqa: E402
-
-
-def content(path):
-    with open(path, encoding="utf-8") as file:
-        return file.read()
+TOOL = os.path.join(in_process.TOOLS, "normalise.py")
+REPORTS = os.path.join(in_process.TESTS, "normalise")
 
 
 def part_at(tree, pointer):
@@ -47,24 +37,22 @@ def undo(tree, changes):
         part[key] = change["was"]
 
 
-class ToolTest(unittest.TestCase):
+class ToolTest(in_process.RoomTest):
     def setUp(self):
-        room = tempfile.TemporaryDirectory()
-        self.addCleanup(room.cleanup)
-        self.room = room.name
+        super().setUp()
         self.out, self.changes = self.place("out.json"), self.place("changes.jsonl")
-
-    def place(self, name):
-        return os.path.join(self.room, name)
-
-    def write(self, name, text):
-        with open(self.place(name), "wb" if isinstance(text, bytes) else "w") as file:
-            file.write(text)
-        return self.place(name)
 
     def run_tool(self, *words):
         """Runs the command in this process, and returns its status and what it tells on standard error."""
         return in_process.run(normalise, *words)
+
+    def refusing(self, faults, **also):
+        """Makes a program that refuses facts, and perhaps the document. Returns the options that have it asked."""
+        os.makedirs(self.place("bin"), exist_ok=True)
+        told = [{"place": "fact 1", "identifier": fact, **dict(zip(("number", "name"), why.split()))} for fact, why in faults.items()]
+        self.write("bin/explain.out", "".join(json.dumps(fault) + "\n" for fault in [*told, *[also] * bool(also)]))
+        self.write("bin/explain.status", "1")
+        return ["--drop-unreadable", "--program", in_process.stub_program(self.place("bin"))]
 
     def normalised(self, report, *options):
         """Returns the status, what is told, the output and the changes, and looks at what holds of every run."""
@@ -96,10 +84,14 @@ class Reports(ToolTest):
             with self.subTest(case["report"]):
                 stem = os.path.join(REPORTS, case["report"])
                 sheet = os.path.join(os.path.dirname(stem), "sheet.json")
-                status, _, out, _ = self.normalised(f"{stem}.json", "--sheet", sheet, *case["options"])
-                self.assertEqual(out, content(f"{stem}.out.json"))
-                self.assertEqual(content(self.changes), content(f"{stem}.changes.jsonl"))
-                self.assertEqual(status, case["status"])
+                wanted = content(f"{stem}.changes.jsonl")
+                # tests/normalise/run asks the program itself
+                dropped = [change for change in map(json.loads, wanted.splitlines()) if change["rule"] == "drop-unreadable"]
+                options = [word for word in case["options"] if word != "--drop-unreadable"]
+                if options != case["options"]:
+                    options += self.refusing({change["fact"]: change["why"] for change in dropped})
+                status, _, out, _ = self.normalised(f"{stem}.json", "--sheet", sheet, *options)
+                self.assertEqual((status, out, content(self.changes)), (case["status"], content(f"{stem}.out.json"), wanted))
 
     def test_there_are_enough_of_them(self):
         cases = [json.loads(line) for line in content(os.path.join(REPORTS, "cases.jsonl")).splitlines()]
@@ -108,7 +100,7 @@ class Reports(ToolTest):
 
 
 class Docs(ToolTest):
-    """Each rule stands in docs/NORMALISE.md with an example: options, a fact before, and after or the word dropped."""
+    """docs/GUIDE.md has each rule with an example: options, a fact before, and after or the word dropped."""
 
     SHEET = {
         "namespaces": {"eg": "http://example.org/t"},
@@ -120,14 +112,15 @@ class Docs(ToolTest):
     TYPE = "https://xbrl.org/2021/xbrl-json"
 
     def test_the_examples(self):
-        text = content(os.path.join(ROOT, "docs", "NORMALISE.md"))
+        text = content("docs/GUIDE.md")
         sheet, seen = self.write("sheet.json", json.dumps(self.SHEET)), set()
         for rule, example in re.findall(r"^### `([a-z-]+)`$.*?^```\n(.*?)^```$", text, re.MULTILINE | re.DOTALL):
             options, before, after = example.splitlines()
+            options = self.refusing({"f": "27 NumberDigits"}) if rule == "drop-unreadable" else options.split()[1:]
             information = json.dumps({"documentType": self.TYPE, "namespaces": self.URIS})
             report = self.write("report.json", '{"documentInfo":%s,"facts":{"f":%s}}' % (information, before))
             with self.subTest(rule):
-                _, _, out, changes = self.normalised(report, "--sheet", sheet, *options.split()[1:])
+                _, _, out, changes = self.normalised(report, "--sheet", sheet, *options)
                 self.assertEqual({change["rule"] for change in changes} - {"value-text"} or {"value-text"}, {rule})
                 facts = self.tree_of(out)["facts"]
                 self.assertEqual(text_of(facts["f"]) if facts else "dropped", after)
@@ -152,17 +145,17 @@ class Drawn(ToolTest):
             report = self.write("report.json", drawn_reports.untidy(chance))
             with self.subTest(seed=seed):
                 lossy = [word for word in drawn_reports.OPTIONS if chance.random() < 0.3]
-                _, _, out, changes = self.normalised(report, "--sheet", self.sheet, *lossy)
-                self.assertTrue(lossy or not any(change["loss"] for change in changes))
-                if "--drop-unreadable" in lossy:
-                    self.assertEqual(self.faults(out), [])
+                refused = ["f1", "f3"] if seed % 4 == 0 else []
+                options = [*lossy, *(self.refusing(dict.fromkeys(refused, "26 NumberForm")) if refused else [])]
+                _, _, out, changes = self.normalised(report, "--sheet", self.sheet, *options)
+                self.assertTrue(options or not any(change["loss"] for change in changes))
+                self.assertFalse(self.tree_of(out)["facts"].keys() & {*refused})
 
     def test_a_report_within_the_profile_is_the_same(self):
         for seed in range(100):
             chance = random.Random(seed)
             text = drawn_reports.tidy(chance)
             report = self.write("report.json", text)
-            self.assertEqual(self.faults(text), [])
             with self.subTest(seed=seed):
                 status, told, out, changes = self.normalised(report, "--sheet", self.sheet, *drawn_reports.OPTIONS)
                 self.assertEqual((status, told, changes), (0, "", []))
@@ -192,12 +185,6 @@ class Drawn(ToolTest):
             for change in self.normalised(report)[3]:
                 self.assertNotIn(change["rule"], kinds)
                 self.assertTrue(change["rule"] != "white-space" or "/dimensions/" in change["pointer"])
-
-    def faults(self, text):
-        tree, sheet = self.tree_of(text), Sheet(self.sheet)
-        uris = tree["documentInfo"]["namespaces"]
-        faults = (profile.fault_of(fact, uris, sheet) for fact in tree["facts"].values())
-        return [fault for fault in faults if fault]
 
 
 class Numbers(ToolTest):
@@ -279,6 +266,38 @@ class Periods(ToolTest):
         ):
             self.assertEqual(self.period_of(period, "--zones=utc"), made, period)
         self.assertEqual(self.period_of("2023-12-31+02:00", "--zones=utc", "--dates=xbrl21"), ("2023-12-31T22:00:00", 0))
+
+
+class Unreadable(ToolTest):
+    """What the program refuses, by a program that prints prepared lines."""
+
+    def setUp(self):
+        super().setUp()
+        self.sheet = self.write("sheet.json", json.dumps(Docs.SHEET))
+        self.report = self.write("report.json", '{"facts":{"f":{"value":5,"id":1},"g":{"value":6}}}')
+
+    def test_a_refused_fact_has_one_change(self):
+        status, told, out, changes = self.normalised(self.report, "--sheet", self.sheet, *self.refusing({"f": "11 DimensionsMissing"}))
+        self.assertEqual((status, told, out), (1, "", '{"facts":{"g":{"value":"6"}}}\n'))
+        self.assertEqual([(change["fact"], change["rule"], change.get("why")) for change in changes],
+                         [("f", "drop-unreadable", "11 DimensionsMissing"), ("g", "value-text", None)])
+
+    def test_why_a_document_is_refused_is_told(self):
+        options = self.refusing({}, place="document", identifier=None, number=2, name="MemberForm", sentence='"documentInfo" is missing')
+        status, told, out, _ = self.normalised(self.report, "--sheet", self.sheet, *options)
+        self.assertEqual((status, told), (0, 'normalise: the document is refused: 2 MemberForm: "documentInfo" is missing\n'))
+        self.assertEqual(out, '{"facts":{"f":{"value":"5"},"g":{"value":"6"}}}\n')
+
+    def test_a_program_that_fails_is_told(self):
+        options = self.refusing({})
+        for name, text, why in (("explain.err", "error: unexpected argument '--format' found\n", "xbrlmerge explain: error: unexpected"),
+                                ("explain.err", "", "ended with status 3"), ("explain.status", "1", None)):
+            self.write("bin/explain.status", "3")
+            self.write(f"bin/{name}", text)
+            status, told = self.run_tool(self.report, self.out, self.changes, "--sheet", self.sheet, *options)
+            self.assertEqual((status, os.path.exists(self.out)), (3, False) if why else (0, True), told)
+            self.assertIn(why or "", told)
+        self.assertEqual(self.run_tool(self.report, self.out, self.changes, "--sheet", self.sheet, *options[:-1], self.place("no"))[0], 3)
 
 
 class BadInputs(ToolTest):

@@ -9,7 +9,9 @@ import tracemalloc
 import unittest
 
 import in_process
-from test_normalise import TOOL, ToolTest, content, normalise
+from drawn_reports import OPTIONS as ALL
+from support import content
+from test_normalise import TOOL, ToolTest, normalise
 
 SPACES = "\u00a0\u2003\u3000\x85\x1f"  # white space of Unicode that the format takes as other characters
 SHEET = {
@@ -18,7 +20,6 @@ SHEET = {
     "dimensions": {"eg:Reg": "explicit"},
     "xbrlmerge:sets": ["eg:S"],
 }
-ALL = "--drop-links --drop-notes --drop-unknown --dates=xbrl21 --zones=utc --drop-null --drop-unreadable".split()
 
 
 def fact(value="1", concept="eg:A", **dimensions):
@@ -40,8 +41,6 @@ LONG = {
     "spaces in a unit": (lambda size: report({"f": fact(unit="a" + " " * size + "b")}), []),
     "spaces in a period": (lambda size: report({"f": fact(period="a" + " " * size + "b")}), []),
     "slashes": (lambda size: report({"f": fact(period="/" * size)}), ALL),
-    "measures": (lambda size: report({"f": fact(unit="(" + "*".join(["eg:a"] * size))}), ALL),
-    "parts of a language": (lambda size: report({"f": fact("x", "eg:T", language="a-" * size)}), ALL),
     "zeros before an exponent": (lambda size: report({"f": fact("1" + "0" * size + "e-5")}), []),
     "digits of an exponent": (lambda size: report({"f": fact("1e" + "9" * size)}), []),
     "digits of decimals": (lambda size: '{"facts":{"f":{"value":"1","decimals":%s}}}' % ("9" * size), ALL),
@@ -121,12 +120,6 @@ class Exact(ToolTest):
 
     def run_on(self, facts, *options):
         return self.normalised(self.write("report.json", report(facts)), "--sheet", self.sheet, *options)
-
-    def test_a_fact_without_a_concept_is_dropped(self):
-        facts = {"f": {"value": "1", "dimensions": {"period": "2023-12-31T00:00:00"}}, "g": {"value": "1", "dimensions": {}}}
-        status, _, out, changes = self.run_on(facts, "--drop-unreadable")
-        self.assertEqual((status, self.tree_of(out)["facts"]), (1, {}))
-        self.assertEqual([change["why"] for change in changes], ["15 MissingConcept"] * 2)
 
     def test_what_is_no_moment_is_not_taken_to_utc(self):
         for moment in ("25:00:00", "24:00:01", "23:60:00", "23:59:60", "99:99:99"):

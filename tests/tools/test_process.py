@@ -4,11 +4,11 @@ import resource
 import signal
 import subprocess
 import sys
-import tempfile
 import textwrap
 import unittest
 
-TOOLS = os.path.join(os.path.dirname(os.path.abspath(__file__)), "..", "..", "tools")
+from in_process import TOOLS, RoomTest
+
 HEAD = f"""
 import argparse, lzma, sys, time
 sys.dont_write_bytecode = True
@@ -18,17 +18,10 @@ def main():
 """
 
 
-class ProcessTest(unittest.TestCase):
-    def setUp(self):
-        folder = tempfile.TemporaryDirectory()
-        self.addCleanup(folder.cleanup)
-        self.folder = folder.name
-
+class ProcessTest(RoomTest):
     def shell(self, body, redirected="", **options):
         """Runs a tool whose `main` has this body, from a shell that redirects its files."""
-        place = os.path.join(self.folder, "tool")
-        with open(place, "w") as file:
-            file.write(HEAD + textwrap.indent(body, "    ") + "\nrun(main)\n")
+        place = self.write("tool", HEAD + textwrap.indent(body, "    ") + "\nrun(main)\n")
         command = f"exec {sys.executable} {place} {redirected}"
         return subprocess.run(["bash", "-c", command], capture_output=True, **options)
 
@@ -78,7 +71,7 @@ class Devices(ProcessTest):
             self.check(0, "", "return Status.DONE", redirected)
 
     def test_a_line_does_not_land_in_a_file_that_is_opened(self):
-        place = os.path.join(self.folder, "opened")
+        place = self.place("opened")
         body = f"file = open({place!r}, 'w'); print_lines(['left out']); return Status.DONE"
         self.assertEqual(self.check(3, "", body, "2>&-"), b"")
         with open(place) as file:
@@ -93,7 +86,7 @@ class Devices(ProcessTest):
     def test_a_device_that_takes_a_part_is_full(self):
         limit = lambda: resource.setrlimit(resource.RLIMIT_FSIZE, (65_536, 65_536))  # noqa: E731
         for unbuffered in ("", "1"):
-            place = os.path.join(self.folder, "part")
+            place = self.place("part")
             done = self.shell("sys.stdout.buffer.write(b'x' * 100_000); return Status.DONE", f">{place}",
                               env={**os.environ, "PYTHONUNBUFFERED": unbuffered}, preexec_fn=limit)
             self.assertEqual((done.returncode, done.stderr), (3, b"tool: File too large\n"))
@@ -102,7 +95,7 @@ class Devices(ProcessTest):
 
 class Signals(ProcessTest):
     def test_a_signal_cleans_up_and_ends_the_tool(self):
-        place = os.path.join(self.folder, "tool")
+        place = self.place("tool")
         with open(place, "w") as file:
             file.write(HEAD + "    try:\n        print('ready', flush=True)\n"
                        "        while True:\n            time.sleep(0.01)\n"

@@ -1,15 +1,13 @@
 """The program, the Python module, the man page and the changelog have one version."""
-import os
 import re
 import unittest
 
-TOP = os.path.dirname(os.path.dirname(os.path.dirname(os.path.abspath(__file__))))
+from in_process import content
 
 
 def found(path, pattern):
     """Returns what the pattern's group matches, at each place of a file."""
-    with open(os.path.join(TOP, path), encoding="utf-8") as file:
-        return re.findall(pattern, file.read(), re.MULTILINE)
+    return re.findall(pattern, content(path), re.MULTILINE)
 
 
 def numbers(version):

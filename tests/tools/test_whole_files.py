@@ -4,13 +4,11 @@ import signal
 import stat
 import subprocess
 import sys
-import tempfile
 import unittest
 from unittest import mock
 
-TOOLS = os.path.join(os.path.dirname(os.path.abspath(__file__)), "..", "..", "tools")
-sys.path.insert(0, TOOLS)
-import whole_files  # noqa: E402
+from in_process import TOOLS, RoomTest
+import whole_files
 
 WAITS = f"""
 import sys, time
@@ -27,18 +25,16 @@ run(lambda: write_files([(sys.argv[1], ["x"]), (sys.argv[2], pieces())]) or Stat
 """
 
 
-class WholeFiles(unittest.TestCase):
+class WholeFiles(RoomTest):
     def setUp(self):
-        folder = tempfile.TemporaryDirectory()
-        self.addCleanup(folder.cleanup)
-        self.folder = folder.name
-        self.first, self.second = (os.path.join(self.folder, name) for name in ("first", "second"))
+        super().setUp()
+        self.first, self.second = map(self.place, ("first", "second"))
 
     def texts(self):
         """Returns the text of each file in the folder."""
         texts = {}
-        for name in os.listdir(self.folder):
-            with open(os.path.join(self.folder, name)) as file:
+        for name in os.listdir(self.room):
+            with open(self.place(name)) as file:
                 texts[name] = file.read()
         return texts
 
@@ -71,7 +67,7 @@ class WholeFiles(unittest.TestCase):
         self.assertEqual((file.st_uid, file.st_gid, stat.S_IMODE(file.st_mode)), (65534, 65533, 0o755))
 
     def test_none_is_replaced_where_one_cannot_be(self):
-        really, third = os.replace, os.path.join(self.folder, "third")
+        really, third = os.replace, self.place("third")
 
         def replace(old, new):
             if new == third and old.endswith("new"):
@@ -96,20 +92,20 @@ class WholeFiles(unittest.TestCase):
         with self.assertRaises(UnicodeEncodeError):
             whole_files.write_files([(self.first, ["new"]), (self.second, ["\ud800"])])
         with self.assertRaises(OSError):
-            whole_files.write_files([(self.first, ["new"]), (self.folder, ["new"])])
+            whole_files.write_files([(self.first, ["new"]), (self.room, ["new"])])
         with self.assertRaises(OSError):
-            whole_files.write_files([(self.first, ["new"]), (os.path.join(self.folder, ".", "first"), ["newer"])])
+            whole_files.write_files([(self.first, ["new"]), (os.path.join(self.room, ".", "first"), ["newer"])])
         self.assertEqual(self.texts(), {"first": "old"})
 
     def test_files_of_other_runs_stay(self):
-        others = [self.first + f".{os.getpid()}.new", os.path.join(self.folder, ".new-other")]
+        others = [self.first + f".{os.getpid()}.new", self.place(".new-other")]
         for other in others:
             self.put(other)
         whole_files.write_files([(self.first, ["new"])])
         self.assertEqual(self.texts(), {"first": "new", **dict.fromkeys(map(os.path.basename, others), "old")})
 
     def test_a_name_of_255_bytes(self):
-        path = os.path.join(self.folder, "ö" * 127 + "x")
+        path = os.path.join(self.room, "ö" * 127 + "x")
         whole_files.write_files([(path, ["new"])])
         self.assertEqual(self.texts(), {os.path.basename(path): "new"})
 

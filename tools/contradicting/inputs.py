@@ -8,17 +8,18 @@ from dataclasses import dataclass, field
 from typing import Iterator, Optional
 
 from contradicting.normalised import Normalised, pieces_of_file
-from contradicting.program import Program
 from contradicting.progress import Progress
 from contradicting.refusals import Refusals
 from contradicting.reports import Report, check_files
 from contradicting.rows import FactSources
 from contradicting.sources import OwnTexts, Sources
-from contradicting.texts import Provider, Sheet, Text
+from contradicting.texts import Provider, Text, sheet_at
 from process import NotDone, printable
+from program import Program
 from sheet_making.limits import Limits
 from sheet_making.making import kinds_in
 from sheet_making.sheets import sheet_text
+from sheets import Sheet
 
 File = tuple[str, Iterator[str]]  # the name of a file that is written beside the page, and its pieces
 
@@ -41,8 +42,8 @@ class Inputs:
 
 def inputs_named(options: argparse.Namespace) -> Inputs:
     """Returns the inputs that --from names."""
-    (merged, sheet_at, verdicts), sources = options.texts, None
-    sheet, text = Sheet(sheet_at), Text(merged)
+    (merged, listed, verdicts), sources = options.texts, None
+    sheet, text = sheet_at(listed), Text(merged)
     if options.sources:
         sources = Sources(options.sources, options.names.split(","))
     owned = (word.partition("=")[::2] for word in options.words)
@@ -68,7 +69,7 @@ class Run:
         merged, verdicts, sources = map(self.program.place, ("merge", "verdicts", "sources"))
         names = [report.provider for report in self.reports]
         files = [("merged.json", pieces_of_file(merged)), *self.files]
-        return Inputs(Text(merged), Sheet(self.program.sheet), verdicts, Sources(sources, names, found[0]),
+        return Inputs(Text(merged), sheet_at(self.program.sheet), verdicts, Sources(sources, names, found[0]),
                       self.refusals(found[0], paths), files, self.losses, self.notes)
 
     def sheet(self) -> str:
@@ -88,7 +89,7 @@ class Run:
 
     def normalised(self) -> list[str]:
         """Returns the paths of the normalised reports."""
-        made = Normalised(self.program.sheet, self.options, self.folder)
+        made = Normalised(self.program, self.options, self.folder)
         for number, report in enumerate(self.reports, 1):
             self.progress.show(f"normalising {printable(report.path)} ({number} of {len(self.reports)})")
             made.add(report)
@@ -108,7 +109,7 @@ class Run:
         for number, refusal in sorted(found.items()):
             path = self.reports[number - 1].path
             self.progress.show(f"explaining why {printable(path)} is refused")
-            refusals.add(path, self.program.explained(paths[number - 1], refusal))
+            refusals.add(path, refusal, self.program.faults(os.path.abspath(paths[number - 1])))
         return refusals
 
 

@@ -3,7 +3,7 @@ from __future__ import annotations
 
 from typing import NamedTuple, Optional, Sequence
 
-from contradicting.texts import Name
+from names import Name
 from sheet_making.files import Files
 from sheet_making.limits import Limits, reading
 from sheet_making.schemas import Part
@@ -40,7 +40,7 @@ class Labelled(Taxonomy):
     def declare(self, part: Part, place: str) -> None:
         super().declare(part, place)
         if part.identifier is not None:
-            self.identified[place, part.identifier] = Name(*part.name)
+            self.identified[place, part.identifier] = part.name
 
     def name_at(self, href: str, base: str) -> Optional[Name]:
         """Returns the name that a reference in the document at `base` means."""
@@ -115,6 +115,6 @@ class Linkbase(Visitor):
 
 
 def read_labels(words: Sequence[str], language: str) -> dict[Name, str]:
-    """Returns the standard labels by name. One whose language is as asked for stands before those of its dialects."""
+    """Returns the standard labels by name. A label in the exact language comes before those in its dialects."""
     labels = Labelled(Files(words, Limits()), language).labels if words else {}
     return {name: label.text for name, label in labels.items() if label.text}

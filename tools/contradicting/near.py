@@ -8,10 +8,10 @@ from typing import Iterator, Mapping, NamedTuple, Optional, Sequence, Union
 from contradicting.rows import Dimensions, Fact
 from contradicting.sources import Holders, names_of, providers
 from contradicting.tables import DIMENSIONS, Cell, cell, check_lengths, dimension_cells
-from contradicting.texts import Name
+from names import Name
 
 COLUMNS = ["pair", "differs", "row", "fact", *DIMENSIONS, *"value decimals low high providers label".split()]
-MOST_PAIRS = 1_000  # that are compared of rows which differ in the same dimension alone
+MOST_PAIRS = 1_000  # compared for each set of rows that differ only in the same dimension
 MOST_FACTS = 10_000  # that these pairs have, at most one pair more
 WORD = (1 << 64) - 1
 
@@ -29,12 +29,12 @@ class Kept(NamedTuple):
 
 
 class Near:
-    """Rows in pairs that differ in one dimension alone, by what may be a slip, and that no provider holds both of.
+    """Pairs of rows that differ in one dimension only, perhaps by mistake, and that no provider reports both.
 
-    A slip is: an entity, a concept or an explicit member of the same local part in another namespace; letter case or
+    A mistake may be: an entity, a concept or an explicit member of the same local part in another namespace; letter case or
     white space; moments at most a day apart; another unit or language; a dimension that one of the two lacks.
-    Of rows that differ in the same dimension alone, the pairs that are next to each other in the text are compared first,
-    and there are limits to how many are; `cut` counts those that are not compared.
+    Of the rows that differ only in the same dimension, pairs of neighbours are compared first, and there are limits;
+    `cut` counts the pairs that are not compared.
     """
 
     def __init__(self, providers: Sequence[str]) -> None:
@@ -43,7 +43,7 @@ class Near:
         self.items: dict[int, Items] = {}
 
     def wants(self, holders: Mapping[str, Holders]) -> bool:
-        """Tells whether a row can have a partner: somebody holds it, and somebody does not."""
+        """Returns whether a row can have a partner: some provider reports it, and some does not."""
         who = names_of(holders)
         return bool(who) and who < self.everybody
 
@@ -59,9 +59,9 @@ class Near:
         return [(*pair, found[pair]) for pair in sorted(found)]
 
     def groups(self) -> Iterator[list[int]]:
-        """Yields the numbers of rows that differ in one dimension alone, two or more, in order.
+        """Yields the numbers of two or more rows that differ in one dimension only, in order.
 
-        Dimensions are compared by a sum of hashes, so that leaving one out costs a subtraction. `difference` looks again.
+        Dimensions are compared by a sum of hashes, so leaving one out is a subtraction. `difference` compares them again.
         """
         sums = {number: sum(map(hash, items.items())) for number, items in self.items.items()}
         whole = {total & WORD: number for number, total in sums.items()}
@@ -92,7 +92,7 @@ class Near:
                 yield (one, other), axis
 
     def difference(self, first: int, second: int) -> Optional[Axis]:
-        """Returns the only dimension in which two rows differ, None where there are several or no slip is likely."""
+        """Returns the only dimension in which two rows differ, or None if there are several or a mistake is unlikely."""
         one, other = self.items[first], self.items[second]
         axes = [axis for axis in {**one, **other} if one.get(axis) != other.get(axis)]
         if len(axes) != 1:
@@ -127,7 +127,7 @@ def items_of(dimensions: Dimensions) -> Items:
 
 
 def buckets(axis: Axis, value: object) -> list[object]:
-    """Returns keys, of which two values that may be one by a slip have one in common."""
+    """Returns keys. Two values share a key if they may differ only by mistake."""
     of = value[0] if isinstance(axis, Name) and isinstance(value, tuple) else value
     if axis == "period":
         days = [datetime.date.fromisoformat(moment[:10]).toordinal() for moment in str(of).split("/")]

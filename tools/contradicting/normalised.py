@@ -11,9 +11,10 @@ from contradicting.reports import Report, written
 from contradicting.tables import cell, lines_of
 from normalising.changes import Log
 from normalising.json_text import Number, Tree, pieces_of, read_json_of_length, text_of
-from normalising.names import Sheet
+from normalising.names import sheet_at
 from normalising.rules import Normaliser
 from process import NotDone, sentence
+from program import Program
 
 VALUES = ("was", "now")  # JSON texts, so that 5 and "5" differ
 COLUMNS = ["provider", "report", *"fact number pointer rule loss".split(), *VALUES, *"moved why shortened".split()]
@@ -22,8 +23,8 @@ COLUMNS = ["provider", "report", *"fact number pointer rule loss".split(), *VALU
 class Normalised:
     """Reports in a folder, as they are after normalising, with a table of the changes."""
 
-    def __init__(self, sheet: str, options: argparse.Namespace, folder: str) -> None:
-        self.normaliser, self.folder = Normaliser(Sheet(sheet), options), folder
+    def __init__(self, program: Program, options: argparse.Namespace, folder: str) -> None:
+        self.normaliser, self.folder = Normaliser(sheet_at(program.sheet), options, program), folder
         self.table = os.path.join(folder, "changes")
         self.paths: list[str] = []
         self.losses = 0

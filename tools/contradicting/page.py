@@ -15,7 +15,7 @@ from typing import Iterable, Iterator, Mapping, NamedTuple, Optional, Union
 from contradicting.refusals import Refusals
 from contradicting.rows import Dimensions, Fact, Interval, Reader, Row, Value, day, plain
 from contradicting.sources import names_of, told
-from contradicting.texts import Name
+from names import Name
 from process import MOST_CHARACTERS, printable, shortened
 
 Labels = Mapping[Name, str]
@@ -195,7 +195,7 @@ def start_of_cut(values: Iterable[Value]) -> int:
 
 def details(row: Row) -> Iterator[tuple[str, str]]:
     """Yields what a dimension set is made of, each with a word for it."""
-    of, last = dimensions_of(row), [*row.facts.values()][-1]  # the last is no nil: that comes first
+    of, last = dimensions_of(row), [*row.facts.values()][-1]  # nil comes first, so the last is not nil
     start, _, end = of.period.rpartition("/")
     since = f"{day(start, False)} to " if start else "at the end of " * end.endswith("T00:00:00")
     yield "Period", since + day(end, True) if end else "for ever"

@@ -1,12 +1,14 @@
-"""The reports that the program refuses, and what its command `explain` prints for each."""
+"""The reports that the program refuses, and the faults that it finds in each."""
 from __future__ import annotations
 
-import re
-from typing import Iterable, Iterator, NamedTuple
+import json
+from typing import Any, Iterable, Iterator, Mapping, NamedTuple
+
+from process import shortened
 
 MOST_LINES = 20  # of one report
 MOST_NAMES, MOST_PRINTED = 1_000, 20  # that a sheet lacks: those that are kept, and those that a line has
-LACKING = re.compile(r'.*: 1[67] Unknown(?:Concept|Dimension): the (concept|dimension) "(.*)" is not in the sheet')
+LACKING = {"UnknownConcept": "concept", "UnknownDimension": "dimension"}  # what another sheet may mend
 
 
 class Refused(NamedTuple):
@@ -30,17 +32,16 @@ class Refusals:
         self.reports: list[Refused] = []
         self.lacking: dict[str, dict[str, None]] = {"concept": {}, "dimension": {}}
 
-    def add(self, path: str, lines: Iterable[str]) -> None:
-        """Adds a report with its faults."""
-        first, faults = [], 0
-        for line in lines:
-            faults += 1
-            if faults <= MOST_LINES:
-                first.append(line)
-            found = LACKING.fullmatch(line)
-            if found and len(self.lacking[found[1]]) < MOST_NAMES:
-                self.lacking[found[1]][found[2]] = None
-        self.reports.append(Refused(path, tuple(first), faults))
+    def add(self, path: str, refusal: str, faults: Iterable[Mapping[str, Any]]) -> None:
+        """Adds a report with its faults. If there are none, the refusal stands for them."""
+        first, count = [], 0
+        for count, fault in enumerate(faults, 1):
+            if count <= MOST_LINES:
+                first.append(line_of(fault))
+            names = self.lacking.get(LACKING.get(fault["name"], ""))
+            if names is not None and len(names) < MOST_NAMES:
+                names[shortened(fault["part"])] = None
+        self.reports.append(Refused(path, tuple(first or [refusal]), count or 1))
 
     def lacking_lines(self, most: int = MOST_NAMES) -> Iterator[str]:
         """Yields which concepts and dimensions the sheet lacks, and what to do about it."""
@@ -57,3 +58,11 @@ class Refusals:
         for report in self.reports:
             yield from (f"{report.path}: {line}" for line in report.shown())
         yield from self.lacking_lines(MOST_PRINTED)
+
+
+def line_of(fault: Mapping[str, Any]) -> str:
+    """Returns a fault as a line."""
+    identifier = fault["identifier"]
+    fact = "" if identifier is None else f"fact {json.dumps(shortened(identifier), ensure_ascii=False)}: "
+    number = "" if fault["number"] is None else f"{fault['number']} {fault['name']}: "
+    return f"{fact}{number}{fault['sentence']}"

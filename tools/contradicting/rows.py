@@ -10,8 +10,10 @@ from decimal import Decimal, getcontext
 from typing import Any, Iterable, Iterator, Mapping, NamedTuple, Optional, Protocol, Union
 
 from contradicting.sources import Holders, names_of
-from contradicting.texts import CORE, Name, Sheet, Text, Tree, using
+from contradicting.texts import CORE, Text, Tree, using
+from names import Name
 from process import shortened
+from sheets import Sheet
 
 getcontext().prec = 100  # more digits than an end of an interval has: sums are exact
 NUMBER = re.compile(r"-?(?:0|[1-9]\d{0,39})(?:\.\d{1,39})?", re.ASCII)
@@ -55,13 +57,13 @@ class Fact(NamedTuple):
 
 
 class Row(NamedTuple):
-    """The facts of one dimension set by identifier, what a line says of them, and who said each.
+    """The facts of one row by identifier, its verdict, and who reported each.
 
-    The gap has the ends of what lies between the two facts that don't meet, and is None where they are no numbers.
+    The gap is the interval between the two facts that contradict each other, or None if they are not numbers.
     """
 
     number: int
-    dimensions: Optional[Dimensions]  # None, as there are no facts, where it does not contradict itself
+    dimensions: Optional[Dimensions]  # None, like the facts, if the row is not a contradiction
     facts: Mapping[str, Fact]
     said: re.Match[str]
     holders: Mapping[str, Holders]
@@ -73,7 +75,7 @@ class Row(NamedTuple):
         return self.said["one"], self.said["two"]
 
     def share(self) -> Optional[Decimal]:
-        """Returns the difference of the pair as a share of the larger value, None where they are no numbers."""
+        """Returns the difference of the pair as a share of the larger value, or None if they are not numbers."""
         one, two = (self.facts[name].value for name in self.pair)
         if not isinstance(one, Decimal) or not isinstance(two, Decimal):
             return None
@@ -125,7 +127,7 @@ class Reader:
         self.providers = len(set(sources.names))
 
     def rows(self, path: str) -> list[Row]:
-        """Returns the rows that contradict themselves. The lines have to tell of just the facts, and what they show."""
+        """Returns the rows that are contradictions. The lines must fit the facts."""
         kept, groups = [], itertools.groupby(self.text.facts(), dimensions_given)
         with using(path), open(path, encoding="utf-8", newline="\n") as file:
             lines = iter(functools.partial(file.readline, LONGEST_LINE), "")
@@ -147,7 +149,7 @@ class Reader:
         self.listed.append((row.number, verdict, names[0], names[-1], self.said_by(len(who)), ", ".join(sorted(who))))
 
     def said_by(self, count: int) -> str:
-        """Returns in words that so many of the providers said something, nothing where there are no providers."""
+        """Returns how many of the providers report a row, in words, or an empty text if there are no providers."""
         return f"{count} of {self.providers}" if self.providers else ""
 
     def row(self, number: int, facts: dict[str, Tree], line: str) -> Optional[Row]:
@@ -175,9 +177,9 @@ class Reader:
         if kind == "numeric" and tree["value"] is not None:
             decimals = tree.get("decimals", 0)
             if not NUMBER.fullmatch(tree["value"]) or type(decimals) is not int or decimals not in range(-39, 40):
-                raise ValueError(f"it has a number of another form: {shortened(tree['value'])}")
+                raise ValueError(f"it has a number in another form: {shortened(tree['value'])}")
         elif not isinstance(tree["value"], (str, type(None))):
-            raise ValueError("it has a value that is no text")
+            raise ValueError("it has a value that is not a text")
         return kind
 
     def expanded(self, facts: dict[str, Tree]) -> tuple[Dimensions, dict[str, Fact]]:
@@ -193,7 +195,7 @@ class Reader:
         sides = (side.strip("()").split("*") for side in unit.split("/") if side)
         units = tuple(tuple(sorted(map(name, side))) for side in sides)
         members = sorted((name(axis), member) for axis, member in given.items())
-        explicit = (member and self.sheet.axes[axis] == "explicit" for axis, member in members)
+        explicit = (member and self.sheet.dimensions[axis] == "explicit" for axis, member in members)
         named = tuple((axis, name(member) if has_name else member) for (axis, member), has_name in zip(members, explicit))
         check_texts(language, *(member for axis, member in members if member is not None))
         return Dimensions(name(concept), name(entity) if entity else None, checked_period(period), units, language, named)
@@ -207,14 +209,14 @@ class Reader:
 
 def check_texts(*values: Any) -> None:
     if not all(isinstance(value, str) for value in values):
-        raise ValueError("it has a dimension that is no text")
+        raise ValueError("it has a dimension that is not a text")
 
 
 def checked_period(period: str) -> str:
     """Returns a period, which is absent, a moment or two of them."""
     moments = period.split("/") if period else []
     if len(moments) > 2 or not all(map(MOMENT.fullmatch, moments)):
-        raise ValueError(f"it has a period of another form: {shortened(period)}")
+        raise ValueError(f"it has a period in another form: {shortened(period)}")
     for moment in moments:
         datetime.datetime.fromisoformat(moment)
     return period
@@ -224,7 +226,7 @@ def zip_all(groups: Iterable[Any], lines: Iterable[str]) -> Iterator[tuple[Any, 
     """Yields each group with its line; there have to be as many of both."""
     for group, line in itertools.zip_longest(groups, lines):
         if group is None or line is None or not line.endswith("\n"):
-            raise ValueError("it does not have a line for each dimension set of the text")
+            raise ValueError("it does not have a line for each row of the text")
         yield group, line
 
 
@@ -238,7 +240,7 @@ def interval_of(value: Decimal, decimals: Optional[int]) -> Interval:
 
 
 def is_common(said: re.Match[str], facts: Mapping[str, Tree]) -> bool:
-    """Tells whether the numbers of facts have just the interval in common that a line says."""
+    """Returns whether a line shows the interval that the numbers of facts have in common."""
     if any(fact["value"] is None for fact in facts.values()):
         return False
     lows, highs = zip(*(interval_of(Decimal(fact["value"]), fact.get("decimals")) for fact in facts.values()))

@@ -1,4 +1,4 @@
-"""Who said the facts of a merged text, as the lines of `sources` tell."""
+"""Who reported the facts of a merged report, according to the lines of `sources`."""
 from __future__ import annotations
 
 import json
@@ -13,7 +13,7 @@ LONGEST_LINE = 1 << 26  # characters
 
 
 class Holder(NamedTuple):
-    """A provider that said a fact, and by which identifiers, where that is known."""
+    """A provider that reported a fact, with the identifiers, if they are known."""
 
     name: str
     identifiers: tuple[str, ...]
@@ -31,7 +31,7 @@ class Sources:
     def __init__(self, path: str, reports: list[str], refused: Container[int] = ()) -> None:
         self.path, self.reports = path, reports
         self.names = [name for number, name in enumerate(reports, 1) if number not in refused]
-        self.head: Optional[tuple[str, str, str]] = None  # a fact, who said it, and by which identifier
+        self.head: Optional[tuple[str, str, str]] = None  # a fact, its report and its identifier there
         with using(path):
             self.file = open(path, encoding="utf-8", newline="\n")
             self.advance()
@@ -43,32 +43,32 @@ class Sources:
             self.file.close()
             self.head = None
         elif not found or int(found[2]) > len(self.reports):
-            raise ValueError(f"{line[:80]!r} is no line of the sources of {len(self.reports)} reports")
+            raise ValueError(f"{line[:80]!r} is not a line of the sources of {len(self.reports)} reports")
         else:
             identifier = json.loads(found[3])
             identifier.encode()  # refuses halves of characters, which can't be written
             self.head = found[1], self.reports[int(found[2]) - 1], identifier
 
     def holders(self, name: str, _: Tree) -> Holders:
-        """Returns who said a fact, by which identifiers; each has to be asked for once, in order."""
+        """Returns who reported a fact, with the identifiers. Ask for each fact once, in order."""
         found: dict[str, list[str]] = {}
         with using(self.path):
             while self.head and self.head[0] == name:
                 found.setdefault(self.head[1], []).append(self.head[2])
                 self.advance()
             if not found:
-                raise ValueError(f"it tells nobody who said {name}, or not in its place")
+                raise ValueError(f"it lacks the source of {name}, or has it in the wrong place")
         return tuple(Holder(provider, tuple(identifiers)) for provider, identifiers in found.items())
 
     def finish(self) -> None:
         """Refuses lines of facts that are not there."""
         with using(self.path):
             if self.head:
-                raise ValueError(f"it tells of {self.head[0]}, which is not there, or not in its place")
+                raise ValueError(f"it has a source of {self.head[0]}, which does not exist, or is in the wrong place")
 
 
 class OwnTexts:
-    """The merged text of each provider's own reports, which tells no identifiers."""
+    """The merged report of each provider's own reports, which does not contain the original identifiers."""
 
     def __init__(self, providers: list[Provider]) -> None:
         self.providers, self.names = providers, [provider.name for provider in providers]
@@ -92,7 +92,7 @@ def providers(holders: Holders) -> str:
 
 
 def identifiers(holders: Holders) -> str:
-    """Returns by which identifiers each of them said it, where that is known, as a text."""
+    """Returns the identifiers of each provider, if they are known, as a text."""
     return "; ".join(f"{holder.name}: {', '.join(holder.identifiers)}" for holder in holders if holder.identifiers)
 
 

@@ -9,7 +9,7 @@ from typing import Iterable, Iterator, Mapping, Sequence, Union
 
 from contradicting.rows import Dimensions, Reader, Row, Value, plain
 from contradicting.sources import identifiers, providers
-from contradicting.texts import Name
+from names import Name
 from process import NotDone
 
 SIGNS = "=+-@\uff1d\uff0b\uff0d\uff20"  # that a formula begins with
@@ -49,11 +49,11 @@ def cell(value: Cell) -> str:
 
 
 def safe(text: str) -> str:
-    """Returns a text that no spreadsheet works out: a ' stands before what would begin a formula."""
+    """Returns a text that a spreadsheet does not read as a formula: a ' precedes what would begin one."""
     return BEFORE_FORMULA.sub(guarded, text)
 
 
-safe_again = functools.lru_cache(10_000)(safe)  # short texts come again in many cells
+safe_again = functools.lru_cache(10_000)(safe)  # short texts are repeated in many cells
 
 
 def guarded(found: re.Match[str]) -> str:
@@ -72,9 +72,9 @@ def check_lengths(rows: Iterable[tuple[Dimensions, int]]) -> None:
         length = length_of(dimensions)
         total += length * facts
         if length > LONGEST_ROW:
-            raise NotDone(f"the dimensions of one row, with the URI of each name, have over {LONGEST_ROW} characters")
+            raise NotDone(f"the dimensions of one row, with the URI of each name, have more than {LONGEST_ROW} characters")
     if total > LONGEST_TABLE:
-        raise NotDone(f"a table, with the URI of each name in each line, would have over {LONGEST_TABLE} characters")
+        raise NotDone(f"a table, with the URI of each name in each line, would have more than {LONGEST_TABLE} characters")
 
 
 def length_of(dimensions: Dimensions) -> int:

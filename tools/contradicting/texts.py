@@ -4,26 +4,20 @@ from __future__ import annotations
 import contextlib
 import json
 import re
-import sys
-from typing import Any, Iterator, Mapping, NamedTuple, Optional
+from typing import Any, Iterator, Optional
 
+from names import Name, Uris, uris_of
 from process import NotDone, shortened
+from sheets import Sheet
 from text_files import read_text
 
 Tree = Any  # what `json` reads
 PIECE = 1 << 18  # characters that are read at a time
-WHITE = " \t\r\n"  # has the empty text too, which stands for the end of a piece
+WHITE = " \t\r\n"  # `in` accepts the empty text too, which means the end of a piece
 SPACE = re.compile(r"[ \t\r\n]*")
 FACT = re.compile(r'(,?)[ \t\r\n]*"(f\d+)"[ \t\r\n]*:[ \t\r\n]*(?={)')
 CORE = ("concept", "entity", "period", "unit", "language")
 DIGITS = 18  # that a whole number has at most: longer ones stay texts, since reading them takes the square of their length
-
-
-class Name(NamedTuple):
-    """An expanded name."""
-
-    uri: str
-    local: str
 
 
 @contextlib.contextmanager
@@ -39,22 +33,13 @@ def small_number(digits: str) -> Any:
     return int(digits) if len(digits) <= DIGITS else digits
 
 
-class Sheet:
-    """The kinds of concepts and dimensions, by expanded name."""
-
-    def __init__(self, path: str) -> None:
-        with using(path):
-            tree = json.loads(read_text(path), parse_int=small_number)
-            uris, tables = uris_of(tree["namespaces"]), (tree.get(table, {}) for table in ("concepts", "dimensions"))
-            self.concepts, self.axes = ({expanded(name, uris): of[name] for name in of} for of in tables)
+def sheet_at(path: str) -> Sheet:
+    """Returns the sheet of a file. Errors: NotDone."""
+    with using(path):
+        return Sheet(json.loads(read_text(path), parse_int=small_number))
 
 
-def uris_of(namespaces: Tree) -> Mapping[str, str]:
-    """Returns the URIs by prefix. Equal ones are one object, so that no comparison reads them."""
-    return {prefix: sys.intern(uri) for prefix, uri in namespaces.items()}
-
-
-def expanded(text: str, uris: Mapping[str, str]) -> Name:
+def expanded(text: str, uris: Uris) -> Name:
     prefix, _, local = text.partition(":")
     return Name(uris[prefix], local)
 
@@ -91,19 +76,19 @@ class Text:
                 name, tree = self.fact(rank > 1)
                 width = width or len(name) - 1
                 if name != f"f{rank:0{width}}":
-                    raise ValueError(f"{name} is not the name of its fact {rank}")
+                    raise ValueError(f"{name} is not the identifier of fact {rank}")
                 if self.may_have_halves:
                     json.dumps(tree, ensure_ascii=False).encode()  # refuses halves of characters, which can't be written
                 yield name, tree
             if rank and len(str(rank)) != width:
-                raise ValueError(f"its names are not those of {rank} facts")
+                raise ValueError(f"its identifiers are not those of {rank} facts")
             for sign in "}}":
                 self.expect(sign)
             if self.next():
-                raise ValueError("something stands behind it")
+                raise ValueError("something follows it")
 
     def fact(self, is_behind: bool) -> tuple[str, Tree]:
-        """Returns the next fact and its name; one that stands whole in the piece is found at once."""
+        """Returns the next fact and its name; one that is whole in the piece is found at once."""
         found = FACT.match(self.piece, self.at)
         if found and bool(found[1]) == is_behind:
             self.at = found.end()
@@ -115,7 +100,7 @@ class Text:
     def member(self, name: str) -> Tree:
         found, tree = self.pair()
         if found != name:
-            raise ValueError(f"{found} stands in the place of {name}")
+            raise ValueError(f"{found} is where {name} should be")
         return tree
 
     def pair(self) -> tuple[str, Tree]:
@@ -134,7 +119,7 @@ class Text:
                 return tree
             except ValueError as fault:
                 if not self.fill():
-                    raise ValueError(f"it ends too soon, or is no JSON: {fault}") from None
+                    raise ValueError(f"it ends too early, or is not JSON: {fault}") from None
 
     def expect(self, sign: str) -> None:
         self.next()
@@ -145,7 +130,7 @@ class Text:
         self.at += len(sign)
 
     def next(self) -> str:
-        """Returns the next character that is no white space, or an empty text at the end."""
+        """Returns the next character that is not white space, or an empty text at the end."""
         while self.piece[self.at : self.at + 1] in WHITE:
             white = SPACE.match(self.piece, self.at)
             self.at = white.end() if white else self.at
@@ -154,7 +139,7 @@ class Text:
         return self.piece[self.at : self.at + 1]
 
     def fill(self) -> bool:
-        """Reads on, twice as much where that was too little, and tells whether there was something."""
+        """Reads on, each time twice as much, and returns whether there was anything."""
         self.piece = self.piece[self.at :]
         self.at = 0
         more = self.file.read(max(PIECE, len(self.piece)))
@@ -186,7 +171,7 @@ class Provider:
         return f"{self.text.path}, in which a fact is not of {self.merged}"
 
     def said(self, tree: Tree) -> bool:
-        """Tells whether a fact of the merged text is the provider's; each has to be asked for once, in order."""
+        """Returns whether the provider reported a fact of the merged report. Ask for each fact once, in order."""
         is_said = bool(self.head == tree)
         if is_said:
             self.advance()
@@ -196,7 +181,7 @@ class Provider:
         """Refuses a text with a fact that was not asked for."""
         with using(self.fault()):
             if self.head is not None:
-                raise ValueError("it is none of its facts, or not in its place")
+                raise ValueError("it is not one of its facts, or in the wrong place")
 
     def respelled(self, tree: Tree) -> Tree:
         """Returns a fact with the prefixes of the merged text."""
@@ -216,7 +201,7 @@ class Provider:
         return {**tree, "dimensions": dimensions, "value": value}
 
     def is_explicit(self, axis: str) -> bool:
-        return bool(self.sheet.axes[self.text.name(axis)] == "explicit")
+        return bool(self.sheet.dimensions[self.text.name(axis)] == "explicit")
 
     def spelled(self, text: str) -> str:
         """Returns a name or an entity with the prefix of the merged text."""

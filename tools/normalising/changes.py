@@ -56,7 +56,7 @@ class Log:
         self.is_lossy |= loss
 
     def take(self, other: Log) -> None:
-        """Adds what another log tells."""
+        """Adds the lines of another log."""
         self.lines += other.lines
         self.left += other.left
         self.is_lossy |= other.is_lossy
@@ -79,7 +79,7 @@ def brief_of(tree: Tree) -> Tree:
 
 
 class Part:
-    """An object of a report with its place. Each way to change it tells the change."""
+    """An object of a report with its place. Each method that changes it logs the change."""
 
     def __init__(self, members: dict[str, Tree], path: Path, log: Log) -> None:
         self.members, self.path, self.log = members, path, log
@@ -88,7 +88,7 @@ class Part:
         return self.members.get(key)
 
     def change(self, key: str, now: Tree, rule: str, loss: bool = False) -> None:
-        """Puts another value in the place of a member, and tells it where it is another."""
+        """Replaces the value of a member, and logs the change if it differs."""
         was = self.members[key]
         if type(was) is not type(now) or was != now:
             self.members[key] = now

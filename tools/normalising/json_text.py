@@ -39,7 +39,7 @@ def read_json(path: str) -> Tree:
 def read_json_of_length(path: str) -> tuple[Tree, int]:
     """Returns the tree of a file, and how many characters it has.
 
-    Raises NotDone if it cannot be read, if it is no JSON, or if two members of one object share a name.
+    Raises NotDone if it cannot be read, if it is not JSON, or if two members of one object share a name.
     """
     try:
         text = read_text(path)
@@ -93,7 +93,7 @@ def told_twice(tree: Tree, twins: Twins) -> str:
 
 
 def path_to(tree: Tree, wanted: Tree) -> Optional[tuple[str, ...]]:
-    """Returns the keys that lead to an object of a tree, None where the object is in another's place no more."""
+    """Returns the keys that lead to an object of a tree, or None if the object is no longer in it."""
     waiting: list[tuple[Tree, Any]] = [(tree, None)]
     while waiting:
         part, way = waiting.pop()

@@ -1,4 +1,4 @@
-"""Rewrites the moments of a period: fractions of zero, dates alone and time zones."""
+"""Rewrites the moments of a period: zero fractions, dates without a time, and time zones."""
 from __future__ import annotations
 
 import datetime
@@ -27,7 +27,7 @@ def without_zero_fraction(moment: re.Match[str], _: bool) -> Optional[str]:
 
 
 def with_time(moment: re.Match[str], is_start: bool) -> Optional[str]:
-    """Gives a date alone the end of its day, or its beginning where it is a start."""
+    """Gives a date without a time the end of its day, or the beginning if it is a start."""
     day, time, part, zone = moment.groups(default="")
     if time or part or not is_date(day):
         return None
@@ -49,7 +49,7 @@ def in_utc(moment: re.Match[str], _: bool) -> Optional[str]:
 
 
 def ahead(zone: str) -> datetime.timedelta:
-    """Returns how much later a zone's clocks are than those of UTC. Raises ValueError if it is no zone."""
+    """Returns how much later a zone's clocks are than those of UTC. Raises ValueError if it is not a zone."""
     hours, minutes = int(zone[1:3]), int(zone[4:])
     if hours * 60 + minutes > 14 * 60 or minutes > 59:
         raise ValueError(f"{zone} is no zone")

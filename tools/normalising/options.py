@@ -5,10 +5,10 @@ import argparse
 
 LOSSES = {
     "drop-links": "drop the links of facts",
-    "drop-notes": "drop the facts that are footnotes, and links",
-    "drop-unknown": "drop the facts whose concept or dimension the sheet does not list",
-    "drop-null": "drop decimals that are null, and null members of explicit dimensions",
-    "drop-unreadable": "drop the facts that xbrlmerge still would refuse",
+    "drop-notes": "drop footnotes and links",
+    "drop-unknown": "drop facts with a concept or dimension that is not in the sheet",
+    "drop-null": "drop null decimals, and null members of explicit dimensions",
+    "drop-unreadable": "drop the facts that the program still refuses",
 }
 
 
@@ -17,9 +17,9 @@ def add_losses(parser: argparse.ArgumentParser, title: str) -> None:
     lossy = parser.add_argument_group(title)
     for word, told in LOSSES.items():
         lossy.add_argument(f"--{word}", action="store_true", help=told)
-    lossy.add_argument("--dates", choices=["xbrl21"], help="read a date alone as XBRL 2.1 does: a start is the beginning"
-                       " of its day, an instant or an end is the end of its day")
-    lossy.add_argument("--zones", choices=["utc"], help="take moments with a zone to UTC, and leave the zone out")
+    lossy.add_argument("--dates", choices=["xbrl21"], help="read a date without a time as XBRL 2.1 does: a start is"
+                       " the beginning of its day, an instant or an end is the end of its day")
+    lossy.add_argument("--zones", choices=["utc"], help="convert moments with a time zone to UTC, and remove the zone")
 
 
 def loses(options: argparse.Namespace) -> bool:

@@ -1,4 +1,4 @@
-"""The rules that bring a report into the profile. docs/NORMALISE.md tells each with its source."""
+"""The rules that bring a report into the profile. docs/GUIDE.md describes each with its source."""
 from __future__ import annotations
 
 import argparse
@@ -6,11 +6,15 @@ import re
 from decimal import Decimal, InvalidOperation
 from typing import Optional
 
-from normalising import moments, profile
+from names import SPACE, XBRL, Name, Uris, expanded, uris_of
+from normalising import moments
 from normalising.changes import Log, Part, Reason
 from normalising.json_text import Number, Tree, text_of
-from normalising.names import SPACE, XBRL, Kinds, Name, Sheet, Uris, core_spelling, expanded, is_text, uris_of
+from normalising.names import core_spelling, is_text
+from normalising.unreadable import refused_in
 from process import NotDone
+from program import Program
+from sheets import Kinds, Sheet
 
 KNOWN = {
     "report": {"documentInfo", "facts"},
@@ -20,16 +24,16 @@ KNOWN = {
 CORE = ("concept", "entity", "period", "unit", "language", "noteId")
 SCIENTIFIC = re.compile(r"[+-]?(?P<mantissa>\d+(\.\d*)?|\.\d+)[eE][+-]?\d+", re.ASCII)
 WHOLE = re.compile(r"[+-]?\d{1,18}", re.ASCII)
-
+DIGITS = 18  # of a number without its exponent
 
 GROWTH, SMALL = 16, 1_000_000  # the names of sets may add this many times the report, and this many characters to it
 
 
 class Normaliser:
-    """Brings reports into the profile as a sheet and options have it."""
+    """Brings reports into the profile as a sheet and options have it. The program is asked what it still refuses."""
 
-    def __init__(self, sheet: Sheet, options: argparse.Namespace) -> None:
-        self.sheet, self.options = sheet, options
+    def __init__(self, sheet: Sheet, options: argparse.Namespace, program: Optional[Program] = None) -> None:
+        self.sheet, self.options, self.program = sheet, options, program
 
     def normalise(self, tree: Tree, length: int = 0) -> Log:
         """Changes the tree of a report of that many characters. Returns the lines of changes and what is left, in order."""
@@ -42,12 +46,20 @@ class Normaliser:
         if isinstance(information, dict):
             drop_unknown_members(Part(information, ("documentInfo",), whole), "documentInfo")
             uris = uris_of(information.get("namespaces"))
+        logs: dict[str, Log] = {}
         if isinstance(facts, dict):
             reader, tree["facts"] = FactReader(self.sheet, self.options, uris, GROWTH * length + SMALL), {}
             for number, (name, fact) in enumerate(facts.items(), 1):
-                log = Log(name, number)
-                reader.read(name, fact, log, tree["facts"])
-                whole.take(log)
+                logs[name] = Log(name, number)
+                reader.read(name, fact, logs[name], tree["facts"])
+        if self.program and self.options.drop_unreadable:
+            refused = refused_in(tree, self.program)
+            for name, why in refused.facts.items():
+                logs[name].tell_dropped(("facts", name), Reason("drop-unreadable", why), facts[name])
+                del tree["facts"][name]
+            whole.left += refused.lines
+        for log in logs.values():
+            whole.take(log)
         return whole
 
 
@@ -174,8 +186,7 @@ class FactReader:
             for name, listed in [(self.concept_of(fact), self.sheet.concepts), *axes]:
                 if name and name not in listed:
                     return Reason("drop-unknown", "the sheet does not list {{{}}}{}", name)
-        why = profile.fault_of(fact, self.uris, self.sheet) if self.options.drop_unreadable else None
-        return Reason("drop-unreadable", why) if why else None
+        return None
 
 
 def kind_of(name: Optional[Name], kinds: Kinds) -> Optional[str]:
@@ -210,7 +221,7 @@ def plain_number(scientific: re.Match[str]) -> Optional[str]:
     counting = len(bytes(digits).rstrip(b"\0"))
     exponent = int(exponent) + len(digits) - counting
     whole, places = max(counting + exponent, 0), max(-exponent, 0)
-    return format(number, "f") if whole + places <= profile.DIGITS else None
+    return format(number, "f") if whole + places <= DIGITS else None
 
 
 def full_name(item: str, uris: Uris) -> Optional[tuple[str, str]]:

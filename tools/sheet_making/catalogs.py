@@ -7,7 +7,7 @@ from dataclasses import dataclass
 from typing import Optional
 from urllib.parse import unquote
 
-from sheet_making.names import Name
+from names import Name
 from sheet_making.xml_reading import Element, Visitor
 
 REWRITE = Name("urn:oasis:names:tc:entity:xmlns:xml:catalog", "rewriteURI")
@@ -16,7 +16,7 @@ MOST_LENGTHS = 1_000  # of different starts; a location is looked up once for ea
 
 @dataclass(frozen=True)
 class Rewrite:
-    """A URL that begins so lies at a path beside this catalog."""
+    """A URL with this prefix is a file at this path, relative to the catalog."""
 
     start: str
     prefix: str
@@ -35,7 +35,7 @@ class Rewrites(Visitor):
         if element.name == REWRITE:
             start, prefix = element.get("uriStartString"), element.get("rewritePrefix")
             if not start or prefix is None:
-                raise ValueError("a rewriteURI has no uriStartString or no rewritePrefix")
+                raise ValueError("a rewriteURI lacks uriStartString or rewritePrefix")
             self.rules.setdefault(start, Rewrite(start, prefix, self.catalog))
             self.note_length(len(start))
 

@@ -14,14 +14,14 @@ CATALOG = os.path.join(os.sep, "META-INF", "catalog.xml")
 
 
 class Files:
-    """Files on disk and in packages. A place is a path; in a package it goes on behind the package's own."""
+    """Files on disk and in packages. A place is a path; in a package, it continues after the path of the package."""
 
     def __init__(self, words: Iterable[str], limits: Limits) -> None:
         self.limits = limits
         self.packed: dict[str, Package] = {}
         self.listed: list[str] = []  # what is named, or is in a folder or package that is named
         self.named: set[str] = set()
-        self.folders: set[str] = set()  # what is on disk is read in these alone
+        self.folders: set[str] = set()  # files on disk are read only in these
         for word in dict.fromkeys([os.path.abspath(word) for word in words]):
             with reading(word):
                 self.listed += sorted(self.places_of(word))
@@ -32,7 +32,7 @@ class Files:
             self.folders.add(os.path.realpath(word))
             return [os.path.join(at, name) for at, _, names in os.walk(word, onerror=fail) for name in names]
         if not os.path.isfile(word):
-            raise ValueError("it is no file" if os.path.exists(word) else "there is no such file")
+            raise ValueError("it is not a file" if os.path.exists(word) else "there is no such file")
         if zipfile.is_zipfile(word):
             package = Package(word, self.limits)
             self.packed.update(dict.fromkeys(package.entries, package))
@@ -53,7 +53,7 @@ class Files:
         return sorted(place for place in self.listed if place.lower().endswith(".xml"))
 
     def found(self, place: str, origin: str) -> Optional[str]:
-        """Returns the place where a file is that a document refers to, or None. Packages refer to nothing on disk."""
+        """Returns the place of a file that a document refers to, or None. Packages cannot refer to files on disk."""
         if place in self.packed:
             return place
         return place if origin not in self.packed and os.path.isfile(place) else None
@@ -61,14 +61,14 @@ class Files:
     def read(self, place: str) -> bytes:
         """Returns the bytes of a file.
 
-        Errors: ValueError where it is no regular file, leads out of the named folders or is too long; OSError; what
+        Errors: ValueError where it is not a regular file, leads out of the named folders or is too long; OSError; what
         zipfile raises.
         """
         if place in self.packed:
             return self.packed[place].read(place)
         really = os.path.realpath(place)
         if not self.limits.outside and self.folders.isdisjoint(map(str, pathlib.PurePath(really).parents)):
-            raise ValueError("it is outside the folders that are named (--outside)")
+            raise ValueError("it is outside the named folders (--outside)")
         return read_regular(really, self.limits)
 
 
@@ -80,12 +80,12 @@ def read_regular(place: str, limits: Limits) -> bytes:
     with open(place, "rb", opener=lambda path, flags: os.open(path, flags | os.O_NONBLOCK)) as file:
         status = os.fstat(file.fileno())
         if not stat.S_ISREG(status.st_mode):
-            raise ValueError("it is no regular file")
+            raise ValueError("it is not a regular file")
         data = file.read(min(status.st_size, limits.file) + 1)  # which takes so much memory beforehand
     if len(data) > limits.file:
         raise too_long(limits)
     if len(data) > status.st_size:
-        raise ValueError("it grows while it is read")
+        raise ValueError("it grew while it was read")
     return data
 
 

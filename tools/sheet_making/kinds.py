@@ -5,10 +5,10 @@ import functools
 import re
 from typing import Mapping, Optional
 
-from sheet_making.names import RESERVED, Name
+from names import XBRL, Name
 from sheet_making.schemas import ANY_TYPE, XBRLDT, Declaration
+from sheets import TABLES
 
-TABLES = {"concepts": ("numeric", "text", "name"), "dimensions": ("explicit", "typed")}
 Kinds = dict[str, dict[Name, str]]  # for each table of a sheet; the kind "set" is written as text, and named
 
 XBRLI = "http://www.xbrl.org/2003/instance"
@@ -79,13 +79,13 @@ class Judge:
         self.bases = ends_of({name: base for name, base in types.items() if is_followed(name)})
 
     def judged(self, name: Name) -> tuple[Optional[str], Optional[str], Optional[str]]:
-        """Returns the table and the kind of an element, or the reason why it has none; neither for what is no concept."""
+        """Returns the table and the kind of an element, or the reason why it has none; neither if it is not a concept."""
         head, element = self.heads[name], self.elements[name]
         if head and not is_specification(head.uri):
-            return None, None, f"its head {head.shown()} is not known, or comes again"
+            return None, None, f"its head {head.shown()} is unknown, or leads to itself"
         table = HEADS.get(head) if head else None
-        if table and name.uri in ("", RESERVED):
-            return None, None, "no concept can have its namespace"
+        if table and name.uri in ("", XBRL):
+            return None, None, "its namespace is reserved"
         if table == "dimensions":
             return table, "typed" if element.is_typed else "explicit", None
         if not table or element.is_abstract:
@@ -106,9 +106,9 @@ def is_followed(name: Name) -> bool:
 
 
 def ends_of(following: Mapping[Name, Optional[Name]]) -> dict[Name, Optional[Name]]:
-    """Returns, for each name, the first one behind it that nothing follows, or one that comes again.
+    """Returns, for each name, the end of its chain: a name without a successor, or one that is repeated.
 
-    Each name is passed once, since the names behind it that are known already are not passed again.
+    Each name is visited once, because the ends of visited names are known.
     """
     ends: dict[Name, Optional[Name]] = {}
     for start in following:

@@ -1,4 +1,4 @@
-"""How much is read, and what is said of a file that cannot be read."""
+"""The limits of what is read, and the message for a file that cannot be read."""
 from __future__ import annotations
 
 import contextlib

@@ -14,7 +14,7 @@ METHODS = (zipfile.ZIP_STORED, zipfile.ZIP_DEFLATED)  # `zipfile` unpacks others
 
 
 class Package:
-    """A package, of which files are read when they are needed."""
+    """A package, whose files are read when they are needed."""
 
     def __init__(self, path: str, limits: Limits) -> None:
         self.path, self.limits, self.file = path, limits, zipfile.ZipFile(path)
@@ -31,7 +31,7 @@ class Package:
         place = os.path.normpath(folder + entry.filename)
         is_within = os.path.join(place, "").startswith(folder) and not entry.filename.startswith("/")
         if not is_within or place in self.entries:
-            raise ValueError(f"it has a path outside of it, or one twice: {shortened(entry.filename)}")
+            raise ValueError(f"it has a path outside itself, or a repeated path: {shortened(entry.filename)}")
         if len(entry.filename) > LONGEST_PATH:
             raise ValueError(f"it has a path of more than {LONGEST_PATH} characters: {shortened(entry.filename)}")
         if not entry.is_dir():
@@ -40,7 +40,7 @@ class Package:
     def read(self, place: str) -> bytes:
         entry = self.entries[place]
         if entry.compress_type not in METHODS:
-            raise ValueError("it is compressed by another method than deflate")
+            raise ValueError("it is compressed by a method other than deflate")
         with self.file.open(entry) as file:
             data = file.read(self.limits.file + 1)
         if len(data) > self.limits.file:

@@ -5,8 +5,8 @@ import sys
 from dataclasses import dataclass
 from typing import NamedTuple, Optional
 
+from names import PART, SPACE, Name
 from process import shortened
-from sheet_making.names import LOCAL, WHITE, Name
 from sheet_making.xml_reading import Element, Visitor
 
 XS = "http://www.w3.org/2001/XMLSchema"
@@ -19,7 +19,7 @@ DERIVATIONS = (Name(XS, "restriction"), Name(XS, "extension"))
 
 
 class Declaration(NamedTuple):
-    """What a schema says of an element: all that the sheet depends on."""
+    """The declaration of an element in a schema, as far as the sheet depends on it."""
 
     head: Optional[Name]  # of its substitution group
     type: Optional[Name]  # of an inner type, what that derives from
@@ -46,7 +46,7 @@ class Part:
 
 
 class SchemaVisitor(Visitor):
-    """Reads a schema that is wanted for a namespace; None stands for its own, which an included schema may lack."""
+    """Reads a schema for a namespace. None means its own namespace, which an included schema may lack."""
 
     def __init__(self, wanted: Optional[str]) -> None:
         self.wanted = wanted
@@ -80,18 +80,18 @@ class SchemaVisitor(Visitor):
         self.target = None if target is None else sys.intern(target)
         self.namespace = self.wanted if self.target is None else self.target
         if element.name != (XS, "schema") or self.wanted not in (None, self.namespace):
-            raise ValueError(f"it is no schema of the namespace {shortened(self.wanted or '')}")
+            raise ValueError(f"it is not a schema of the namespace {shortened(self.wanted or '')}")
 
     def open_part(self, element: Element, namespace: str) -> None:
         if element.name in REFERENCES:
             location = element.get("schemaLocation")
             imported = sys.intern(element.get("namespace") or "") if element.name == IMPORT else namespace
             if location is not None:
-                self.refer(location.strip(WHITE), imported)
+                self.refer(location.strip(SPACE), imported)
         elif element.name == ELEMENT or element.name in TYPES:
-            name = Name(namespace, (element.get("name") or "").strip(WHITE))
-            if not LOCAL.fullmatch(name.local):
-                raise ValueError(f"{name.shown()} is no name")
+            name = Name(namespace, (element.get("name") or "").strip(SPACE))
+            if not PART.fullmatch(name.local):
+                raise ValueError(f"{name.shown()} is not a name")
             self.part = Part(name, element.get("id"), element.name in TYPES)
             if self.part.is_type:
                 self.open_type(2, self.part)
@@ -100,7 +100,7 @@ class SchemaVisitor(Visitor):
 
     def open_element(self, element: Element, part: Part) -> None:
         part.head, part.type = (self.expanded(element, key) for key in ("substitutionGroup", "type"))
-        part.is_abstract = (element.get("abstract") or "").strip(WHITE) in ("true", "1")
+        part.is_abstract = (element.get("abstract") or "").strip(SPACE) in ("true", "1")
         part.is_typed = element.get_in(XBRLDT, "typedDomainRef") is not None
 
     def open_type(self, level: int, part: Part) -> None:
@@ -120,5 +120,5 @@ class SchemaVisitor(Visitor):
         text = element.get(key)
         if text is None:
             return None
-        name = element.bindings.expanded(text.strip(WHITE))
+        name = element.bindings.expanded(text.strip(SPACE))
         return name if name.uri or self.target else Name(self.wanted or "", name.local)

@@ -3,12 +3,12 @@ from __future__ import annotations
 
 from typing import Optional
 
+from names import Name
 from process import NotDone, shortened
 from sheet_making.catalogs import Rewrites
 from sheet_making.files import Files
 from sheet_making.kinds import is_specification
 from sheet_making.limits import reading
-from sheet_making.names import Name
 from sheet_making.schemas import Declaration, Part, SchemaVisitor
 from sheet_making.xml_reading import read_xml
 
@@ -35,20 +35,20 @@ class Taxonomy:
             with reading(place):
                 self.read_schema(place, wanted)
         if self.missing or not self.read:
-            raise NotDone(*shown_lines(self.missing or ["nothing that is named is a schema"]))
+            raise NotDone(*shown_lines(self.missing or ["none of the named files is a schema"]))
 
     def read_schema(self, place: str, wanted: Optional[str]) -> None:
-        """Keeps what a schema declares. One without a namespace has the wanted one, where it is included."""
+        """Keeps what a schema declares. An included schema without a namespace gets the wanted one."""
         namespaces = self.read.setdefault(place, set())
         target = self.targets.get(place)
         if target is not None and wanted not in (None, target):
-            raise ValueError(f"it is no schema of the namespace {shortened(wanted or '')}")
+            raise ValueError(f"it is not a schema of the namespace {shortened(wanted or '')}")
         if target is not None or wanted in namespaces or wanted is None and namespaces:
             return
         data = self.files.read(place)
         self.read_again += len(data) if namespaces else 0
         if self.read_again > self.files.limits.again:
-            raise ValueError(f"schemas without a namespace that are included in further ones have more than"
+            raise ValueError(f"schemas without a namespace that are included in others have more than"
                              f" {self.files.limits.again} bytes together (--megabytes)")
         visitor = Declaring(self, place, wanted)
         read_xml(data, visitor)
@@ -62,7 +62,7 @@ class Taxonomy:
         if found:
             self.waiting.append((found, wanted))
         elif not is_specification(wanted):
-            self.missing.append(f"{base}: {shortened(location)} is in nothing that is named")
+            self.missing.append(f"{base}: {shortened(location)} is not in the named files")
 
     def declare(self, part: Part, place: str) -> None:
         """Keeps an element or a type of the schema at a place."""

@@ -11,8 +11,8 @@ from typing import Optional, Sequence
 # read_xml rejects document types, so a document has no entities
 from xml.parsers import expat  # nosec
 
+from names import Name
 from process import shortened
-from sheet_making.names import Name
 
 MOST_LEVELS = 1_000
 XML = "http://www.w3.org/XML/1998/namespace"
@@ -30,7 +30,7 @@ class Bindings:
         prefixes = [key[6:] for key in declared]
         for key, prefix in zip(declared, prefixes):
             if prefix and not attributes[key]:
-                raise ValueError(f"the prefix {shortened(prefix)} is bound to no namespace")
+                raise ValueError(f"the prefix {shortened(prefix)} is bound to an empty namespace")
             self.uris.setdefault(prefix, []).append(sys.intern(attributes[key]))
         return prefixes
 
@@ -97,7 +97,7 @@ def read_xml(data: bytes, visitor: Visitor) -> None:
         bindings.unbind(opened.pop())
 
     def doctype(*_declared: object) -> None:
-        raise ValueError("it has a document type; none is read, and so no entity")
+        raise ValueError("it has a document type, which is not read")
 
     parser = expat.ParserCreate(intern=None)
     parser.StartElementHandler, parser.EndElementHandler = start, end
@@ -109,4 +109,4 @@ def read_xml(data: bytes, visitor: Visitor) -> None:
     except expat.ExpatError as fault:
         if expat.ErrorString(fault.code) == expat.errors.XML_ERROR_NO_MEMORY:
             raise MemoryError from None
-        raise ValueError(f"it is no XML: {fault}") from None
+        raise ValueError(f"it is not XML: {fault}") from None

@@ -62,7 +62,7 @@ abbrev pub Holds : Option Summed → Value → Type 0
 Holds None v = ⊥
 Holds (Some kept) v = Contains kept.0 v
 
--- a fact stands there exactly where its value is among those at its dimensions
+-- a fact stands there exactly if its value is among those at its dimensions
 pub tells_fact : (es : List Entry) (f : Fact) → IsRising dimensions_cmp entry_key es → Contains (facts_of_entries es) f ↔ Holds (value_at dimensions_cmp f.dimensions es) f.value
 tells_fact es f rise =
     let some = in_flat_map facts_of_entry es f in (

@@ -12,7 +12,6 @@ pub mod Verdicts
 mod Contradictions
 pub mod RowsOf
 pub mod Fitting
-mod Given
 pub mod Puts
 pub mod Pushes
 pub mod Stored

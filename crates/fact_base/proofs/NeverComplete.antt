@@ -22,7 +22,7 @@ by_dimensions Equal Less less allowed = allowed
 by_dimensions Equal Equal less allowed = absurd (cc)
 by_dimensions Equal Greater less allowed = allowed
 
--- of two facts in order, `complete` allows just those that `none` allows
+-- of two facts in order, `complete` allows exactly those that `none` allows
 apart : (f g : Fact) → fact_cmp f g ≡ Less → allows Complete f g ≡ true → allows Unique f g ≡ true
 apart f g less allowed = by_dimensions (dimensions_cmp f.dimensions g.dimensions) (value_cmp f.value g.value) less allowed
 

@@ -1,14 +1,15 @@
 -- Facts that are put one after another.
 use Rattle.std.proofs.Common.{◌≡◌, ℕ, zero, suc, ◌+◌, ◌<◌, length, get_or, List, [], ◌∷◌, ◌++◌, append-nil, take, Option, Some, None, refl, sym, ap, subst, ◌∙◌, inl, inr, ⊎_elim, arith}
-use Rattle.std.specs.Prelude.{◌↔◌, Contains, slice_get}
+use Rattle.std.specs.Prelude.{◌↔◌, Contains, IsPermutation, slice_get}
 use Rattle.std.specs.List.{All, flat_map, range_with_len}
 use Rattle.std.specs.Option.{option_map_or}
 use Rattle.std.proofs.lemmas.List.{take_more}
 use Rattle.std.proofs.lemmas.List.Concat.{flat_map-append}
 use Rattle.std.proofs.lemmas.List.FromFn.{get_or-range_with_len, length-range_with_len}
 use Rattle.std.proofs.lemmas.Option.{get_or_from_slice_get, slice_get-get_or, slice_get_within}
-use Rattle.std.proofs.lemmas.List.Sorted.{Contains-permutation}
+use Rattle.std.proofs.lemmas.List.Sorted.{All-permutation, Contains-permutation, IsPermutation-sym}
 use Rattle.merge_laws.specs.Ends.{summary_of}
+use Rattle.merge_laws.specs.Members.{SameMembers}
 use Rattle.merge_laws.specs.Sorted.{IsSet, entry_key, itself}
 use Rattle.merge_laws.specs.Union.{map_union}
 use Rattle.merge_laws.proofs.Both.{map_union_has_both, set_union_has_both}
@@ -133,4 +134,19 @@ all_put facts places es order are = record {
   in_order = are.in_order;
   members = λ f. let all = all_of_order facts places order f in (λ h. all.0 ((are.members f).0 h), λ h. (are.members f).1 (all.1 h));
   fit = λ sheet fits. are.fit sheet (each_by_there (FactFits sheet) (facts_by facts places) (λ f at. each_there (FactFits sheet) facts f fits ((all_of_order facts places order f).0 at)));
+}
+
+-- ---- facts in another order
+
+-- they have the same members
+pub same_moved : (facts moved : List Fact) → IsPermutation facts moved → SameMembers moved facts
+same_moved facts moved order f = (Contains-permutation moved facts f (IsPermutation-sym facts moved order), Contains-permutation facts moved f order)
+
+-- and the same entries
+pub all_moved : (facts moved : List Fact) (es : List Entry) → IsPermutation facts moved → AreEntriesOf moved es → AreEntriesOf facts es
+all_moved facts moved es order are = record {
+  rise = are.rise;
+  in_order = are.in_order;
+  members = λ f. let same = same_moved facts moved order f in (λ h. same.0 ((are.members f).0 h), λ h. (are.members f).1 (same.1 h));
+  fit = λ sheet fits. are.fit sheet (All-permutation (FactFits sheet) facts moved order fits);
 }

@@ -27,7 +27,7 @@ module _ {K : Type 0} {R : K → K → Ordering} (o : IsTotalOrder R) (exact : (
         );
       }
 
-  -- a list that rises with just these members is the set
+  -- a list that rises with exactly these members is the set
   pub is_set_of : (set xs : List K) → IsSet R set → SameMembers set xs → set ≡ set_of R xs
   is_set_of set xs rises same =
       let all = set_of_is_set xs in

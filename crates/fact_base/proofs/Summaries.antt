@@ -123,7 +123,7 @@ shows_shared vs ends between =
     ap (option_and_then (λ e. unless ((summary_of_all vs).nil || int_lt e.high e.low) e)) (ends_told vs ends between.ends)
     ∙ (λ i. unless (not_nil vs between.no_nil i || not_above ends.high ends.low between.points i) ends)
 
--- something is shared exactly where each two of several meet
+-- something is shared exactly if each two of several meet
 pub shared_where_meet : (vs : List Value) (s : Summarised) → AreSummarised vs s → 2 ≤ length vs → (ends : Interval) → shared_by s ≡ Some ends → EachTwoValuesMeet vs × MeetBetween vs ends
 shared_where_meet vs s summed several ends is =
     let between = shared_shows vs ends (ap shared_by (sym summed.summary) ∙ is) in

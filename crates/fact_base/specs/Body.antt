@@ -1,4 +1,4 @@
--- What a list of documents says in all (own).
+-- The facts and references of a list of documents (own).
 use Rattle.std.specs.Prelude.{ℕ, List, ◌++◌}
 use Rattle.std.specs.List.{flat_map}
 use Rattle.std.specs.Ordering.{nat_cmp}
@@ -29,6 +29,6 @@ all_references docs = flat_map (λ d. d.references) docs
 abbrev pub body : List Document → Body
 body docs = record { facts = set_of fact_cmp (all_facts docs); references = set_of text_cmp (all_references docs) }
 
--- what two bodies have
+-- the union of two bodies
 abbrev pub union : Body → Body → Body
 union a b = record { facts = set_of fact_cmp (a.facts ++ b.facts); references = set_of text_cmp (a.references ++ b.references) }

@@ -8,12 +8,12 @@ use Rattle.oim_dims.specs.declared.fact.Fact.{Fact}
 use Rattle.oim_report.specs.Document.{Document}
 use Rattle.fact_base.specs.Body.{Body, body, text_cmp, union}
 
--- facts and references rise, so that each stands there once
+-- facts and references rise, so they are distinct
 pub record IsBody (b : Body) : Type 0 where
   pub facts : IsSet fact_cmp b.facts
   pub references : IsSet text_cmp b.references
 
--- a body has just what some document of a list has
+-- a body has exactly what the documents of a list have
 pub record HasWhatDocumentsHave (docs : List Document) (b : Body) : Type 0 where
   pub rises : IsBody b
   pub facts : (f : Fact) → Contains b.facts f ↔ Any (λ d. Contains d.facts f) docs
@@ -22,7 +22,7 @@ pub record HasWhatDocumentsHave (docs : List Document) (b : Body) : Type 0 where
 abbrev pub BodyHasWhatDocumentsHave : Type 0
 BodyHasWhatDocumentsHave = (docs : List Document) → HasWhatDocumentsHave docs (body docs)
 
--- just what the one body or the other has
+-- exactly what one body or the other has
 pub record HasBoth (a b both : Body) : Type 0 where
   pub rises : IsBody both
   pub facts : (f : Fact) → Contains both.facts f ↔ (Contains a.facts f ⊎ Contains b.facts f)
@@ -31,10 +31,10 @@ pub record HasBoth (a b both : Body) : Type 0 where
 abbrev pub UnionHasBoth : Type 0
 UnionHasBoth = (a b : Body) → HasBoth a b (union a b)
 
--- neither the order of documents nor how often each comes matters
+-- neither the order of documents nor repeats matter
 abbrev pub BodyIgnoresOrder : Type 0
 BodyIgnoresOrder = (ds es : List Document) → SameMembers ds es → body ds ≡ body es
 
--- documents after documents add their body
+-- further documents add their body
 abbrev pub BodyOfBoth : Type 0
 BodyOfBoth = (ds es : List Document) → body (ds ++ es) ≡ union (body ds) (body es)

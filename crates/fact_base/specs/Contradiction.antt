@@ -33,7 +33,7 @@ pub record HasContradiction (vs : List Value) : Type 0 where
   pub second_there : Contains vs second
   pub contradict : Contradict first second
 
--- a numeric dimension set of a body that fits a sheet is inconsistent exactly where two of its values contradict one another
+-- a numeric dimension set of a body that fits a sheet is inconsistent exactly if two of its values contradict one another
 abbrev pub NumericInconsistentIsApart : Type 0
 NumericInconsistentIsApart =
     (sheet : Sheet) (b : Body) (s : DimensionSet) → Fits sheet b → IsNumeric sheet s →

@@ -22,11 +22,11 @@ Summed = List Value × Summarised
 abbrev pub Entry : Type 0
 Entry = DimensionSet × Summed
 
--- what two at one dimension set make together
+-- two of them at one dimension set, merged
 abbrev pub summed_of_both : Summed → Summed → Summed
 summed_of_both p q = (set_union value_cmp p.0 q.0, both_summaries p.1 q.1)
 
--- one value, and others with it among them
+-- one value, and others with it added
 abbrev pub summed : Value → Summed
 summed v = (v ∷ [], summary_of v)
 
@@ -54,7 +54,7 @@ facts_of_entry e = facts_with e.0 e.1.0
 abbrev pub facts_of_entries : List Entry → List Fact
 facts_of_entries es = flat_map facts_of_entry es
 
--- the values of an entry stand in order, with their summary, and its facts fit the sheet
+-- the values of an entry are in order, with their summary, and its facts fit the sheet
 pub record EntryFits (sheet : Sheet) (s : DimensionSet) (kept : Summed) : Type 0 where
   pub some : kept.0 ≢ []
   pub in_order : IsSet value_cmp kept.0
@@ -68,7 +68,7 @@ pub record AreStored (sheet : Sheet) (es : List Entry) (texts : List (List ℕ))
   pub in_order : IsSet text_cmp texts
   pub references : All IsKeptReference texts
 
--- entries that rise, with just these facts, each of which fits whatever sheet all of these fit
+-- entries that rise, with exactly these facts; they fit every sheet that all of these fit
 pub record AreEntriesOf (facts : List Fact) (entries : List Entry) : Type 0 where
   pub rise : IsRising dimensions_cmp entry_key entries
   pub in_order : All (λ e. IsSet value_cmp e.1.0) entries

@@ -21,11 +21,11 @@ pub record AreSummarised (vs : List Value) (told : Summarised) : Type 0 where
   pub alike : AreNilOrOfKind kind vs
   pub summary : told ≡ summary_of_all vs
 
--- what the intervals of several values have in common where each two meet: their ends, where there is no nil and low is at most high
+-- the common part of the intervals of several values that meet: their ends, if there is no nil and low is at most high
 abbrev pub shared_by : Summarised → Option Interval
 shared_by s = option_and_then (λ ends. if s.nil || int_lt ends.high ends.low then None else Some ends) s.ends
 
--- the strictest level that allows facts of which each stands once, by their verdict
+-- the strictest level that allows distinct facts, by their verdict
 abbrev pub level_at : Verdict → Level
 level_at Complete = Unique
 level_at Consistent = ConsistentLevel

@@ -9,7 +9,7 @@ use Rattle.oim_dims.specs.DimensionSet.{DimensionSet}
 use Rattle.oim_dims.specs.FactOrder.{dimensions_cmp, fact_cmp}
 use Rattle.oim_dims.specs.declared.fact.Fact.{Fact}
 
--- a dimension set with the values that are reported of it
+-- a dimension set with the values that are reported for it
 abbrev pub Row : Type 0
 Row = DimensionSet × List Value
 
@@ -18,17 +18,17 @@ abbrev pub values_at : DimensionSet → List Fact → List Value
 values_at s [] = []
 values_at s (f ∷ fs) = if is_eq (dimensions_cmp s f.dimensions) then f.value ∷ values_at s fs else values_at s fs
 
--- a fact put before rows: with the first row, where that has its dimensions
+-- a fact put before rows: into the first row, if that has its dimensions
 abbrev pub before_rows : Fact → List Row → List Row
 before_rows f [] = (f.dimensions, f.value ∷ []) ∷ []
 before_rows f (r ∷ rs) = if is_eq (dimensions_cmp f.dimensions r.0) then (r.0, f.value ∷ r.1) ∷ rs else (f.dimensions, f.value ∷ []) ∷ r ∷ rs
 
--- the rows of facts that rise: neighbours of one dimension set stand in one
+-- the rows of facts that rise: neighbours with one dimension set share a row
 unfoldable pub rows_of : List Fact → List Row
 rows_of [] = []
 rows_of (f ∷ fs) = before_rows f (rows_of fs)
 
--- each dimension set stands once, in order, with just its values, of which there is one at least; each value once, in order
+-- distinct dimension sets in order, each with exactly its values, at least one, distinct and in order
 pub record AreRowsOf (facts : List Fact) (rows : List Row) : Type 0 where
   pub rise : IsRising dimensions_cmp entry_key rows
   pub values : All (λ r. r.1 ≡ values_at r.0 facts) rows

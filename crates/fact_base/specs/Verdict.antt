@@ -1,4 +1,4 @@
--- Whether the facts of a dimension set contradict one another (XBRL working group note on duplicate facts; the evidence is own).
+-- Whether the facts of a dimension set contradict each other (XBRL working group note on duplicate facts; the evidence is own).
 use Rattle.std.specs.Prelude.{◌≡◌, ◌↔◌, ℕ, ◌≤◌, Bool, true, false, ◌&&◌, List, [], ◌∷◌, length, Option, Some, None, if◌then◌else◌, Contains, ℤ}
 use Rattle.std.specs.List.{All, list_all}
 use Rattle.oim_value.specs.Ends.{AreEnds, has_interval, intervals_of}
@@ -23,17 +23,17 @@ abbrev pub each_meet : List Value → Bool
 each_meet [] = true
 each_meet (v ∷ vs) = list_all (values_meet v) vs && each_meet vs
 
--- of one value, complete; of several, consistent where each two meet
+-- one value is complete; several are consistent if each two of them meet
 abbrev pub verdict_of : List Value → Option Verdict
 verdict_of [] = None
 verdict_of (v ∷ []) = Some Complete
 verdict_of (v ∷ w ∷ vs) = Some (if each_meet (v ∷ w ∷ vs) then Consistent else Inconsistent)
 
--- the verdict on the facts of a set that have these dimensions; none where there are none
+-- the verdict on the facts with these dimensions; none if there are no such facts
 abbrev pub verdict : List Fact → DimensionSet → Option Verdict
 verdict facts s = verdict_of (values_at s facts)
 
--- a dimension set is called inconsistent exactly where two of its facts do not meet
+-- a dimension set is called inconsistent exactly if two of its facts do not meet
 abbrev pub InconsistentIsApart : Type 0
 InconsistentIsApart =
     (facts : List Fact) (s : DimensionSet) →
@@ -41,7 +41,7 @@ InconsistentIsApart =
 
 -- ---- evidence
 
--- several values of which each two meet, and the interval of just those numbers that lie in the interval of each
+-- several values that meet, and the interval of exactly the numbers that are in all their intervals
 pub record IsCommonOf (vs : List Value) (common : Interval) : Type 0 where
   pub several : 2 ≤ length vs
   pub each : EachTwoValuesMeet vs
@@ -53,7 +53,7 @@ abbrev pub begin_with_numbers : List Value → Bool
 begin_with_numbers (v ∷ w ∷ vs) = has_interval v && has_interval w
 begin_with_numbers other = false
 
--- the pair that is shown of several values: the first two, unless both are numbers; else the least place with the least high end and
+-- the pair that is shown for several values: the first two, unless both are numbers; else the least place with the least high end and
 -- the least place with the greatest low end
 abbrev pub IsPairOf : Bool → List Value → ℕ → ℕ → Type 0
 IsPairOf true vs i j = (ends : Interval) → AreEnds ends (intervals_of vs) → (i ≡ place_of_least_high ends vs) × (j ≡ place_of_greatest_low ends vs)
@@ -62,7 +62,7 @@ IsPairOf false vs i j = (i ≡ 0) × (j ≡ 1)
 abbrev pub IsShownPair : List Value → ℕ → ℕ → Type 0
 IsShownPair vs = IsPairOf (begin_with_numbers vs) vs
 
--- this pair, of which the two values do not meet
+-- this pair, whose values do not meet
 pub record IsApartPair (vs : List Value) (i j : ℕ) : Type 0 where
   pub shown : IsShownPair vs i j
   pub apart : AreApart vs i j

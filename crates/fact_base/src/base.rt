@@ -21,8 +21,8 @@ use oim_value::{Level, Value};
 use std::alloc::{AllocError, Global};
 use std::marker::Model;
 
-/// What the reports that were taken say in all: their facts, each once, and the references of their
-/// taxonomies, each once. It borrows the sheet under which they are read.
+/// The distinct facts and the distinct taxonomy references of several reports. It borrows the sheet
+/// under which they are read.
 #[derive(Drop)]
 pub struct Base<'s> {
     alloc: Global,
@@ -60,7 +60,7 @@ impl<'s> Base<'s> {
         }
     }
 
-    /// What these entries and references say, which are those of reports read under the sheet.
+    /// A base of these entries and references, which come from reports read under the sheet.
     pub(crate) fn of(
         alloc: Global,
         sheet: &'s Sheet,
@@ -85,7 +85,7 @@ impl<'s> Base<'s> {
         self.sheet
     }
 
-    /// Whether the sheet lists what the base's lists, so that reports read under it can be taken.
+    /// Whether the sheet lists the same as the base's, so that reports read under it can be taken.
     pub fn same_sheet(&self, sheet: &Sheet) -> bool
         ensures { IsTrue result ↔ (self.now.sheet ≡ sheet.now) }
     {
@@ -94,7 +94,7 @@ impl<'s> Base<'s> {
 
     /// Adds the facts and references of a report that was read under an equal sheet.
     ///
-    /// Errors: want of memory; the base is then as before.
+    /// Errors: out of memory; the base is then unchanged.
     pub fn take(&mut self, report: &Report<'_>) -> Result<(), AllocError>
         requires { report.now.sheet ≡ self.old.sheet }
         ensures ok { OnOk result (self.new ≡ record self.old { body = union self.old.body (body (report.now.document ∷ [])) }) }
@@ -108,9 +108,9 @@ impl<'s> Base<'s> {
         Ok(())
     }
 
-    /// The same where the report is given up: its facts are moved.
+    /// Does what `take` does, and moves the facts of the report.
     ///
-    /// Errors: want of memory; the base is then as before, and the report is lost.
+    /// Errors: out of memory; the base is then unchanged, and the report is lost.
     pub fn absorb_report(&mut self, report: Report<'_>) -> Result<(), AllocError>
         requires { report.sheet ≡ self.old.sheet }
         ensures ok { OnOk result (self.new ≡ record self.old { body = union self.old.body (body (report.entry.document ∷ [])) }) }
@@ -119,7 +119,7 @@ impl<'s> Base<'s> {
         report.known();
         let wider = with_all(self.alloc, &self.references, report.taxonomy())?;
         let (facts, order) = report.into_facts();
-        let moved = entries_from(self.alloc, facts, order.as_slice())?;
+        let moved = entries_from(self.alloc, facts, order)?;
         self.entries.absorb(moved)?;
         replace(&mut self.references, wider);
         Ok(())
@@ -127,7 +127,7 @@ impl<'s> Base<'s> {
 
     /// Adds the facts and references of another base with an equal sheet.
     ///
-    /// Errors: want of memory; the base is then as before.
+    /// Errors: out of memory; the base is then unchanged.
     pub fn join(&mut self, other: &Base<'_>) -> Result<(), AllocError>
         requires { other.now.sheet ≡ self.old.sheet }
         ensures ok { OnOk result (self.new ≡ record self.old { body = union self.old.body other.now.body }) }
@@ -139,15 +139,18 @@ impl<'s> Base<'s> {
         Ok(())
     }
 
-    /// The same where the other base is given up: what is new is moved.
+    /// Does what `join` does, and moves what is new.
     ///
-    /// Errors: want of memory; the base is then as before, and the other is lost.
+    /// Errors: out of memory; the base is then unchanged, and the other is lost.
     pub fn absorb(&mut self, other: Base<'_>) -> Result<(), AllocError>
         requires { other.sheet ≡ self.old.sheet }
         ensures ok { OnOk result (self.new ≡ record self.old { body = union self.old.body other.entry.body }) }
         ensures err { OnErr result (self.new ≡ self.old) }
     {
         let references = with_all(self.alloc, &self.references, other.taxonomy())?;
+        // Values at a dimension set of both are copied into the other base, so that a refused request
+        // leaves this one as it was. Bases with many values of one dimension set, absorbed one by one,
+        // therefore cost the square of their number.
         self.entries.absorb(other.entries)?;
         replace(&mut self.references, references);
         Ok(())
@@ -191,7 +194,7 @@ impl<'s> Base<'s> {
         same_rows(&self.entries, &other.entries) && self.taxonomy() == other.taxonomy()
     }
 
-    /// Whether the facts with these dimensions contradict one another; None where there is none.
+    /// Whether the facts with these dimensions contradict each other, or None if there are none.
     pub fn verdict(&self, dimensions: &Dimensions) -> Option<Verdict>
         ensures { result ≡ verdict self.now.body.facts dimensions.now }
     {
@@ -199,7 +202,7 @@ impl<'s> Base<'s> {
         Some(verdict_of(values.as_slice(), summary))
     }
 
-    /// What shows the verdict on the facts with these dimensions; None where there is none.
+    /// The evidence for that verdict, or None if there are no facts with these dimensions.
     pub fn evidence(&self, dimensions: &Dimensions) -> Option<Evidence>
         ensures there { is_some result ≡ is_some (verdict self.now.body.facts dimensions.now) }
         ensures evidence { IfSome result (IsEvidence (values_at dimensions.now self.now.body.facts)) }
@@ -208,8 +211,8 @@ impl<'s> Base<'s> {
         Some(evidence_of(values.as_slice(), summary))
     }
 
-    /// The strictest level of duplicates that allows the facts. It is never `Complete`, since each
-    /// fact stands there once.
+    /// The strictest level of duplicates that allows the facts. It is never `Complete`, since the
+    /// facts are distinct.
     pub fn level(&self) -> Level
         ensures level { result ≡ level_of self.now.body.facts }
         ensures never_complete { result ≢ Level.Complete }
@@ -217,8 +220,8 @@ impl<'s> Base<'s> {
         level_of(&self.entries)
     }
 
-    /// Does nothing, and tells that each fact fits the sheet, each reference is its own kept text,
-    /// and both rise.
+    /// Does nothing. Its contract says that each fact fits the sheet, each reference is its own
+    /// kept text, and both rise.
     pub fn known(&self)
         ensures { Fits self.now.sheet self.now.body }
     {

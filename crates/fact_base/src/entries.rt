@@ -1,4 +1,4 @@
-ghost use Rattle.std.specs.Prelude.{map, ◌≡◌, ◌↔◌, Some, length, IsTrue, IfOk, OnOk, slice_get};
+ghost use Rattle.std.specs.Prelude.{map, ◌≡◌, ◌↔◌, length, IsTrue, IfOk, OnOk, slice_get};
 ghost use Rattle.std.specs.List.{All};
 ghost use Rattle.std.specs.List.Sorted.{IsSorted};
 ghost use Rattle.std.specs.Option.{option_map};
@@ -11,6 +11,7 @@ ghost use Rattle.oim_report.specs.Duplicates.{level_of};
 ghost use Rattle.oim_report.specs.Order.{IsOrderOf};
 
 use crate::judging::verdict_of;
+use crate::ordering::in_order;
 use crate::verdict::Verdict;
 use merge_laws::{Merge, SortedMap, SortedSet, Summary};
 use oim_dims::{Dimensions, Fact};
@@ -45,33 +46,16 @@ pub(crate) fn entries_of(
 pub(crate) fn entries_from(
     alloc: Global,
     facts: Vec<Fact>,
-    order: &[usize],
+    order: Vec<usize>,
 ) -> Result<Entries, AllocError>
-    requires { IsOrderOf facts.items order.now }
+    requires { IsOrderOf facts.items order.items }
     ensures { IfOk result (AreEntriesOf facts.items) }
 {
-    let mut given = given_of(alloc, facts)?;
-    let mut entries = Vec::with_capacity(alloc, given.len())?;
-    for place in order {
-        if let Some(fact) = given[*place].take() {
-            push_given(alloc, &mut entries, fact)?;
-        }
-    }
-    Ok(SortedMap::of_rising(entries))
+    let sorted = in_order(facts, order)?;
+    entries_in_order(alloc, sorted)
 }
 
-/// The facts in room from which each can be taken away.
-pub(crate) fn given_of(alloc: Global, facts: Vec<Fact>) -> Result<Vec<Option<Fact>>, AllocError>
-    ensures { IfOk result (λ given. given.items ≡ map Some facts.items) }
-{
-    let mut given = Vec::with_capacity(alloc, facts.len())?;
-    for fact in facts {
-        given.push(Some(fact))?;
-    }
-    Ok(given)
-}
-
-/// The same of facts that do not fall.
+/// The same for facts that do not fall.
 pub(crate) fn entries_in_order(alloc: Global, facts: Vec<Fact>) -> Result<Entries, AllocError>
     requires { IsSorted fact_cmp facts.items }
     ensures { IfOk result (AreEntriesOf facts.items) }

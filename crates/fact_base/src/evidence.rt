@@ -1,11 +1,11 @@
 use oim_value::Interval;
 
-/// What shows a verdict, so that a reader can check it by hand (own).
+/// What shows that a verdict is right, so that a reader can check it by hand (own).
 #[derive(Clone, Copy, Debug, PartialEq, Eq)]
 pub enum Evidence {
-    /// One fact stands there.
+    /// There is one fact.
     Alike,
-    /// What the rounding intervals of several values have in common.
+    /// The common part of the rounding intervals of several values.
     Common(Interval),
     /// The places of two values, from 0, that do not meet.
     Apart(usize, usize),

@@ -14,16 +14,20 @@ use oim_report::{Report, Sheet};
 use std::alloc::{AllocError, Global};
 use std::marker::Model;
 
-/// What reports say in all, on its way into a base, so that a small report costs no walk over a large
-/// base. It borrows the sheet under which the reports are read.
+/// Collects reports on their way into one base. A report with at least half as many facts and
+/// references as the base is absorbed, so that providers of the same figures cost a look-up a fact.
+/// A smaller one would cost a walk over the base: it goes into two lists instead, which are sorted
+/// and freed of repeats whenever they have doubled. References count as facts do, since reports of
+/// the same facts with a reference each would otherwise be absorbed one by one. It borrows the
+/// sheet under which the reports are read.
 #[derive(Drop)]
 pub struct Gathering<'s> {
     alloc: Global,
-    // what reports say that were not much smaller than it
+    // the reports that were not much smaller than it
     base: Base<'s>,
     // how many facts and references it has
     size: u128,
-    // what the others say, in lists that are put in order, each item once, whenever they have doubled
+    // the facts and references of the others, in lists that are sorted whenever they have doubled
     facts: Vec<Fact>,
     settled_facts: usize,
     references: Vec<Text>,
@@ -70,10 +74,10 @@ impl<'s> Gathering<'s> {
         self.base.sheet()
     }
 
-    /// Adds the facts and references of a report that was read under an equal sheet. The report is
-    /// given up: its facts are moved.
+    /// Adds the facts and references of a report that was read under an equal sheet. The facts are
+    /// moved.
     ///
-    /// Errors: want of memory; all is then as before, and the report is lost.
+    /// Errors: out of memory; all is then unchanged, and the report is lost.
     pub fn add(&mut self, report: Report<'_>) -> Result<(), AllocError>
         requires { report.sheet ≡ self.old.sheet }
         ensures ok { OnOk result (self.new ≡ record self.old { body = union self.old.body (body (report.entry.document ∷ [])) }) }
@@ -85,7 +89,7 @@ impl<'s> Gathering<'s> {
         self.absorb(report)
     }
 
-    // Lets the base take a report.
+    // Has the base absorb a report.
     fn absorb(&mut self, report: Report<'_>) -> Result<(), AllocError>
         requires { report.sheet ≡ self.old.sheet }
         ensures ok { OnOk result (self.new ≡ record self.old { body = union self.old.body (body (report.entry.document ∷ [])) }) }
@@ -106,11 +110,11 @@ impl<'s> Gathering<'s> {
         self.settle()?;
         let references = copies_of(self.alloc, report.taxonomy())?;
         let (facts, order) = report.into_facts();
-        let facts = in_order(self.alloc, facts, order.as_slice())?;
+        let facts = in_order(facts, order)?;
         self.append(facts, references)
     }
 
-    // Puts in order what has doubled, which changes nothing that contracts see.
+    // Sorts what has doubled, which changes nothing that contracts see.
     fn settle(&mut self) -> Result<(), AllocError>
         ensures { self.new ≡ self.old }
     {
@@ -126,13 +130,13 @@ impl<'s> Gathering<'s> {
     {
         self.facts.reserve(facts.len())?;
         self.references.append(&mut references)?;
-        // there is room, so that this is not refused
+        // there is room, so this cannot be refused
         self.facts.append(&mut facts)
     }
 
-    /// The base of what all of them say.
+    /// The base of all reports that were added.
     ///
-    /// Errors: want of memory; all is then lost.
+    /// Errors: out of memory; all is then lost.
     pub fn into_base(self) -> Result<Base<'s>, AllocError>
         ensures { IfOk result (λ base. base ≡ self.entry) }
     {
@@ -151,8 +155,8 @@ impl<'s> Gathering<'s> {
         joined(base, others)
     }
 
-    /// Does nothing, and tells that each fact fits the sheet, each reference is its own kept text,
-    /// and both rise.
+    /// Does nothing. Its contract says that each fact fits the sheet, each reference is its own
+    /// kept text, and both rise.
     pub fn known(&self)
         ensures { Fits self.now.sheet self.now.body }
     {
@@ -160,7 +164,7 @@ impl<'s> Gathering<'s> {
     }
 }
 
-// How many facts and references there are; no more than fit the number.
+// The number of facts and references, or the greatest number that fits.
 fn size_of(base: &Base<'_>) -> u128
     ensures { result ≡ min (length base.now.body.facts + length base.now.body.references) (2 ^ 128 - 1) }
 {
@@ -168,7 +172,7 @@ fn size_of(base: &Base<'_>) -> u128
     base.fact_count().saturating_add(references)
 }
 
-// The same of a report.
+// The same for a report.
 fn size_of_report(report: &Report<'_>) -> u128
     ensures { result ≡ min (length report.now.document.facts + length report.now.document.references) (2 ^ 128 - 1) }
 {
@@ -176,7 +180,7 @@ fn size_of_report(report: &Report<'_>) -> u128
     (report.facts().len() as u128).saturating_add(references)
 }
 
-// The base of these facts and references, in whatever order they stand, and however often.
+// The base of these facts and references, in any order and with repeats.
 fn base_of<'s>(
     alloc: Global,
     sheet: &'s Sheet,
@@ -193,7 +197,7 @@ fn base_of<'s>(
     Ok(Base::of(alloc, sheet, entries, references))
 }
 
-// What both bases say in one: the larger absorbs the other.
+// Joins both bases: the larger one absorbs the other.
 fn joined<'s>(mut base: Base<'s>, mut other: Base<'s>) -> Result<Base<'s>, AllocError>
     requires { base.sheet ≡ other.sheet }
     ensures { IfOk result (λ both. both ≡ record { sheet = base.entry.sheet; body = union base.entry.body other.entry.body }) }

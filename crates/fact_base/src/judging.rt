@@ -8,7 +8,9 @@ use crate::verdict::Verdict;
 use merge_laws::Summary;
 use oim_value::{Interval, Value, interval_of};
 
-/// The verdict on values of one dimension set. It looks at their number and their summary alone.
+/// The verdict on the values of one dimension set, by their number and their summary alone. That is
+/// enough because the values fit a sheet: they are nil or of one kind, and different values agree
+/// only as numbers.
 pub(crate) fn verdict_of(values: &[Value], summary: &Summary) -> Verdict
     requires { AreSummarised values.now summary.now }
     ensures { verdict_of values.now ≡ Some result }
@@ -22,7 +24,7 @@ pub(crate) fn verdict_of(values: &[Value], summary: &Summary) -> Verdict
     }
 }
 
-/// What shows the verdict. It walks the values only for the places of two that do not meet.
+/// The evidence for the verdict. It walks the values only to find two that do not meet.
 pub(crate) fn evidence_of(values: &[Value], summary: &Summary) -> Evidence
     requires { AreSummarised values.now summary.now }
     ensures { IsEvidence values.now result }
@@ -36,8 +38,8 @@ pub(crate) fn evidence_of(values: &[Value], summary: &Summary) -> Evidence
     }
 }
 
-// The places of two values that do not meet: the first two where one of them is no number, since
-// nil stands before numbers; else the numbers whose intervals end first and begin last.
+// The places of two values that do not meet: the first two if one of them is not a number, since
+// nil comes before numbers; else the numbers whose intervals end first and begin last.
 fn apart(values: &[Value], summary: &Summary) -> Evidence
     requires summed { AreSummarised values.now summary.now }
     requires apart { shared_by summary.now ≡ None }
@@ -52,7 +54,7 @@ fn apart(values: &[Value], summary: &Summary) -> Evidence
     }
 }
 
-// What the intervals have in common where each two of several values meet.
+// The common part of the intervals of several values that meet.
 fn shared_by(summary: &Summary) -> Option<Interval>
     ensures { result ≡ shared_by summary.now }
 {

@@ -6,17 +6,17 @@ ghost use Rattle.fact_base.specs.Level.{SetsAreNeverComplete};
 ghost use Rattle.fact_base.specs.Rows.{RowsTellFacts};
 ghost use Rattle.fact_base.specs.Verdict.{InconsistentIsApart};
 
-/// A body has just the facts and the references of its documents, each once and in order.
+/// A body has exactly the facts and references of its documents, distinct and in order.
 pub fn body_has_what_documents_have()
     ensures { BodyHasWhatDocumentsHave }
 {}
 
-/// A union has just the facts and the references of both bodies, each once and in order.
+/// A union has exactly the facts and references of both bodies, distinct and in order.
 pub fn union_has_both()
     ensures { UnionHasBoth }
 {}
 
-/// Documents in any order, each as often as one likes, have one body.
+/// The same documents have one body, in any order and however often each is repeated.
 pub fn body_ignores_order()
     ensures { BodyIgnoresOrder }
 {}
@@ -26,31 +26,31 @@ pub fn body_of_both()
     ensures { BodyOfBoth }
 {}
 
-/// The body of documents that are accepted under a sheet fits it, and so does what two bodies that
-/// fit have together.
+/// The body of documents that are accepted under a sheet fits it, and so does the union of two
+/// bodies that fit.
 pub fn accepted_fits()
     ensures accepted { AcceptedFits }
     ensures union { UnionFits }
 {}
 
-/// The rows of facts have each dimension set once, in order, with just its values, each once and in
-/// order.
+/// The rows of facts have distinct dimension sets in order, each with exactly its values, distinct
+/// and in order.
 pub fn rows_tell_facts()
     ensures { RowsTellFacts }
 {}
 
-/// The level of facts that stand once each is never `complete`, since equal facts are one.
+/// The level of distinct facts is never `complete`, since equal facts are one.
 pub fn sets_are_never_complete()
     ensures { SetsAreNeverComplete }
 {}
 
-/// A dimension set is called inconsistent exactly where two of its facts do not meet.
+/// A dimension set is called inconsistent exactly if two of its facts do not meet.
 pub fn inconsistent_is_apart()
     ensures { InconsistentIsApart }
 {}
 
-/// A numeric dimension set of a body that fits a sheet is called inconsistent exactly where two of its
-/// values are numbers and no number of units lies in both of their intervals, or one is nil and the
+/// In a body that fits a sheet, a numeric dimension set is called inconsistent exactly if two of
+/// its values are numbers whose intervals have no number of units in common, or one is nil and the
 /// other is not.
 pub fn numeric_inconsistent_is_apart()
     ensures { NumericInconsistentIsApart }

@@ -1,4 +1,4 @@
-//! The facts of several reports as one body, and what contradicts what.
+//! The facts of several reports as one base, and the verdict on each dimension set.
 #![tactic(auto)]
 
 mod base;

@@ -7,8 +7,8 @@ use merge_laws::{Merge, SortedSet};
 use oim_names::{Copied, Text};
 use std::alloc::{AllocError, Global};
 
-/// The references with others among them; None where none of these is new. The references are
-/// copied only where one is, and the others, in whatever order they come, go among them at once.
+/// The union of the references and others, or None if none of the others is new. The references are
+/// copied only if one is; the others may come in any order and are added all at once.
 pub(crate) fn with_all(
     alloc: Global,
     references: &SortedSet<Text>,
@@ -25,7 +25,7 @@ pub(crate) fn with_all(
     Ok(Some(wider))
 }
 
-// The texts in order, each once.
+// The distinct texts in order.
 fn set_of(alloc: Global, texts: &[Text]) -> Result<SortedSet<Text>, AllocError>
     ensures { IfOk result (λ set. set ≡ set_of text_cmp texts.now) }
 {
@@ -35,7 +35,7 @@ fn set_of(alloc: Global, texts: &[Text]) -> Result<SortedSet<Text>, AllocError>
     Ok(SortedSet::of_rising(items))
 }
 
-/// The texts once more.
+/// A copy of the texts.
 pub(crate) fn copies_of(alloc: Global, texts: &[Text]) -> Result<Vec<Text>, AllocError>
     ensures { IfOk result (λ copies. copies.items ≡ texts.now) }
 {
@@ -46,7 +46,7 @@ pub(crate) fn copies_of(alloc: Global, texts: &[Text]) -> Result<Vec<Text>, Allo
     Ok(copies)
 }
 
-// Whether none of the others is new to references in order.
+// Whether sorted references have all the others.
 fn has_all(references: &[Text], others: &[Text]) -> bool
     ensures { IsTrue result → All (Contains references.now) others.now }
 {
@@ -58,7 +58,7 @@ fn has_all(references: &[Text], others: &[Text]) -> bool
     true
 }
 
-/// Puts other references in the place of these, where there are others.
+/// Replaces these references by others, if there are others.
 pub(crate) fn replace(references: &mut SortedSet<Text>, wider: Option<SortedSet<Text>>)
     ensures { references.new ≡ unwrap_or wider references.old }
 {

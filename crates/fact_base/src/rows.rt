@@ -3,7 +3,7 @@ use merge_laws::{SortedMap, SortedSet, Summary};
 use oim_dims::Dimensions;
 use oim_value::Value;
 
-/// The rows of a base that are left, in the order of dimension sets.
+/// An iterator over the rows of a base, in the order of dimension sets.
 #[derive(Clone, Copy)]
 pub struct Rows<'b> {
     pub(crate) entries: &'b SortedMap<Dimensions, (SortedSet<Value>, Summary)>,

@@ -12,13 +12,13 @@ use oim_names::Reason;
 use oim_report::{Report, Sheet, read_report};
 use std::alloc::AllocError;
 
-// Where a request for memory is refused, the next one is not: the callee is asked again. The line on
-// standard error tells `tests/refused_memory` of it, and whether the request was the test's own.
+// After a refused request for memory the call is made once more. The line on standard error reports
+// it to `tests/refused_memory`, with whether the request was the test's own.
 
 const SHEET: &str =
     r#"{"namespaces":{"eg":"http://example.org/t"},"concepts":{"eg:A":"numeric","eg:B":"numeric","eg:T":"text","eg:Q":"name"}}"#;
 
-// A report of one fact up to its value.
+// A report of one fact, up to its value.
 const FACT: &str =
     r#"{"documentInfo":{"documentType":"https://xbrl.org/2021/xbrl-json","namespaces":{"eg":"http://example.org/t"}},"facts":{"a":{"#;
 
@@ -78,7 +78,7 @@ fn take(rt: &HostRuntime, base: &mut Base<'_>, report: &Report<'_>) -> bool {
     base.take(report).is_ok()
 }
 
-// Takes a report of this text; false where it is not read.
+// Takes a report of this text; false if it is not read.
 fn take_text(rt: &HostRuntime, base: &mut Base<'_>, text: &str) -> bool {
     match read(rt, base.sheet(), text) {
         Some(report) => take(rt, base, &report),
@@ -86,7 +86,7 @@ fn take_text(rt: &HostRuntime, base: &mut Base<'_>, text: &str) -> bool {
     }
 }
 
-// Adds a report of three texts, of which the second tells it from others; false where it is not read.
+// Adds a report of three texts, whose second one makes it different; false if it is not read.
 fn add(rt: &HostRuntime, base: &mut Base<'_>, start: &str, text: &str, end: &str) -> bool {
     match joined(rt, start, text, end) {
         Ok(report) => take_text(rt, base, report.as_str()),
@@ -116,7 +116,7 @@ fn base_of<'s>(rt: &HostRuntime, sheet: &'s Sheet, values: &[&str]) -> Option<Ba
     base_between(rt, sheet, FACT, values, OF_A)
 }
 
-// What is said of the first dimension set of a base.
+// Verdict and evidence on the first dimension set of a base.
 fn judged(base: &Base<'_>) -> Option<(Verdict, Evidence)> {
     let row = base.rows().next()?;
     match (base.verdict(row.dimensions), base.evidence(row.dimensions)) {

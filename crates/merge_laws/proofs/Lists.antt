@@ -11,7 +11,7 @@ use Rattle.std.proofs.lemmas.List.{reverse-append, reverse-reverse, take_more}
 use Rattle.std.proofs.lemmas.Grind.{flat_map-append}
 use Rattle.merge_laws.specs.Sorted.{IsRising}
 
--- what holds of no items, and of one more at the end, holds of each list
+-- induction from the end: what holds for the empty list, and for one item more at the end, holds for each list
 pub from_end : {A : Type 0} (P : List A → Type 0) → P [] → ((xs : List A) (x : A) → P xs → P (xs ++ x ∷ [])) → (xs : List A) → P xs
 from_end {A} P none more xs = subst P (reverse-reverse xs) (turned (reverse xs))
   where
@@ -79,7 +79,7 @@ module _ {K E : Type 0} {R : K → K → Ordering} (key : E → K) (o : IsTotalO
   below_last [] y zs h = tt
   below_last (x ∷ xs) y zs h = ((all_back (λ f. R (key x) (key f) ≡ Less) xs (y ∷ zs) h.0).0, below_last xs y zs h.1)
 
-  -- items below y stand before y and what follows it
+  -- items below y come before y and what follows it
   pub rises_around : (xs : List E) (y : E) (zs : List E) → IsRising R key xs → AllBelow (key y) xs → AllByRecursion (λ f. R (key y) (key f) ≡ Less) zs → IsRising R key zs → IsRising R key (xs ++ y ∷ zs)
   unfolding IsStrictlySortedBy
   rises_around [] y zs h below above g = (above, g)

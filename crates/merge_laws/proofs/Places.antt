@@ -90,7 +90,7 @@ module _ {K E : Type 0} {R : K → K → Ordering} (key : E → K) (o : IsTotalO
   place_bound k [] = omega arith
   place_bound k (e ∷ es) = let rest = place_bound k es in elim (is_lt (R (key e) k)) as (λ b. cond (not (not b)) (1 + place_of R key k es) 0 ≤ length (e ∷ es)) [ true ↦ omega (arith, rest) | false ↦ omega arith ]
 
-  -- what stands before a key's place is below the key
+  -- the items before a key's place are below the key
   pub before_place : (k : K) (es : List E) (j : ℕ) (d : E) → j < place_of R key k es → R (key (get_or es j d)) k ≡ Less
   before_place k [] j d lt = absurd (omega (arith, lt))
   before_place k (e ∷ es) zero d lt = elim (is_lt (R (key e) k)) as (λ b. is_lt (R (key e) k) ≡ b → R (key e) k ≡ Less) [

@@ -58,7 +58,7 @@ module _ {K E : Type 0} {R : K → K → Ordering} (key : E → K) (o : IsTotalO
             record { below = subst (λ i. AllBelow key o k (take i (e ∷ es))) behind (lower, rest.below); above = subst (λ i. Below key o k (drop i (e ∷ es))) behind rest.above }
       ] refl
 
-  -- of a lower key, what is below tells all
+  -- for a lower key, the items below decide
   below_finds : (w k : K) (es : List E) → IsRising R key es → R w k ≡ Less → item_at R key w (take (place_of R key k es) es) ≡ item_at R key w es
   below_finds w k [] h p = refl
   below_finds w k (e ∷ es) h p =

@@ -50,7 +50,7 @@ module _ {K V : Type 0} {R : K → K → Ordering} (o : IsTotalOrder R) where
   place_kept k zero v (e ∷ es) = refl
   place_kept k (suc i) v (e ∷ es) = ap (λ n. cond (not (not (is_lt (R e.0 k)))) (1 + n) 0) (place_kept k i v es)
 
-  -- what stands at each key once a value has come
+  -- the value at each key after one is put
   value_come : (q k : K) (v : V) (es : List (K × V)) (e : K × V) → IsRising R entry_key es → item_at R entry_key k es ≡ Some e → item_at R entry_key q (with_value (place_of R entry_key k es) v es) ≡ cond (is_eq (R q k)) (Some (e.0, v)) (item_at R entry_key q es)
   value_come q k v [] e h is = absurd (true≢false (sym (ap is_some is)))
   value_come q k v (f ∷ es) e h is =
@@ -73,7 +73,7 @@ module _ {K V : Type 0} {R : K → K → Ordering} (o : IsTotalOrder R) where
       ] refl
 
   module _ (merged : V → V → V) where
-    -- what an entry becomes by what stands at its key in others
+    -- what an entry becomes, by the value at its key in the others
     abbrev pub revalued : Option (K × V) → Option (K × V) → Option (K × V)
     revalued None b = None
     revalued (Some e) None = Some e
@@ -147,7 +147,7 @@ module _ {K V : Type 0} {R : K → K → Ordering} (o : IsTotalOrder R) where
     pub revalues_all : (es fs : List (K × V)) → IsRising R entry_key es → IsRising R entry_key fs → IsRevalued es fs (with_values es (new_values R merged es fs))
     revalues_all es fs h = from_end (Revalues es) (λ g. record { rises = h; has = λ k. refl; place = λ k. refl; at = λ q. sym (no_others (item_at R entry_key q es)) }) (revalues_more es) fs
 
-    -- each place is that of an entry
+    -- each place has an entry
     place_within : (k : K) (es : List (K × V)) → IsRising R entry_key es → has_key R entry_key k es ≡ true → place_of R entry_key k es < length es
     place_within k [] h has = absurd (true≢false (sym has))
     place_within k (e ∷ es) h has =

@@ -19,7 +19,7 @@ summary_of Nil = record { nil = true; ends = None }
 summary_of (Number units decimals) = record { nil = false; ends = Some (interval units decimals) }
 summary_of other = record { nil = false; ends = None }
 
--- of what two tell
+-- of two summaries
 abbrev pub both_summaries : Summarised → Summarised → Summarised
 both_summaries a b = record { nil = a.nil || b.nil; ends = either_or_both common_part a.ends b.ends }
 
@@ -28,7 +28,7 @@ abbrev pub summary_of_all : List Value → Summarised
 summary_of_all [] = record { nil = false; ends = None }
 summary_of_all (v ∷ vs) = both_summaries (summary_of v) (summary_of_all vs)
 
--- a summary tells whether a nil, and whether a number, was among the values, and has just their ends
+-- a summary records whether the values include a nil and whether they include a number, and has exactly their ends
 pub record TellsAll (vs : List Value) (s : Summarised) : Type 0 where
   pub nil : IsTrue s.nil ↔ Contains vs Nil
   pub number : is_some s.ends ≡ list_any has_interval vs

@@ -1,4 +1,4 @@
--- Where items stand, one alone or many (own). No public clause cites this module.
+-- How items are kept, one alone or many (own). No public clause cites this module.
 use Rattle.std.specs.Prelude.{List}
 use Rattle.merge_laws.specs.declared.few.Room.{Room}
 use Rattle.merge_laws.specs.declared.few.Room.TheVariants.{One, Many}

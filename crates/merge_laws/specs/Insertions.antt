@@ -1,5 +1,5 @@
 -- What one list takes from another: new items, each with the place before which it goes, and merged values (own). Private functions
--- ensure these on the way to a union, which stands in Union.
+-- ensure these on the way to a union, which Union defines.
 use Rattle.std.specs.Prelude.{ℕ, zero, suc, ◌≤◌, if◌then◌else◌, List, [], ◌∷◌, ◌++◌, take, drop, Option, Some, None, Result, Ok, Err}
 use Rattle.std.specs.List.{AllByRecursion, flat_map}
 use Rattle.std.specs.declared.cmp.Ordering.{Ordering}

@@ -1,4 +1,4 @@
--- Lists that rise are told apart by what stands at each key (own).
+-- Rising lists are equal if they have the same item at each key (own).
 use Rattle.std.specs.Prelude.{◌≡◌, ◌≢◌, true, false, cond, List, [], ◌∷◌, Option, Some, None, is_some, unwrap_or, refl}
 use Rattle.std.proofs.Common.{sym, ap, ◌∙◌}
 use Rattle.std.specs.declared.cmp.Ordering.{Ordering}
@@ -40,7 +40,7 @@ module _ {K E : Type 0} {R : K → K → Ordering} (key : E → K) (o : IsTotalO
   pub turned_greater : (x y : K) → R x y ≡ Greater → R y x ≡ Less
   turned_greater x y p = o.antisymm y x ∙ ap ordering_reverse p
 
-  -- nothing stands at a key below all
+  -- a key below all has no item
   pub none_below : (q : K) (es : List E) → Below q es → item_at R key q es ≡ None
   none_below q [] h = refl
   none_below q (e ∷ es) h = ap (λ r. cond (is_eq r) (Some e) (item_at R key q es)) h.0 ∙ none_below q es h.1
@@ -109,7 +109,7 @@ module _ {K E : Type 0} {R : K → K → Ordering} (key : E → K) (o : IsTotalO
     tied_less_apart : (q x y : K) → R x y ≡ Less → is_eq (R q x) ≡ true → is_eq (R q y) ≡ false
     tied_less_apart q x y p t = ap is_eq (o.congr q x y ((Equal-is (R q x)).0 t) ∙ p)
 
-    -- what stands at each key once an item has come
+    -- the item at each key after one is added
     pub item_at-with : (q : K) (x : E) (es : List E) → IsRising R key es → item_at R key q (with_item R key join x es) ≡ cond (is_eq (R q (key x))) (either_or_both join (item_at R key q es) (Some x)) (item_at R key q es)
     unfolding IsStrictlySortedBy
     item_at-with q x [] h = refl
@@ -132,7 +132,7 @@ module _ {K E : Type 0} {R : K → K → Ordering} (key : E → K) (o : IsTotalO
               ] refl
         ] refl
 
-    -- what stands at each key of the union
+    -- the item at each key of the union
     pub item_at-union : (q : K) (es fs : List E) → IsRising R key es → IsRising R key fs → item_at R key q (union_of R key join es fs) ≡ either_or_both join (item_at R key q es) (item_at R key q fs)
     unfolding IsStrictlySortedBy
     item_at-union q es [] g h = sym (alone join (item_at R key q es))

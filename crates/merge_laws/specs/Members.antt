@@ -22,16 +22,16 @@ MapIsItsValues {K} R V = (es fs : List (K × V)) → IsRising R entry_key es →
 
 module _ {K V : Type 0} (R : K → K → Ordering) (merged : V → V → V) where
   -- where two values at one key pass a test, what they make together passes it there
-  abbrev pub IsKept : (K × V → Bool) → Type 0
-  IsKept test = (k : K) (v w : V) → IsTrue (test (k, v)) → IsTrue (test (k, w)) → IsTrue (test (k, merged v w))
+  abbrev pub MergesKeep : (K × V → Bool) → Type 0
+  MergesKeep test = (k : K) (v w : V) → IsTrue (test (k, v)) → IsTrue (test (k, w)) → IsTrue (test (k, merged v w))
 
   -- such a test is passed by all entries of a union where all entries of both pass it
   abbrev pub MapUnionKeeps : Type 0
-  MapUnionKeeps = (test : K × V → Bool) → IsKept test → (es fs : List (K × V)) → AllPass test es → AllPass test fs → AllPass test (map_union R merged es fs)
+  MapUnionKeeps = (test : K × V → Bool) → MergesKeep test → (es fs : List (K × V)) → AllPass test es → AllPass test fs → AllPass test (map_union R merged es fs)
 
   -- and where a value is put
   abbrev pub MapWithKeeps : Type 0
-  MapWithKeeps = (test : K × V → Bool) → IsKept test → (es : List (K × V)) (k : K) (v : V) → AllPass test es → IsTrue (test (k, v)) → AllPass test (map_with R merged k v es)
+  MapWithKeeps = (test : K × V → Bool) → MergesKeep test → (es : List (K × V)) (k : K) (v : V) → AllPass test es → IsTrue (test (k, v)) → AllPass test (map_with R merged k v es)
 
 -- the summary of one value
 abbrev pub SummaryOfOne : Type 0
@@ -45,6 +45,6 @@ SummaryOfBoth = (vs ws : List Value) → summary_of_all (vs ++ ws) ≡ both_summ
 abbrev pub SummaryOfUnion : Type 0
 SummaryOfUnion = (R : Value → Value → Ordering) → ((v w : Value) → R v w ≡ Equal → v ≡ w) → (vs ws : List Value) → summary_of_all (set_union R vs ws) ≡ both_summaries (summary_of_all vs) (summary_of_all ws)
 
--- neither order nor repetition tells
+-- order and repetition do not matter
 abbrev pub SummaryOfMembers : Type 0
 SummaryOfMembers = (vs ws : List Value) → SameMembers vs ws → summary_of_all vs ≡ summary_of_all ws

@@ -15,7 +15,7 @@ module _ {K E : Type 0} (R : K → K → Ordering) (key : E → K) (join : E →
   union_of es [] = es
   union_of es (f ∷ fs) = with_item f (union_of es fs)
 
--- what stands at a key of both, or of one
+-- the value at a key of both, or of one
 abbrev pub either_or_both : {A : Type 0} → (A → A → A) → Option A → Option A → Option A
 either_or_both join None b = b
 either_or_both join (Some x) None = Some x
@@ -44,12 +44,12 @@ abbrev pub map_union : {K V : Type 0} → (K → K → Ordering) → (V → V �
 map_union R merged = union_of R entry_key (merged_entries merged)
 
 module _ {K : Type 0} (R : K → K → Ordering) where
-  -- a set that has just what two lists have
+  -- a set that has exactly the items of two lists
   pub record IsSetOfBoth (xs ys set : List K) : Type 0 where
     pub rises : IsSet R set
     pub members : (x : K) → Contains set x ↔ (Contains xs x ⊎ Contains ys x)
 
-  -- a key is told to be there exactly where the set has it
+  -- a set reports a key exactly if it has it
   abbrev pub SetTellsItem : Type 0
   SetTellsItem = (xs : List K) (x : K) → IsTrue (has_key R itself x xs) ↔ Contains xs x
 
@@ -65,7 +65,7 @@ module _ {K V : Type 0} (R : K → K → Ordering) (merged : V → V → V) wher
     pub rises : IsRising R entry_key map
     pub values : (k : K) → value_at R k map ≡ either_or_both merged (value_at R k es) (value_at R k fs)
 
-  -- a value is told at a key exactly where the map has both as an entry
+  -- a map reports a value at a key exactly if it has both as an entry
   abbrev pub MapTellsEntry : Type 0
   MapTellsEntry = (es : List (K × V)) (k : K) (v : V) → IsRising R entry_key es → (value_at R k es ≡ Some v) ↔ Contains es (k, v)
 

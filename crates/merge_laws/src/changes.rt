@@ -130,7 +130,7 @@ impl<K: Key, V: Merge> Changes<K, V> {
 
     /// Makes the changes.
     ///
-    /// Errors: want of memory; the entries are then as before.
+    /// Errors: out of memory; the entries are then unchanged.
     pub(crate) fn make(self, entries: &mut Vec<(K, V)>) -> Result<(), AllocError>
         requires values { AllByRecursion (λ c. c.0 < vec_len entries.old) self.values.items }
         requires new_entries { IsFirstLeast (vec_len entries.old) self.new_entries.items }

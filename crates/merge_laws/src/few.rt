@@ -7,8 +7,8 @@ use oim_names::{Copied, Key};
 use std::alloc::{AllocError, Global};
 use std::marker::Model;
 
-/// A list, of which contracts see the items. One item alone stands in the list's own place, and takes
-/// no memory beside it.
+/// A list; contracts see its items. A single item is kept inside the list itself and takes no memory
+/// besides.
 #[derive(Drop)]
 pub(crate) struct Few<T: Key> {
     room: Room<T>,
@@ -64,7 +64,7 @@ impl<T: Key> Few<T> {
 
     /// The items as a list of their own.
     ///
-    /// Errors: want of memory; the items are then lost.
+    /// Errors: out of memory; the items are then lost.
     pub(crate) fn into_list(self) -> Result<Vec<T>, AllocError>
         ensures { IfOk result (λ items. items.items ≡ self) }
     {
@@ -77,7 +77,7 @@ impl<T: Key> Few<T> {
 
     /// Puts an item before the one at `place`, or at the end.
     ///
-    /// Errors: want of memory; the items are then as before.
+    /// Errors: out of memory; the items are then unchanged.
     pub(crate) fn insert(&mut self, place: usize, item: T) -> Result<(), AllocError>
         requires { place ≤ length self.old }
         ensures ok { OnOk result (self.new ≡ insert self.old place item) }
@@ -93,10 +93,10 @@ impl<T: Key> Few<T> {
         Ok(())
     }
 
-    /// Puts new items in, which stand with the place of the item before which they go, the least
-    /// place first.
+    /// Inserts new items. Each comes with the place of the item that it goes before, the least place
+    /// first.
     ///
-    /// Errors: want of memory; the items are then as before.
+    /// Errors: out of memory; the items are then unchanged.
     pub(crate) fn insert_new(&mut self, news: Vec<(usize, T)>) -> Result<(), AllocError>
         requires { IsFirstLeast (length self.old) news.items }
         ensures ok { OnOk result (self.new ≡ inserted self.old (reverse news.items)) }

@@ -3,11 +3,11 @@ ghost use Rattle.merge_laws.specs.Insertions.{IsFirstLeast, first_place, inserte
 
 use std::alloc::AllocError;
 
-// New items stand with the place of the item before which they go, the least place first.
+// Each new item comes with the place of the item that it goes before, the least place first.
 
-/// Puts the new items in.
+/// Inserts the new items.
 ///
-/// Errors: want of memory; the items are then as before.
+/// Errors: out of memory; the items are then unchanged.
 pub(crate) fn insert_new<E: Drop>(
     items: &mut Vec<E>,
     news: Vec<(usize, E)>,
@@ -41,7 +41,7 @@ pub(crate) fn room_for<E: Drop>(
     Vec::with_capacity(*items.allocator(), moved + news.len())
 }
 
-/// Puts the new items in. The items behind the first of them are moved, and no others.
+/// Inserts the new items. The items behind the first of them are moved, and no others.
 pub(crate) fn insert_all<E: Drop>(items: &mut Vec<E>, mut news: Vec<(usize, E)>, mut above: Vec<E>)
     requires order { IsFirstLeast (vec_len items.old) news.items }
     requires empty { above.items ≡ [] }

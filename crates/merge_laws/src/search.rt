@@ -8,7 +8,7 @@ ghost use Rattle.merge_laws.specs.Sorted.{IsRising};
 use oim_names::Key;
 use std::cmp::Ordering;
 
-/// What stands in a list in the order of its keys.
+/// Search in a list that is in the order of its keys.
 pub(crate) trait Keyed<K: Key> {
     /// Its key.
     ghost key_of: { Self → K };

@@ -38,7 +38,7 @@ impl<K: Key, V: Merge> SortedMap<K, V> {
         }
     }
 
-    /// The map of entries that stand in the order of their keys already, each key once.
+    /// A map of entries that are already in the order of their keys, each key once.
     pub fn of_rising(entries: Vec<(K, V)>) -> Self
         requires { IsRising K.cmp entry_key entries.items }
         ensures { result ≡ entries.items }
@@ -47,9 +47,9 @@ impl<K: Key, V: Merge> SortedMap<K, V> {
         SortedMap { entries }
     }
 
-    /// Merges the value into what stands at the key, or puts copies of both there.
+    /// Merges the value into the one at the key, or adds copies of key and value.
     ///
-    /// Errors: want of memory; the map is then as before.
+    /// Errors: out of memory; the map is then unchanged.
     pub fn put(&mut self, key: &K, value: &V) -> Result<(), AllocError>
         ensures ok { OnOk result (self.new ≡ map_with K.cmp V.merged key.now value.now self.old) }
         ensures err { OnErr result (self.new ≡ self.old) }
@@ -69,7 +69,7 @@ impl<K: Key, V: Merge> SortedMap<K, V> {
     /// Merges the other map in, as `merge` does, where it is given up: its new entries are moved, and
     /// of a value at a key of both no copy is made.
     ///
-    /// Errors: want of memory; the map is then as before, and the other is lost.
+    /// Errors: out of memory; the map is then unchanged, and the other is lost.
     pub fn absorb(&mut self, other: Self) -> Result<(), AllocError>
         ensures ok { OnOk result (self.new ≡ map_union K.cmp V.merged self.old other) }
         ensures err { OnErr result (self.new ≡ self.old) }
@@ -120,7 +120,7 @@ impl<K: Key, V: Merge> Copied for SortedMap<K, V> {
     }
 }
 
-// Does nothing, and promises what holds of each value.
+// Does nothing. Its contract: what holds for each value.
 fn know_values<K, V: Merge>(entries: &[(K, V)])
     ensures { AllByRecursion (λ e. V.is_known e.1) entries.now }
 {

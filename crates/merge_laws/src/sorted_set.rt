@@ -56,9 +56,9 @@ impl<T: Key> SortedSet<T> {
         }
     }
 
-    /// Adds a copy of the item, and answers whether it is new.
+    /// Adds a copy of the item, and returns whether it is new.
     ///
-    /// Errors: want of memory; the set is then as before.
+    /// Errors: out of memory; the set is then unchanged.
     pub fn insert(&mut self, item: &T) -> Result<bool, AllocError>
         ensures ok { OnOk result (self.new ≡ set_with T.cmp item.now self.old) }
         ensures new { IfOk result (λ new. new ≡ not (has_key T.cmp itself item.now self.old)) }
@@ -76,7 +76,7 @@ impl<T: Key> SortedSet<T> {
 
     /// Merges the other set in, as `merge` does, where it is given up: its new items are moved.
     ///
-    /// Errors: want of memory; the set is then as before, and the other is lost.
+    /// Errors: out of memory; the set is then unchanged, and the other is lost.
     pub fn absorb(&mut self, other: Self) -> Result<(), AllocError>
         ensures ok { OnOk result (self.new ≡ set_union T.cmp self.old other) }
         ensures err { OnErr result (self.new ≡ self.old) }

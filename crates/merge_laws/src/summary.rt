@@ -9,9 +9,9 @@ use oim_value::{Interval, Value, common, interval_of};
 use std::alloc::{AllocError, Global};
 use std::marker::Model;
 
-/// What is kept of several values: whether a nil was among them, and where numbers were, the greatest
-/// low end and the least high end of their rounding intervals, which tell whether each two numbers
-/// meet. Texts and names leave no trace.
+/// A summary of several values: whether one is nil, and if some are numbers, the greatest low end and
+/// the least high end of their rounding intervals. These decide whether each two numbers meet. Texts
+/// and names leave no trace.
 #[derive(Clone, Copy, Debug, PartialEq, Eq)]
 pub struct Summary {
     nil: bool,
@@ -64,7 +64,7 @@ impl Copied for Summary {
     }
 }
 
-/// What two tell together. It always succeeds.
+/// Merges two summaries. It always succeeds.
 impl Merge for Summary {
     ghost use Rattle.std.specs.Prelude.{◌≡◌, IsOk};
     ghost use Rattle.merge_laws.specs.Ends.{both_summaries};

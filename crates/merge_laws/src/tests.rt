@@ -14,7 +14,7 @@ use std::test::Fail;
 
 const UNIT: i128 = 10_000_000_000_000_000_000;
 
-// Takes in the set of some items; answers whether there are then just these.
+// Merges the set of some items; returns whether there are then exactly these.
 fn merges_to(rt: &HostRuntime, first: &mut Items, items: &[&str], all: &[&str]) -> bool {
     match set(rt, items) {
         Ok(second) => merge(rt, first, &second).is_ok() && has_just(first, all),
@@ -24,7 +24,7 @@ fn merges_to(rt: &HostRuntime, first: &mut Items, items: &[&str], all: &[&str]) 
 
 const ALL: [&str; 3] = ["a", "b", "c"];
 
-// Whether a set that takes in another, and then all items, has all items.
+// Whether a set that merges another, and then all items, has all items.
 fn is_union(rt: &HostRuntime, items: &[&str], others: &[&str]) -> bool {
     match set(rt, items) {
         Ok(mut first) => {
@@ -44,7 +44,7 @@ fn a_union_has_the_items_in_either_order(rt: HostRuntime) {
     assert!(rt; is_union(&rt, &["b", "c"], &["c", "a"]));
 }
 
-// Whether a copy has just some items still where its original has taken in others.
+// Whether a copy has just some items still where its original has merged others.
 fn copy_stays(rt: &HostRuntime, original: &mut Items, items: &[&str]) -> bool {
     match copied(rt, original) {
         Ok(copy) => merges_to(rt, original, &["b", "c"], &ALL) && has_just(&copy, items),
@@ -185,7 +185,7 @@ fn has_value_alone(rt: &HostRuntime, map: &SummaryAt, value: &Summary) -> bool {
         && has_value(rt, map, "l", None)
 }
 
-// The same of a copy.
+// The same for a copy.
 fn copy_has_value(rt: &HostRuntime, map: &SummaryAt, value: &Summary) -> bool {
     match copied(rt, map) {
         Ok(copy) => has_value(rt, &copy, "k", Some(value)),
@@ -231,7 +231,7 @@ fn copy_is_merged(rt: &HostRuntime, map: &ItemsAt) -> bool {
     }
 }
 
-// Whether a map is merged where it has taken in that of some rows.
+// Whether a map is merged where it has merged that of some rows.
 fn merges_rows(rt: &HostRuntime, map: &mut ItemsAt, rows: &[(&str, &str)]) -> bool {
     match items_at(rt, rows) {
         Ok(other) => merge(rt, map, &other).is_ok() && copy_is_merged(rt, map),
@@ -281,7 +281,7 @@ fn has_both_parts(pair: &Pair) -> bool {
     has_just(&pair.0, &["a", "b"]) && has_just(&pair.1, &["w", "x"])
 }
 
-// Whether the copy of a pair has just these items.
+// Whether the copy of a pair has exactly these items.
 fn copy_has_both_parts(rt: &HostRuntime, pair: &Pair) -> bool {
     match copied(rt, pair) {
         Ok(copy) => has_both_parts(&copy),
@@ -342,14 +342,14 @@ fn is_set_its_members(rt: &HostRuntime) -> Result<bool, AllocError> {
     Ok(first.is_same(&second))
 }
 
-// The same of maps with the same items at each key.
+// The same for maps with the same items at each key.
 fn is_map_its_values(rt: &HostRuntime) -> Result<bool, AllocError> {
     let first = items_at(rt, &[("j", "c"), ("k", "a"), ("k", "b")])?;
     let second = items_at(rt, &[("k", "b"), ("j", "c"), ("k", "a"), ("k", "b")])?;
     Ok(first.is_same(&second))
 }
 
-// The same of summaries of the same numbers.
+// The same for summaries of the same numbers.
 fn is_summary_of_members(rt: &HostRuntime) -> Result<bool, AllocError> {
     let first = both(rt, &both_rounded(rt)?, &rounded("101"))?;
     let second = both(rt, &rounded("101"), &both_rounded(rt)?)?;

@@ -62,7 +62,7 @@ told_so UnboundPrefix true (Some u) = elim (bytes_eq u reserved_uri) as (λ b. o
 told_so ReservedNamespace true (Some u) = elim (bytes_eq u reserved_uri) as (λ b. option_eq same_reason.it (if b then Some ReservedNamespace else None) (Some ReservedNamespace) ≡ b) [ true ↦ refl | false ↦ refl ]
 told_so r true (Some u) = elim (bytes_eq u reserved_uri) as (λ b. option_eq same_reason.it (if b then Some ReservedNamespace else None) (Some r) ≡ false) [ true ↦ refl | false ↦ refl ]
 
--- a refusal is told where its test holds
+-- a refusal is returned if its test holds
 pub told : (r : Reason) (bs : List Binding) (p : List ℕ) → option_eq same_reason.it (name_refusal bs p) (Some r) ≡ refuses r bs p
 told NameForm bs p = told_so NameForm (is_name p) (uri_of bs (prefix_part p))
 told UnboundPrefix bs p = told_so UnboundPrefix (is_name p) (uri_of bs (prefix_part p))
@@ -75,7 +75,7 @@ pub record IsNamed (bs : List Binding) (t : List ℕ) : Type 0 where
   pub numerators : All (λ p. name_refusal bs p ≡ None) (numerator_pieces t)
   pub denominators : All (λ p. name_refusal bs p ≡ None) (denominator_pieces t)
 
--- four tests, the first of which holds
+-- four tests, and the first holds
 abbrev first_of_four : Bool → Bool → Bool → Bool → Option Reason
 first_of_four form named unbound reserved =
     if not form then Some UnitForm else (if named then Some NameForm else (if unbound then Some UnboundPrefix else (if reserved then Some ReservedNamespace else None)))

@@ -1,4 +1,4 @@
--- Items in order stand in one order alone.
+-- Items have one sorted order only.
 use Rattle.std.proofs.Common.{◌≡◌, ℕ, suc, ◌+◌, Bool, true, false, cond, List, [], ◌∷◌, refl, sym, ap, ◌∙◌, arith}
 use Rattle.std.specs.Prelude.{All}
 use Rattle.std.specs.List.{sum_by, count_by}

@@ -156,7 +156,7 @@ expand_each bs (t ∷ ts) (n ∷ ns) z = (z.0.expands, expand_each bs ts ns z.1)
 names_each : (bs : List Binding) (f : QName → List ℕ) (ns : List QName) → AllZip (Spells bs) (map f ns) ns → NamesEach bs (map f ns) ns
 names_each bs f ns z = record { spelled = ns; expands = expand_each bs _ ns z; same = IsPermutation-refl ns }
 
--- a text whose pieces are those of the unit has its measures
+-- a text with the unit's pieces has its measures
 has_measures : (bs : List Binding) (f : QName → List ℕ) (t : List ℕ) (m : Measures) → numerator_pieces t ≡ map f m.numerators → denominator_pieces t ≡ map f m.denominators → AllZip (Spells bs) (map f m.numerators) m.numerators → AllZip (Spells bs) (map f m.denominators) m.denominators → HasMeasures bs t m
 has_measures bs f t m np dp nz dz = record {
   form = rw (np, dp) (rw (pieces_are bs (map f m.numerators) m.numerators nz, pieces_are bs (map f m.denominators) m.denominators dz) refl);

@@ -8,7 +8,7 @@ use Rattle.oim_dims.specs.declared.limits.TheConstants.{DAY_SECONDS, FIRST_MOMEN
 use Rattle.jiff.specs.Words.{IsBetween, days_in_month}
 use Rattle.jiff_core.specs.Calendar.{days_from_civil}
 
--- how a date-time is written (own: with no zone and no fraction of a second): 0 stands for any digit
+-- how a date-time is written (own: with no zone and no fraction of a second); 0 means any digit
 abbrev pub picture : List ℕ
 picture = codes "0000-00-00T00:00:00"
 

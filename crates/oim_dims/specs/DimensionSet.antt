@@ -23,7 +23,7 @@ rises (e ∷ es) = is_below e.0 es && rises es
 abbrev pub has_name : QName → List (QName × Member) → Bool
 has_name n es = list_any (λ e. is_eq (name_cmp n e.0)) es
 
--- whether one of the names comes again
+-- whether one of the names is repeated
 abbrev pub repeats : List (QName × Member) → Bool
 repeats [] = false
 repeats (e ∷ es) = has_name e.0 es || repeats es
@@ -48,7 +48,7 @@ pub record IsDimensionSet (d : DimensionSet) : Type 0 where
   pub unit : IfSome d.unit IsUnit
   pub period : HasMoments d.period
 
--- a dimension has a name exactly where it stands there with some member
+-- a dimension has a name exactly if it is there with some member
 abbrev pub NamesAreThere : Type 0
 NamesAreThere = (n : QName) (es : List (QName × Member)) → IsTrue (has_name n es) ↔ ((m : Member) × Contains es (n, m))
 

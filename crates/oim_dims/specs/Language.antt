@@ -17,9 +17,9 @@ abbrev pub is_language : List ℕ → Bool
 is_language t = list_all is_group (slice_split is_hyphen t) && list_all is_ascii_alphabetic (before_first is_hyphen t)
 
 -- the text in lower case is a language, and is kept as it is
-pub record IsKept (t : List ℕ) : Type 0 where
+pub record IsKeptInLowerCase (t : List ℕ) : Type 0 where
   pub language : IsTrue (is_language (str_to_ascii_lowercase t))
   pub same : str_to_ascii_lowercase (str_to_ascii_lowercase t) ≡ str_to_ascii_lowercase t
 
 abbrev pub LanguagesAreKept : Type 0
-LanguagesAreKept = (t : List ℕ) → IsTrue (is_language t) → IsKept t
+LanguagesAreKept = (t : List ℕ) → IsTrue (is_language t) → IsKeptInLowerCase t

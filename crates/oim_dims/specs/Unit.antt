@@ -19,7 +19,7 @@ is_mark c = c == 40 || c == 41 || c == 42 || c == 47
 abbrev pub inner : List ℕ → List ℕ
 inner s = if slice_index s 0 == 40 && slice_index s (length s - 1) == 41 then slice_range s 1 (length s - 1) else s
 
--- what stands round the `*` of a side
+-- the pieces between the `*` of a side
 abbrev pub side_pieces : List ℕ → List (List ℕ)
 side_pieces s = slice_split is_star (inner s)
 
@@ -30,14 +30,14 @@ numerator_pieces t = side_pieces (before_first is_slash t)
 unfoldable pub denominator_pieces : List ℕ → List (List ℕ)
 denominator_pieces t = if list_any is_slash t then side_pieces (after_first is_slash t) else []
 
--- a test of each piece of both sides, and of some piece
+-- a test that each piece of both sides passes, and one that some piece passes
 abbrev pub each_piece : (List ℕ → Bool) → List ℕ → Bool
 each_piece p t = list_all p (numerator_pieces t) && list_all p (denominator_pieces t)
 
 abbrev pub some_piece : (List ℕ → Bool) → List ℕ → Bool
 some_piece p t = list_any p (numerator_pieces t) || list_any p (denominator_pieces t)
 
--- some characters, none of which a unit is built with
+-- one or more characters, and none that builds units
 abbrev pub is_piece : List ℕ → Bool
 is_piece p = not (length p == 0) && not (list_any is_mark p)
 
@@ -73,14 +73,14 @@ abbrev pub UnitOf : List Binding → List ℕ → Option Measures → Type 0
 UnitOf bs t None = HasMeasures bs t pure_alone
 UnitOf bs t (Some m) = HasMeasures bs t m × (m ≢ pure_alone)
 
--- the test of each refusal of a name
+-- the test for each refusal of a name
 abbrev pub refuses : Reason → List Binding → List ℕ → Bool
 refuses NameForm bs p = lacks_form is_name p
 refuses UnboundPrefix bs p = lacks_binding is_name bs p
 refuses ReservedNamespace bs p = lies_in_reserved is_name bs p
 refuses r bs p = false
 
--- why a text is no unit, the first that holds: its form, and then of any piece its form, its prefix, its namespace
+-- why a text is refused as a unit, the first that holds: its form, then for any piece its form, its prefix, its namespace
 abbrev pub unit_refusal : List Binding → List ℕ → Option Reason
 unit_refusal bs t =
     if not (is_unit_text t) then Some UnitForm else (

@@ -56,7 +56,7 @@ impl Dimensions {
         }
     }
 
-    /// Does nothing, and tells what each dimension set is.
+    /// Does nothing. Its contract: what holds for each dimension set.
     pub fn known(&self)
         ensures { IsDimensionSet self.now }
     {
@@ -140,7 +140,7 @@ impl Dimensions {
 
     /// Adds the member of a taxonomy-defined dimension. After an error nothing has changed.
     ///
-    /// Errors: `DimensionValue` exactly where the dimension is there; `OutOfMemory`.
+    /// Errors: `DimensionValue` exactly if the dimension is there; `OutOfMemory`.
     pub fn add(&mut self, name: Name, member: Member) -> Result<(), Reason>
         ensures ok { OnOk result (self.new ≡ record self.old { members = with_member name member self.old.members }) }
         ensures refused { (result ≡ Err Reason.DimensionValue) ↔ IsTrue (has_name name self.old.members) }
@@ -156,10 +156,10 @@ impl Dimensions {
         }
     }
 
-    /// Gives it these taxonomy-defined dimensions with their members, which may stand in any order, in
-    /// place of those that it has. After an error nothing has changed. It takes no memory.
+    /// Replaces the taxonomy-defined dimensions and their members with these, which may be in any order.
+    /// After an error nothing has changed. It takes no memory.
     ///
-    /// Errors: `DimensionValue` exactly where one of the dimensions comes again.
+    /// Errors: `DimensionValue` exactly if a dimension is repeated.
     pub fn set_members(&mut self, mut members: Vec<(Name, Member)>) -> Result<(), Reason>
         ensures members { OnOk result (IsPermutation members.items self.new.members) }
         ensures sorted { OnOk result (IsTrue (rises self.new.members)) }

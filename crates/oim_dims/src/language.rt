@@ -10,7 +10,7 @@ use std::alloc::Global;
 /// The language of a text, in ASCII lower case: groups of one to eight ASCII letters or digits with
 /// `-` between them, the first of letters (XML Schema Part 2, section 3.3.3).
 ///
-/// Errors: `LanguageForm` exactly where the text has not the form; `OutOfMemory`.
+/// Errors: `LanguageForm` exactly if the text has not the form; `OutOfMemory`.
 pub fn read_language(alloc: Global, text: &str) -> Result<Text, Reason>
     ensures language { IfOk result (λ language. language ≡ str_to_ascii_lowercase text.now) }
     ensures form { (result ≡ Err Reason.LanguageForm) ↔ ¬ (IsTrue (is_language text.now)) }

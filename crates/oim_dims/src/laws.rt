@@ -40,7 +40,7 @@ pub fn units_read_back()
     ensures spelled { BindingsSpell }
 {}
 
-/// A text denotes one unit at most, or none for `pure` alone, and does so exactly where it is not
+/// A text denotes one unit at most, or none for `pure` alone, and does so exactly if it is not
 /// refused.
 pub fn texts_denote_one_unit()
     ensures one { TextsDenoteOneUnit }
@@ -48,7 +48,7 @@ pub fn texts_denote_one_unit()
     ensures refused { OthersAreRefused }
 {}
 
-/// A dimension is there exactly where it has a member, and with a member of a new name there is one
+/// A dimension is there exactly if it has a member, and with a member of a new name there is one
 /// member more.
 pub fn members_grow()
     ensures there { NamesAreThere }

@@ -1,6 +1,6 @@
 // The moments that this project keeps.
 
-/// The seconds of a day, each of which has as many.
+/// The seconds of a day. Every day has as many.
 pub const DAY_SECONDS: u32 = 86_400;
 
 /// The second that begins the year 0001, counted from 1970-01-01T00:00:00.

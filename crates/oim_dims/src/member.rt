@@ -3,8 +3,8 @@ ghost use Rattle.std.specs.Prelude.{◌≡◌, IfOk};
 use oim_names::{Copied, Key, Name, Text};
 use std::alloc::{AllocError, Global};
 
-/// What a taxonomy-defined dimension has. Members are ordered by kind as they stand here; texts by
-/// bytes.
+/// The member of a taxonomy-defined dimension. Members are ordered by kind, in the order of the
+/// variants; texts by bytes.
 #[derive(Debug, Drop, PartialEq, Eq, PartialOrd, Ord)]
 pub enum Member {
     /// A typed dimension whose value is nil.

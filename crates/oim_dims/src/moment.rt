@@ -12,7 +12,7 @@ use jiff::civil::{Date, DateTime, Time, date};
 use std::fmt;
 use std::marker::Model;
 
-/// How a date-time is written, where `0` stands for any digit.
+/// How a date-time is written; `0` means any digit.
 const PICTURE: [u8; 19] = *b"0000-00-00T00:00:00";
 
 /// A whole second of the years 0001 to 9999, on a calendar and a clock with no zone.

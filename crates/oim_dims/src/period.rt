@@ -20,7 +20,7 @@ pub enum Period {
 }
 
 impl Period {
-    /// Does nothing, and tells that the moments are within their years.
+    /// Does nothing. Its contract: the moments are within their years.
     pub fn known(&self)
         ensures { HasMoments self.now }
     {
@@ -38,7 +38,7 @@ impl Period {
 
 /// The period of a text: one date-time, or two with `/` between them.
 ///
-/// Errors: `PeriodForm` exactly where the text has not the form, `PeriodOrder` exactly where it has
+/// Errors: `PeriodForm` exactly if the text has not the form, `PeriodOrder` exactly if it has
 /// the form and the end lies before the start. It asks for no memory so far, though callers hand it
 /// an allocator.
 pub fn read_period(_alloc: Global, text: &str) -> Result<Period, Reason>
@@ -68,7 +68,7 @@ fn from_to(start: Option<Moment>, end: Option<Moment>) -> Result<Period, Reason>
 /// The text of a period, or `None` for one that always holds. Hours go from 00 to 23. The text
 /// reads back, that of a duration where it ends after its start.
 ///
-/// Errors: want of memory.
+/// Errors: out of memory.
 pub fn write_period(alloc: Global, period: &Period) -> Result<Option<Text>, AllocError>
     ensures text { IfOk result (λ written. written ≡ period_text period.now) }
     ensures reads_back { EndsAfterStart period.now → IfOk result (λ written. IfSome written (λ text. period_of text ≡ Ok period.now)) }

@@ -9,8 +9,8 @@ use crate::{
 use oim_names::{Aliases, Copied, Name, Reason, Text};
 use std::alloc::AllocError;
 
-// Where a request for memory is refused, the next one is not: the callee is asked again, and must
-// not have changed anything. The line on standard error tells `tests/refused_memory` of it.
+// When a request for memory is refused, the next one succeeds: the call is repeated, and must not
+// have changed anything. `tests/refused_memory` counts the lines on standard error.
 
 fn tell_refused(rt: &HostRuntime) {
     let _ = eprintln!(rt; "refused");

@@ -45,7 +45,7 @@ impl Unit {
         }
     }
 
-    /// Does nothing, and tells what each unit is.
+    /// Does nothing. Its contract: what holds for each unit.
     pub fn known(&self)
         ensures { IsUnit self.now }
     {

@@ -16,7 +16,7 @@ use std::alloc::Global;
 /// `/` and the same of them, each side with or without parentheses round it (xBRL-JSON 1.0). `None`
 /// for `pure` alone, which is no unit.
 ///
-/// Errors: `UnitForm` exactly where the text has not the form; else the first that holds of any piece
+/// Errors: `UnitForm` exactly if the text has not the form; else the first that holds of any piece
 /// of `NameForm`, `UnboundPrefix`, `ReservedNamespace`; `OutOfMemory`.
 pub fn read_unit(alloc: Global, aliases: &Aliases, text: &str) -> Result<Option<Unit>, Reason>
     ensures unit { IfOk result (UnitOf aliases.now text.now) }
@@ -33,7 +33,7 @@ pub fn read_unit(alloc: Global, aliases: &Aliases, text: &str) -> Result<Option<
     }
 }
 
-// The same; where the text is not refused, an error is want of memory. Most units are not refused, so
+// The same; where the text is not refused, an error is out of memory. Most units are not refused, so
 // they are read first, and what refuses one is looked for where that fails.
 fn read_sides(alloc: Global, aliases: &Aliases, text: &str) -> Result<Option<Unit>, Reason>
     ensures unit { IfOk result (UnitOf aliases.now text.now) }

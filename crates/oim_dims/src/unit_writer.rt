@@ -10,7 +10,7 @@ use std::alloc::{AllocError, Global};
 /// The text of a unit under these aliases, each side in the order of names (xBRL-JSON 1.0). It
 /// reads back. `can_write_unit` is the test for its condition.
 ///
-/// Errors: want of memory.
+/// Errors: out of memory.
 pub fn write_unit(alloc: Global, aliases: &Aliases, unit: &Unit) -> Result<Text, AllocError>
     requires { IsTrue (can_write aliases.now unit.now) }
     ensures text { IfOk result (λ text. text ≡ unit_text (measure_text aliases.now) unit.now) }
@@ -64,7 +64,7 @@ fn push_unit(
     push_side(text, aliases, denominators)
 }
 
-// Writes a side that stands beside another.
+// Writes one of two sides.
 fn push_side(text: &mut String, aliases: &Aliases, names: &[Name]) -> Result<(), AllocError>
     requires { list_all (is_writable aliases.now) names.now ≡ true }
     ensures { OnOk result (string_bytes text.new ≡ string_bytes text.old ++ side_text (measure_text aliases.now) names.now) }

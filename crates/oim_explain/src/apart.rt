@@ -6,10 +6,10 @@ use oim_value::{Level, Value as Said, interval_of, value_meets};
 use serde_json::{Map, Value};
 use std::alloc::{AllocError, Global};
 
-/// The places, from 0, of two facts of an otherwise accepted report that its declared level does
-/// not allow beside one another.
+/// Finds two facts with the same dimensions that the report's declared level does not allow, and
+/// returns their places, from 0. The report is accepted otherwise.
 ///
-/// Errors: want of memory.
+/// Errors: out of memory.
 pub(crate) fn two_apart(
     alloc: Global,
     sheet: &Sheet,
@@ -43,7 +43,7 @@ fn declaration<'t>(tree: &Value, features: &'t Map<String, Value>) -> Option<&'t
     None
 }
 
-/// The level of this text; all duplicates are allowed where it is none.
+/// The level that the text names, or else the one that allows all duplicates.
 fn level_of(value: Option<&Value>) -> Level {
     value
         .and_then(Value::as_str)
@@ -60,7 +60,7 @@ fn drop_features(tree: &mut Value) {
     }
 }
 
-/// The first fact, in their order, that the level does not allow beside one before it, and that one.
+/// The first fact in order that the level does not allow beside an earlier one, and that one.
 fn first_apart(facts: &[Fact], order: &[usize], level: Level) -> Option<(usize, usize)> {
     let mut group: Option<Group<'_>> = None;
     for place in order {
@@ -78,8 +78,8 @@ fn first_apart(facts: &[Fact], order: &[usize], level: Level) -> Option<(usize, 
     None
 }
 
-/// Of facts with the same dimensions, with their places: that whose interval ends first, and that
-/// whose interval begins last.
+/// Two facts with the same dimensions and their places: the one whose interval ends first, and the
+/// one whose interval begins last.
 #[derive(Clone, Copy)]
 struct Group<'f> {
     lowest: (usize, &'f Fact),
@@ -94,7 +94,7 @@ impl<'f> Group<'f> {
         }
     }
 
-    /// The place of a fact of these beside which the level does not allow this one.
+    /// The place of an earlier fact that the level does not allow beside this one.
     fn apart_from(&self, fact: &Fact, level: Level) -> Option<usize> {
         if !allows(level, self.lowest.1, fact) {
             Some(self.lowest.0)

@@ -1,16 +1,17 @@
 use std::fmt;
 
-/// How many characters are shown of what is at fault.
+/// How many characters of a text at fault are shown.
 const MOST_CHARACTERS: usize = 80;
 
-/// A text as it may go to a terminal: each character that is not seen, turns the direction or ends
-/// the line is written as JSON escapes it, and so is each control character.
+/// A text that is safe to print on a terminal. Control characters, and those that are hidden, turn
+/// the direction or end the line, are written as JSON escapes: a prefix behind a byte order mark
+/// would otherwise look bound, and a file's name could imitate a line.
 #[derive(Clone, Copy)]
 pub struct Escaped<'t>(pub &'t str);
 
 impl fmt::Display for Escaped<'_> {
     fn fmt<W: fmt::Write>(&self, f: &mut fmt::Formatter<W>) -> fmt::Result {
-        // what stands between two escapes is written at once, as the whole of an ordinary text
+        // the text between two escapes is written at once, so an ordinary text in one piece
         let mut from = 0;
         for (place, character) in self.0.char_indices() {
             if !is_shown(character) {
@@ -23,7 +24,7 @@ impl fmt::Display for Escaped<'_> {
     }
 }
 
-/// Writes the escape of a character in JSON: one of 16 bits, or two.
+/// Writes a character as one JSON escape of 16 bits, or two.
 fn write_escape<W: fmt::Write>(f: &mut fmt::Formatter<W>, character: char) -> fmt::Result {
     let number = character as u32;
     if number < 0x1_0000 {
@@ -55,7 +56,7 @@ fn is_shown(character: char) -> bool {
         )
 }
 
-/// The first `MOST_CHARACTERS` characters of a text, or all where it has no more.
+/// The first `MOST_CHARACTERS` characters of a text, or all of a shorter one.
 pub(crate) fn front_of(text: &str) -> &str {
     for (count, (place, _)) in text.char_indices().enumerate() {
         if count >= MOST_CHARACTERS {

@@ -1,60 +1,42 @@
 use super::apart::two_apart;
 use super::escaped::Escaped;
 use super::file_kind::{kind_of_bytes, kind_of_tree};
-use super::found::{Found, push_text};
+use super::finding::Finding;
+use super::found::Found;
 use super::found_in_document::{found_in_document, info};
-use super::found_in_fact::found_in_fact;
+use super::found_in_fact::{Names, found_in_fact};
+use super::input::Input;
+use super::lines::{Explained, Lines};
 use super::named::read_aliases;
-use super::named_in_fact::Names;
-use super::repeated::{Repeated, Role};
-use super::sentence::said_of;
+use super::repeated::{Role, push_repeated};
 use oim_names::Reason;
 use oim_report::{Place, Refusal, Sheet, faults};
 use serde_json::{Error, Value};
 use std::alloc::{AllocError, Global};
 
-/// The lines of what is wrong with a file, each with its line end, and how many they are (own).
-#[derive(Drop)]
-pub struct Explained {
-    pub text: String,
-    pub faults: u64,
-}
-
-/// The lines of what is wrong with a report, read under a sheet from the file of this name: each
-/// fault that `faults` of `oim_report` tells, in its order, and then each member that stands twice in
-/// an object (RFC 8259, section 4), of which only the last one is read. A line begins with the name;
-/// no character of it turns or ends a terminal's line, and of no text in the file are more than 80
-/// characters shown.
+/// The lines of what is wrong with a report, read under a sheet: each fault that `faults` of
+/// `oim_report` tells, in its order, and then each member that stands twice in an object (RFC 8259,
+/// section 4), of which only the last one is read. A text begins with the name of the file, and shows
+/// 80 characters of a text in it. No character of a line turns or ends a terminal's line.
 ///
 /// A file that is not JSON has one line, on that fault.
 ///
-/// Errors: want of memory.
+/// Errors: out of memory.
 pub fn explain(
     alloc: Global,
     sheet: &Sheet,
-    name: &str,
+    input: Input<'_>,
     bytes: &[u8],
 ) -> Result<Explained, AllocError> {
-    let file = format!(in alloc; "{}", Escaped(name))?;
     let found = faults(alloc, sheet, bytes)?;
-    let mut text = String::new(alloc);
+    let mut lines = Lines::new(alloc, input);
     if !found.as_slice().is_empty() {
-        push_faults(
-            alloc,
-            &mut text,
-            sheet,
-            file.as_str(),
-            bytes,
-            found.as_slice(),
-        )?;
+        push_faults(&mut lines, sheet, bytes, found.as_slice())?;
     }
-    let mut faults = found.as_slice().len() as u64;
     if !is_unread(found.as_slice()) {
-        let repeated = Repeated::of(alloc, file.as_str(), Role::Report, bytes)?;
-        text.push_str(repeated.text.as_str())?;
-        faults = faults.saturating_add(repeated.count);
+        push_repeated(&mut lines, Role::Report, bytes)?;
     }
-    Ok(Explained { text, faults })
+    Ok(lines.explained())
 }
 
 /// Whether the file is not JSON. Then no member of it is read, although `json`, which accepts numbers of
@@ -70,40 +52,32 @@ fn is_unread(found: &[Refusal]) -> bool {
 }
 
 fn push_faults(
-    alloc: Global,
-    text: &mut String,
+    lines: &mut Lines<'_>,
     sheet: &Sheet,
-    file: &str,
     bytes: &[u8],
     found: &[Refusal],
 ) -> Result<(), AllocError> {
-    match Value::from_slice(alloc, without_mark(bytes)) {
+    match Value::from_slice(lines.alloc, without_mark(bytes)) {
         Err(error) if error.is_memory() => Err(AllocError),
         Err(error) => {
-            push_start(text, file, Reason::NotJson)?;
-            push_unread(alloc, text, &error, bytes)
+            let words = words_of(lines.alloc, &error)?;
+            lines.push(&unread(words.as_str(), bytes))
         }
-        Ok(mut tree) => push_of_tree(alloc, text, sheet, file, &mut tree, found),
+        Ok(mut tree) => push_of_tree(lines, sheet, &mut tree, found),
     }
 }
 
-/// Appends why a file is no JSON text, with what it seems to be.
+/// What `serde_json` says of a file that is no JSON text.
 ///
-/// Errors: want of memory.
-pub(crate) fn push_unread(
-    alloc: Global,
-    text: &mut String,
-    error: &Error,
-    bytes: &[u8],
-) -> Result<(), AllocError> {
+/// Errors: out of memory.
+pub(crate) fn words_of(alloc: Global, error: &Error) -> Result<String, AllocError> {
     let words = format!(in alloc; "{error}")?;
-    write!(
-        text,
-        "{}{}",
-        said_of(Reason::NotJson).before,
-        Escaped(words.as_str())
-    )?;
-    push_kind(text, kind_of_bytes(bytes))
+    format!(in alloc; "{}", Escaped(words.as_str()))
+}
+
+/// The fault of a file that is no JSON text for the reason that these words tell.
+pub(crate) fn unread<'w>(words: &'w str, bytes: &[u8]) -> Finding<'w> {
+    Finding::of_document(Reason::NotJson, Found::Words(words)).with_kind(kind_of_bytes(bytes))
 }
 
 /// The bytes behind a byte order mark.
@@ -114,24 +88,9 @@ pub(crate) fn without_mark(bytes: &[u8]) -> &[u8] {
     }
 }
 
-fn push_start(text: &mut String, file: &str, reason: Reason) -> Result<(), AllocError> {
-    let (number, name) = (reason.number(), reason.name());
-    write!(text, "{file}: {number} {name}: ")
-}
-
-/// Ends a line, with what the file seems to be.
-pub(crate) fn push_kind(text: &mut String, kind: Option<&str>) -> Result<(), AllocError> {
-    match kind {
-        Some(kind) => write!(text, "; the file looks like {kind}\n"),
-        None => text.push_str("\n"),
-    }
-}
-
 fn push_of_tree(
-    alloc: Global,
-    text: &mut String,
+    lines: &mut Lines<'_>,
     sheet: &Sheet,
-    file: &str,
     tree: &mut Value,
     found: &[Refusal],
 ) -> Result<(), AllocError> {
@@ -141,109 +100,63 @@ fn push_of_tree(
                 place: Place::Fact(_),
                 ..
             },
-        ) => push_of_facts(alloc, text, sheet, file, tree, found),
+        ) => push_of_facts(lines, sheet, tree, found),
         Some(
             Refusal {
                 reason: Reason::DisallowedDuplicates,
                 ..
             },
-        ) => push_apart(alloc, text, sheet, file, tree),
-        _ => push_of_document(alloc, text, file, tree, found),
+        ) => push_apart(lines, sheet, tree),
+        _ => push_of_document(lines, tree, found),
     }
 }
 
 fn push_of_document(
-    alloc: Global,
-    text: &mut String,
-    file: &str,
+    lines: &mut Lines<'_>,
     tree: &Value,
     found: &[Refusal],
 ) -> Result<(), AllocError> {
     let mut kind = kind_of_tree(tree);
     for refusal in found {
-        push_start(text, file, refusal.reason)?;
-        let found = found_in_document(alloc, tree, refusal.reason)?;
-        found.push_said(alloc, text, refusal.reason)?;
-        push_kind(text, kind)?;
+        let found = found_in_document(lines.alloc, tree, refusal.reason)?;
+        lines.push(&Finding::of_document(refusal.reason, found).with_kind(kind))?;
         kind = None;
     }
     Ok(())
 }
 
 fn push_of_facts(
-    alloc: Global,
-    text: &mut String,
+    lines: &mut Lines<'_>,
     sheet: &Sheet,
-    file: &str,
     tree: &Value,
     found: &[Refusal],
 ) -> Result<(), AllocError> {
-    let aliases = read_aliases(alloc, info(tree, "namespaces"))?;
+    let aliases = read_aliases(lines.alloc, info(tree, "namespaces"))?;
     let names = Names {
         sheet,
         aliases: &aliases,
     };
-    let facts = facts_of(alloc, tree)?;
+    let facts = facts_of(lines.alloc, tree)?;
     for refusal in found {
-        if let Some((identifier, object)) = fact_at(facts.as_slice(), refusal.place) {
-            push_fact(
-                alloc,
-                text,
-                &names,
-                file,
-                identifier,
-                object,
-                refusal.reason,
-            )?;
+        if let Some((number, identifier, object)) = fact_at(facts.as_slice(), refusal.place) {
+            let found = found_in_fact(lines.alloc, &names, object, refusal.reason)?;
+            lines.push(&Finding {
+                fact: Some((number, identifier)),
+                reason: refusal.reason,
+                found,
+                kind: None,
+            })?;
         }
     }
     Ok(())
 }
 
-fn push_fact(
-    alloc: Global,
-    text: &mut String,
-    names: &Names<'_>,
-    file: &str,
-    identifier: &str,
-    object: &Value,
-    reason: Reason,
-) -> Result<(), AllocError> {
-    push_start_of_fact(alloc, text, file, identifier, reason)?;
-    let found = found_in_fact(alloc, names, object, reason)?;
-    found.push_said(alloc, text, reason)?;
-    text.push_str("\n")
-}
-
-/// Begins the line of a fault of a fact.
-fn push_start_of_fact(
-    alloc: Global,
-    text: &mut String,
-    file: &str,
-    identifier: &str,
-    reason: Reason,
-) -> Result<(), AllocError> {
-    text.push_str(file)?;
-    text.push_str(": fact ")?;
-    push_text(alloc, text, identifier)?;
-    let (number, name) = (reason.number(), reason.name());
-    write!(text, ": {number} {name}: ")
-}
-
 /// The line of two facts that the declared level does not allow.
-fn push_apart(
-    alloc: Global,
-    text: &mut String,
-    sheet: &Sheet,
-    file: &str,
-    tree: &mut Value,
-) -> Result<(), AllocError> {
-    let two = two_apart(alloc, sheet, tree)?;
-    let facts = facts_of(alloc, tree)?;
-    push_start(text, file, Reason::DisallowedDuplicates)?;
+fn push_apart(lines: &mut Lines<'_>, sheet: &Sheet, tree: &mut Value) -> Result<(), AllocError> {
+    let two = two_apart(lines.alloc, sheet, tree)?;
+    let facts = facts_of(lines.alloc, tree)?;
     let found = Found::of_two(two_of(facts.as_slice(), two));
-    found.push_said(alloc, text, Reason::DisallowedDuplicates)?;
-    text.push_str("\n")
+    lines.push(&Finding::of_document(Reason::DisallowedDuplicates, found))
 }
 
 /// The identifiers at two places.
@@ -266,9 +179,11 @@ fn facts_of(alloc: Global, tree: &Value) -> Result<Vec<(&str, &Value)>, AllocErr
     Ok(facts)
 }
 
-fn fact_at<'a>(facts: &[(&'a str, &'a Value)], place: Place) -> Option<(&'a str, &'a Value)> {
+/// The number, the identifier and the object of a fact.
+fn fact_at<'a>(facts: &[(&'a str, &'a Value)], place: Place) -> Option<(u64, &'a str, &'a Value)> {
     let Place::Fact(number) = place else {
         return None;
     };
-    facts.get(number.checked_sub(1)? as usize).copied()
+    let (identifier, object) = facts.get(number.checked_sub(1)? as usize).copied()?;
+    Some((number, identifier, object))
 }

@@ -1,8 +1,11 @@
 use super::escaped::Escaped;
-use super::explained::{Explained, push_kind, push_unread, without_mark};
+use super::explained::{unread, without_mark, words_of};
 use super::file_kind::kind_of_sheet;
+use super::finding::Finding;
 use super::found_in_sheet::found_in_sheet;
-use super::repeated::{Repeated, Role};
+use super::input::Input;
+use super::lines::{Explained, Lines};
+use super::repeated::{Role, push_repeated};
 use oim_names::Reason;
 use serde_json::Value;
 use std::alloc::{AllocError, Global};
@@ -10,44 +13,38 @@ use std::alloc::{AllocError, Global};
 /// The line of why a sheet is refused, read from the file of this name: with what is at fault, and
 /// with what the file is where its first bytes or members show it (own).
 ///
-/// Errors: want of memory.
+/// Errors: out of memory.
 pub fn explain_sheet(
     alloc: Global,
     name: &str,
     bytes: &[u8],
     reason: Reason,
 ) -> Result<String, AllocError> {
-    let mut text = format!(in alloc; "{}: ", Escaped(name))?;
-    match Value::from_slice(alloc, without_mark(bytes)) {
-        Ok(tree) => push_of_sheet(alloc, &mut text, &tree, reason)?,
+    let sentence = match Value::from_slice(alloc, without_mark(bytes)) {
+        Ok(tree) => sentence_of_sheet(alloc, &tree, reason)?,
         Err(error) if error.is_memory() => return Err(AllocError),
-        Err(error) => push_unread(alloc, &mut text, &error, bytes)?,
-    }
-    Ok(text)
+        Err(error) => unread(words_of(alloc, &error)?.as_str(), bytes).sentence(alloc)?,
+    };
+    format!(in alloc; "{}: {sentence}\n", Escaped(name))
 }
 
-fn push_of_sheet(
-    alloc: Global,
-    text: &mut String,
-    tree: &Value,
-    reason: Reason,
-) -> Result<(), AllocError> {
+fn sentence_of_sheet(alloc: Global, tree: &Value, reason: Reason) -> Result<String, AllocError> {
     let found = found_in_sheet(alloc, tree, reason)?;
-    found.push_said(alloc, text, reason)?;
-    push_kind(text, kind_of_sheet(tree))
+    Finding::of_document(reason, found)
+        .with_kind(kind_of_sheet(tree))
+        .sentence(alloc)
 }
 
-/// The lines of members that stand twice in an object of a sheet, read from the file of this name:
-/// of these only the last one is read (own).
+/// The lines of members that stand twice in an object of a sheet: of these only the last one is
+/// read (own).
 ///
-/// Errors: want of memory.
-pub fn explain_repeated(alloc: Global, name: &str, bytes: &[u8]) -> Result<Explained, AllocError> {
-    let file = format!(in alloc; "{}", Escaped(name))?;
-    let repeated = Repeated::of(alloc, file.as_str(), Role::Sheet, bytes)?;
-    let mut text = String::new(alloc);
-    text.push_str(repeated.text.as_str())?;
-    Ok(Explained {
-        text,
-        faults: repeated.count,
-    })
+/// Errors: out of memory.
+pub fn explain_repeated(
+    alloc: Global,
+    input: Input<'_>,
+    bytes: &[u8],
+) -> Result<Explained, AllocError> {
+    let mut lines = Lines::new(alloc, input);
+    push_repeated(&mut lines, Role::Sheet, bytes)?;
+    Ok(lines.explained())
 }

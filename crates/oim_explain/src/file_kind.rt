@@ -3,7 +3,7 @@ use serde_json::Value;
 
 const UTF_16: [&[u8]; 6] = [b"\xfe\xff", b"\xff\xfe", b"{\0", b"\0{", b"<\0", b"\0<"];
 
-/// What a file is that is no JSON text, where its first bytes show it.
+/// What a file that is not JSON seems to be, by its first bytes.
 pub(crate) fn kind_of_bytes(bytes: &[u8]) -> Option<&'static str> {
     if bytes.starts_with(b"\x1f\x8b") {
         return Some("a gzip file: unpack it first");
@@ -53,8 +53,8 @@ fn kind_of_text(text: &str) -> Option<&'static str> {
     }
 }
 
-/// Whether a line is one of a table: it has a separator, and neither the braces and colons of JSON
-/// nor the white space behind its separators that prose has.
+/// Whether a line belongs to a table: it has a separator, but no braces and colons as in JSON, and
+/// no white space after its separators as in prose.
 fn is_row(line: &str) -> bool {
     line.contains([',', ';', '\t'])
         && !line.contains(['{', '}'])
@@ -64,7 +64,7 @@ fn is_row(line: &str) -> bool {
         && !line.contains("; ")
 }
 
-/// What a JSON text is, where it is another file than a report.
+/// What a JSON file that is not a report seems to be.
 pub(crate) fn kind_of_tree(tree: &Value) -> Option<&'static str> {
     if is_csv(tree) {
         Some("the metadata of an xBRL-CSV report: another program has to write it as xBRL-JSON")
@@ -83,7 +83,7 @@ fn is_csv(tree: &Value) -> bool {
     of_csv || tree.get("tableTemplates").is_some()
 }
 
-/// What a file is that is given as a concept sheet and is none.
+/// What a file that is given as a sheet, and is none, seems to be.
 pub(crate) fn kind_of_sheet(tree: &Value) -> Option<&'static str> {
     if is_csv(tree) {
         Some("the metadata of an xBRL-CSV report, and no concept sheet")

@@ -10,7 +10,9 @@ pub(crate) enum Found<'a> {
     /// Nothing that can be shown.
     Nothing,
     /// What these words tell.
-    Words(&'static str),
+    Words(&'a str),
+    /// The member of this key, with what is wrong with it.
+    Quoted(&'static str, &'static str),
     /// This text.
     Text(&'a str),
     /// This text in the place that these words tell.
@@ -61,7 +63,7 @@ impl<'a> Found<'a> {
 
     /// Appends what is said of it, with what is at fault.
     ///
-    /// Errors: want of memory.
+    /// Errors: out of memory.
     pub(crate) fn push_said(
         self,
         alloc: Global,
@@ -84,6 +86,7 @@ impl<'a> Found<'a> {
         match self {
             Found::Nothing => Ok(()),
             Found::Words(words) => line.push_str(words),
+            Found::Quoted(key, words) => write!(line, "\"{key}\"{words}"),
             Found::Text(text) | Found::Entity(text) => push_text(alloc, line, text),
             Found::Within(text, place) => {
                 push_text(alloc, line, text)?;
@@ -106,7 +109,7 @@ impl<'a> Found<'a> {
 
 /// Appends a text as JSON. Of a long one it is the first characters, with no quote behind them.
 ///
-/// Errors: want of memory.
+/// Errors: out of memory.
 pub(crate) fn push_text(alloc: Global, line: &mut String, text: &str) -> Result<(), AllocError> {
     let front = front_of(text);
     let json = Value::String(String::from_str(alloc, front)?).to_string(alloc)?;

@@ -7,7 +7,7 @@ use std::alloc::{AllocError, Global};
 
 const INFO: &str = "documentInfo";
 
-/// What `documentInfo` may have besides extensions.
+/// The members that `documentInfo` may have besides extensions.
 const INFO_MEMBERS: [&str; 7] = [
     "documentType",
     "namespaces",
@@ -25,9 +25,9 @@ pub(crate) fn info<'a>(tree: &'a Value, key: &str) -> Option<&'a Value> {
     tree.get(INFO)?.get(key)
 }
 
-/// What is at fault in a document outside of its facts.
+/// What is at fault in a document, apart from its facts.
 ///
-/// Errors: want of memory.
+/// Errors: out of memory.
 pub(crate) fn found_in_document(
     alloc: Global,
     tree: &Value,
@@ -66,7 +66,7 @@ fn misshapen(tree: &Value) -> &'static str {
     "\"taxonomy\" is no array"
 }
 
-/// Whether there is a value, and it is no object.
+/// Whether there is a value that is not an object.
 pub(crate) fn is_no_object(value: Option<&Value>) -> bool {
     match value {
         Some(value) => !value.is_object(),
@@ -112,7 +112,7 @@ fn is_uri(value: &Value) -> bool {
     }
 }
 
-/// The first declaration of a level that names none; else all features, of which two declare one.
+/// The first declaration that names no level; else all features, since two of them declare one.
 fn misdeclared(tree: &Value) -> Found<'_> {
     let features = info(tree, "features");
     if let Some(entries) = features.and_then(Value::as_object) {
@@ -129,7 +129,7 @@ fn is_level(value: &Value) -> bool {
     value.as_str().and_then(Level::read).is_some()
 }
 
-/// Whether this is the key of a feature that declares the level of the duplicates.
+/// Whether a feature with this key declares the level of duplicates.
 pub(crate) fn is_declaration(tree: &Value, key: &str) -> bool {
     match key.split_once(':') {
         Some((prefix, local)) => local == "allowedDuplicates"
@@ -138,7 +138,7 @@ pub(crate) fn is_declaration(tree: &Value, key: &str) -> bool {
     }
 }
 
-/// What a prefix is bound to.
+/// The URI to which a prefix is bound.
 fn uri<'a>(tree: &'a Value, prefix: &str) -> Option<&'a str> {
     info(tree, "namespaces")?.get(prefix)?.as_str()
 }

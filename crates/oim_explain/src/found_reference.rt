@@ -9,7 +9,7 @@ const MOST_BYTES: usize = 65_536;
 
 /// The first reference of `taxonomy` that cannot be kept.
 ///
-/// Errors: want of memory.
+/// Errors: out of memory.
 pub(crate) fn lost_reference(alloc: Global, tree: &Value) -> Result<Found<'_>, AllocError> {
     let base = base_of(alloc, tree)?;
     if let Some(references) = info(tree, "taxonomy").and_then(Value::as_array) {
@@ -22,7 +22,7 @@ pub(crate) fn lost_reference(alloc: Global, tree: &Value) -> Result<Found<'_>, A
     Ok(Found::Nothing)
 }
 
-/// The URL that references are resolved against, where there is one and it is accepted.
+/// The URL that references are resolved against, if the report has one that is accepted.
 fn base_of(alloc: Global, tree: &Value) -> Result<Option<Url>, AllocError> {
     match info(tree, "baseURL").and_then(Value::as_str) {
         Some(text) if text.len() <= MOST_BYTES => {
@@ -32,7 +32,7 @@ fn base_of(alloc: Global, tree: &Value) -> Result<Option<Url>, AllocError> {
     }
 }
 
-/// What was read, or None where it is no URL.
+/// The parsed URL, or None if the text is not one.
 fn read(parsed: ParseResult<Url>) -> Result<Option<Url>, AllocError> {
     match parsed {
         Ok(url) => Ok(Some(url)),
@@ -45,8 +45,8 @@ fn is_web(url: &Url) -> bool {
     matches!(url.scheme(), "http" | "https")
 }
 
-/// Whether a reference is kept: one that is a URL by itself, or that is one of the web against the
-/// base, and each where there is no base.
+/// Whether a reference is kept, within the limit: as a URL by itself, as a web address resolved
+/// against the base, or as spelled if there is no base.
 fn is_kept(alloc: Global, base: Option<&Url>, reference: &Value) -> Result<bool, AllocError> {
     let Some(text) = reference.as_str() else {
         return Ok(false);

@@ -1,5 +1,10 @@
-//! What is told people of everything that is wrong with a report, in plain words. It judges nothing:
-//! what is wrong is told by `oim_report`.
+//! Sentences about all faults of a report or a sheet, with the text at fault. This crate judges
+//! nothing: `oim_report` finds the faults.
+//!
+//! A sentence may change; the numbers, the names and their order may not. Of a text at most 80
+//! characters are shown, counted before they are escaped, so that no escape is cut in two.
+//! Identifiers are cut too: each begins the lines of its fact, so a short file could print
+//! gigabytes.
 #![tactic(auto)]
 
 mod apart;
@@ -7,16 +12,21 @@ mod escaped;
 mod explained;
 mod explained_sheet;
 mod file_kind;
+mod finding;
 mod found;
 mod found_in_document;
 mod found_in_fact;
 mod found_in_sheet;
 mod found_reference;
+mod input;
+mod lines;
 mod named;
-mod named_in_fact;
+mod object;
 mod repeated;
 mod sentence;
 
 pub use escaped::Escaped;
-pub use explained::{Explained, explain};
+pub use explained::explain;
 pub use explained_sheet::{explain_repeated, explain_sheet};
+pub use input::{Format, Input};
+pub use lines::Explained;

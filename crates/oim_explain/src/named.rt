@@ -2,9 +2,9 @@ use oim_names::{Aliases, Reason};
 use serde_json::Value;
 use std::alloc::{AllocError, Global};
 
-/// The prefixes of a document in whose `namespaces` no condition holds.
+/// The prefixes of a document whose `namespaces` are accepted.
 ///
-/// Errors: want of memory.
+/// Errors: out of memory.
 pub(crate) fn read_aliases(
     alloc: Global,
     namespaces: Option<&Value>,
@@ -22,15 +22,15 @@ pub(crate) fn read_aliases(
     Ok(aliases)
 }
 
-/// Of keys with their kinds, two that are one name and have two kinds: the first by their names.
+/// Two keys that are one name with two kinds: the first such name.
 ///
-/// Errors: want of memory.
+/// Errors: out of memory.
 pub(crate) fn two_of_one_name<'a>(
     alloc: Global,
     aliases: &Aliases,
     keys: &[(&'a str, &'a str)],
 ) -> Result<Option<(&'a str, &'a str)>, AllocError> {
-    // sorted, so that many keys cost no more than their order
+    // sorted, so that many keys do not cost the square of their number
     let mut named = Vec::with_capacity(alloc, keys.len())?;
     for (place, (key, kind)) in keys.iter().enumerate() {
         if let Ok((uri, local)) = aliases.resolve(key) {

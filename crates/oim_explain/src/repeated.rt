@@ -1,4 +1,6 @@
+use super::explained::without_mark;
 use super::found::push_text;
+use super::lines::Lines;
 use json::{Error, Scratch, Value};
 use std::alloc::{AllocError, Global};
 
@@ -9,124 +11,97 @@ pub(crate) enum Role {
     Sheet,
 }
 
-/// The lines of members that stand twice in what is read of a file, and how many they are.
-#[derive(Drop)]
-pub(crate) struct Repeated<'f> {
-    alloc: Global,
-    file: &'f str,
-    pub text: String,
-    pub count: u64,
+/// Adds the members that stand twice in what is read of a file. A file that is no JSON text has none.
+///
+/// Errors: out of memory.
+pub(crate) fn push_repeated(
+    lines: &mut Lines<'_>,
+    role: Role,
+    bytes: &[u8],
+) -> Result<(), AllocError> {
+    let mut scratch = Scratch::new(lines.alloc);
+    match Value::from_slice(lines.alloc, without_mark(bytes), &mut scratch) {
+        Ok(tree) => match role {
+            Role::Report => push_report(lines, &tree),
+            Role::Sheet => push_sheet(lines, &tree),
+        },
+        Err(Error::OutOfMemory) => Err(AllocError),
+        Err(_) => Ok(()),
+    }
 }
 
-impl<'f> Repeated<'f> {
-    /// The lines of a file with this escaped name. A file that is no JSON text has none.
-    ///
-    /// Errors: want of memory.
-    pub(crate) fn of(
-        alloc: Global,
-        file: &'f str,
-        role: Role,
-        bytes: &[u8],
-    ) -> Result<Repeated<'f>, AllocError> {
-        let mut lines = Repeated {
-            alloc,
-            file,
-            text: String::new(alloc),
-            count: 0,
-        };
-        let text = match bytes.strip_prefix(b"\xef\xbb\xbf") {
-            Some(rest) => rest,
-            None => bytes,
-        };
-        let mut scratch = Scratch::new(alloc);
-        match Value::from_slice(alloc, text, &mut scratch) {
-            Ok(tree) => lines.push_file(role, &tree)?,
-            Err(Error::OutOfMemory) => return Err(AllocError),
-            Err(_) => {}
-        }
-        Ok(lines)
+fn push_report(lines: &mut Lines<'_>, tree: &Value<'_>) -> Result<(), AllocError> {
+    push_of(lines, None, Some(tree), " in the report")?;
+    if let Some(info) = tree.get("documentInfo") {
+        push_of(lines, None, Some(info), " in \"documentInfo\"")?;
+        push_of(lines, None, info.get("namespaces"), " in \"namespaces\"")?;
+        push_of(lines, None, info.get("features"), " in \"features\"")?;
     }
-
-    fn push_file(&mut self, role: Role, tree: &Value<'_>) -> Result<(), AllocError> {
-        match role {
-            Role::Report => self.push_report(tree),
-            Role::Sheet => self.push_sheet(tree),
-        }
+    match tree.get("facts") {
+        Some(facts) => push_facts(lines, facts),
+        None => Ok(()),
     }
+}
 
-    fn push_report(&mut self, tree: &Value<'_>) -> Result<(), AllocError> {
-        self.push_of(None, Some(tree), " in the report")?;
-        if let Some(info) = tree.get("documentInfo") {
-            self.push_of(None, Some(info), " in \"documentInfo\"")?;
-            self.push_of(None, info.get("namespaces"), " in \"namespaces\"")?;
-            self.push_of(None, info.get("features"), " in \"features\"")?;
-        }
-        match tree.get("facts") {
-            Some(facts) => self.push_facts(facts),
-            None => Ok(()),
-        }
+fn push_sheet(lines: &mut Lines<'_>, tree: &Value<'_>) -> Result<(), AllocError> {
+    push_of(lines, None, Some(tree), " in the sheet")?;
+    push_of(lines, None, tree.get("namespaces"), " in \"namespaces\"")?;
+    push_of(lines, None, tree.get("concepts"), " in \"concepts\"")?;
+    push_of(lines, None, tree.get("dimensions"), " in \"dimensions\"")
+}
+
+fn push_facts(lines: &mut Lines<'_>, facts: &Value<'_>) -> Result<(), AllocError> {
+    let Value::Object(members) = facts else {
+        return Ok(());
+    };
+    for identifier in repeated_keys(lines.alloc, members.as_slice())? {
+        push_member(lines, "fact ", identifier, "")?;
     }
-
-    fn push_sheet(&mut self, tree: &Value<'_>) -> Result<(), AllocError> {
-        self.push_of(None, Some(tree), " in the sheet")?;
-        self.push_of(None, tree.get("namespaces"), " in \"namespaces\"")?;
-        self.push_of(None, tree.get("concepts"), " in \"concepts\"")?;
-        self.push_of(None, tree.get("dimensions"), " in \"dimensions\"")
+    for (identifier, fact) in members {
+        let dimensions = fact.get("dimensions");
+        push_of(lines, Some(*identifier), Some(fact), "")?;
+        push_of(lines, Some(*identifier), dimensions, " in \"dimensions\"")?;
     }
+    Ok(())
+}
 
-    fn push_facts(&mut self, facts: &Value<'_>) -> Result<(), AllocError> {
-        let Value::Object(members) = facts else {
-            return Ok(());
-        };
-        for identifier in repeated_keys(self.alloc, members.as_slice())? {
-            self.push_line(None, "fact ", identifier, "")?;
-        }
-        for (identifier, fact) in members {
-            let dimensions = fact.get("dimensions");
-            self.push_of(Some(*identifier), Some(fact), "")?;
-            self.push_of(Some(*identifier), dimensions, " in \"dimensions\"")?;
-        }
-        Ok(())
-    }
-
-    /// The members of an object that stand twice, in this fact or in the document. The object's place
-    /// follows in their lines.
-    fn push_of(
-        &mut self,
-        fact: Option<&str>,
-        object: Option<&Value<'_>>,
-        place: &str,
-    ) -> Result<(), AllocError> {
-        if let Some(Value::Object(members)) = object {
-            for key in repeated_keys(self.alloc, members.as_slice())? {
-                self.push_line(fact, "", key, place)?;
-            }
-        }
-        Ok(())
-    }
-
-    fn push_line(
-        &mut self,
-        fact: Option<&str>,
-        kind: &str,
-        key: &str,
-        place: &str,
-    ) -> Result<(), AllocError> {
-        self.text.push_str(self.file)?;
-        self.text.push_str(": ")?;
+/// Adds the members of an object that stand twice, in this fact or in the document. The object's
+/// place follows in their lines.
+fn push_of(
+    lines: &mut Lines<'_>,
+    fact: Option<&str>,
+    object: Option<&Value<'_>>,
+    place: &str,
+) -> Result<(), AllocError> {
+    let Some(Value::Object(members)) = object else {
+        return Ok(());
+    };
+    for key in repeated_keys(lines.alloc, members.as_slice())? {
+        let mut before = String::new(lines.alloc);
         if let Some(fact) = fact {
-            self.text.push_str("fact ")?;
-            push_text(self.alloc, &mut self.text, fact)?;
-            self.text.push_str(": ")?;
+            before.push_str("fact ")?;
+            push_text(lines.alloc, &mut before, fact)?;
+            before.push_str(": ")?;
         }
-        self.text.push_str(kind)?;
-        push_text(self.alloc, &mut self.text, key)?;
-        self.text.push_str(" stands twice")?;
-        self.text.push_str(place)?;
-        self.text.push_str(", and only the last one is read\n")?;
-        self.count = self.count.saturating_add(1);
-        Ok(())
+        push_member(lines, before.as_str(), key, place)?;
     }
+    Ok(())
+}
+
+/// Adds a member that stands twice, with what stands before and behind it in its sentence.
+fn push_member(
+    lines: &mut Lines<'_>,
+    before: &str,
+    key: &str,
+    place: &str,
+) -> Result<(), AllocError> {
+    let mut sentence = String::from_str(lines.alloc, before)?;
+    push_text(lines.alloc, &mut sentence, key)?;
+    write!(
+        sentence,
+        " stands twice{place}, and only the last one is read"
+    )?;
+    lines.push_repeated(key, sentence.as_str())
 }
 
 /// The keys that come more than once, each once, by their bytes.

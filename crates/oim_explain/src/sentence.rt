@@ -1,7 +1,7 @@
 use oim_names::Reason;
 
-/// What is said of a fault: what stands before and behind the text at fault, or all that is said
-/// where there is no such text.
+/// The sentence on a fault: its words before and after the text at fault, or the whole sentence if
+/// there is no such text.
 #[derive(Clone, Copy)]
 pub(crate) struct Sentence {
     pub before: &'static str,
@@ -17,7 +17,7 @@ fn around(before: &'static str, behind: &'static str, alone: &'static str) -> Se
     }
 }
 
-/// What is said of this reason.
+/// The sentence for this reason.
 pub(crate) fn said_of(reason: Reason) -> Sentence {
     match reason {
         Reason::NotJson => around(
@@ -47,7 +47,7 @@ pub(crate) fn said_of(reason: Reason) -> Sentence {
     }
 }
 
-/// What is said of two texts that do not go together.
+/// The sentence for two texts that contradict each other.
 pub(crate) fn of_pair(reason: Reason) -> Sentence {
     match reason {
         Reason::DisallowedDuplicates => around(
@@ -64,7 +64,7 @@ pub(crate) fn of_pair(reason: Reason) -> Sentence {
     }
 }
 
-/// What is said of the text of an entity.
+/// The sentence for the text of an entity.
 pub(crate) fn of_entity(reason: Reason) -> Sentence {
     match reason {
         Reason::NameForm => around(

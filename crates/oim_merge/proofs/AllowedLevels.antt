@@ -1,4 +1,4 @@
--- No dimension set is above a level exactly where the level of all facts is not.
+-- No dimension set is above a level exactly if the level of all facts is not.
 use Rattle.std.proofs.Common.{◌≡◌, ◌≤◌, Bool, true, false, not, ◌&&◌, cond, List, [], ◌∷◌, map, refl, sym, ap, subst, ◌∙◌}
 use Rattle.std.specs.Prelude.{◌↔◌, All, IsTrue}
 use Rattle.std.specs.List.{AllByRecursion, list_all}
@@ -55,7 +55,7 @@ each P a b c d AllLevel = d
 abbrev Splits : Level → Level → Level → Type 0
 Splits x y l = is_le (level_cmp (ord_max level_cmp x y) l) ≡ (is_le (level_cmp x l) && is_le (level_cmp y l))
 
--- the higher of two is within a level exactly where both are
+-- the higher of two is within a level exactly if both are
 splits : (x y l : Level) → Splits x y l
 splits = each (λ x. (y l : Level) → Splits x y l)
     (each (λ y. (l : Level) → Splits Unique y l) (each (Splits Unique Unique) refl refl refl refl) (each (Splits Unique Complete) refl refl refl refl) (each (Splits Unique Consistent) refl refl refl refl) (each (Splits Unique AllLevel) refl refl refl refl))

@@ -13,7 +13,7 @@ use Rattle.oim_report.specs.declared.refusal.Refusal.{Refusal}
 use Rattle.fact_base.specs.Contents.{Contents}
 use Rattle.oim_write.specs.Bytes.{canonical}
 use Rattle.oim_merge.specs.Held.{AreWithin, IsCurrent, IsTextAt, Stay, texts_at}
-use Rattle.oim_merge.specs.Kept.{AreKept, IsKept, read_as, with_read}
+use Rattle.oim_merge.specs.Kept.{AreKept, IsReadingOf, read_as, with_read}
 use Rattle.oim_merge.specs.Replicas.{with_outcome}
 use Rattle.oim_merge.specs.Schedule.{numbered}
 use Rattle.oim_merge.proofs.Schedules.{slice_there}
@@ -36,17 +36,17 @@ sheet_is sheet (Err refusal) = tt
 
 module _ (sheet : Sheet) (texts : List (List ℕ)) (kept : List (Option (Result Contents Refusal))) (each : AreKept sheet texts kept) (place : ℕ) (there : place < length texts) where
   pub kept_there : place < length kept
-  kept_there = let long = zip_long (IsKept sheet) texts kept each in omega (arith, there, long)
+  kept_there = let long = zip_long (IsReadingOf sheet) texts kept each in omega (arith, there, long)
 
   -- what is kept of a text is what it is read as
   pub kept_is : (found : Option (Result Contents Refusal)) (read : Result Contents Refusal) → get_or kept place found ≡ Some read → read ≡ read_as sheet (outcome sheet (get_or texts place []))
-  kept_is found read is = subst (IsKept sheet (get_or texts place [])) is (zip_at (IsKept sheet) texts kept each place [] found there)
+  kept_is found read is = subst (IsReadingOf sheet (get_or texts place [])) is (zip_at (IsReadingOf sheet) texts kept each place [] found there)
 
 pub kept_long : (sheet : Sheet) (texts : List (List ℕ)) (kept more : List (Option (Result Contents Refusal))) → AreKept sheet texts kept → AreKept sheet texts more → length more ≡ length kept
-kept_long sheet texts kept more before after = zip_long (IsKept sheet) texts more after ∙ sym (zip_long (IsKept sheet) texts kept before)
+kept_long sheet texts kept more before after = zip_long (IsReadingOf sheet) texts more after ∙ sym (zip_long (IsReadingOf sheet) texts kept before)
 
 pub none_is_kept : (sheet : Sheet) (texts : List (List ℕ)) → AreKept sheet texts (replicate (length texts) None)
-none_is_kept sheet texts = zip_same (IsKept sheet) texts None (λ text. tt)
+none_is_kept sheet texts = zip_same (IsReadingOf sheet) texts None (λ text. tt)
 
 -- ---- sent texts
 
@@ -108,7 +108,7 @@ none_is_current texts zero base = tt
 none_is_current texts (suc n) base = (tt, none_is_current texts n base)
 
 pub kept_new : (sheet : Sheet) (texts : List (List ℕ)) (kept : List (Option (Result Contents Refusal))) (text : List ℕ) → AreKept sheet texts kept → AreKept sheet (texts ++ text ∷ []) (kept ++ None ∷ [])
-kept_new sheet texts kept text each = zip_push (IsKept sheet) texts kept text None each tt
+kept_new sheet texts kept text each = zip_push (IsReadingOf sheet) texts kept text None each tt
 
 -- the text of a number, where its place was found and looked up
 pub text_of_number : (texts : List (List ℕ)) (sent : List ℕ) (number before held : ℕ) (text : Option (Bor (List ℕ))) → AreWithin texts sent → number ≡ suc before → before < length sent → held ≡ get_or sent before held →

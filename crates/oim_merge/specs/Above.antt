@@ -44,6 +44,6 @@ pub record IsFirstAbove (level : Level) (b : Body) (number : ℕ) : Type 0 where
   pub above : row_is_above level row ≡ true
   pub earlier : All (λ r. row_is_above level r ≡ false) before
 
--- that is so exactly where the level of all facts, which their text declares, is no higher
+-- that is so exactly if the level of all facts, which their text declares, is no higher
 abbrev pub AllowedIsDeclared : Type 0
 AllowedIsDeclared = (sheet : Sheet) (b : Body) (level : Level) → Fits sheet b → StaysWithin level b ↔ IsTrue (is_le (level_cmp (level_of b.facts) level))

@@ -8,7 +8,7 @@ use Rattle.oim_merge.specs.declared.event.Event.TheVariants.{Take, Join, Send, R
 use Rattle.oim_merge.specs.declared.replay_fault.ReplayFault.{ReplayFault}
 use Rattle.oim_merge.specs.declared.replay_fault.ReplayFault.TheVariants.{OutOfMemory, BadEvent}
 
--- a number as it may stand in a line
+-- a number as a line may spell it
 abbrev pub IsNumber : ℕ → Type 0
 IsNumber n = (1 ≤ n) × (n < 2 ^ 32)
 
@@ -19,7 +19,7 @@ word_and_one word n = word ++ 32 ∷ decimal n
 abbrev pub word_and_two : List ℕ → ℕ → ℕ → List ℕ
 word_and_two word m n = word ++ 32 ∷ (decimal m ++ 32 ∷ decimal n)
 
--- the line says the event
+-- the line spells the event
 abbrev pub IsEventLine : List ℕ → Event → Type 0
 IsEventLine line (Take i r) = (line ≡ word_and_two (codes "take") i r) × (IsNumber i × IsNumber r)
 IsEventLine line (Join i j) = (line ≡ word_and_two (codes "join") i j) × (IsNumber i × IsNumber j)
@@ -27,31 +27,31 @@ IsEventLine line (Send i) = (line ≡ word_and_one (codes "send") i) × IsNumber
 IsEventLine line (Receive i k) = (line ≡ word_and_two (codes "receive") i k) × (IsNumber i × IsNumber k)
 IsEventLine line (Restart i) = (line ≡ word_and_one (codes "restart") i) × IsNumber i
 
--- it says none
+-- it is not an event
 abbrev pub IsBadLine : List ℕ → Type 0
 IsBadLine line = (event : Event) → ¬ (IsEventLine line event)
 
--- it says one at most
+-- it is at most one event
 abbrev pub LinesSayOneEvent : Type 0
 LinesSayOneEvent = (line : List ℕ) (e f : Event) → IsEventLine line e → IsEventLine line f → e ≡ f
 
 -- ---- whole files
 
--- pieces without the last one, where that is empty
+-- pieces without the last one, if that is empty
 abbrev pub without_empty_last : List (List ℕ) → List (List ℕ)
 without_empty_last [] = []
 without_empty_last (line ∷ []) = cond (length line == 0) [] (line ∷ [])
 without_empty_last (line ∷ next ∷ lines) = line ∷ without_empty_last (next ∷ lines)
 
--- the lines of a file: what stands behind the last line end is one where it has a byte
+-- the lines of a file: what follows the last line end is one unless it is empty
 abbrev pub lines_of : List ℕ → List (List ℕ)
 lines_of bytes = without_empty_last (line_pieces bytes)
 
--- each line says the event at its place
+-- each line spells the event at its place
 abbrev pub SaysEvents : List ℕ → List Event → Type 0
 SaysEvents bytes events = AllZip IsEventLine (lines_of bytes) events
 
--- the line of this number, from 1, says no event, and each before it says one
+-- the line with this number, from 1, is not an event, and each earlier one is
 pub record IsFirstBadLine (bytes : List ℕ) (number : ℕ) : Type 0 where
   pub before : List (List ℕ)
   pub line : List ℕ
@@ -62,7 +62,7 @@ pub record IsFirstBadLine (bytes : List ℕ) (number : ℕ) : Type 0 where
   pub events : List Event
   pub earlier : AllZip IsEventLine before events
 
--- what a fault tells
+-- what a fault says
 abbrev pub ReadingEventsStops : List ℕ → ReplayFault → Type 0
 ReadingEventsStops bytes OutOfMemory = Unit {0}
 ReadingEventsStops bytes (BadEvent number) = IsFirstBadLine bytes number

@@ -1,4 +1,4 @@
--- Replicas that hold each different text once that was sent, and what was read of it and of the reports (own).
+-- Replicas that hold each different sent text once, with what was read from it and from the reports (own).
 use Rattle.std.specs.Prelude.{◌≡◌, ℕ, ◌<◌, List, [], length, map, Option, None, Some}
 use Rattle.std.specs.List.{All, AllZip, slice_index_or}
 use Rattle.oim_report.specs.Sheet.{Sheet}
@@ -16,24 +16,24 @@ use Rattle.oim_merge.specs.declared.replicas.Replicas.{Replicas}
 abbrev pub texts_at : List (List ℕ) → List ℕ → List (List ℕ)
 texts_at texts places = map (λ place. slice_index_or texts place []) places
 
--- each place is that of a text
+-- each place has a text
 abbrev pub AreWithin : List (List ℕ) → List ℕ → Type 0
 AreWithin texts places = All (λ place. place < length texts) places
 
--- this text stands at a place
+-- this text is at a place
 abbrev pub IsTextAt : List (List ℕ) → List ℕ → ℕ → Type 0
 IsTextAt texts text place = (place < length texts) × (slice_index_or texts place [] ≡ text)
 
--- the current text of a base, if there is one, stands at this place
+-- the current text of a base, if there is one, is at this place
 abbrev pub IsCurrent : List (List ℕ) → Contents → Option ℕ → Type 0
 IsCurrent texts base None = Unit {0}
 IsCurrent texts base (Some place) = IsTextAt texts (canonical base.body) place
 
--- a text that stands at a place in the one list stands there in the other too
+-- a text at a place in one list is at that place in the other too
 abbrev pub Stay : List (List ℕ) → List (List ℕ) → Type 0
 Stay texts more = (text : List ℕ) (place : ℕ) → IsTextAt texts text place → IsTextAt more text place
 
--- a text is written of a body that fits the sheet
+-- a text is the text of a body that fits the sheet
 pub record IsWritten (sheet : Sheet) (text : List ℕ) : Type 0 where
   pub body : Body
   pub fits : Fits sheet body
@@ -43,7 +43,7 @@ pub record IsWritten (sheet : Sheet) (text : List ℕ) : Type 0 where
 abbrev pub sent_texts : Messages → List (List ℕ)
 sent_texts messages = texts_at messages.texts.items messages.sent.items
 
--- each sent text is held; each held one is written of a body, and what is kept of it is what was read of it
+-- each sent text is held; each held one is the text of a body, and what is kept for it is what was read from it
 pub record AreHeld (sheet : Sheet) (messages : Messages) : Type 0 where
   pub places : AreWithin messages.texts.items messages.sent.items
   pub kept : AreKept sheet messages.texts.items messages.kept.items
@@ -53,7 +53,7 @@ pub record AreHeld (sheet : Sheet) (messages : Messages) : Type 0 where
 abbrev pub world_in : Replicas → World Contents (List ℕ)
 world_in replicas = world_of replicas.bases.items (sent_texts replicas.messages)
 
--- what they keep of these reports and of what they sent is what was read of each, and the current text of each is that of its base
+-- what they keep for reports and sent texts is what was read from each, and each current text is the text of its base
 pub record KeepReadings (sheet : Sheet) (reports : List (List ℕ)) (replicas : Replicas) : Type 0 where
   pub taken : AreKept sheet reports replicas.reports.items
   pub held : AreHeld sheet replicas.messages

@@ -18,13 +18,13 @@ pub data History : Type 0 where
   took : History → Document → History
   joined : History → History → History
 
--- its body, as `Base::new`, `take` and `join` tell
+-- its body, by the contracts of `Base::new`, `take` and `join`
 abbrev pub body_of : History → Body
 body_of fresh = body []
 body_of (took h d) = union (body_of h) (body (d ∷ []))
 body_of (joined h k) = union (body_of h) (body_of k)
 
--- the documents that reached it, by itself or through a base that it joined
+-- the documents that reached it, directly or through a base that it joined
 abbrev pub documents_of : History → List Document
 documents_of fresh = []
 documents_of (took h d) = documents_of h ++ d ∷ []
@@ -54,7 +54,7 @@ ReferencesAreForgotten = (h k : History) → SameMembers (documents_of h) (docum
 
 -- ---- round trips
 
--- bytes are read as a document that has just this body
+-- bytes are read as a document with exactly this body
 pub record IsReadAsBody (sheet : Sheet) (bytes : List ℕ) (b : Body) : Type 0 where
   pub document : Document
   pub read : outcome sheet bytes ≡ Ok document
@@ -64,7 +64,7 @@ pub record IsReadAsBody (sheet : Sheet) (bytes : List ℕ) (b : Body) : Type 0 w
 abbrev pub TextsGiveBodies : Type 0
 TextsGiveBodies = (sheet : Sheet) (b : Body) → Fits sheet b → IsReadAsBody sheet (canonical b) b
 
--- and so does its text of before
+-- and so does its text from before levels
 abbrev pub EarlierTextsGiveBodies : Type 0
 EarlierTextsGiveBodies = (sheet : Sheet) (b : Body) → Fits sheet b → IsReadAsBody sheet (earlier b) b
 

@@ -19,11 +19,11 @@ abbrev pub with_read : Result Contents Refusal → Contents → Contents
 with_read (Ok read) base = joined_with base read
 with_read (Err refusal) base = base
 
--- nothing is kept of these bytes, or what they are read as
-abbrev pub IsKept : Sheet → List ℕ → Option (Result Contents Refusal) → Type 0
-IsKept sheet bytes None = Unit {0}
-IsKept sheet bytes (Some read) = read ≡ read_as sheet (outcome sheet bytes)
+-- nothing is kept for these bytes, or what they are read as
+abbrev pub IsReadingOf : Sheet → List ℕ → Option (Result Contents Refusal) → Type 0
+IsReadingOf sheet bytes None = Unit {0}
+IsReadingOf sheet bytes (Some read) = read ≡ read_as sheet (outcome sheet bytes)
 
--- of each text, in its place
+-- for each text, at its place
 abbrev pub AreKept : Sheet → List (List ℕ) → List (Option (Result Contents Refusal)) → Type 0
-AreKept sheet texts kept = AllZip (IsKept sheet) texts kept
+AreKept sheet texts kept = AllZip (IsReadingOf sheet) texts kept

@@ -1,4 +1,4 @@
--- The lines that tell of duplicates: one for each dimension set, in order (own; the words are those of the XBRL working group note on
+-- The lines on duplicates: one for each dimension set, in order (own; the words are from the XBRL working group note on
 -- duplicate facts). In bytes, a space is 32, a line end 10.
 use Rattle.std.specs.Prelude.{◌≡◌, ◌⊎◌, ℕ, suc, ◌-◌, List, [], ◌∷◌, ◌++◌, map, length, get_or, codes, Contains, Some}
 use Rattle.std.specs.Fmt.{decimal}
@@ -16,11 +16,11 @@ use Rattle.fact_base.specs.declared.verdict.Verdict.{Verdict}
 use Rattle.fact_base.specs.declared.verdict.Verdict.TheVariants.{Complete, Consistent, Inconsistent}
 use Rattle.oim_write.specs.Tree.{identifier}
 
--- the identifier of the fact at a place, from 0, of a dimension set, by which the canonical text has it
+-- the identifier, in the canonical text, of the fact at a place, from 0, of a dimension set
 abbrev pub identifier_at : List Fact → Row → ℕ → List ℕ
 identifier_at facts r i = get_or (map (identifier facts) (facts_with r.0 r.1)) i []
 
--- evidence in words, where the facts have these identifiers
+-- evidence in words, for facts with these identifiers
 abbrev pub evidence_text : (ℕ → List ℕ) → Evidence → List ℕ
 evidence_text name Alike = codes "complete"
 evidence_text name (Common c) = codes "consistent common " ++ (plain c.low ++ 32 ∷ plain c.high)
@@ -35,7 +35,7 @@ pub record IsLine (facts : List Fact) (number : ℕ) (r : Row) (line : List ℕ)
   pub shows : IsEvidence r.1 evidence
   pub text : line ≡ line_text number (identifier_at facts r) (length r.1) evidence
 
--- the lines of dimension sets, the first of which has the number n
+-- the lines of dimension sets, numbered from n
 abbrev pub AreLinesFrom : List Fact → ℕ → List Row → List ℕ → Type 0
 AreLinesFrom facts n [] text = text ≡ []
 AreLinesFrom facts n (r ∷ rs) text = (line rest : List ℕ) × ((text ≡ line ++ rest) × (IsLine facts n r line × AreLinesFrom facts (suc n) rs rest))
@@ -43,7 +43,7 @@ AreLinesFrom facts n (r ∷ rs) text = (line rest : List ℕ) × ((text ≡ line
 abbrev pub AreLines : Body → List ℕ → Type 0
 AreLines b = AreLinesFrom b.facts 1 (rows_of b.facts)
 
--- a body that fits a sheet has lines, and has no others
+-- a body that fits a sheet has exactly one list of lines
 pub record HasOneText (b : Body) : Type 0 where
   pub text : List ℕ
   pub lines : AreLines b text
@@ -52,7 +52,7 @@ pub record HasOneText (b : Body) : Type 0 where
 abbrev pub LinesAreOne : Type 0
 LinesAreOne = (sheet : Sheet) (b : Body) → Fits sheet b → HasOneText b
 
--- the verdict that evidence shows, whose word stands in the line
+-- the verdict that evidence shows, whose word is in the line
 abbrev pub verdict_shown : Evidence → Verdict
 verdict_shown Alike = Complete
 verdict_shown (Common c) = Consistent

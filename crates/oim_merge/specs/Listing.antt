@@ -18,7 +18,7 @@ pub record AppendsLines (b : Body) (old new : Option (List ℕ)) : Type 0 where
   pub lines : AreLines b text
   pub appended : Appends old new text
 
--- a front of them was, and so many bytes were counted
+-- the first part of them was, and so many bytes were counted
 pub record AppendsFrontOfLines (b : Body) (old new : Option (List ℕ)) (written : ℕ) : Type 0 where
   pub text : List ℕ
   pub lines : AreLines b text
@@ -35,7 +35,7 @@ pub record BreaksLines (b : Body) (old new : Option (List ℕ)) (before : Pendin
   pub lines : AreLines b text
   pub broken : Breaks old new before text written
 
--- its lines were appended, and these refusals were told
+-- its lines were appended, and these refusals were returned
 pub record Lists (b : Body) (refusals : List (ℕ × Refusal)) (old new : Option (List ℕ)) (told : List (ℕ × Refusal)) : Type 0 where
   pub refusals_are : told ≡ refusals
   pub lines : AppendsLines b old new
@@ -49,7 +49,7 @@ ListStops b old new (SheetFault reason) = ⊥
 
 -- ---- reports
 
--- the lines of what the accepted reports say were appended, and the refused ones were told
+-- the lines for the accepted reports were appended, and the refusals were returned
 abbrev pub ListsVerdicts : Sheet → List (List ℕ) → Option (List ℕ) → Option (List ℕ) → List (ℕ × Refusal) → Type 0
 ListsVerdicts sheet reports = Lists (merged sheet reports) (refused sheet reports)
 

@@ -7,11 +7,11 @@ use Rattle.fact_base.specs.declared.evidence.Evidence.TheVariants.{Alike, Common
 use Rattle.oim_write.specs.Rank.{padded, width}
 use Rattle.oim_merge.specs.Lines.{line_text}
 
--- the identifier of the fact at a place, from 0, where so many facts stand before those of its dimension set, of so many
+-- the identifier of the fact at a place, from 0, of a dimension set, by the number of facts before the set and in all
 abbrev pub named : ℕ → ℕ → ℕ → List ℕ
 named before count place = 102 ∷ padded (width count) (before + place + 1)
 
--- the evidence speaks of facts that are among so many
+-- the evidence is about facts among so many
 abbrev pub HasPlaces : ℕ → Evidence → Type 0
 HasPlaces n Alike = ⊤
 HasPlaces n (Common c) = ⊤

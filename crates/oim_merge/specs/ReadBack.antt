@@ -21,11 +21,11 @@ use Rattle.oim_write.specs.Tree.{tree_declaring}
 abbrev pub document_at : Level → Body → Document
 document_at level b = record { facts = b.facts; references = b.references; level = level }
 
--- the text of a body that fits a sheet is read as that document, at the level of its facts,
+-- the text of a body that fits a sheet is read as that document, with the level of its facts,
 abbrev pub CanonicalReadsBack : Type 0
 CanonicalReadsBack = (sheet : Sheet) (b : Body) → Fits sheet b → outcome sheet (canonical b) ≡ Ok (document_at (level_of b.facts) b)
 
--- and its text of before, which declares no level, with all duplicates allowed
+-- and its text from before levels, which declares none, with all duplicates allowed
 abbrev pub EarlierReadsBack : Type 0
 EarlierReadsBack = (sheet : Sheet) (b : Body) → Fits sheet b → outcome sheet (earlier b) ≡ Ok (document_at All b)
 
@@ -35,12 +35,12 @@ EarlierReadsBack = (sheet : Sheet) (b : Body) → Fits sheet b → outcome sheet
 abbrev pub declaring : Level → Body → List ℕ
 declaring level b = compact_text (tree_declaring (Some level) b)
 
--- an outcome is the refusal exactly where the declared level is below what is found, and else the document
+-- an outcome is the refusal exactly if the declared level is below the one that is found, else the document
 pub record IsHeldTo (declared found : Level) (d : Document) (said : Result Document Refusal) : Type 0 where
   pub refused : (said ≡ Err (at AtDocument DisallowedDuplicates)) ↔ IsTrue (is_lt (level_cmp declared found))
   pub read : (said ≡ Ok d) ↔ IsTrue (is_le (level_cmp found declared))
 
--- whatever level its text declares, it is held to it: no level below that of its facts is accepted
+-- a text is held to the level that it declares: no level below that of its facts is accepted
 abbrev pub LeastLevelIsDeclared : Type 0
 LeastLevelIsDeclared =
     (sheet : Sheet) (b : Body) (level : Level) → Fits sheet b →
@@ -48,10 +48,10 @@ LeastLevelIsDeclared =
 
 -- ---- what is canonical
 
--- the text of a body is that of the document which it is read as
+-- the text of a body is the text of the document that it is read as
 abbrev pub MergedTextsAreCanonical : Type 0
 MergedTextsAreCanonical = (sheet : Sheet) (b : Body) (d : Document) → Fits sheet b → outcome sheet (canonical b) ≡ Ok d → canonical b ≡ canonical (body (d ∷ []))
 
--- a text of before is nobody's text of today
+-- a text from before levels is no text of today
 abbrev pub EarlierIsNotCanonical : Type 0
 EarlierIsNotCanonical = (b c : Body) → earlier b ≢ canonical c

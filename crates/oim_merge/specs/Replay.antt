@@ -30,7 +30,7 @@ abbrev pub refused_takes : Sheet → List (List ℕ) → List Event → List (�
 refused_takes sheet reports events = flat_map (refused_by sheet reports) events
 
 -- no event is bad; the replicas and the sent texts are those of the wire, with the present writer; so each replica has the base of the
--- documents that reached it, and there are n of them; the refused takes are told
+-- documents that reached it, and there are n of them; the refused takes are returned
 pub record IsReplayOf (sheet : Sheet) (n : ℕ) (reports : List (List ℕ)) (events : List Event) (replay : Replay) : Type 0 where
   pub good : NoneIsBad n (length reports) events
   pub world : replay.world ≡ world_after (wire sheet [] reports) n events
@@ -38,7 +38,7 @@ pub record IsReplayOf (sheet : Sheet) (n : ℕ) (reports : List (List ℕ)) (eve
   pub count : length replay.world.replicas ≡ n
   pub refusals : replay.refused ≡ refused_takes sheet reports events
 
--- what a fault tells
+-- what a fault says
 abbrev pub ReplayStops : ℕ → List (List ℕ) → List Event → ReplayFault → Type 0
 ReplayStops n reports events OutOfMemory = Unit {0}
 ReplayStops n reports events (BadEvent line) = IsFirstBad n (length reports) events line

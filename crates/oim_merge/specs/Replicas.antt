@@ -20,7 +20,7 @@ use Rattle.oim_merge.specs.Reports.{accepted}
 use Rattle.oim_merge.specs.Schedule.{Machine, NoneIsBad, World, numbered, world_after}
 use Rattle.oim_merge.specs.declared.event.Event.{Event}
 
--- the bytes of the report of a number
+-- the bytes of the report with a number
 abbrev pub report : List (List ℕ) → ℕ → List ℕ
 report reports r = slice_index_or reports (r - 1) []
 
@@ -30,11 +30,11 @@ report reports r = slice_index_or reports (r - 1) []
 abbrev pub Numbers : Type 0
 Numbers = List ℕ
 
--- what two sets have
+-- the union of two sets
 abbrev pub both : Numbers → Numbers → Numbers
 both a b = set_of nat_cmp (a ++ b)
 
--- the set with the number, where its report says a document
+-- the set with the number added, if its report says a document
 abbrev pub with_accepted : Result Document Refusal → ℕ → Numbers → Numbers
 with_accepted (Ok d) r numbers = both numbers (r ∷ [])
 with_accepted (Err refusal) r numbers = numbers
@@ -64,7 +64,7 @@ with_outcome (Err refusal) base = base
 abbrev pub joined_with : Contents → Contents → Contents
 joined_with base other = record { sheet = base.sheet; body = union base.body other.body }
 
--- who writes a text that is sent: a program of today, or one of before levels were declared
+-- who writes a sent text: a program of today, or one from before levels were declared
 pub data Writer : Type 0 where
   present : Writer
   earlier : Writer
@@ -98,13 +98,13 @@ pub record Agree (sheet : Sheet) (reports : List (List ℕ)) (sets : World Numbe
   pub replicas : bases.replicas ≡ map (base_named sheet reports) sets.replicas
   pub sent : AllZip (λ bytes numbers. IsReadAsBody sheet bytes (body (documents_named sheet reports numbers))) bases.sent sets.sent
 
--- whatever the schedule is, and whoever writes each text
+-- for every schedule, and every choice of writers
 abbrev pub WireAgrees : Type 0
 WireAgrees =
     (sheet : Sheet) (writers : List Writer) (reports : List (List ℕ)) (n : ℕ) (events : List Event) → NoneIsBad n (length reports) events →
     Agree sheet reports (world_after (reached sheet reports) n events) (world_after (wire sheet writers reports) n events)
 
--- there are so many replicas all along
+-- the number of replicas does not change
 abbrev pub ReplicasStay : Type 0
 ReplicasStay =
     (sheet : Sheet) (writers : List Writer) (reports : List (List ℕ)) (n : ℕ) (events : List Event) →
@@ -112,7 +112,7 @@ ReplicasStay =
 
 -- ---- so what a replica says depends on the set that reached it alone
 
--- a base says what documents say that are merged afresh
+-- a base has what a new merge of documents has
 pub record SaysAsAfresh (docs : List Document) (base : Contents) : Type 0 where
   pub bytes : canonical base.body ≡ canonical (body docs)
   pub verdicts : (d : DimensionSet) → verdict base.body.facts d ≡ verdict (body docs).facts d

@@ -17,15 +17,15 @@ use Rattle.oim_merge.specs.Reports.{accepted, merged, refused}
 use Rattle.oim_merge.specs.declared.fault.Fault.{Fault}
 use Rattle.oim_merge.specs.declared.fault.Fault.TheVariants.{OutOfMemory, Device, TooLoose, Sheet as SheetFault}
 
--- ---- a body that is written where it stays within a level
+-- ---- a body that is written if it stays within a level
 
--- the body stays within the level, these refusals were told, and its text was appended
+-- the body stays within the level, these refusals were returned, and its text was appended
 pub record Writes (level : Level) (b : Body) (refusals : List (ℕ × Refusal)) (old new : Option (List ℕ)) (told : List (ℕ × Refusal)) : Type 0 where
   pub within : StaysWithin level b
   pub refusals_are : told ≡ refusals
   pub appended : Appends old new (canonical b)
 
--- it does, a front of its text was appended, and so many bytes were counted
+-- it does, the first part of its text was appended, and so many bytes were counted
 pub record StopsWithin (level : Level) (b : Body) (old new : Option (List ℕ)) (written : ℕ) : Type 0 where
   pub within : StaysWithin level b
   pub front : AppendsFront old new (canonical b) written
@@ -34,7 +34,7 @@ pub record StopsWithin (level : Level) (b : Body) (old new : Option (List ℕ)) 
 abbrev pub StopsBefore : Option (List ℕ) → Option (List ℕ) → ℕ → Type 0
 StopsBefore old new written = (written ≡ 0) × Appends old new []
 
--- the row of this number is the first above the level, these refusals were told, and nothing was appended
+-- the row with this number is the first above the level, these refusals were returned, and nothing was appended
 pub record IsTooLoose (level : Level) (b : Body) (refusals : List (ℕ × Refusal)) (old new : Option (List ℕ)) (row : ℕ) (told : List (ℕ × Refusal)) : Type 0 where
   pub first : IsFirstAbove level b row
   pub refusals_are : told ≡ refusals
@@ -49,7 +49,7 @@ Stops level b refusals old new (SheetFault reason) = ⊥
 
 -- ---- reports
 
--- what the accepted reports say was written, and the refused ones were told
+-- what the accepted reports say was written, and the refusals were returned
 abbrev pub Consolidates : Sheet → List (List ℕ) → Level → Option (List ℕ) → Option (List ℕ) → List (ℕ × Refusal) → Type 0
 Consolidates sheet reports level = Writes level (merged sheet reports) (refused sheet reports)
 
@@ -66,7 +66,7 @@ pub record ConsolidatesBundle (bytes : List ℕ) (old new : Option (List ℕ)) (
   pub read : IsSheetOf bytes sheet
   pub consolidates : Consolidates sheet (report_pieces bytes) AllLevel old new told
 
--- the sheet was read, and then this fault came
+-- the sheet was read, and then this fault occurred
 pub record StopsBehindSheet (bytes : List ℕ) (old new : Option (List ℕ)) (fault : Fault) : Type 0 where
   pub sheet : Sheet
   pub read : IsSheetOf bytes sheet
@@ -83,7 +83,7 @@ abbrev pub fault_of : WriteFault → Fault
 fault_of (WriteOutOfMemory n) = OutOfMemory n
 fault_of (WriteDevice n) = Device n
 
--- the failures of a sink that had n of them: one more exactly where a device is at fault
+-- the failures of a sink that had n of them: one more exactly if a device is at fault
 abbrev pub failures_after_run : {T : Type 0} → Result T Fault → ℕ → ℕ
 failures_after_run (Ok x) n = n
 failures_after_run (Err (Device w)) n = n + 1
@@ -91,7 +91,7 @@ failures_after_run (Err _) n = n
 
 -- ---- order
 
--- neither the order of the accepted reports nor how often each comes matters
+-- neither the order of the accepted reports nor repeats matter
 abbrev pub ReportsIgnoreOrder : Type 0
 ReportsIgnoreOrder =
     (sheet : Sheet) (reports others : List (List ℕ)) → SameMembers (accepted sheet reports) (accepted sheet others) →

@@ -9,13 +9,13 @@ abbrev pub numbered : {A : Type 0} → List A → ℕ → Option A
 numbered xs zero = None
 numbered xs (suc place) = slice_get xs place
 
--- ---- bad events, told by events alone
+-- ---- bad events, by the events alone
 
 -- a number that is not one from 1 to the greatest
 abbrev pub is_outside : ℕ → ℕ → Bool
 is_outside greatest number = number == 0 || nat_lt greatest number
 
--- an event that names a replica, a report or a sent message that is not there
+-- an event that names a replica, a report or a sent message that does not exist
 abbrev pub names_none : ℕ → ℕ → ℕ → Event → Bool
 names_none replicas reports sent (Take i r) = is_outside replicas i || is_outside reports r
 names_none replicas reports sent (Join i j) = is_outside replicas i || is_outside replicas j
@@ -31,7 +31,7 @@ is_send event = false
 abbrev pub sent_by : List Event → ℕ
 sent_by events = length (filter is_send events)
 
--- the event at a place, from 0, is bad, where those before it sent what can be received
+-- the event at a place, from 0, is bad: only what earlier events sent can be received
 pub record IsBadAt (replicas reports : ℕ) (events : List Event) (place : ℕ) : Type 0 where
   pub event : Event
   pub there : slice_get events place ≡ Some event
@@ -67,11 +67,11 @@ pub record World (S M : Type 0) : Type 0 where
   pub sent : List M
 
 module _ {S M : Type 0} (machine : Machine S M) where
-  -- what the replica of a number keeps
+  -- what the replica with a number keeps
   abbrev pub kept_by : World S M → ℕ → S
   kept_by world i = slice_index_or world.replicas (i - 1) machine.fresh
 
-  -- the replica of a number keeps this from now on
+  -- the replica with a number keeps this from now on
   abbrev pub keeps : World S M → ℕ → S → World S M
   keeps world i state = record { replicas = slice_set world.replicas (i - 1) state; sent = world.sent }
 

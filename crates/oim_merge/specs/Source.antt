@@ -14,7 +14,7 @@ GivesBefore old new limit OutOfMemory = Unit {0}
 GivesBefore old new limit (Device n) = Gives old new (λ given. length given ≡ n)
 GivesBefore old new limit TooLong = Gives old new (λ given. limit < length given)
 
--- the failures of a source that had n of them, after a call with this answer: one more exactly where a device is at fault
+-- the failures of a source that had n of them, after a call with this answer: one more exactly if a device is at fault
 abbrev pub failures_after_read : {T : Type 0} → Result T ReadFault → ℕ → ℕ
 failures_after_read (Ok x) n = n
 failures_after_read (Err OutOfMemory) n = n

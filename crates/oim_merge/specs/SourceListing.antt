@@ -9,12 +9,12 @@ use Rattle.oim_merge.specs.Sources.{sources}
 use Rattle.oim_merge.specs.declared.fault.Fault.{Fault}
 use Rattle.oim_merge.specs.declared.fault.Fault.TheVariants.{OutOfMemory, Device, TooLoose, Sheet as SheetFault}
 
--- the lines of the accepted reports were appended, and the refused ones were told
+-- the lines of the accepted reports were appended, and the refusals were returned
 pub record ListsSources (sheet : Sheet) (reports : List (List ℕ)) (old new : Option (List ℕ)) (told : List (ℕ × Refusal)) : Type 0 where
   pub refusals_are : told ≡ refused sheet reports
   pub appended : Appends old new (sources sheet reports)
 
--- what a fault leaves behind: a front of the lines was appended, and so many bytes were counted
+-- what a fault leaves behind: the first part of the lines was appended, and so many bytes were counted
 abbrev pub SourcesStop : Sheet → List (List ℕ) → Option (List ℕ) → Option (List ℕ) → Fault → Type 0
 SourcesStop sheet reports old new (OutOfMemory written) = AppendsFront old new (sources sheet reports) written
 SourcesStop sheet reports old new (Device written) = AppendsFront old new (sources sheet reports) written

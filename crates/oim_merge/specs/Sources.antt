@@ -1,4 +1,4 @@
--- Who said what: each fact object of the accepted reports, by the fact that it says (own). In bytes, a space is 32, a line end 10.
+-- Which report says what: the fact objects of the accepted reports, by the fact that they say (own). In bytes, a space is 32, a line end 10.
 use Rattle.std.specs.Prelude.{◌≡◌, ℕ, suc, ◌-◌, Bool, Option, Some, None, List, [], ◌∷◌, ◌++◌, map, get_or, filter, flat_map, Contains, Result, Ok, Err}
 use Rattle.std.specs.Fmt.{decimal}
 use Rattle.std.specs.List.{AllZip}
@@ -19,13 +19,13 @@ use Rattle.oim_report.specs.declared.refusal.Refusal.{Refusal}
 use Rattle.oim_write.specs.Tree.{identifier}
 use Rattle.oim_merge.specs.Reports.{merged}
 
--- that the report of a number says a fact, by an object with this identifier
+-- the report with a number says a fact, by an object with this identifier
 pub record Mention : Type 0 where
   pub report : ℕ
   pub identifier : List ℕ
   pub fact : Fact
 
--- those of a report, whose identifiers and facts stand place by place
+-- those of a report, with its identifiers and facts in the same order
 abbrev pub mentions_in : ℕ → List (List ℕ) → List Fact → List Mention
 mentions_in n [] facts = []
 mentions_in n (i ∷ is) [] = []
@@ -37,7 +37,7 @@ mentions_of n None said = []
 mentions_of n (Some is) (Ok d) = mentions_in n is d.facts
 mentions_of n (Some is) (Err r) = []
 
--- those of reports in their order, where the first has the number n
+-- those of reports in order, numbered from n
 abbrev pub mentions_from : ℕ → Sheet → List (List ℕ) → List Mention
 mentions_from n sheet [] = []
 mentions_from n sheet (bytes ∷ reports) = mentions_of n (identifiers bytes) (outcome sheet bytes) ++ mentions_from (suc n) sheet reports
@@ -45,11 +45,11 @@ mentions_from n sheet (bytes ∷ reports) = mentions_of n (identifiers bytes) (o
 abbrev pub mentions : Sheet → List (List ℕ) → List Mention
 mentions sheet reports = mentions_from 1 sheet reports
 
--- whether it is this fact that is said
+-- whether it says this fact
 abbrev pub is_of : Fact → Mention → Bool
 is_of f m = is_eq (fact_cmp m.fact f)
 
--- fact by fact, those that say it
+-- fact by fact, the mentions of it
 abbrev pub by_fact : List Fact → List Mention → List Mention
 by_fact facts ms = flat_map (λ f. filter (is_of f) ms) facts
 
@@ -60,13 +60,13 @@ mentions_by_fact sheet reports = by_fact (merged sheet reports).facts (mentions 
 abbrev pub source_line : List Fact → Mention → List ℕ
 source_line facts m = identifier facts m.fact ++ 32 ∷ (decimal m.report ++ 32 ∷ (compact_text (string m.identifier) ++ 10 ∷ []))
 
--- the line of each fact object of each accepted report, in the order of facts, of reports, and of identifiers
+-- the lines of all fact objects of accepted reports, in the order of facts, then reports, then identifiers
 abbrev pub sources : Sheet → List (List ℕ) → List ℕ
 sources sheet reports = flat_map (source_line (merged sheet reports).facts) (mentions_by_fact sheet reports)
 
 -- ---- what these come to
 
--- each fact of the body is said
+-- each fact of the body has a line
 pub record IsSaid (sheet : Sheet) (reports : List (List ℕ)) (f : Fact) : Type 0 where
   pub mention : Mention
   pub there : Contains (mentions_by_fact sheet reports) mention
@@ -75,7 +75,7 @@ pub record IsSaid (sheet : Sheet) (reports : List (List ℕ)) (f : Fact) : Type 
 abbrev pub EachFactIsSaid : Type 0
 EachFactIsSaid = (sheet : Sheet) (reports : List (List ℕ)) (f : Fact) → Contains (merged sheet reports).facts f → IsSaid sheet reports f
 
--- each fact object of an accepted report is told once, and nothing else is
+-- each fact object of an accepted report has one line, and there are no others
 abbrev pub EachMentionIsTold : Type 0
 EachMentionIsTold = (sheet : Sheet) (reports : List (List ℕ)) → IsPermutation (mentions sheet reports) (mentions_by_fact sheet reports)
 
@@ -85,7 +85,7 @@ pub record IsMentionOf (sheet : Sheet) (bs : List Binding) (n : ℕ) (object : L
   pub identifier : m.identifier ≡ object.0
   pub says : ObjectSays sheet bs object.1 m.fact
 
--- an accepted report has one mention of each fact object in its bytes, in byte order of the identifiers
+-- an accepted report has one mention for each fact object in its bytes, in byte order of the identifiers
 abbrev pub EachObjectIsMentioned : Type 0
 EachObjectIsMentioned =
     (sheet : Sheet) (n : ℕ) (bytes : List ℕ) (d : Document) (tree : Data) → outcome sheet bytes ≡ Ok d → json bytes ≡ Some tree →
@@ -100,11 +100,11 @@ pub record Saying : Type 0 where
 abbrev pub saying : List (List ℕ) → Mention → Saying
 saying reports m = record { bytes = get_or reports (m.report - 1) []; identifier = m.identifier; fact = m.fact }
 
--- the same facts, and the same mentions of them but for the numbers, each of which is that of the report
+-- the same facts and the same mentions of them, except for the numbers of the reports
 pub record TellTheSame (sheet : Sheet) (reports others : List (List ℕ)) : Type 0 where
   pub facts : (merged sheet reports).facts ≡ (merged sheet others).facts
   pub sayings : IsPermutation (map (saying reports) (mentions_by_fact sheet reports)) (map (saying others) (mentions_by_fact sheet others))
 
--- so do reports in any two orders
+-- reports in any two orders have these
 abbrev pub SourcesIgnoreOrder : Type 0
 SourcesIgnoreOrder = (sheet : Sheet) (reports others : List (List ℕ)) → IsPermutation reports others → TellTheSame sheet reports others

@@ -13,12 +13,12 @@ use oim_value::Level;
 use oim_write::Sink;
 use std::alloc::{AllocError, Global};
 
-/// Merges a bundle: its first line is a concept sheet, and each further line that is not empty is
-/// a report. The reports that are accepted are merged, and the canonical text of what they say goes
-/// to the sink, with whatever duplicates it has; the others are answered, by their numbers from 1.
+/// Merges a bundle: its first line is a concept sheet, and each further line that is not empty is a
+/// report. Writes the canonical text of the accepted reports to the sink, whatever duplicates it
+/// has, and returns the refusals of the others by their numbers from 1.
 ///
-/// Errors: `Sheet` where the sheet is refused, and then nothing is written; `Device` where the sink
-/// failed; `OutOfMemory`.
+/// Errors: `Sheet` if the sheet is refused, with nothing written; `Device` if the sink failed;
+/// `OutOfMemory`.
 pub fn consolidate_bundle<S: Sink>(
     alloc: Global,
     bytes: &[u8],

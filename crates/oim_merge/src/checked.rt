@@ -13,19 +13,19 @@ use oim_value::Level;
 use oim_write::text;
 use std::alloc::{AllocError, Global};
 
-/// What a report that is accepted comes to.
+/// The result for an accepted report.
 #[derive(Clone, Copy, Debug, PartialEq, Eq)]
 pub struct Checked {
-    /// How many facts it has, repeats counted.
+    /// The number of its facts, repeats counted.
     pub facts: u64,
-    /// The duplicates that it has: the strictest level that allows its facts.
+    /// The strictest level of duplicates that allows its facts.
     pub level: Level,
     /// Whether its bytes are the canonical text of what it says.
     pub canonical: bool,
 }
 
-/// Reads a report under a sheet, counts its facts, and tells whether its bytes are the canonical
-/// text of what it says (xBRL-JSON 1.0; the levels are those of OIM Common 1.0; what is canonical is
+/// Reads a report under a sheet, counts its facts, and compares its bytes with the canonical text
+/// of what it says (xBRL-JSON 1.0; the levels are those of OIM Common 1.0; the canonical text is
 /// own). For that it may hold the whole text beside the report.
 ///
 /// Errors: the report's first refusal, with its place; `OutOfMemory`, at the document.
@@ -48,8 +48,8 @@ pub fn check_report(alloc: Global, sheet: &Sheet, bytes: &[u8]) -> Result<Checke
     })
 }
 
-/// Whether the bytes are the canonical text of the report that was read of them. Facts that do not
-/// rise are never written, so nothing is written of these.
+/// Whether the bytes are the canonical text of the report that they say. A text always has rising
+/// facts, so a report without them needs no text to compare.
 fn is_canonical(
     alloc: Global,
     sheet: &Sheet,

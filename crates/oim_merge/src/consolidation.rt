@@ -11,12 +11,12 @@ use oim_value::Level;
 use oim_write::{Encoded, Sink, write_to};
 use std::alloc::Global;
 
-/// Merges reports that are read under a sheet: the canonical text of what the accepted ones say goes
-/// to the sink (xBRL-JSON 1.0; the choice of prefixes and identifiers is own). The refused ones are
-/// answered, by their numbers from 1.
+/// Merges reports that are read under a sheet: writes the canonical text of the accepted ones to
+/// the sink (xBRL-JSON 1.0; the choice of prefixes and identifiers is own), and returns the
+/// refusals of the others by their numbers from 1.
 ///
-/// Errors: `TooLoose` where a dimension set has duplicates above `allow`, and then nothing is
-/// written; `Device` where the sink failed; `OutOfMemory`.
+/// Errors: `TooLoose` if a dimension set has duplicates above `allow`, with nothing written;
+/// `Device` if the sink failed; `OutOfMemory`.
 pub fn consolidate<S: Sink>(
     alloc: Global,
     sheet: &Sheet,
@@ -35,7 +35,7 @@ pub fn consolidate<S: Sink>(
     consolidation.finish(allow, out)
 }
 
-/// Writes the base, where no dimension set is above the level.
+/// Writes the base if no dimension set is above the level.
 pub(crate) fn write_within<S: Sink>(
     alloc: Global,
     base: &Base<'_>,
@@ -68,7 +68,7 @@ fn first_above(base: &Base<'_>, allow: Level) -> Option<u64>
     if allow == Level::All {
         return None;
     }
-    // no more rows than fit this number
+    // there are no more rows than this number can count
     let _most = base.row_count();
     let mut number = 0;
     for row in base.rows() {

@@ -11,8 +11,7 @@ use std::alloc::Global;
 /// `restart I`, with single spaces, and for each letter a whole number from 1 to 4294967295 without
 /// leading zeros. The line end of the last line may be missing, and no bytes are no lines.
 ///
-/// Errors: `BadEvent` with the number, from 1, of the first line that has not this form;
-/// `OutOfMemory`.
+/// Errors: `BadEvent` with the number, from 1, of the first line without this form; `OutOfMemory`.
 pub fn read_events(alloc: Global, bytes: &[u8]) -> Result<Events, ReplayFault>
     ensures ok { IfOk result (SaysEvents bytes.now) }
     ensures err { IfErr result (ReadingEventsStops bytes.now) }

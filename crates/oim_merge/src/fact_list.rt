@@ -14,9 +14,9 @@ use std::cmp::Ordering;
 /// A fact of a base, which is not copied.
 #[derive(Clone, Copy, Debug)]
 pub(crate) struct LentFact<'b> {
-    /// What it is about.
+    /// Its dimension set.
     pub dimensions: &'b Dimensions,
-    /// What it says of it.
+    /// Its value.
     pub value: &'b Value,
 }
 
@@ -47,7 +47,7 @@ fn add_row<'b>(facts: &mut Vec<LentFact<'b>>, row: Row<'b>) -> Result<(), AllocE
     Ok(())
 }
 
-/// How many of these facts, which rise, come before a fact.
+/// The number of these rising facts that come before a fact.
 pub(crate) fn place_of(facts: &[LentFact<'_>], fact: &Fact) -> usize
     requires { IsSet fact_cmp (map lent facts.now) }
     ensures { result ≡ count_by (λ f. is_lt (fact_cmp f fact.now)) (map lent facts.now) }

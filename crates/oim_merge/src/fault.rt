@@ -4,17 +4,17 @@ use crate::refusals::Refusals;
 use oim_names::Reason;
 use oim_write::WriteFault;
 
-/// Why reports were not consolidated. A length is that of the text that was written so far; one
-/// that has reached the greatest u64 stays there.
+/// Why reports were not consolidated. A length counts the bytes written so far; at the greatest u64
+/// it stays.
 #[derive(Debug, Drop)]
 pub enum Fault {
-    /// There was no memory.
+    /// Memory was refused.
     OutOfMemory(u64),
     /// The sink failed.
     Device(u64),
     /// A dimension set has duplicates above the level that is allowed, so nothing is written.
     TooLoose {
-        /// The number, from 1, of the first such dimension set in their order.
+        /// The number, from 1, of the first such dimension set in order.
         row: u64,
         /// The refused reports.
         refused: Refusals,

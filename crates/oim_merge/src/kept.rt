@@ -11,11 +11,12 @@ use oim_report::{Refusal, Sheet};
 use oim_write::Encoded;
 use std::alloc::{AllocError, Global};
 
-/// What is kept of a text that is read under a sheet: nothing until it is read; then a base of what
-/// it says, or its refusal.
+/// A text that may be read several times under a sheet: not read yet, or the base of what it says,
+/// or its refusal. A base and not a report is kept: to take a report is to copy its facts, while to
+/// join a base is to copy only what is new.
 pub(crate) type Kept<'s> = Option<Result<Base<'s>, Refusal>>;
 
-/// What is kept of so many texts before any is read.
+/// So many texts that are not read yet.
 pub(crate) fn none_kept<'s>(alloc: Global, texts: usize) -> Result<Vec<Kept<'s>>, AllocError>
     ensures { IfOk result (λ made. made.items ≡ replicate texts None) }
 {
@@ -26,10 +27,10 @@ pub(crate) fn none_kept<'s>(alloc: Global, texts: usize) -> Result<Vec<Kept<'s>>
     Ok(kept)
 }
 
-/// Lets a base take what the text at a place says. A text of which nothing is kept is read, and what
-/// was read is kept. Of a text that is refused the base takes nothing, and the refusal is answered.
+/// Adds to a base what the text at a place says. A text is read the first time, and the result is
+/// kept. A refused text adds nothing, and its refusal is returned.
 ///
-/// Errors: want of memory.
+/// Errors: out of memory.
 pub(crate) fn take_at<'s>(
     alloc: Global,
     sheet: &'s Sheet,
@@ -74,7 +75,7 @@ fn read_base<'s>(
     }
 }
 
-/// Lets a base take what was read of a text, or answers its refusal.
+/// Adds to a base what was read from a text, or returns the refusal of the text.
 fn take_read(
     base: &mut Base<'_>,
     read: &Result<Base<'_>, Refusal>,
@@ -92,7 +93,7 @@ fn take_read(
     }
 }
 
-/// The base joins the other. Where both have the same it looks at each row once, and takes no memory.
+/// Joins another base. If both have the same, this looks at each row once and takes no memory.
 pub(crate) fn join_new(base: &mut Base<'_>, other: &Base<'_>) -> Result<(), AllocError>
     requires { other.now.sheet ≡ base.old.sheet }
     ensures { OnOk result (base.new ≡ joined_with base.old other.now) }

@@ -2,23 +2,13 @@
 //! canonical text, the verdicts on their duplicates, or the texts of replicas that exchange them.
 #![tactic(auto)]
 
-#[cfg(test)]
-mod asked_again;
 mod bundle;
-#[cfg(test)]
-mod canonical_parts;
 mod checked;
 mod consolidation;
-#[cfg(test)]
-mod devices;
-#[cfg(test)]
-mod drawn;
 mod event;
 mod event_line;
 mod events;
 mod events_reader;
-#[cfg(test)]
-mod expecting;
 mod fact_list;
 mod fault;
 mod kept;
@@ -43,36 +33,21 @@ mod source_listing;
 mod source_reader;
 mod std_source;
 #[cfg(test)]
-mod tests_calls;
-#[cfg(test)]
-mod tests_checked;
-#[cfg(test)]
-mod tests_io;
-#[cfg(test)]
-mod tests_refused;
-#[cfg(test)]
-mod tests_replay;
-#[cfg(test)]
-mod tests_round_trip;
-#[cfg(test)]
-mod tests_sinks;
-#[cfg(test)]
-mod tests_sources;
-#[cfg(test)]
-mod tests_texts;
-#[cfg(test)]
-mod tests_writers;
+mod tests;
 mod verdict_line;
 
 // merging
 pub use bundle::consolidate_bundle;
 pub use consolidation::consolidate;
 pub use fault::Fault;
+pub use merged::Merged;
 pub use merging::Consolidation;
 pub use refusals::Refusals;
 // judging and checking
 pub use checked::{Checked, check_report};
 pub use listing::verdict_lines;
+pub use mentions::mentions_by_fact;
+pub use placed_mention::PlacedMention;
 pub use source_listing::source_lines;
 // replicas
 pub use event::Event;

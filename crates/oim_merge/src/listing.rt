@@ -17,10 +17,10 @@ use oim_write::{Encoded, Sink, SinkBuffer, WriteFault};
 use std::alloc::{AllocError, Global};
 
 /// Merges reports that are read under a sheet, and appends one line for each dimension set to the
-/// sink, in order: its number from 1, the identifiers of its first and its last fact, and the verdict
-/// on them with what shows it (own). The refused reports are answered, by their numbers from 1.
+/// sink, in order: its number from 1, the identifiers of its first and last fact, and the verdict
+/// with its evidence (own). Returns the refusals by the numbers of the reports, from 1.
 ///
-/// Errors: `Device` where the sink failed; `OutOfMemory`.
+/// Errors: `Device` if the sink failed; `OutOfMemory`.
 pub fn verdict_lines<S: Sink>(
     alloc: Global,
     sheet: &Sheet,
@@ -38,7 +38,7 @@ pub fn verdict_lines<S: Sink>(
     consolidation.finish_lines(out)
 }
 
-/// Appends the lines of the base, and answers the refusals.
+/// Appends the lines of the base, and returns the refusals.
 pub(crate) fn write_verdicts<S: Sink>(
     alloc: Global,
     base: &Base<'_>,
@@ -56,7 +56,8 @@ pub(crate) fn write_verdicts<S: Sink>(
     }
 }
 
-/// Appends the lines of a base. On a fault the sink has the front of them whose length it tells.
+/// Appends the lines of a base. On a fault the sink has the first part of them, with the length in
+/// the fault.
 fn write_lines<S: Sink>(alloc: Global, base: &Base<'_>, out: &mut S) -> Result<(), WriteFault>
     requires { S.failures out.old < 2 ^ 64 - 1 }
     ensures ok { OnOk result (AppendsLines base.now.body (S.told out.old) (S.told out.new)) }
@@ -87,7 +88,7 @@ fn push_lines<S: Sink>(
         before: 0,
         count: base.fact_count(),
     };
-    // no more rows than fit this number
+    // there are no more rows than this number can count
     let _most = base.row_count();
     let mut number = 0;
     for row in base.rows() {
@@ -118,7 +119,7 @@ fn row_line(
     line_of(alloc, number, identifiers, row.values.len(), &evidence)
 }
 
-/// What shows the verdict on a row of the base.
+/// The evidence for the verdict on a row of the base.
 fn evidence_of(base: &Base<'_>, row: Row<'_>) -> Evidence
     requires { Contains (rows_of base.now.body.facts) (shown row) }
     ensures { IsEvidence row.entry.values.now result }

@@ -19,7 +19,9 @@ use std::alloc::{AllocError, Global};
 
 /// The mentions of the facts of a base in the reports that it was merged from, fact by fact, and
 /// those of a fact in the order of the reports and of the identifiers.
-pub(crate) fn mentions_by_fact(
+///
+/// Errors: out of memory.
+pub fn mentions_by_fact(
     alloc: Global,
     base: &Base<'_>,
     reports: &[Encoded],

@@ -11,14 +11,18 @@ use std::alloc::{AllocError, Global};
 
 /// What reports came to: the accepted ones as one base, and the refused ones.
 #[derive(Drop)]
-pub(crate) struct Merged<'s> {
+pub struct Merged<'s> {
+    /// What the accepted ones say in all.
     pub base: Base<'s>,
+    /// The refused ones, by their numbers from 1.
     pub refusals: Refusals,
 }
 
 impl<'s> Merged<'s> {
     /// Reads the reports in order.
-    pub(crate) fn of(
+    ///
+    /// Errors: out of memory.
+    pub fn of(
         alloc: Global,
         sheet: &'s Sheet,
         reports: &[Encoded],

@@ -72,7 +72,7 @@ impl<'s> Consolidation<'s> {
     /// Reads one more report under the sheet, and takes what it says, or keeps its refusal with its
     /// number from 1.
     ///
-    /// Errors: want of memory; all is then as before, so that the report can be added again.
+    /// Errors: out of memory; all is then unchanged, so that the report can be added again.
     pub fn add(&mut self, bytes: &[u8]) -> Result<(), AllocError>
         requires { self.old.reports + 1 < 2 ^ 64 }
         ensures ok { OnOk result (self.new ≡ with_report self.old bytes.now) }
@@ -161,7 +161,9 @@ impl<'s> Consolidation<'s> {
     }
 
     /// Makes a base of all that came.
-    pub(crate) fn into_merged(self) -> Result<Merged<'s>, AllocError>
+    ///
+    /// Errors: out of memory.
+    pub fn into_merged(self) -> Result<Merged<'s>, AllocError>
         ensures base { IfOk result
             (λ merged. merged.base ≡ record { sheet = self.entry.sheet; body = self.entry.body }) }
         ensures refusals { IfOk result (λ merged. merged.refusals ≡ self.entry.refusals) }

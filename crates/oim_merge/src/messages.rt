@@ -13,21 +13,22 @@ use oim_write::{Encoded, text};
 use std::alloc::{AllocError, Global};
 use std::cmp::Ordering;
 
-/// Texts that were sent, in their order. Equal ones are held once, with what is kept of them.
+/// The sent texts in order. Equal ones are held and read once. Contracts say that a text found here
+/// is equal, not that every equal text is found: missing one costs memory only.
 #[derive(Drop)]
 pub(crate) struct Messages<'s> {
     /// The different texts, as each was first sent.
     pub texts: Vec<Encoded>,
-    /// What is kept of each.
+    /// The result of reading each text.
     pub kept: Vec<Kept<'s>>,
-    /// Their places, from 0, in byte order.
+    /// Their places, from 0, in byte order of the texts.
     pub order: Vec<usize>,
-    /// The place of each sent text.
+    /// For each sent text, its place among the different ones.
     pub sent: Vec<usize>,
 }
 
 impl<'s> Messages<'s> {
-    /// Nothing was sent yet. It takes no memory.
+    /// No sent text yet. It takes no memory.
     pub(crate) fn new(alloc: Global) -> Messages<'s>
         ensures sent { sent_texts result ≡ [] }
         ensures held { (sheet : SheetSeen) → AreHeld sheet result }
@@ -40,10 +41,10 @@ impl<'s> Messages<'s> {
         }
     }
 
-    /// The text of a base is sent, and its place kept as the current one. Where there is one, the
-    /// text is not written again.
+    /// Sends the text of a base, and stores its place as the current one. If there is a current
+    /// one, the text is not written again.
     ///
-    /// Errors: want of memory.
+    /// Errors: out of memory.
     pub(crate) fn send(
         &mut self,
         alloc: Global,
@@ -63,7 +64,7 @@ impl<'s> Messages<'s> {
         Ok(())
     }
 
-    /// The place of the text of a base, which is written where there is no current one.
+    /// The place of the text of a base, which is written unless there is a current one.
     fn place_of(
         &mut self,
         alloc: Global,
@@ -94,7 +95,7 @@ impl<'s> Messages<'s> {
         }
     }
 
-    /// The place of an equal text, or where a new one's place goes in the order.
+    /// The place of an equal text, or where a new one belongs in the order.
     fn find(&self, text: &Encoded) -> Result<usize, usize>
         ensures { MatchResult result
             (IsTextAt self.now.texts.items text.now)
@@ -114,7 +115,7 @@ impl<'s> Messages<'s> {
         }
     }
 
-    /// How the text at a place stands to another in byte order.
+    /// Compares the text at a place with another, by bytes.
     fn compare(&self, place: usize, text: &Encoded) -> Ordering {
         match self.texts.get(place) {
             Some(known) => known.as_bytes().cmp(text.as_bytes()),
@@ -122,9 +123,9 @@ impl<'s> Messages<'s> {
         }
     }
 
-    /// Lets a base take the sent text of a number, from 0, which is read where nothing is kept of it.
+    /// Adds to a base the sent text of a number, from 0, which is read the first time.
     ///
-    /// Errors: want of memory.
+    /// Errors: out of memory.
     pub(crate) fn give(
         &mut self,
         alloc: Global,

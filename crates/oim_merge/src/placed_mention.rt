@@ -10,7 +10,7 @@ use std::alloc::{AllocError, Global};
 
 /// That a report says a fact of a base.
 #[derive(Debug, Drop)]
-pub(crate) struct PlacedMention {
+pub struct PlacedMention {
     /// How many facts of the base come before it.
     pub place: usize,
     /// The number of the report, from 1.

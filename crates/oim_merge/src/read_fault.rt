@@ -3,13 +3,13 @@ use thiserror::Error;
 /// Why a source was not read to its end.
 #[derive(Clone, Copy, Debug, PartialEq, Eq, Error)]
 pub enum ReadFault {
-    /// There was no memory.
+    /// Memory was refused.
     #[error("out of memory")]
     OutOfMemory,
-    /// The source failed after it had given so many bytes.
+    /// The source failed after this many bytes.
     #[error("the device failed after {0} bytes")]
     Device(u64),
-    /// More bytes came than the limit allows.
+    /// The source has more bytes than the limit allows.
     #[error("too long")]
     TooLong,
 }

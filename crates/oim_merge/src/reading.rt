@@ -8,7 +8,7 @@ use std::alloc::{AllocError, Global};
 
 /// The report that the bytes say under the sheet, or its refusal.
 ///
-/// Errors: want of memory, which is no refusal here.
+/// Errors: out of memory, which is no refusal here.
 pub(crate) fn read<'s>(
     alloc: Global,
     sheet: &'s Sheet,
@@ -27,7 +27,7 @@ pub(crate) fn read<'s>(
 
 /// The report that the bytes say under the sheet, with the identifiers of its facts, or its refusal.
 ///
-/// Errors: want of memory, which is no refusal here.
+/// Errors: out of memory, which is no refusal here.
 pub(crate) fn read_with_identifiers<'s>(
     alloc: Global,
     sheet: &'s Sheet,

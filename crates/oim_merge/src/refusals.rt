@@ -4,7 +4,7 @@ use oim_report::Refusal;
 use std::alloc::{AllocError, Global};
 use std::marker::Model;
 
-/// The refused reports, each by its number from 1, in the order of the reports.
+/// The refusals of reports, each with the number of its report from 1, in the order of the reports.
 #[derive(Debug, Drop)]
 pub struct Refusals {
     entries: Vec<(u64, Refusal)>,
@@ -29,9 +29,9 @@ impl Refusals {
         }
     }
 
-    /// Appends the refusal of a report, by its number from 1.
+    /// Appends the refusal of the report with this number, from 1.
     ///
-    /// Errors: want of memory, and then the list is as it was.
+    /// Errors: out of memory; the list is then as it was.
     pub fn push(&mut self, report: u64, refusal: Refusal) -> Result<(), AllocError>
         ensures ok { OnOk result (self.new ≡ self.old ++ (report, refusal) ∷ []) }
         ensures err { OnErr result (self.new ≡ self.old) }

@@ -7,11 +7,11 @@ use thiserror::Error;
 /// Why a schedule was not read, or not run to its end.
 #[derive(Clone, Copy, Debug, PartialEq, Eq, Error)]
 pub enum ReplayFault {
-    /// There was no memory.
+    /// Memory was refused.
     #[error("out of memory")]
     OutOfMemory,
-    /// The line of this number, from 1, is the first that is no event, or the first whose event
-    /// names what is not there.
+    /// The line with this number, from 1, is the first that is not an event, or the first whose
+    /// event names something that does not exist.
     #[error("line {0} is refused")]
     BadEvent(u64),
 }

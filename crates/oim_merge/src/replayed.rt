@@ -62,7 +62,7 @@ impl<'s> Replayed<'s> {
         self.bases.as_slice()
     }
 
-    /// The replica of this number, from 1; None where there is none.
+    /// The replica with this number, from 1, or None.
     pub fn replica(&self, number: usize) -> Option<&Base<'s>>
         ensures { MatchOption result (numbered self.now.world.replicas number ≡ None)
             (λ base. numbered self.now.world.replicas number ≡ Some base.now) }
@@ -73,7 +73,7 @@ impl<'s> Replayed<'s> {
         }
     }
 
-    /// The text that was sent as this number, from 1; None where so many were not sent.
+    /// The sent text with this number, from 1, or None if fewer were sent.
     pub fn sent(&self, number: usize) -> Option<&Encoded>
         ensures { MatchOption result (numbered self.now.world.sent number ≡ None)
             (λ text. numbered self.now.world.sent number ≡ Some text.now) }
@@ -81,14 +81,14 @@ impl<'s> Replayed<'s> {
         text_numbered(self.texts.as_slice(), self.sent.as_slice(), number)
     }
 
-    /// The refused takes in the order of the events, each by the number of its report.
+    /// The refused takes in the order of the events, each with the number of its report.
     pub fn refused(&self) -> &Refusals
         ensures { result.now ≡ self.now.refused }
     {
         &self.refused
     }
 
-    /// The same, where the replicas are given up.
+    /// The same, giving up the replicas.
     pub fn into_refused(self) -> Refusals
         ensures { result ≡ self.entry.refused }
     {
@@ -96,7 +96,7 @@ impl<'s> Replayed<'s> {
     }
 }
 
-/// The text whose place is the one of this number, from 1, among the places.
+/// The text whose place is at this number, from 1, among the places.
 fn text_numbered<'t>(texts: &'t [Encoded], places: &[usize], number: usize) -> Option<&'t Encoded>
     requires { AreWithin texts.now places.now }
     ensures { MatchOption result (numbered (texts_at texts.now places.now) number ≡ None)

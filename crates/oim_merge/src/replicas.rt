@@ -15,13 +15,13 @@ use oim_report::Sheet;
 use oim_write::Encoded;
 use std::alloc::{AllocError, Global};
 
-/// Replicas while a schedule runs, with the texts that they sent, the takes that were refused, and
-/// what is kept of the reports.
+/// Replicas while a schedule runs, with the texts that they sent, the refused takes, and the
+/// reports that were read.
 #[derive(Drop)]
 pub(crate) struct Replicas<'s> {
     pub bases: Vec<Base<'s>>,
-    /// The place among the messages of each replica's text, where it was sent and no event came since
-    /// that can change its base.
+    /// For each replica, the place of its text among the messages, if it was sent and no later
+    /// event can have changed its base.
     pub current: Vec<Option<usize>>,
     pub messages: Messages<'s>,
     pub refused: Refusals,
@@ -29,7 +29,7 @@ pub(crate) struct Replicas<'s> {
 }
 
 impl<'s> Replicas<'s> {
-    /// So many new ones, with nothing sent, and nothing kept of these reports.
+    /// So many empty replicas, with nothing sent and none of these reports read.
     pub(crate) fn new(
         alloc: Global,
         sheet: &'s Sheet,
@@ -55,7 +55,7 @@ impl<'s> Replicas<'s> {
         })
     }
 
-    /// Whether what the event names is there, among so many reports.
+    /// Whether everything that the event names exists, with so many reports.
     pub(crate) fn has_named(&self, event: Event, reports: usize) -> bool
         ensures { IsTrue result ↔ (names_none (length self.now.bases.items) reports
             (length (sent_texts self.now.messages)) event ≡ false) }
@@ -70,7 +70,7 @@ impl<'s> Replicas<'s> {
         }
     }
 
-    /// Lets an event happen that names what is there.
+    /// Runs an event that names only what exists.
     pub(crate) fn step(
         &mut self,
         alloc: Global,
@@ -115,7 +115,7 @@ impl<'s> Replicas<'s> {
         Ok(())
     }
 
-    /// The replica takes the report, or the refusal is told.
+    /// The replica takes the report, or its refusal is recorded.
     fn take(
         &mut self,
         alloc: Global,
@@ -151,7 +151,7 @@ fn is_there(number: u32, greatest: usize) -> bool
     number >= 1 && number as usize <= greatest
 }
 
-/// A replica has no current text, since its base can change.
+/// Forgets the current text of a replica, since its base can change.
 fn forget(current: &mut Vec<Option<usize>>, place: usize)
     ensures { current.new.items ≡ slice_set current.old.items place None }
 {
@@ -160,7 +160,7 @@ fn forget(current: &mut Vec<Option<usize>>, place: usize)
     }
 }
 
-/// The base at the one place joins that at the other.
+/// Joins the base at one place to the base at the other.
 fn join_at<'s>(
     alloc: Global,
     sheet: &'s Sheet,

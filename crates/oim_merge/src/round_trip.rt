@@ -6,9 +6,9 @@ use oim_write::text;
 use std::alloc::{AllocError, Global};
 
 /// Writes the canonical text of a base, reads it under the base's sheet, and takes the report into
-/// a new base: the same base again. (That it is the same is this project's promise.)
+/// a new base, which equals the first (own).
 ///
-/// Errors: want of memory.
+/// Errors: out of memory.
 pub fn read_back<'s>(alloc: Global, base: &Base<'s>) -> Result<Base<'s>, AllocError>
     ensures { IfOk result (λ back. back ≡ base.now) }
 {

@@ -2,21 +2,21 @@ ghost use Rattle.std.specs.Prelude.{◌≡◌, ℕ, ◌+◌, ◌-◌, ◌^◌, �
 ghost use Rattle.std.specs.Io.{ReadsAtMost};
 ghost use Rattle.std.specs.Io.KnownBytes.{ReadConsumes};
 
-/// A source did not give what it was asked for.
+/// A source failed.
 #[derive(Clone, Copy, Debug, PartialEq, Eq)]
 pub struct SourceError;
 
-/// Gives bytes, and counts how often it failed to.
+/// Gives bytes, and counts its failures.
 pub trait Source {
-    /// The bytes that it is yet to give, where it tells them.
+    /// The bytes that it has still to give, if contracts can see them.
     ghost told: { Self → Option (List ℕ) };
 
     /// How often it has failed.
     ghost failures: { Self → ℕ };
 
-    /// Writes its next bytes to the front of the buffer and answers how many. It answers 0 at its
-    /// end, and else only where the buffer is empty. On an error it gives none and has failed once
-    /// more.
+    /// Writes its next bytes to the front of the buffer and returns their number. That is 0 only at
+    /// the end or if the buffer is empty. On an error it gives no bytes, and counts one more
+    /// failure.
     fn get(&mut self, buffer: &mut [u8]) -> Result<usize, SourceError>
         requires { failures self.old < 2 ^ 64 - 1 }
         ensures bytes { ReadConsumes (told self.old) (told self.new) result buffer.new }

@@ -15,12 +15,15 @@ use oim_report::Sheet;
 use oim_write::{Encoded, Sink, SinkBuffer, WriteFault};
 use std::alloc::Global;
 
-/// Merges reports that are read under a sheet, and appends one line for each fact object of each
-/// accepted report to the sink: the identifier of its fact in the canonical text, the report's number
-/// from 1, and the object's own identifier as a JSON string (own). The lines stand in the order of
-/// these three. The refused reports are answered, by their numbers.
+/// Merges reports that are read under a sheet, and appends one line for each fact object in an
+/// accepted report to the sink: the identifier of its fact in the canonical text, the number of the
+/// report from 1, and the object's own identifier as a JSON string (own). The lines are in the
+/// order of these three. Returns the refusals by the numbers of the reports.
 ///
-/// Errors: `Device` where the sink failed; `OutOfMemory`.
+/// Each report is read again once all are merged, so that a merge keeps no identifiers and does not
+/// pay for them.
+///
+/// Errors: `Device` if the sink failed; `OutOfMemory`.
 pub fn source_lines<S: Sink>(
     alloc: Global,
     sheet: &Sheet,
@@ -44,8 +47,8 @@ pub fn source_lines<S: Sink>(
     }
 }
 
-/// Appends the lines of mentions, where the base has so many facts. On a fault the sink has the front
-/// of them whose length it tells.
+/// Appends the lines of mentions of a base with so many facts. On a fault the sink has the first
+/// part of them, with the length in the fault.
 fn write_lines<S: Sink>(
     alloc: Global,
     count: u128,

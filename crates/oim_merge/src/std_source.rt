@@ -3,7 +3,7 @@ ghost use Rattle.std.specs.Prelude.{◌≡◌};
 use crate::source::{Source, SourceError};
 use std::io::Read;
 
-/// A source over a reader. A read that fails or is interrupted is a failure.
+/// A source over a reader. It fails if a read fails or is interrupted.
 #[derive(Drop)]
 pub struct StdSource<R: Read> {
     reader: R,
@@ -11,7 +11,7 @@ pub struct StdSource<R: Read> {
 }
 
 impl<R: Read> StdSource<R> {
-    /// A source over this reader, with no failure yet.
+    /// A source over this reader, without failures so far.
     pub fn new(reader: R) -> StdSource<R>
         ensures reader { result.reader ≡ reader }
         ensures failures { result.failures ≡ 0 }

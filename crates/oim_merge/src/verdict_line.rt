@@ -9,7 +9,7 @@ use oim_value::{Interval, write_units};
 use oim_write::identifier;
 use std::alloc::{AllocError, Global};
 
-/// What the facts of a dimension set are called: so many facts stand before them, of so many.
+/// The identifiers of the facts of a dimension set, from the number of facts before it and in all.
 #[derive(Clone, Copy, Debug)]
 pub(crate) struct Identifiers {
     pub before: u128,
@@ -25,7 +25,7 @@ fn name(alloc: Global, identifiers: &Identifiers, place: usize) -> Result<Text, 
     identifier(alloc, rank, identifiers.count)
 }
 
-/// The line of a dimension set with this number, and its line end.
+/// The line of the dimension set with this number, with a line end.
 pub(crate) fn line_of(
     alloc: Global,
     number: u64,
@@ -47,7 +47,7 @@ pub(crate) fn line_of(
     format!(in alloc; "{number} {first} {last} {told}\n")
 }
 
-/// The verdict in words, with what shows it.
+/// The verdict in words, with its evidence.
 fn evidence_in_words(
     alloc: Global,
     identifiers: &Identifiers,

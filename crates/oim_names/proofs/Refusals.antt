@@ -1,4 +1,4 @@
--- Nothing refuses a text exactly where it names something, and each refusal has its test.
+-- Nothing refuses a text exactly if it names something, and each refusal has its test.
 use Rattle.std.proofs.Common.{◌≡◌, ◌≢◌, ◌↔◌, ℕ, List, Bool, true, false, refl, sym, ◌∙◌, ap}
 use Rattle.std.specs.Prelude.{Option, Some, None, is_none, IsTrue, not, ◌&&◌, if◌then◌else◌}
 use Rattle.std.specs.Option.{option_map_or}

@@ -9,8 +9,8 @@ use crate::binding::Binding;
 use crate::copied::Copied;
 use crate::form::{is_part, split};
 use crate::name::Name;
+use crate::position_cache::PositionCache;
 use crate::reason::Reason;
-use crate::recent::Recent;
 use crate::text::Text;
 use std::alloc::{AllocError, Global};
 use std::collections::BTreeMap;
@@ -25,7 +25,7 @@ const RESERVED: &str = "https://xbrl.org/2021";
 pub struct Aliases {
     bindings: Vec<Binding>,
     uris: BTreeMap<String, Text>,
-    recent: Recent,
+    cache: PositionCache,
 }
 
 impl Model for Aliases {
@@ -47,7 +47,7 @@ impl Aliases {
         Aliases {
             bindings: Vec::new(alloc),
             uris: BTreeMap::new(alloc),
-            recent: Recent::new(),
+            cache: PositionCache::new(),
         }
     }
 
@@ -90,7 +90,7 @@ impl Aliases {
         };
         let place = self.bindings.len();
         self.bindings.push_reserved(binding);
-        self.recent.set(prefix, place);
+        self.cache.set(prefix, place);
         Ok(())
     }
 
@@ -108,13 +108,13 @@ impl Aliases {
         ensures found { option_copied result ≡ uri_of self.now prefix.now }
         ensures filled { IfSome result (λ uri. uri.now ≢ []) }
     {
-        match self.bindings.get(self.recent.place(prefix)) {
+        match self.bindings.get(self.cache.place(prefix)) {
             Some(known) if known.prefix() == prefix => Some(known.uri_text()),
             _ => self.uris.get(prefix),
         }
     }
 
-    /// Does nothing, and tells that each prefix has its form and is bound once, to a URI that is not
+    /// Does nothing. Its contract: each prefix has its form and is bound once, to a URI that is not
     /// empty.
     pub fn known(&self)
         ensures { AreBindings self.now }
@@ -132,10 +132,10 @@ impl Aliases {
             .map(|binding| binding.prefix())
     }
 
-    /// The name that the text stands for: a bound prefix, a colon and a local part
+    /// Expands a prefixed name: a bound prefix, a colon and a local part
     /// (XML Namespaces 1.0, section 4). It shares the URI of its prefix.
     ///
-    /// Errors: what `name_refusal` answers; `OutOfMemory`.
+    /// Errors: what `name_refusal` returns; `OutOfMemory`.
     pub fn expand(&self, text: &str) -> Result<Name, Reason>
         ensures ok { IfOk result (Expands self.now text.now) }
         ensures uri { IfOk result (λ name. name.uri ≢ []) }
@@ -148,9 +148,9 @@ impl Aliases {
         Ok(named(*self.bindings.allocator(), uri, local)?)
     }
 
-    /// The URI and the local part of the name that the text stands for. It takes no memory.
+    /// The URI and the local part of a prefixed name. It takes no memory.
     ///
-    /// Errors: what `name_refusal` answers.
+    /// Errors: what `name_refusal` returns.
     pub fn resolve<'a>(&'a self, text: &'a str) -> Result<(&'a str, &'a str), Reason>
         ensures ok { IfOk result (λ parts. Expands self.now text.now
             (record { uri = parts.0.now; local_part = parts.1.now })) }
@@ -182,11 +182,11 @@ impl Aliases {
         Ok((self.naming_uri(prefix)?, local))
     }
 
-    /// The entity that the text stands for: a bound prefix for the URI of its scheme, a colon and an
+    /// Expands an entity's text: a bound prefix for the URI of its scheme, a colon and an
     /// identifier, which may be any text but the empty one (xBRL-JSON 1.0, section 3.1.4). It shares
     /// the URI of its prefix.
     ///
-    /// Errors: what `entity_refusal` answers; `OutOfMemory`.
+    /// Errors: what `entity_refusal` returns; `OutOfMemory`.
     pub fn expand_entity(&self, text: &str) -> Result<Name, Reason>
         ensures ok { IfOk result (ExpandsEntity self.now text.now) }
         ensures uri { IfOk result (λ entity. entity.uri ≢ []) }
@@ -199,10 +199,9 @@ impl Aliases {
         Ok(named(*self.bindings.allocator(), uri, identifier)?)
     }
 
-    /// The scheme's URI and the identifier of the entity that the text stands for. It takes no
-    /// memory.
+    /// The scheme's URI and the identifier in an entity's text. It takes no memory.
     ///
-    /// Errors: what `entity_refusal` answers.
+    /// Errors: what `entity_refusal` returns.
     pub fn resolve_entity<'a>(&'a self, text: &'a str) -> Result<(&'a str, &'a str), Reason>
         ensures ok { IfOk result (λ parts. ExpandsEntity self.now text.now
             (record { uri = parts.0.now; local_part = parts.1.now })) }

@@ -22,7 +22,7 @@ use Rattle.oim_report.specs.Refusal.{map_ok}
 use Rattle.oim_report.specs.Said.{said_value}
 use Rattle.oim_report.specs.Sheet.{Sheet}
 use Rattle.oim_report.proofs.Accepted.{IsAccepted, accepted}
-use Rattle.oim_report.proofs.Fitting.{AreNamespaces, AreCleanDimensions, AreClean, are_clean, concept_fits, period_fits, said_entity_fits, said_language_fits, said_period_is, value_fits}
+use Rattle.oim_report.proofs.Fitting.{AreNamespaces, AreCleanDimensions, AreClean, are_clean, concept_fits, said_entity_fits, said_language_fits, said_period_is, value_fits}
 use Rattle.oim_report.proofs.MembersSay.{members_fit, members_rise, members_say}
 use Rattle.oim_report.proofs.SaysParts.{concept_listed, concept_says, entity_says, language_says, period_says, value_says}
 use Rattle.oim_report.proofs.UnitFits.{unit_fits, unit_is_one}
@@ -78,7 +78,7 @@ module _ (sheet : Sheet) (bs : List Binding) (are : AreNamespaces bs) (p : FactP
         kind = kind_of_concept.0;
         listed = kind_of_concept.2;
         entity = said_entity_fits bs ds.entity f.dimensions.entity are clean_dimensions.entity is.each.entity;
-        period = period_fits f.dimensions.period (said_period_is ds.period f.dimensions.period is.each.period).forward;
+        period = (said_period_is ds.period f.dimensions.period is.each.period).forward;
         unit = unit_fits bs ds.unit kind_of_concept.0 f.dimensions.unit are clean_dimensions.unit (subst (λ k. unit_refusal k ds.unit ≡ None) same is.none.unit) is.each.unit;
         language = said_language_fits kind_of_concept.0 ds.language f.dimensions.language (subst (λ k. language_refusal k ds.language ≡ None) same is.none.language) is.each.language;
         members = members_fit sheet bs ds.defined f.dimensions.members are clean_dimensions.defined is.none.defined is.each.members;

@@ -1,6 +1,6 @@
--- Names of which one comes again, looked at one after another.
+-- Names of which one is repeated, looked at one after another.
 use Rattle.std.proofs.Common.{◌≡◌, ◌≢◌, ◌⊎◌, inl, inr, Result, Ok, Err, ℕ, List, [], ◌∷◌, Bool, true, false, cond, ◌||◌, refl, sym, ap, ◌∙◌}
-use Rattle.std.specs.Prelude.{Option, Some, None, if◌then◌else◌, is_some, IfOk, IfErr}
+use Rattle.std.specs.Prelude.{Option, Some, None, if◌then◌else◌, is_some, IfErr}
 use Rattle.std.specs.FinMap as map
 use Rattle.std.specs.FinMap.{FinMap, get-empty, get-insert}
 use Rattle.std.specs.List.{list_any}
@@ -10,18 +10,17 @@ use Rattle.std.specs.declared.cmp.Ordering.{Ordering}
 use Rattle.std.specs.declared.cmp.Ordering.TheVariants.{Less, Equal, Greater}
 use Rattle.oim_names.specs.QName.{QName, is_name}
 use Rattle.oim_names.specs.Bindings.{Binding}
-use Rattle.oim_names.specs.Expansion.{Expands, name_refusal}
+use Rattle.oim_names.specs.Expansion.{name_refusal}
 use Rattle.oim_names.specs.declared.reason.Reason.{Reason}
 use Rattle.oim_names.specs.declared.reason.Reason.TheVariants.{OutOfMemory}
 use Rattle.oim_names.proofs.Refusals.{named_kept}
 use Rattle.oim_value.specs.ValueOrder.{name_cmp}
-use Rattle.oim_report.specs.Conditions.{comes_again, dimension_names}
-use Rattle.oim_report.specs.Json.{Given}
+use Rattle.oim_report.specs.Conditions.{comes_again}
 use Rattle.oim_report.specs.Names.{named}
-use Rattle.oim_report.proofs.Naming.{expanded, stands}
+use Rattle.oim_report.proofs.Naming.{stands}
 use Rattle.oim_report.proofs.RisingNames.{name_total}
 
--- whether one of the names is there already, or comes again
+-- whether one of the names is there already, or is repeated
 abbrev pub again_after : {K : Type 0} → FinMap name_cmp K → List QName → Bool
 again_after m ns = list_any (λ n. map.contains_key m n) ns || comes_again ns
 
@@ -77,13 +76,7 @@ module _ {K : Type 0} where
       ∙ regrouped (list_any (λ q. is_eq (name_cmp n q)) ns) (list_any (λ q. map.contains_key m q) ns) (comes_again ns)
       ∙ ap (λ b. (b || list_any (λ q. map.contains_key m q) ns) || comes_again (n ∷ ns)) (sym new)
 
--- ---- the names of dimensions
-
-pub name_first : (bs : List Binding) (d : List ℕ × Given) (ds : List (List ℕ × Given)) (n : QName) → named bs d.0 ≡ Some n → dimension_names bs (d ∷ ds) ≡ n ∷ dimension_names bs ds
-name_first bs d ds n is = rw is refl
-
-pub no_name : (bs : List Binding) (d : List ℕ × Given) (ds : List (List ℕ × Given)) → named bs d.0 ≡ None → dimension_names bs (d ∷ ds) ≡ dimension_names bs ds
-no_name bs d ds is = rw is refl
+-- ---- names as they are read
 
 -- a text that is refused names nothing
 refused_by : (bs : List Binding) (t : List ℕ) (r : Reason) (o : Option QName) → name_refusal bs t ≡ Some r → named bs t ≡ o → o ≡ None
@@ -94,10 +87,6 @@ pub refused_none : (bs : List Binding) (t : List ℕ) (r : Reason) → name_refu
 refused_none bs t r refused = refused_by bs t r (named bs t) refused refl
 
 -- as it is read
-pub read_some : (bs : List Binding) (t : List ℕ) (read : Result QName Reason) (n : QName) → Some n ≡ result_ok read → IfOk read (Expands bs t) → named bs t ≡ Some n
-read_some bs t (Ok m) n is e = expanded is_name bs t m e ∙ sym is
-read_some bs t (Err r) n is e = absurd (cc)
-
 pub read_none : (bs : List Binding) (t : List ℕ) (read : Result QName Reason) → None ≡ result_ok read → read ≢ Err OutOfMemory → IfErr read (λ r. (r ≡ OutOfMemory) ⊎ (name_refusal bs t ≡ Some r)) → named bs t ≡ None
 read_none bs t (Ok m) is other e = absurd (cc)
 read_none bs t (Err r) is other (inl memory) = absurd (other (ap Err memory))

@@ -6,7 +6,7 @@ use Rattle.std.proofs.lemmas.Bool.{cond-true, and_from}
 use Rattle.std.proofs.lemmas.List.{map-append}
 use Rattle.std.proofs.lemmas.Str.{is_utf8-from_IsUtf8}
 use Rattle.serde_json.specs.Data.{Data, Members, member}
-use Rattle.oim_report.specs.declared.given.Given.{Given as Lent}
+use Rattle.oim_report.specs.declared.fact.given.Given.{Given as Lent}
 use Rattle.oim_report.specs.Given.{seen}
 use Rattle.oim_report.specs.SeenParts.{seen_defined}
 use Rattle.oim_report.specs.Json.{Given, given, has_colon}

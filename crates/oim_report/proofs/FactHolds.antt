@@ -29,16 +29,17 @@ use Rattle.oim_report.specs.declared.concept_kind.ConceptKind.TheVariants.{Numer
 use Rattle.oim_report.specs.declared.dimension_kind.DimensionKind.{DimensionKind}
 use Rattle.oim_report.specs.declared.dimension_kind.DimensionKind.TheVariants.{Explicit, Typed}
 use Rattle.oim_report.specs.Conditions.{comes_again, concept_kind, decimals_refusal, defined_names, dimension_kind, dimension_names, fact_refusal, has_misshapen_core, in_dimensions, is_misfit, is_numeric, is_other_kind, language_refusal, member_names, names_of, period_refusal, unit_names, unit_refusal, value_names, value_refusal}
-use Rattle.oim_report.specs.Faults.{content_refusals, form_refusals, has_misfit, is_a_name, is_unknown_dimension, when}
+use Rattle.oim_report.specs.Faults.{when}
 use Rattle.oim_report.specs.Json.{text, any_member, given, given_of, is_absent, is_no_object, is_unknown, members, object_at}
 use Rattle.oim_report.specs.Names.{a_name, an_entity, in_namespace, named, refuses_some}
 use Rattle.oim_report.specs.Parts.{DimensionParts, core_keys, dimension_parts, parts_of}
 use Rattle.oim_report.specs.Refusal.{first_refusal, or_refusal}
 use Rattle.oim_report.specs.Sheet.{Sheet, same_concept_kind, same_dimension_kind}
-use Rattle.oim_report.specs.Holds.{as_text, as_whole, concept, defined, explicit_text, holds, holds_with, is_kind, is_some_and, lacks_moment, misfits, names, no_text, no_text_or_null, pieces, runs_backward, value_text}
+use Rattle.oim_report.specs.Holds.{as_text, as_whole, concept, defined, explicit_text, holds, holds_with, is_kind, is_some_and, lacks_moment, misfits, names, no_text, no_text_or_null, pieces, runs_backward}
 use Rattle.oim_report.specs.Least.{least}
 use Rattle.oim_report.specs.Holds as table
 use Rattle.oim_report.proofs.EachRefusal.{behind, first-append}
+use Rattle.oim_report.proofs.Groups.{content_refusals, form_refusals, has_misfit, is_a_name, is_unknown_dimension}
 use Rattle.oim_report.proofs.FirstFault.{first_parts}
 use Rattle.oim_report.proofs.ValueWords.{absent_same, any_same, by_given, defined_same, filtered_same, find_is, flat_same, no_text_same, spelled_same, text_same, there_same, three, two}
 

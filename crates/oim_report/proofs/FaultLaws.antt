@@ -1,4 +1,4 @@
--- A report has faults exactly where it is refused, and the first of them is its refusal.
+-- A report has faults exactly if it is refused, and the first of them is its refusal.
 use Rattle.std.proofs.Common.{◌≡◌, ℕ, ◌+◌, List, [], ◌∷◌, ◌++◌, map, Bool, true, false, Result, Ok, Err, refl, sym, ap, ◌∙◌}
 use Rattle.std.specs.Prelude.{Option, Some, None, if◌then◌else◌, option_and_then}
 use Rattle.std.specs.Option.{option_map_or, option_to_list, unwrap_or}

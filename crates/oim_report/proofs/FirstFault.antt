@@ -16,13 +16,14 @@ use Rattle.serde_json.specs.Find.{as_object, get_member}
 use Rattle.oim_report.specs.declared.concept_kind.ConceptKind.{ConceptKind}
 use Rattle.oim_report.specs.declared.dimension_kind.DimensionKind.{DimensionKind}
 use Rattle.oim_report.specs.Conditions.{comes_again, concept_kind, concept_refusal, content_refusal, decimals_refusal, defined_names, defined_refusal, dimension_kind, dimension_names, fact_refusal, form_refusal, has_misshapen_core, in_dimensions, is_faulty, is_misfit, is_numeric, is_other_kind, language_refusal, lists_unknown, member_names, names_of, period_refusal, spelled_in, unit_names, unit_refusal, value_names, value_refusal, value_refusals as first_value_refusals}
-use Rattle.oim_report.specs.Faults.{concept_refusals, content_refusals, core_refusals, defined_refusals, form_refusals, has_misfit, is_unknown_dimension, language_refusals, names_refusals, unit_refusals, value_refusals, when}
+use Rattle.oim_report.specs.Faults.{when}
 use Rattle.oim_report.specs.Json.{Given, absent, nil, text, whole, other, is_absent, is_no_object, is_no_text}
 use Rattle.oim_report.specs.Names.{Spelled, a_name, an_entity, names_refusal, refuses_some}
 use Rattle.oim_report.specs.Parts.{DimensionParts, FactParts, dimension_parts, parts_of}
 use Rattle.oim_report.specs.Refusal.{first_refusal, or_refusal}
 use Rattle.oim_report.specs.Sheet.{Sheet}
 use Rattle.oim_report.proofs.EachRefusal.{behind, first-append, or_when}
+use Rattle.oim_report.proofs.Groups.{concept_refusals, content_refusals, core_refusals, defined_refusals, form_refusals, has_misfit, is_unknown_dimension, language_refusals, names_refusals, unit_refusals, value_refusals}
 use Rattle.oim_report.proofs.FactRefused.{are_free}
 use Rattle.oim_report.proofs.NameRefusals.{by_any, first_free, names-parts}
 

@@ -31,7 +31,7 @@ use Rattle.oim_report.specs.declared.concept_kind.ConceptKind.{ConceptKind}
 use Rattle.oim_report.specs.declared.concept_kind.ConceptKind.TheVariants.{Numeric, Text, Name}
 use Rattle.oim_report.specs.Conditions.{language_refusal}
 use Rattle.oim_report.specs.Fact.{GivesText, SaysDecimals, SaysNumber, SaysValue}
-use Rattle.oim_report.specs.FactFits.{EntityFits, FitsEntity, FitsName, IsNamespace, LanguageFits, PeriodFits, ValueFits}
+use Rattle.oim_report.specs.FactFits.{EntityFits, FitsEntity, FitsName, IsNamespace, LanguageFits, ValueFits}
 use Rattle.oim_report.specs.Json.{Given, absent, nil, text, whole, other, any_member, given, given_at, given_of, has_colon, text_of}
 use Rattle.oim_report.specs.Names.{entity_named, named}
 use Rattle.oim_report.specs.Parts.{DimensionParts, FactParts, defined_in, dimension_parts, fact_parts, parts_of}
@@ -181,11 +181,6 @@ said_period_is nil said e = absurd (cc)
 said_period_is (text t) said e = read_period_is t said (period_ok (period_of t) said e)
 said_period_is (whole n) said e = absurd (cc)
 said_period_is other said e = absurd (cc)
-
-pub period_fits : (p : Period) → EndsAfterStart p → PeriodFits p
-period_fits Forever e = tt
-period_fits (Instant m) e = tt
-period_fits (Duration start end) e = e
 
 not_numeric : (kind : ConceptKind) (g : Given) (t : List ℕ) → g ≡ text t → language_refusal (Some kind) g ≡ None → kind ≢ Numeric
 not_numeric Numeric g t is e = let h : language_refusal (Some Numeric) (text t) ≡ None = subst (λ x. language_refusal (Some Numeric) x ≡ None) is e in absurd (never (is_language t) h)

@@ -6,7 +6,7 @@ use Rattle.std.specs.Cmp.Lexicographic.{bytes_decides}
 use Rattle.std.specs.HashMap.{HashMap, Updates, IsUnchanged, get_by}
 use Rattle.std.specs.Map.{lookup, update}
 use Rattle.std.proofs.lemmas.Map.Text.{hash_map_updates_str}
-use Rattle.oim_report.specs.declared.glossary.Glossary.{Glossary}
+use Rattle.oim_report.specs.declared.fact.glossary.Glossary.{Glossary}
 use Rattle.oim_report.specs.Glossary.{Adds, IsGlossary, meaning}
 
 either : {A : Type 0} (R : List ℕ → A → Type 0) (g : Glossary A) (t u : List ℕ) (a b : A) → IsGlossary R g → R t a → (c : Bool) → bytes_eq t u ≡ c → cond c (Some a) (meaning g u) ≡ Some b → R u b

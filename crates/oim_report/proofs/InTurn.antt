@@ -12,7 +12,7 @@ use Rattle.oim_dims.specs.DimensionSet.{has_name, repeats, rises, with_member}
 use Rattle.oim_dims.specs.declared.member.Member.{Member}
 use Rattle.oim_dims.proofs.Places.{old_or_new, old_is_kept, new_is_there}
 use Rattle.oim_report.specs.declared.dimension_kind.DimensionKind.{DimensionKind}
-use Rattle.oim_report.specs.declared.given.Given.{Given as Lent}
+use Rattle.oim_report.specs.declared.fact.given.Given.{Given as Lent}
 use Rattle.oim_report.specs.Conditions.{comes_again, defined_refusal, dimension_kind, dimension_names, is_faulty, is_misfit, lists_unknown}
 use Rattle.oim_report.specs.Names.{named}
 use Rattle.oim_report.specs.Said.{members_with, said_member, said_members}
@@ -56,7 +56,7 @@ each_is_there (f ∷ fs) es x c =
     (λ later. each_is_there fs (with_member f.0 f.1 es) x later)
     (first_or_later f x fs c)
 
--- ---- names that come again
+-- ---- names that are repeated
 
 same_there : (n : QName) (fs : List Item) → list_any (λ m. is_eq (name_cmp n m)) (names_of fs) ≡ has_name n fs
 same_there n [] = refl
@@ -86,7 +86,7 @@ module _ (sheet : Sheet) (bs : List Binding) (xs : List (Bor (List ℕ) × Lent)
     nothing : drop i xs ≡ []
     nothing = none_left xs i past
 
-    -- one comes again exactly where they are refused for that
+    -- one is repeated exactly if they are refused for that
     pub faulty_is : is_faulty sheet bs (seen_defined xs) ≡ repeats found
     faulty_is =
         let fit : some_misfit sheet bs (seen_defined xs) ≡ false = sym are.misfits ∙ ap (λ ys. some_misfit sheet bs (seen_defined ys)) nothing in

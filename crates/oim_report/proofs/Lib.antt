@@ -10,6 +10,10 @@ pub mod PartsOf
 pub mod LastAt
 pub mod Readings
 pub mod MemberLists
+pub mod DefinedRows
+pub mod DimensionAt
+pub mod ReasonTests
+pub mod Groups
 pub mod FactRefused
 pub mod Bound
 pub mod References

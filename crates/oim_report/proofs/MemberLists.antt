@@ -9,7 +9,7 @@ use Rattle.oim_names.specs.Bindings.{Binding}
 use Rattle.oim_dims.specs.DimensionSet.{with_member}
 use Rattle.oim_dims.specs.declared.member.Member.{Member}
 use Rattle.oim_report.specs.declared.dimension_kind.DimensionKind.{DimensionKind}
-use Rattle.oim_report.specs.declared.given.Given.{Given as Lent}
+use Rattle.oim_report.specs.declared.fact.given.Given.{Given as Lent}
 use Rattle.oim_report.specs.Conditions.{dimension_kind, dimension_names, is_misfit, lists_unknown}
 use Rattle.oim_report.specs.Given.{seen}
 use Rattle.oim_report.specs.Json.{Given}

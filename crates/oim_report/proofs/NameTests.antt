@@ -1,10 +1,9 @@
 -- Why a text is no name, by the test of each reason.
-use Rattle.std.proofs.Common.{◌≡◌, ℕ, List, [], ◌∷◌, ◌++◌, Bool, true, false, not, ◌||◌, ◌&&◌, refl, sym, ◌∙◌}
+use Rattle.std.proofs.Common.{◌≡◌, ℕ, List, [], ◌∷◌, ◌++◌, Bool, true, false, not, ◌||◌, ◌&&◌, refl, ◌∙◌}
 use Rattle.std.specs.Prelude.{Option, Some, None, is_none, if◌then◌else◌, map}
 use Rattle.std.specs.Option.{option_eq, option_map_or}
 use Rattle.std.specs.Str.{bytes_eq}
 use Rattle.std.specs.List.{list_any}
-use Rattle.std.proofs.lemmas.List.Folds.{list_any-append}
 use Rattle.oim_names.specs.QName.{prefix_part}
 use Rattle.oim_names.specs.Bindings.{Binding, uri_of}
 use Rattle.oim_names.specs.Expansion.{prefix_refusal, refusal_as, reserved_uri}
@@ -12,7 +11,7 @@ use Rattle.oim_names.specs.contracts.reason.ReasonPartialEq.TheImpl.{eq-value as
 use Rattle.oim_names.specs.declared.reason.Reason.{Reason}
 use Rattle.oim_names.specs.declared.reason.Reason.TheVariants.{NameForm, UnboundPrefix, ReservedNamespace}
 use Rattle.oim_dims.specs.Unit.{denominator_pieces, is_unit_text, numerator_pieces, refuses, some_piece}
-use Rattle.oim_report.specs.Conditions.{piece_names}
+use Rattle.oim_report.specs.Holds.{pieces}
 use Rattle.oim_report.specs.Names.{Spelled, a_name, refuses_name, refuses_some}
 
 -- by whether it has the form, and what its prefix is bound to
@@ -60,14 +59,9 @@ pieces_same r bs [] [] = refl
 pieces_same r bs [] (q ∷ qs) = λ i. piece_same r bs q i || pieces_same r bs [] qs i
 pieces_same r bs (p ∷ ps) qs = grouped (refuses r bs p) (list_any (refuses r bs) ps) (list_any (refuses r bs) qs) ∙ (λ i. piece_same r bs p i || pieces_same r bs ps qs i)
 
-with_form : (form : Bool) (r : Reason) (bs : List Binding) (ps : List (List ℕ)) → form ≡ true → refuses_some r bs (map a_name ps) ≡ refuses_some r bs (if form then map a_name ps else [])
-with_form true r bs ps h = refl
-with_form false r bs ps h = absurd (cc)
+in_form : (form : Bool) (r : Reason) (bs : List Binding) (ps : List (List ℕ)) → form ≡ true → refuses_some r bs (map a_name ps) ≡ refuses_some r bs (map a_name (if form then ps else []))
+in_form true r bs ps h = refl
+in_form false r bs ps h = absurd (cc)
 
-pub unit_pieces : (r : Reason) (bs : List Binding) (t : List ℕ) → is_unit_text t ≡ true → some_piece (refuses r bs) t ≡ refuses_some r bs (piece_names t)
-unit_pieces r bs t form = pieces_same r bs (numerator_pieces t) (denominator_pieces t) ∙ with_form (is_unit_text t) r bs (numerator_pieces t ++ denominator_pieces t) form
-
--- ---- several lists of names
-
-pub either : (r : Reason) (bs : List Binding) (xs ys : List Spelled) (b c : Bool) → b ≡ refuses_some r bs xs → c ≡ refuses_some r bs ys → (b || c) ≡ refuses_some r bs (xs ++ ys)
-either r bs xs ys b c one two = (λ i. one i || two i) ∙ sym (list_any-append (refuses_name r bs) xs ys)
+pub table_pieces : (r : Reason) (bs : List Binding) (t : List ℕ) → is_unit_text t ≡ true → some_piece (refuses r bs) t ≡ refuses_some r bs (map a_name (pieces t))
+table_pieces r bs t form = pieces_same r bs (numerator_pieces t) (denominator_pieces t) ∙ in_form (is_unit_text t) r bs (numerator_pieces t ++ denominator_pieces t) form

@@ -48,7 +48,7 @@ stands has_form bs t n h =
 pub named_exactly : (has_form : List ℕ → Bool) (bs : List Binding) (t : List ℕ) (n : QName) → (named_as has_form bs t ≡ Some n) ↔ ExpandsAs has_form bs t n
 named_exactly has_form bs t n = (stands has_form bs t n, expanded has_form bs t n)
 
--- where nothing is refused, an error is want of memory
+-- where nothing is refused, an error is out of memory
 pub only_memory : (refusal : Option Reason) (r : Reason) → refusal ≡ None → (r ≡ OutOfMemory) ⊎ (refusal ≡ Some r) → r ≡ OutOfMemory
 only_memory refusal r none (inl memory) = memory
 only_memory refusal r none (inr refused) = absurd (cc)

@@ -127,7 +127,7 @@ all_are_allowed fs = allowed_each AllLevel fs (λ i j d under within. let f : Fa
     or_true true = refl
     or_true false = refl
 
--- a test passes exactly where it is no stricter than the first that does
+-- a test passes exactly if it is no stricter than the first that does
 abbrev pub test_at : Level → Bool → Bool → Bool → Bool
 test_at Unique u c s = u
 test_at Complete u c s = c

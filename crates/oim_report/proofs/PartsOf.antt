@@ -10,7 +10,7 @@ use Rattle.serde_json.specs.Find.{as_object}
 use Rattle.serde_json.specs.View.{view, members_view}
 use Rattle.serde_json.specs.declared.value.Value.{Value}
 use Rattle.serde_json.proofs.Views.{Entry}
-use Rattle.oim_report.specs.declared.given.Given.{Given as Lent}
+use Rattle.oim_report.specs.declared.fact.given.Given.{Given as Lent}
 use Rattle.oim_report.specs.Given.{seen}
 use Rattle.oim_report.specs.Json.{Given, given, given_of, any_member, has_colon, has_member, is_unknown, is_no_object}
 use Rattle.oim_report.specs.Parts.{DimensionParts, FactParts, core_keys, fact_keys, defined_in, dimension_parts, parts_of}

@@ -8,7 +8,7 @@ use Rattle.oim_names.specs.declared.reason.Reason.{Reason}
 use Rattle.oim_value.specs.declared.value.Value.{Value}
 use Rattle.oim_value.specs.declared.value.Value.TheVariants.{Nil, Number, Text as AText, Name as AName}
 use Rattle.oim_dims.specs.DimensionSet.{DimensionSet}
-use Rattle.oim_dims.specs.Period.{IsPeriod, HasMoments, period_text}
+use Rattle.oim_dims.specs.Period.{IsPeriod, HasMoments, period_text, EndsAfterStart}
 use Rattle.oim_dims.specs.Unit.{Measures}
 use Rattle.oim_dims.specs.declared.fact.Fact.{Fact}
 use Rattle.oim_dims.specs.declared.period.Period.{Period}
@@ -20,7 +20,7 @@ use Rattle.oim_report.specs.Parts.{DimensionParts, FactParts}
 use Rattle.oim_report.specs.Refusal.{or_refusal, first_refusal}
 use Rattle.oim_report.specs.Conditions.{form_refusal, spelled_in, concept_kind, defined_names, names_of, unit_names, value_names, unit_refusal, language_refusal, value_refusal, decimals_refusal, content_refusal, fact_refusal}
 use Rattle.oim_report.specs.Fact.{SaysFact, SaysDimensions}
-use Rattle.oim_report.specs.FactFits.{PeriodFits, UnitFits, MeasuresFit, FactFits}
+use Rattle.oim_report.specs.FactFits.{UnitFits, MeasuresFit, FactFits}
 use Rattle.oim_report.specs.FactObject.{option_spelled, option_unit_text, fact_object}
 use Rattle.oim_report.specs.Outcome.{fact_or, fact_outcome}
 use Rattle.oim_report.proofs.ByParts.{by_parts, parts_outcome}
@@ -52,7 +52,7 @@ form_accepted spelled f =
 
 -- ---- what is known of a fact's parts
 
-is_period : (p : Period) → HasMoments p → PeriodFits p → IsPeriod p
+is_period : (p : Period) → HasMoments p → EndsAfterStart p → IsPeriod p
 is_period Forever h fits = record { moments = h; forward = fits }
 is_period (Instant m) h fits = record { moments = h; forward = fits }
 is_period (Duration start end) h fits = record { moments = h; forward = fits }

@@ -98,7 +98,7 @@ module _ (sheet : Sheet) (bs : List Binding) where
               ∙ ap (λ xs. members_with sheet bs xs ds) (either_first (n, m) (a, x) es (λ same. All-head (NamesNo n) d ds fresh a here (sym same))))
         ] refl
 
-  -- ---- no name comes again
+  -- ---- no name is repeated
 
   abbrev Distinct : List Keyed → Type 0
   Distinct [] = ⊤

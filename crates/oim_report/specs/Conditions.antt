@@ -124,7 +124,7 @@ is_misfit (Some Typed) (text t) = false
 is_misfit (Some Typed) nil = false
 is_misfit kind g = true
 
--- the names of dimensions, and whether one of them comes again
+-- the names of dimensions, and whether one of them is repeated
 abbrev pub dimension_names : List Binding → List (List ℕ × Given) → List QName
 dimension_names bs defined = filter_map (λ d. named bs d.0) defined
 
@@ -132,7 +132,7 @@ abbrev pub comes_again : List QName → Bool
 comes_again [] = false
 comes_again (n ∷ ns) = list_any (λ m. is_eq (name_cmp n m)) ns || comes_again ns
 
--- whether the sheet does not list one of them; whether one has a member that it may not have, or comes again
+-- whether the sheet does not list one of them; whether one has a member that it may not have, or is repeated
 abbrev pub lists_unknown : Sheet → List Binding → List (List ℕ × Given) → Bool
 lists_unknown sheet bs defined = list_any (λ d. is_none (dimension_kind sheet bs d.0)) defined
 

@@ -21,7 +21,7 @@ values_meet (AText s) (AText t) = bytes_eq s t
 values_meet (AName m) (AName n) = is_eq (name_cmp m n)
 values_meet x y = false
 
--- whether two facts are duplicates: of one dimension set
+-- whether two facts are duplicates: they have one dimension set
 abbrev pub are_duplicates : Fact → Fact → Bool
 are_duplicates f g = is_eq (dimensions_cmp f.dimensions g.dimensions)
 
@@ -50,7 +50,7 @@ level_of fs =
 abbrev pub ValuesMeetIsMeets : Type 0
 ValuesMeetIsMeets = (v w : Value) → IsTrue (values_meet v w) ↔ Meets v w
 
--- a level allows each two facts of a list exactly where it is no stricter than the list's,
+-- a level allows each two facts of a list exactly if it is no stricter than the list's,
 abbrev pub LevelIsStrictest : Type 0
 LevelIsStrictest = (l : Level) (fs : List Fact) → AllPairs (λ f g. IsTrue (allows l f g)) fs ↔ IsTrue (is_le (level_cmp (level_of fs) l))
 

@@ -1,4 +1,4 @@
--- What holds of each fact that is read under a sheet (own).
+-- What holds for facts that are read under a sheet (own).
 use Rattle.std.specs.Prelude.{◌≡◌, ◌≢◌, ◌<ℤ◌, ⊤, ℕ, List, [], All, IsTrue, IsUtf8, Option, Some, None}
 use Rattle.std.specs.FinMap as map
 use Rattle.std.specs.Str.{str_to_ascii_lowercase}
@@ -8,6 +8,7 @@ use Rattle.oim_value.specs.Decimals.{AreDecimals}
 use Rattle.oim_value.specs.Number.{IsShort}
 use Rattle.oim_value.specs.declared.value.Value.{Value}
 use Rattle.oim_value.specs.declared.value.Value.TheVariants.{Nil, Number, Text as AText, Name as AName}
+use Rattle.oim_dims.specs.Period.{EndsAfterStart}
 use Rattle.oim_dims.specs.DimensionSet.{IsDimensionSet}
 use Rattle.oim_dims.specs.Language.{is_language}
 use Rattle.oim_dims.specs.Unit.{Measures}
@@ -48,12 +49,6 @@ abbrev pub EntityFits : Option QName → Type 0
 EntityFits None = ⊤
 EntityFits (Some n) = FitsEntity n
 
--- a duration ends after its start
-abbrev pub PeriodFits : Period → Type 0
-PeriodFits Forever = ⊤
-PeriodFits (Instant m) = ⊤
-PeriodFits (Duration start end) = start <ℤ end
-
 -- each measure is a name, and only numbers have units
 pub record MeasuresFit (kind : ConceptKind) (m : Measures) : Type 0 where
   pub numerators : All FitsName m.numerators
@@ -76,7 +71,7 @@ LanguageFits kind (Some l) = IsLanguageOf kind l
 
 -- ---- members
 
--- of an explicit dimension a name, of a typed one a text or nil
+-- for an explicit dimension a name, for a typed one a text or nil
 abbrev pub MemberFits : DimensionKind → Member → Type 0
 MemberFits Explicit (MemberName n) = FitsName n
 MemberFits Explicit (MemberText t) = ⊥
@@ -109,7 +104,7 @@ pub record FactFits (sheet : Sheet) (f : Fact) : Type 0 where
   pub kind : ConceptKind
   pub listed : map.get sheet.concepts f.dimensions.concept ≡ Some kind
   pub entity : EntityFits f.dimensions.entity
-  pub period : PeriodFits f.dimensions.period
+  pub period : EndsAfterStart f.dimensions.period
   pub unit : UnitFits kind f.dimensions.unit
   pub language : LanguageFits kind f.dimensions.language
   pub members : All (DimensionFits sheet) f.dimensions.members

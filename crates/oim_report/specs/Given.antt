@@ -1,7 +1,7 @@
 -- What a `Given` of the code stands for.
 use Rattle.oim_report.specs.Json.{Given, absent, nil, text, whole, other}
-use Rattle.oim_report.specs.declared.given.Given.{Given as Lent}
-use Rattle.oim_report.specs.declared.given.Given.TheVariants.{Absent, Nil, Text, Whole, Other}
+use Rattle.oim_report.specs.declared.fact.given.Given.{Given as Lent}
+use Rattle.oim_report.specs.declared.fact.given.Given.TheVariants.{Absent, Nil, Text, Whole, Other}
 
 abbrev pub seen : Lent → Given
 seen Absent = absent

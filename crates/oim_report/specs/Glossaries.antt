@@ -11,7 +11,7 @@ use Rattle.oim_dims.specs.Unit.{Measures, UnitOf, IsUnit}
 use Rattle.oim_dims.specs.declared.period.Period.{Period}
 use Rattle.oim_report.specs.declared.concept_kind.ConceptKind.{ConceptKind}
 use Rattle.oim_report.specs.declared.dimension_kind.DimensionKind.{DimensionKind}
-use Rattle.oim_report.specs.declared.glossaries.Glossaries.{Glossaries}
+use Rattle.oim_report.specs.declared.fact.glossaries.Glossaries.{Glossaries}
 use Rattle.oim_report.specs.Conditions.{concept_kind, dimension_kind}
 use Rattle.oim_report.specs.Glossary.{IsGlossary}
 use Rattle.oim_report.specs.Json.{text}
@@ -22,24 +22,24 @@ use Rattle.oim_report.specs.Sheet.{Sheet}
 abbrev pub NamesConcept : Sheet → List Binding → List ℕ → Bor QName × ConceptKind → Type 0
 NamesConcept sheet bs t c = (named bs t ≡ Some c.0.now) × (concept_kind sheet bs (text t) ≡ Some c.1)
 
--- the same of a dimension
+-- the same for a dimension
 abbrev pub NamesDimension : Sheet → List Binding → List ℕ → Bor QName × DimensionKind → Type 0
 NamesDimension sheet bs t d = (named bs t ≡ Some d.0.now) × (dimension_kind sheet bs t ≡ Some d.1)
 
-abbrev pub SaysPeriod : List ℕ → Period → Type 0
-SaysPeriod t period = period_of t ≡ Ok period
+abbrev pub TextSaysPeriod : List ℕ → Period → Type 0
+TextSaysPeriod t period = period_of t ≡ Ok period
 
-abbrev pub SaysUnit : List Binding → List ℕ → Option Measures → Type 0
-SaysUnit bs t unit = UnitOf bs t unit × IfSome unit IsUnit
+abbrev pub TextSaysUnit : List Binding → List ℕ → Option Measures → Type 0
+TextSaysUnit bs t unit = UnitOf bs t unit × IfSome unit IsUnit
 
-abbrev pub SaysLanguage : List ℕ → List ℕ → Type 0
-SaysLanguage t language = (is_language t ≡ true) × (language ≡ str_to_ascii_lowercase t)
+abbrev pub TextSaysLanguage : List ℕ → List ℕ → Type 0
+TextSaysLanguage t language = (is_language t ≡ true) × (language ≡ str_to_ascii_lowercase t)
 
 pub record AreGlossaries (sheet : Sheet) (bs : List Binding) (gs : Glossaries) : Type 0 where
   pub concepts : IsGlossary (NamesConcept sheet bs) gs.concepts
   pub dimensions : IsGlossary (NamesDimension sheet bs) gs.dimensions
   pub entities : IsGlossary (ExpandsEntity bs) gs.entities
-  pub periods : IsGlossary SaysPeriod gs.periods
-  pub units : IsGlossary (SaysUnit bs) gs.units
-  pub languages : IsGlossary SaysLanguage gs.languages
+  pub periods : IsGlossary TextSaysPeriod gs.periods
+  pub units : IsGlossary (TextSaysUnit bs) gs.units
+  pub languages : IsGlossary TextSaysLanguage gs.languages
   pub members : IsGlossary (Expands bs) gs.members

@@ -3,7 +3,7 @@ use Rattle.std.specs.Prelude.{◌≡◌, ◌⊎◌, ℕ, List, Option, Some}
 use Rattle.std.specs.Str.{bytes_eq}
 use Rattle.std.specs.HashMap.{get_by}
 use Rattle.std.specs.Map.{update}
-use Rattle.oim_report.specs.declared.glossary.Glossary.{Glossary}
+use Rattle.oim_report.specs.declared.fact.glossary.Glossary.{Glossary}
 
 -- what a text stands for, where it was added
 abbrev pub meaning : {A : Type 0} → Glossary A → List ℕ → Option A

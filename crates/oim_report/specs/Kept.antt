@@ -10,7 +10,7 @@ use Rattle.oim_report.specs.declared.limits.TheConstants.{MOST_REFERENCE_BYTES}
 abbrev pub is_web : Parts → Bool
 is_web url = bytes_eq url.scheme (codes "http") || bytes_eq url.scheme (codes "https")
 
--- what was parsed, where that is an http or https URL
+-- the parsed URL, if it is an http or https URL
 abbrev pub web_url : Parsed Parts → Option Parts
 web_url (Ok url) = if is_web url then Some url else None
 web_url (Err e) = None
@@ -25,14 +25,14 @@ abbrev pub web_text : Option Parts → Option (List ℕ)
 web_text None = None
 web_text (Some url) = if is_web_text (serialize url) then Some (serialize url) else None
 
--- what a reference is kept as, by what it parses as by itself: an http or https URL as its text, another one as spelled.
--- Where it is no URL: as spelled where there is no base, else as the http or https URL that it is against the base
+-- how a reference is kept, by what it parses as alone: an http or https URL as its text, another URL as spelled.
+-- If it is not a URL: as spelled without a base, else as the http or https URL to which it resolves
 abbrev pub kept_by : Parsed Parts → Option Parts → List ℕ → Option (List ℕ)
 kept_by (Ok url) base reference = if is_web url then web_text (Some url) else Some reference
 kept_by (Err e) None reference = Some reference
 kept_by (Err e) (Some base) reference = web_text (web_url (parse_url (Some base) reference))
 
--- the text under which a reference is kept; None where it does not resolve
+-- the text under which a reference is kept; None if it does not resolve
 abbrev pub kept : Option Parts → List ℕ → Option (List ℕ)
 kept base reference = kept_by (parse_url None reference) base reference
 
@@ -55,11 +55,11 @@ is_text_within_limit text = option_map_or is_within_limit text false
 abbrev pub is_reference_refused : Option Parts → List ℕ → Bool
 is_reference_refused base reference = not (is_within_limit reference && is_text_within_limit (kept base reference))
 
--- a kept text is kept as itself where there is no base
+-- without a base a kept text is kept as itself
 abbrev pub KeptIsKept : Type 0
 KeptIsKept = (base : Option Parts) (reference text : List ℕ) → kept base reference ≡ Some text → kept None text ≡ Some text
 
--- the kept text of a reference that is not refused is not refused where there is no base
+-- without a base the kept text of a reference that is not refused is not refused
 abbrev pub KeptIsAccepted : Type 0
 KeptIsAccepted =
     (base : Option Parts) (reference text : List ℕ) → is_reference_refused base reference ≡ false → kept base reference ≡ Some text →
@@ -71,7 +71,7 @@ KeptIsUtf8 =
     (base : Option Parts) (reference text : List ℕ) → is_utf8 reference ≡ true → kept base reference ≡ Some text →
     is_utf8 text ≡ true
 
--- a reference as it is kept: its own kept text where there is no base, of at most so many bytes, in UTF-8
+-- a reference as it is kept: its own kept text without a base, of at most so many bytes, in UTF-8
 pub record IsKeptReference (text : List ℕ) : Type 0 where
   pub kept : kept None text ≡ Some text
   pub short : is_within_limit text ≡ true

@@ -1,4 +1,4 @@
--- Kinds that are told to be the same are equal.
+-- Kinds that the test calls the same are equal.
 use Rattle.std.specs.Prelude.{◌≡◌, true, refl}
 use mathlib.Core.Bool.{false≢true}
 use Rattle.oim_report.specs.declared.concept_kind.ConceptKind.{ConceptKind}

@@ -6,7 +6,7 @@ use Rattle.oim_names.specs.Reasons.{entry_of, reasons}
 use Rattle.oim_names.specs.declared.reason.Reason.{Reason}
 use Rattle.oim_names.specs.declared.reason.Reason.TheVariants.{Namespace, Feature}
 
--- the condition of the least number that holds: `reasons` lists them by number
+-- the condition with the least number that holds: `reasons` lists them by number
 unfoldable pub least : (Reason → Bool) → Option Reason
 least holds = find holds reasons
 
@@ -21,7 +21,7 @@ told holds = filter (λ r. not (list_any holds (hidden_by r)) && holds r) reason
 
 -- ---- laws
 
--- this condition holds, and none of a smaller number does
+-- this condition holds, and none with a smaller number does
 pub record IsLeast (holds : Reason → Bool) (r : Reason) : Type 0 where
   pub holding : IsTrue (holds r)
   pub before : (s : Reason) → IsTrue (holds s) → (entry_of r).number ≤ (entry_of s).number

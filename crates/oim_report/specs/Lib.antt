@@ -23,6 +23,7 @@ pub mod Beside
 pub mod Info
 pub mod Document
 pub mod Holds
+pub mod Rows
 pub mod Outcome
 pub mod FoundFacts
 pub mod Identifiers

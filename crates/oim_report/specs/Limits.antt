@@ -1,4 +1,4 @@
--- The limits of a file (own; how deep JSON nests is that of `serde_json`).
+-- The limits of a file (own; the nesting of JSON is limited by `serde_json`).
 use Rattle.std.specs.Prelude.{◌≡◌, ◌↔◌, ℕ, ◌≤◌, IsTrue, List, length, Some}
 use Rattle.serde_json.specs.Data.{Data, object, Members, depth}
 use Rattle.serde_json.specs.Written.{compact_text}
@@ -10,10 +10,10 @@ use Rattle.oim_report.specs.PlainJson.{IsPlainJson}
 abbrev pub TextsAreWithinLimit : Type 0
 TextsAreWithinLimit = (text : List ℕ) → IsTrue (is_within_limit text) ↔ (length text ≤ 65_536)
 
--- what is read nests at most 127 deep,
+-- what is read is at most 127 levels deep,
 abbrev pub NestsWithinLimit : Type 0
 NestsWithinLimit = (bytes : List ℕ) (tree : Data) → json bytes ≡ Some tree → depth tree ≤ 127
 
--- and an object that nests so deep is read
+-- and an object of that depth is read
 abbrev pub NestedIsRead : Type 0
 NestedIsRead = (ms : Members) → IsPlainJson (object ms) 127 → json (compact_text (object ms)) ≡ Some (object ms)

@@ -1,4 +1,4 @@
--- What a sheet lists, told by its members (own).
+-- What a sheet lists, by its members (own).
 use Rattle.std.specs.Prelude.{◌≡◌, ◌⊎◌, ◌↔◌, ℕ, List, Option, Some, Ok, option_and_then}
 use Rattle.std.specs.FinMap as map
 use Rattle.oim_names.specs.QName.{QName}
@@ -23,13 +23,13 @@ pub record SaysKind {K : Type 0} (kind_named : List ℕ → Option K) (bs : List
   pub name : Expands bs key n
   pub kind : option_and_then kind_named (text_of (given value)) ≡ Some k
 
--- an accepted sheet has a concept with a kind exactly where its member `concepts` says so,
+-- an accepted sheet has a concept with a kind exactly if its member `concepts` says so,
 abbrev pub ConceptsAreListed : Type 0
 ConceptsAreListed =
     (bytes : List ℕ) (tree : Data) (sheet : Sheet) (n : QName) (k : ConceptKind) → json bytes ≡ Some tree → sheet_outcome bytes ≡ Ok sheet →
     (map.get sheet.concepts n ≡ Some k) ↔ SaysKind concept_kind_named (sheet_bindings tree) (sheet_concepts tree) n k
 
--- and a dimension exactly where its member `dimensions` does
+-- and a dimension exactly if its member `dimensions` does
 abbrev pub DimensionsAreListed : Type 0
 DimensionsAreListed =
     (bytes : List ℕ) (tree : Data) (sheet : Sheet) (n : QName) (k : DimensionKind) → json bytes ≡ Some tree → sheet_outcome bytes ≡ Ok sheet →

@@ -7,11 +7,11 @@ use Rattle.oim_names.specs.Bindings.{Binding}
 use Rattle.serde_json.specs.Data.{Data, Members, no_members, member}
 use Rattle.oim_report.specs.Json.{given, text_of}
 
--- whether an entry of `namespaces` binds nothing: its key is no prefix, or its value is no text or the empty one
+-- whether an entry of `namespaces` binds nothing: its key is not a prefix, or its value is empty or not a text
 abbrev pub binds_nothing : List ℕ → Data → Bool
 binds_nothing key d = not (is_part key) || option_map_or (λ u. bytes_eq u []) (text_of (given d)) true
 
--- what the entries of `namespaces` bind
+-- the bindings of the entries of `namespaces`
 abbrev pub bindings_in : Members → List Binding
 bindings_in no_members = []
 bindings_in (member key d ms) = (record { prefix = key; uri = unwrap_or (text_of (given d)) [] }) ∷ bindings_in ms

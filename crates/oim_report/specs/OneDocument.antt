@@ -1,4 +1,4 @@
--- A report says one document at most.
+-- A report says at most one document.
 use Rattle.std.specs.Prelude.{◌≡◌, ℕ, List}
 use Rattle.oim_report.specs.Document.{Document, SaysDocument}
 use Rattle.oim_report.specs.Sheet.{Sheet}

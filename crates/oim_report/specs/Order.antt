@@ -1,4 +1,4 @@
--- The order of a list of facts, told by their places (own).
+-- The order of a list of facts, by their places (own).
 use Rattle.std.specs.Prelude.{ℕ, List, length, slice_get}
 use Rattle.std.specs.List.{range_with_len}
 use Rattle.std.specs.List.Sorted.{IsPermutation, IsSorted}
@@ -7,7 +7,7 @@ use Rattle.std.specs.declared.cmp.Ordering.{Ordering}
 use Rattle.oim_dims.specs.FactOrder.{fact_cmp}
 use Rattle.oim_dims.specs.declared.fact.Fact.{Fact}
 
--- how the facts at two places compare
+-- compares the facts at two places
 abbrev pub place_cmp : List Fact → ℕ → ℕ → Ordering
 place_cmp facts i j = option_cmp fact_cmp (slice_get facts i) (slice_get facts j)
 

@@ -29,7 +29,7 @@ at place reason = record { reason = reason; place = place }
 
 -- ---- a fact
 
--- an object says a fact wherever no condition holds of it: where it said none, its form would be refused
+-- an object says a fact if no condition holds for it: if it said none, its form would be refused
 abbrev pub fact_or : Option Reason → Option Fact → Result Fact Reason
 fact_or None (Some fact) = Ok fact
 fact_or None None = Err MemberForm
@@ -38,7 +38,7 @@ fact_or (Some reason) fact = Err reason
 abbrev pub fact_outcome : Sheet → List Binding → Data → Result Fact Reason
 fact_outcome sheet bs d = fact_or (least (holds sheet bs d)) (option_and_then (said_fact sheet bs) (fact_parts d))
 
--- all facts, or the first refusal with its place, where the first outcome has the place n
+-- all facts, or the first refusal with its place, counted from n
 abbrev pub all_or_first : ℕ → List (Result Fact Reason) → Result (List Fact) Refusal
 all_or_first n [] = Ok []
 all_or_first n (Ok fact ∷ outcomes) = map_ok (λ facts. fact ∷ facts) (all_or_first (n + 1) outcomes)
@@ -46,11 +46,11 @@ all_or_first n (Err reason ∷ outcomes) = Err (at (AtFact n) reason)
 
 -- ---- a document
 
--- the facts of fact objects, which stand in byte order of their identifiers, or the first refusal
+-- the facts of fact objects, in byte order of their identifiers, or the first refusal
 abbrev pub facts_said : Sheet → List Binding → Members → Result (List Fact) Refusal
 facts_said sheet bs objects = all_or_first 1 (map (fact_outcome sheet bs) (values objects))
 
--- a document, where its facts have no duplicates beyond the declared level
+-- a document, if its facts have no duplicates beyond the declared level
 abbrev pub unless_above : Level → Document → Result Document Refusal
 unless_above found d = if is_lt (level_cmp d.level found) then Err (at AtDocument DisallowedDuplicates) else Ok d
 
@@ -77,6 +77,6 @@ tree_outcome sheet (Some tree) =
 unfoldable pub outcome : Sheet → List ℕ → Result Document Refusal
 outcome sheet bytes = tree_outcome sheet (json bytes)
 
--- no bytes are refused for want of memory: that is no refusal of a report's own
+-- no bytes are refused for out of memory, which is not a condition of a report
 abbrev pub OutcomesWantNoMemory : Type 0
 OutcomesWantNoMemory = (sheet : Sheet) (bytes : List ℕ) (place : Place) → outcome sheet bytes ≢ Err (at place OutOfMemory)

@@ -16,7 +16,7 @@ abbrev pub HasMember : Members → Type 0
 HasMember no_members = ⊥
 HasMember (member k d ms) = ⊤
 
--- the last byte, where there is one, is a closing brace
+-- the last byte, if there is one, is a closing brace
 abbrev pub Closed : List ℕ → Type 0
 Closed [] = ⊤
 Closed (x ∷ []) = x ≡ 125
@@ -28,7 +28,7 @@ EndsWithBrace [] = ⊥
 EndsWithBrace (x ∷ []) = x ≡ 125
 EndsWithBrace (x ∷ y ∷ xs) = EndsWithBrace (y ∷ xs)
 
--- the piece is the text of these members, of which there are some
+-- the piece is the text of these members, at least one
 pub record IsPiece (piece : List ℕ) (found : Members) : Type 0 where
   pub closed : EndsWithBrace piece
   pub some : HasMember found
@@ -40,7 +40,7 @@ abbrev pub append : Members → Members → Members
 append no_members ns = ns
 append (member k d ms) ns = member k d (append ms ns)
 
--- the members, one after another put into an object that has others: of a key that is there twice, the last one stays (RFC 8259, section 4, as `serde_json` reads it)
+-- the members put one after another into an object that has others: of a repeated key the last one stays (RFC 8259, section 4, as `serde_json` reads it)
 abbrev pub put_all : Members → Members → Members
 put_all no_members onto = onto
 put_all (member k d ms) onto = put_all ms (put k d onto)
@@ -93,12 +93,12 @@ abbrev pub with_before : Option (List ℕ) → List ℕ → List ℕ → List �
 with_before None spaces rest = rest
 with_before (Some before) spaces rest = before ++ (spaces ++ 44 ∷ rest)
 
--- and behind others
+-- and after others
 abbrev pub with_behind : List ℕ → List ℕ → Option (List ℕ) → List ℕ
 with_behind front spaces None = front
 with_behind front spaces (Some behind) = front ++ (spaces ++ 44 ∷ behind)
 
--- what stands before the key `facts`
+-- the text before the key `facts`
 pub record IsHead (text : List ℕ) (before : Option (List ℕ)) : Type 0 where
   pub s0 : List ℕ
   pub s1 : List ℕ
@@ -106,7 +106,7 @@ pub record IsHead (text : List ℕ) (before : Option (List ℕ)) : Type 0 where
   pub are : AreSpaces s0 × AreSpaces s1 × AreSpaces s2
   pub splits : text ≡ s0 ++ 123 ∷ with_before before s1 s2
 
--- what stands behind the closing brace of `facts`
+-- the text after the closing brace of `facts`
 pub record IsEnd (text : List ℕ) (behind : Option (List ℕ)) : Type 0 where
   pub s6 : List ℕ
   pub s7 : List ℕ
@@ -114,7 +114,7 @@ pub record IsEnd (text : List ℕ) (behind : Option (List ℕ)) : Type 0 where
   pub are : AreSpaces s6 × AreSpaces s7 × AreSpaces s8
   pub splits : text ≡ with_behind [] s6 behind ++ (s7 ++ 125 ∷ s8)
 
--- what stands behind the key `facts`
+-- the text after the key `facts`
 pub record IsTail (text facts : List ℕ) (behind : Option (List ℕ)) : Type 0 where
   pub s3 : List ℕ
   pub s4 : List ℕ
@@ -124,7 +124,7 @@ pub record IsTail (text facts : List ℕ) (behind : Option (List ℕ)) : Type 0 
   pub splits : text ≡ s3 ++ 58 ∷ (s4 ++ 123 ∷ (facts ++ (s5 ++ 125 ∷ rest)))
   pub ends : IsEnd rest behind
 
--- the texts of the members before `facts`, in it, and behind it
+-- the texts of the members before `facts`, in it, and after it
 pub record IsSplit (text : List ℕ) (before : Option (List ℕ)) (facts : List ℕ) (behind : Option (List ℕ)) : Type 0 where
   pub head : List ℕ
   pub tail : List ℕ

@@ -1,4 +1,4 @@
--- JSON values that their compact text gives back: no float, integers in range, the keys of each object in order (RFC 8259; the ranges are own).
+-- JSON values that their compact text gives back: no float, integers in range, keys in order (RFC 8259; the ranges are own).
 use Rattle.std.specs.Prelude.{◌≡◌, ℕ, ◌^◌, ◌<◌, ◌≤◌, pos, negsuc, List, IsUtf8, ⊤, false, Some}
 use Rattle.std.specs.declared.cmp.Ordering.TheVariants.{Less}
 use Rattle.std.specs.Ordering.{nat_cmp}
@@ -55,7 +55,7 @@ abbrev mutual
   MembersHaveUtf8 no_members = ⊤
   MembersHaveUtf8 (member k d ms) = IsUtf8 k × HasUtf8 d × MembersHaveUtf8 ms
 
--- a value that its compact text gives back, and how deep it may nest
+-- a value that its compact text gives back, with a limit of nesting
 pub record IsPlainJson (d : Data) (most : ℕ) : Type 0 where
   pub plain : IsPlain d
   pub utf8 : HasUtf8 d
@@ -65,7 +65,7 @@ pub record IsPlainJson (d : Data) (most : ℕ) : Type 0 where
 abbrev pub PlainTextReadsBack : Type 0
 PlainTextReadsBack = (ms : Members) → IsPlainJson (object ms) max_depth → json (compact_text (object ms)) ≡ Some (object ms)
 
--- and has no float, so that it is what `serde_json` writes
+-- and has no float, so it is what `serde_json` writes
 abbrev pub PlainHasNoFloat : Type 0
 PlainHasNoFloat = (d : Data) → IsPlain d → has_float d ≡ false
 

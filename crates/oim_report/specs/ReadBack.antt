@@ -35,7 +35,7 @@ use Rattle.std.specs.List.{flat_map}
 
 -- ---- names that a function from names to texts spells
 
--- a name is spelled by a prefix that is bound to its URI: ASCII letters and digits, at least one
+-- a name is spelled with a prefix that is bound to its URI: ASCII letters and digits, at least one
 pub record SpellsName (bs : List Binding) (spelled : QName → List ℕ) (n : QName) : Type 0 where
   pub prefix : List ℕ
   pub filled : prefix ≢ []
@@ -70,13 +70,13 @@ pub record SpellsFact (bs : List Binding) (spelled : QName → List ℕ) (f : Fa
   pub members : All (SpellsDimension bs spelled) f.dimensions.members
   pub value : SpellsValue bs spelled f.value
 
--- ---- what stands in the object of a fact
+-- ---- the object of a fact
 
 abbrev pub option_given : Option (List ℕ) → Given
 option_given None = absent
 option_given (Some t) = text t
 
--- a key with what stands at it, among others in byte order
+-- a key with its value, among others in byte order
 abbrev pub with_given : List ℕ → Given → List (List ℕ × Given) → List (List ℕ × Given)
 with_given key g [] = (key, g) ∷ []
 with_given key g (d ∷ ds) = match_ordering (slice_cmp nat_cmp key d.0) ((key, g) ∷ d ∷ ds) ((d.0, g) ∷ ds) (d ∷ with_given key g ds)
@@ -209,7 +209,7 @@ NamesAreAccepted = (sheet : Sheet) (bs : List Binding) (spelled : QName → List
 
 -- ---- the fact
 
--- the object of a fact is read from its compact text, and nests two deep
+-- the object of a fact is read from its compact text, and is two levels deep
 abbrev pub FactObjectIsPlain : Type 0
 FactObjectIsPlain = (sheet : Sheet) (bs : List Binding) (spelled : QName → List ℕ) (f : Fact) → FactFits sheet f → SpellsFact bs spelled f → IsPlainJson (fact_object spelled f) 2
 
@@ -221,6 +221,6 @@ pub record IsReadAs (sheet : Sheet) (bs : List Binding) (d : Data) (f : Fact) : 
   pub says : SaysFact sheet bs parts f
   pub outcome : fact_outcome sheet bs d ≡ Ok f
 
--- a fact that fits is said by its object, where each of its names is spelled by a prefix that is bound to its URI
+-- a fact that fits is said by its object, if its names are spelled with prefixes that are bound to their URIs
 abbrev pub FactObjectReadsBack : Type 0
 FactObjectReadsBack = (sheet : Sheet) (bs : List Binding) (spelled : QName → List ℕ) (f : Fact) → FactFits sheet f → SpellsFact bs spelled f → IsReadAs sheet bs (fact_object spelled f) f

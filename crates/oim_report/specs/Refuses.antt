@@ -1,4 +1,4 @@
--- Which reports are refused and why, told by the conditions and not by the outcome (own).
+-- Which reports are refused and why, by the conditions and not by the outcome (own).
 use Rattle.std.specs.Prelude.{◌≡◌, ◌⊎◌, ◌↔◌, ℕ, ◌+◌, List, ◌∷◌, ◌++◌, length, true, false, None, Some, Err}
 use Rattle.std.specs.List.{AllByRecursion}
 use Rattle.std.specs.Ordering.{is_lt}
@@ -19,7 +19,7 @@ use Rattle.oim_report.specs.Sheet.{Sheet}
 use Rattle.oim_report.specs.Holds.{document_holds, holds}
 use Rattle.oim_report.specs.Least.{IsLeast}
 
--- the first of several objects that is refused, behind `earlier` others
+-- the first refused object of several, after `earlier` others
 pub record RefusesOne (sheet : Sheet) (bs : List Binding) (earlier : ℕ) (objects : List Data) (r : Refusal) : Type 0 where
   pub before : List Data
   pub object : Data
@@ -37,13 +37,13 @@ pub record RefusesLevel (sheet : Sheet) (bytes : List ℕ) (r : Refusal) : Type 
   pub above : is_lt (level_cmp document.level (level_of document.facts)) ≡ true
   pub answer : r ≡ at AtDocument DisallowedDuplicates
 
--- of a document of which no condition holds: the first fact of which one does, and where there is none the level
+-- for a document without a condition that holds: the first fact with one, or else the level
 abbrev pub RefusesFacts : Sheet → List ℕ → Data → Refusal → Type 0
 RefusesFacts sheet bytes tree r =
     RefusesOne sheet (bindings_of tree) 1 (values (facts_of tree)) r
     ⊎ (AllByRecursion (IsFree sheet (bindings_of tree)) (values (facts_of tree)) × RefusesLevel sheet bytes r)
 
--- of JSON: the least condition of the document that holds, and where there is none the facts
+-- for JSON: the least condition of the document that holds, or else the facts
 abbrev pub RefusesTree : Sheet → List ℕ → Data → Refusal → Type 0
 RefusesTree sheet bytes tree r =
     ((reason : Reason) × IsLeast (document_holds tree) reason × (r ≡ at AtDocument reason)) ⊎ (((reason : Reason) → document_holds tree reason ≡ false) × RefusesFacts sheet bytes tree r)
@@ -52,6 +52,6 @@ abbrev pub Refuses : Sheet → List ℕ → Refusal → Type 0
 Refuses sheet bytes r =
     ((json bytes ≡ None) × (r ≡ at AtDocument NotJson)) ⊎ ((tree : Data) × (json bytes ≡ Some tree) × RefusesTree sheet bytes tree r)
 
--- a report is refused so exactly where that holds
+-- a report is refused so exactly if that holds
 abbrev pub RefusedWhereHeld : Type 0
 RefusedWhereHeld = (sheet : Sheet) (bytes : List ℕ) (r : Refusal) → (outcome sheet bytes ≡ Err r) ↔ Refuses sheet bytes r

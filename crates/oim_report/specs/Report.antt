@@ -7,7 +7,7 @@ use Rattle.oim_report.specs.Order.{IsOrderOf}
 use Rattle.oim_report.specs.Outcome.{outcome}
 use Rattle.oim_report.specs.Sheet.{Sheet}
 
--- the sheet that it was read under, what it says, and the places of its facts in their order
+-- the sheet under which it was read, what it says, and the places of its facts in order
 pub record Reading : Type 0 where
   pub sheet : Sheet
   pub document : Document
@@ -19,14 +19,14 @@ pub record IsReading (r : Reading) : Type 0 where
   pub references : All IsKeptReference r.document.references
   pub order : IsOrderOf r.document.facts r.order
 
--- what an accepted report's bytes say, they say member by member,
+-- an accepted report says its document member by member,
 abbrev pub OutcomesAreSaid : Type 0
 OutcomesAreSaid = (sheet : Sheet) (bytes : List ℕ) (d : Document) → outcome sheet bytes ≡ Ok d → SaysDocument sheet bytes d
 
--- each fact of it fits the sheet,
+-- its facts fit the sheet,
 abbrev pub AcceptedFactsFit : Type 0
 AcceptedFactsFit = (sheet : Sheet) (bytes : List ℕ) (d : Document) → outcome sheet bytes ≡ Ok d → All (FactFits sheet) d.facts
 
--- and each reference of it is its own kept text
+-- and its references are their own kept texts
 abbrev pub AcceptedReferencesAreKept : Type 0
 AcceptedReferencesAreKept = (sheet : Sheet) (bytes : List ℕ) (d : Document) → outcome sheet bytes ≡ Ok d → All IsKeptReference d.references

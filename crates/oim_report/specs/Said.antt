@@ -1,4 +1,4 @@
--- The fact that a fact object says, as a function: part by part, each None where the object does not say it.
+-- The fact that a fact object says, as a function: part by part, each None if the object does not say it.
 use Rattle.std.specs.Prelude.{ℕ, ℤ, List, [], ◌∷◌, if◌then◌else◌, Option, Some, None, option_map, option_and_then}
 use Rattle.std.specs.Result.{result_ok}
 use Rattle.std.specs.Ordering.{is_lt, is_eq}

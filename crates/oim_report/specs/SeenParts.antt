@@ -1,9 +1,9 @@
 -- What the borrowed parts of the code stand for.
 use Rattle.std.specs.Prelude.{List, ℕ, map, option_map}
 use Rattle.std.specs.Borrow.{Bor}
-use Rattle.oim_report.specs.declared.given.Given.{Given as Lent}
-use Rattle.oim_report.specs.declared.parts.DimensionParts.{DimensionParts as LentDimensions}
-use Rattle.oim_report.specs.declared.parts.FactParts.{FactParts as LentFact}
+use Rattle.oim_report.specs.declared.fact.given.Given.{Given as Lent}
+use Rattle.oim_report.specs.declared.fact.parts.DimensionParts.{DimensionParts as LentDimensions}
+use Rattle.oim_report.specs.declared.fact.parts.FactParts.{FactParts as LentFact}
 use Rattle.oim_report.specs.Given.{seen}
 use Rattle.oim_report.specs.Json.{Given}
 use Rattle.oim_report.specs.Parts.{DimensionParts, FactParts}

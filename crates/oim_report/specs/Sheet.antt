@@ -1,4 +1,4 @@
--- Concept sheets: which concepts and dimensions reports may use, and what their values are (own).
+-- Concept sheets: which concepts and dimensions reports may use, with the kinds of their values (own).
 use Rattle.std.specs.Prelude.{◌≡◌, ◌≢◌, ◌⊎◌, ◌↔◌, ℕ, List, [], ◌∷◌, ◌++◌, Bool, true, false, not, ◌||◌, codes, bytes_eq, if◌then◌else◌, Option, Some, None, is_some, option_and_then, Result, Err}
 use Rattle.std.specs.Option.{option_map_or}
 use Rattle.std.specs.List.{list_any}
@@ -41,7 +41,7 @@ sheet_dimensions tree = members (object_at (codes "dimensions") tree)
 abbrev pub sheet_bindings : Data → List Binding
 sheet_bindings tree = bindings_in (members (sheet_namespaces tree))
 
--- the names that keys are to be
+-- the names that keys have to spell
 abbrev pub key_names : Members → List Spelled
 key_names no_members = []
 key_names (member key d ms) = a_name key ∷ key_names ms
@@ -71,13 +71,13 @@ module _ {K : Type 0} (kind_named : List ℕ → Option K) (same : K → K → B
   abbrev pub kind_in : Data → Option K
   kind_in d = option_and_then kind_named (text_of (given d))
 
-  -- an entry, where its key is a name and its value names a kind
+  -- an entry, if its key is a name and its value names a kind
   abbrev pub entry : Option QName → Option K → List (QName × K)
   entry (Some n) (Some k) = (n, k) ∷ []
   entry (Some n) None = []
   entry None k = []
 
-  -- the names that keys stand for, each with its kind
+  -- the names that keys spell, each with its kind
   abbrev pub entries_in : List Binding → Members → List (QName × K)
   entries_in bs no_members = []
   entries_in bs (member key d ms) = entry (named bs key) (kind_in d) ++ entries_in bs ms
@@ -88,7 +88,7 @@ module _ {K : Type 0} (kind_named : List ℕ → Option K) (same : K → K → B
   abbrev pub names_no_kind : List ℕ → Data → Bool
   names_no_kind key d = not (is_some (kind_in d))
 
-  -- whether a name has two kinds: then one of them is not that which the map has
+  -- whether a name has two kinds: then one of them is not the one in the map
   abbrev pub has_other_kind : FinMap name_cmp K → QName × K → Bool
   has_other_kind m e = not (option_map_or (same e.1) (map.get m e.0) false)
 
@@ -135,7 +135,7 @@ sheet_of (Some tree) = unless (least (sheet_holds tree)) (said_sheet tree)
 unfoldable pub sheet_outcome : List ℕ → Result Sheet Reason
 sheet_outcome bytes = sheet_of (json bytes)
 
--- no sheet is refused for want of memory
+-- no sheet is refused for out of memory
 abbrev pub SheetOutcomesWantNoMemory : Type 0
 SheetOutcomesWantNoMemory = (bytes : List ℕ) → sheet_outcome bytes ≢ Err OutOfMemory
 

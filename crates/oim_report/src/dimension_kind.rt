@@ -1,4 +1,4 @@
-/// What the members of a taxonomy-defined dimension are.
+/// The kind of the members of a taxonomy-defined dimension.
 #[derive(Clone, Copy, Debug, PartialEq, Eq)]
 pub enum DimensionKind {
     /// Names.

@@ -26,8 +26,8 @@ ghost use Rattle.oim_report.specs.ReadBack.{ConceptsReadBack, DimensionsReadBack
 
 use url::Url;
 
-/// The text of an http or https URL is UTF-8 and parses as that URL, so that it is always the text
-/// under which the URL is kept (URL Standard, sections 4.4 and 4.5).
+/// The text of an http or https URL is UTF-8 and parses as that URL, so it is always the text under
+/// which the URL is kept (URL Standard, sections 4.4 and 4.5).
 pub fn web_texts_read_back(url: &Url)
     ensures utf8 { IsTrue (is_web url.now) → IsTrue (is_utf8 (serialize url.now)) }
     ensures parsed { IsTrue (is_web url.now) → parse_url None (serialize url.now) ≡ Ok url.now }
@@ -36,21 +36,21 @@ pub fn web_texts_read_back(url: &Url)
     let _text = url.as_str();
 }
 
-/// A text is said to name what it expands to, and nothing else; so with entities.
+/// A text names what it expands to, and nothing else; so do the texts of entities.
 pub fn names_are_expanded()
     ensures names { (bs : List Binding) (t : List ℕ) (n : QName) → (named bs t ≡ Some n) ↔ Expands bs t n }
     ensures entities { (bs : List Binding) (t : List ℕ) (n : QName) → (entity_named bs t ≡ Some n) ↔ ExpandsEntity bs t n }
 {}
 
-/// A kept text of a reference is kept as itself where there is no base, is UTF-8 where the
-/// reference is, and passes the limit where it passed.
+/// A kept text is kept as itself without a base, is UTF-8 if the reference is, and is within the
+/// limit if the reference is.
 pub fn kept_is_kept()
     ensures kept { KeptIsKept }
     ensures accepted { KeptIsAccepted }
     ensures utf8 { KeptIsUtf8 }
 {}
 
-/// Values are allowed as consistent duplicates exactly where they meet.
+/// Values are allowed as consistent duplicates exactly if they meet.
 pub fn values_meet_is_meets()
     ensures { ValuesMeetIsMeets }
 {}
@@ -60,12 +60,12 @@ pub fn level_is_strictest()
     ensures { LevelIsStrictest }
 {}
 
-/// The level of facts is one whatever their order.
+/// The level of facts does not depend on their order.
 pub fn level_ignores_order()
     ensures { LevelIgnoresOrder }
 {}
 
-/// No sheet is refused for want of memory: that is no refusal of its own.
+/// No sheet is refused for out of memory, which is not a condition of a sheet.
 pub fn sheet_outcomes_want_no_memory()
     ensures { SheetOutcomesWantNoMemory }
 {}
@@ -75,8 +75,8 @@ pub fn sheet_refused_where_held()
     ensures { SheetRefusedWhereHeld }
 {}
 
-/// An accepted sheet has a concept with a kind exactly where some key of `concepts` expands to it and
-/// its value says the kind, and a dimension exactly where one of `dimensions` does.
+/// An accepted sheet has a concept with a kind exactly if a key of `concepts` expands to it and the
+/// value there names the kind. The same holds for dimensions and `dimensions`.
 pub fn sheet_lists_what_it_says()
     ensures concepts { ConceptsAreListed }
     ensures dimensions { DimensionsAreListed }
@@ -87,40 +87,40 @@ pub fn says_one_document()
     ensures { SaysOneDocument }
 {}
 
-/// An accepted report says its document, member by member, each fact of it fits the sheet, and each
-/// reference is its own kept text.
+/// An accepted report says its document member by member. Its facts fit the sheet, and its
+/// references are their own kept texts.
 pub fn outcomes_are_said()
     ensures said { OutcomesAreSaid }
     ensures facts { AcceptedFactsFit }
     ensures references { AcceptedReferencesAreKept }
 {}
 
-/// The bytes of an accepted report give as many identifiers as it has facts, and the object of each
-/// says the fact at its place.
+/// An accepted report has as many identifiers as facts, and the object under each identifier says
+/// the fact at its place.
 pub fn each_fact_has_an_identifier()
     ensures { EachFactHasAnIdentifier }
 {}
 
-/// Where a file's bytes are JSON, the identifiers of its facts strictly rise by bytes.
+/// If the bytes of a file are JSON, the identifiers of its facts strictly rise by bytes.
 pub fn identifiers_rise()
     ensures { IdentifiersRise }
 {}
 
-/// A report is accepted as a document exactly where its bytes are JSON, no condition holds of the
-/// document or of a fact, they say that document, and the level of its facts is not above the
-/// declared one.
+/// A report is accepted as a document exactly if its bytes are JSON, no condition holds for the
+/// document or a fact, they say that document, and the level of its facts is not above the declared
+/// one.
 pub fn accepted_where_free()
     ensures { AcceptedWhereFree }
 {}
 
-/// A report is refused exactly for one condition: that its bytes are not JSON, the least condition of
-/// the document that holds, the least of the first fact of which one holds, at its place, or that the
-/// level of its facts is above the declared one.
+/// A report is refused for exactly one condition, the first of these: its bytes are not JSON; the
+/// least that holds for the document; the least that holds for the first fact with any, at its
+/// place; the level of its facts is above the declared one.
 pub fn refused_where_held()
     ensures { RefusedWhereHeld }
 {}
 
-/// A report has no faults exactly where it is accepted, by the conditions and the level alone. The
+/// A report has no faults exactly if it is accepted, by the conditions and the level alone. The
 /// first fault is the refusal of `read_report`.
 pub fn faults_begin_with_the_refusal()
     ensures none { NoFaultsWhereAccepted }
@@ -132,13 +132,13 @@ pub fn facts_are_said_unless_refused()
     ensures { FactsAreSaid }
 {}
 
-/// No report is refused for want of memory: that is no refusal of its own.
+/// No report is refused for out of memory, which is not a condition of a report.
 pub fn outcomes_want_no_memory()
     ensures { OutcomesWantNoMemory }
 {}
 
-/// The object by which a fact is written has the parts that were written, whatever order its
-/// spelled keys stand in.
+/// The object by which a fact is written has the parts that were written, whatever the order of its
+/// spelled keys.
 pub fn fact_object_has_parts()
     ensures { FactObjectHasParts }
 {}
@@ -179,14 +179,14 @@ pub fn values_read_back()
     ensures { ValuesReadBack }
 {}
 
-/// No condition refuses what is written for its form or for its names.
+/// No condition on form or names refuses what is written.
 pub fn written_facts_are_accepted()
     ensures form { FormsAreAccepted }
     ensures names { NamesAreAccepted }
 {}
 
-/// A fact that fits a sheet is said by its object, of which no condition holds, where each of its
-/// names is spelled by a prefix of ASCII letters and digits that is bound to its URI.
+/// A fact that fits a sheet is said by its object, and no condition holds for it, if each of its
+/// names is spelled with a prefix of ASCII letters and digits that is bound to its URI.
 pub fn fact_object_reads_back()
     ensures { FactObjectReadsBack }
 {}
@@ -196,34 +196,34 @@ pub fn what_is_read_is_utf8()
     ensures { ReadHasUtf8 }
 {}
 
-/// A base, a reference and a kept text have at most 65,536 bytes. JSON that is read nests at most 127
-/// deep, as `serde_json` has it.
+/// A base, a reference and a kept text have at most 65,536 bytes. JSON that is read is at most 127
+/// levels deep, the limit of `serde_json`.
 pub fn limits_are()
     ensures texts { TextsAreWithinLimit }
     ensures nesting { NestsWithinLimit }
     ensures nested { NestedIsRead }
 {}
 
-/// A plain object is read from its compact text. It has no float, so that this is what `serde_json`
+/// A plain object is read from its compact text. It has no float, so this is what `serde_json`
 /// writes.
 pub fn plain_text_reads_back()
     ensures back { PlainTextReadsBack }
     ensures whole { PlainHasNoFloat }
 {}
 
-/// The object of a fact is plain and nests two deep, so that its text is read as the object.
+/// The object of a fact is plain and two levels deep, so its text is read as the object.
 pub fn fact_object_is_plain()
     ensures { FactObjectIsPlain }
 {}
 
-/// Of any conditions, `least` is the one that holds and has the least number. `told` lists those that
+/// For any conditions, `least` is the one with the least number that holds. `told` lists those that
 /// hold and are not hidden, with strictly rising numbers, and begins with the least.
 pub fn least_is_answered()
     ensures { LeastIsAnswered }
 {}
 
-/// Two texts of members that are each read alone are read as the members of both if a comma stands
-/// between them (RFC 8259, section 4; of a repeated name, `serde_json` keeps the last value).
+/// Two texts of members that can each be read alone are, with a comma between them, read as the
+/// members of both (RFC 8259, section 4; for a repeated name `serde_json` keeps the last value).
 pub fn pieces_are_the_whole()
     ensures { PiecesAreTheWhole }
 {}

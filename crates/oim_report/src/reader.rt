@@ -3,13 +3,13 @@ ghost use Rattle.serde_json.specs.View.{view};
 ghost use Rattle.oim_report.specs.Document.{SaysDocument};
 ghost use Rattle.oim_report.specs.Outcome.{at, outcome, tree_outcome};
 
-use crate::duplicates::level_of;
-use crate::facts_in_pieces::read_facts_in_pieces;
-use crate::facts_reader::read_facts;
-use crate::info::read_info;
-use crate::json_tree::{read_json, read_json_outline};
+use crate::document::duplicates::level_of;
+use crate::document::info::read_info;
+use crate::document::json_tree::{read_json, read_json_outline};
+use crate::fact::facts_reader::read_facts;
 use crate::limits::{LEAST_IN_PIECES, PIECE_BYTES};
 use crate::order::order_of;
+use crate::pieces::facts_in_pieces::read_facts_in_pieces;
 use crate::place::Place;
 use crate::refusal::Refusal;
 use crate::report::Report;
@@ -20,9 +20,9 @@ use std::alloc::Global;
 
 /// What a report's bytes say under a sheet (xBRL-JSON 1.0; the profile is own).
 ///
-/// Errors, the first that holds: a refusal of the document, by the order of the refusals; then that
-/// of the first fact with one, in byte order of the identifiers; then `DisallowedDuplicates`, at the
-/// document; `OutOfMemory`, at the document.
+/// Errors, the first that holds: the least condition of the document; the least condition of the
+/// first fact with any, in byte order of the identifiers; `DisallowedDuplicates`, at the document;
+/// `OutOfMemory`, at the document.
 #[tactic(auto, unfolding(crate::specs::Outcome::outcome))]
 pub fn read_report<'s>(alloc: Global, sheet: &'s Sheet, bytes: &[u8]) -> Result<Report<'s>, Refusal>
     ensures ok { IfOk result (λ r. outcome sheet.now bytes.now ≡ Ok r.document) }
@@ -40,7 +40,7 @@ pub fn read_report<'s>(alloc: Global, sheet: &'s Sheet, bytes: &[u8]) -> Result<
     read_document(alloc, sheet, &tree)
 }
 
-/// The same of a JSON value.
+/// The same for a JSON value.
 pub(crate) fn read_document<'s>(
     alloc: Global,
     sheet: &'s Sheet,
@@ -61,9 +61,9 @@ pub(crate) fn read_document<'s>(
     Ok(Report::new(sheet, facts, info.references, info.level, level, order))
 }
 
-/// The same of bytes, with the facts read in pieces of `size` bytes or more, of which one is in
-/// memory at a time. `None` if the text was not cut so, or anything is refused: only reading the
-/// whole shows why.
+/// The same for bytes, with the facts read in pieces of `size` bytes or more, one in memory at a
+/// time. `None` if the text cannot be cut, or anything is refused: only reading the whole shows
+/// why.
 pub(crate) fn read_in_pieces<'s>(
     alloc: Global,
     sheet: &'s Sheet,

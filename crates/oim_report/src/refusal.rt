@@ -17,7 +17,7 @@ pub struct Refusal {
 }
 
 impl Refusal {
-    /// The refusal of the fact at `place`; but want of memory lies nowhere in the report.
+    /// The refusal of the fact at `place`. Out of memory has no place in the report.
     pub(crate) fn of_fact(reason: Reason, place: u64) -> Refusal
         ensures fact { reason ≢ OutOfMemory → result ≡ at (Fact place) reason }
         ensures memory { reason ≡ OutOfMemory → result ≡ at Document OutOfMemory }

@@ -73,36 +73,35 @@ impl<'s> Report<'s> {
         self.facts.as_slice()
     }
 
-    /// The references of its taxonomy, as they are kept, in their order, repeats kept.
+    /// The references of its taxonomy as they are kept, in their order, with repeats.
     pub fn taxonomy(&self) -> &[Text]
         ensures { result.now ≡ self.now.document.references }
     {
         self.references.as_slice()
     }
 
-    /// The duplicates that it declares to have at most (`xbrl:allowedDuplicates`).
+    /// The level of duplicates that it declares (`xbrl:allowedDuplicates`).
     pub fn declared(&self) -> Level
         ensures { result ≡ self.now.document.level }
     {
         self.declared
     }
 
-    /// The duplicates that it has: the strictest level that allows its facts, repeats kept.
+    /// The level of duplicates that it has: the strictest that allows its facts, with repeats.
     pub fn level(&self) -> Level
         ensures { result ≡ level_of self.now.document.facts }
     {
         self.level
     }
 
-    /// The sheet that it was read under.
+    /// The sheet under which it was read.
     pub fn sheet(&self) -> &'s Sheet
         ensures { result.now ≡ self.now.sheet }
     {
         self.sheet
     }
 
-    /// The places of the facts, from 0, in the order of facts: each once, so that the facts at them
-    /// do not fall.
+    /// The places of the facts, from 0, each once, in the order of the facts.
     pub fn order(&self) -> &[usize]
         ensures { result.now ≡ self.now.order }
     {
@@ -118,8 +117,8 @@ impl<'s> Report<'s> {
         (facts, order)
     }
 
-    /// Does nothing, and tells that each fact fits the sheet, each reference is its own kept text,
-    /// and the order is one of the facts.
+    /// Does nothing. Its contract says that each fact fits the sheet, each reference is its own
+    /// kept text, and the order is one of the facts.
     pub fn known(&self)
         ensures { IsReading self.now }
     {

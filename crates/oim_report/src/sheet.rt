@@ -1,3 +1,10 @@
+pub(crate) mod gathered;
+pub(crate) mod kind;
+pub(crate) mod listed;
+pub(crate) mod listing;
+pub(crate) mod sheet_form;
+pub(crate) mod sheet_kinds;
+
 ghost use Rattle.std.specs.Prelude.{◌≡◌, ◌⊎◌, ◌↔◌, Some, Ok, Err, IsTrue, IfOk, IfErr, IfSome, option_map};
 ghost use Rattle.std.specs.FinMap as map;
 ghost use Rattle.serde_json.specs.View.{view};
@@ -5,11 +12,11 @@ ghost use Rattle.oim_report.specs.Sheet.{sheet_of, sheet_outcome};
 
 use crate::concept_kind::ConceptKind;
 use crate::dimension_kind::DimensionKind;
-use crate::json_tree::{object_at, read_json};
-use crate::listing::Listing;
-use crate::namespaces::read_namespaces;
-use crate::sheet_form::{check_form, check_names};
-use crate::sheet_kinds::read_listing;
+use crate::document::json_tree::{object_at, read_json};
+use crate::document::namespaces::read_namespaces;
+use crate::sheet::listing::Listing;
+use crate::sheet::sheet_form::{check_form, check_names};
+use crate::sheet::sheet_kinds::read_listing;
 use oim_names::{Name, Reason};
 use serde_json::Value;
 use std::alloc::Global;
@@ -34,13 +41,13 @@ impl Model for Sheet {
 }
 
 impl Sheet {
-    /// The sheet that these bytes say: a JSON object of the members `namespaces`, `concepts` and
-    /// `dimensions`, each an object or absent (own).
+    /// Reads a sheet: a JSON object with the members `namespaces`, `concepts` and `dimensions`,
+    /// each an object or absent (own).
     ///
-    /// Errors, the first that holds: `NotJson`; `MemberForm` where the root or a member is no object;
-    /// `UnknownMember` for another key without a colon; `Namespace`; the least of `NameForm`,
-    /// `UnboundPrefix` and `ReservedNamespace` of all keys of `concepts` and `dimensions`; `SheetKind`
-    /// where a kind is none, or a name has two; `OutOfMemory`.
+    /// Errors, the first that holds: `NotJson`; `MemberForm` if the root or a member is not an
+    /// object; `UnknownMember` for another key without a colon; `Namespace`; the least of
+    /// `NameForm`, `UnboundPrefix` and `ReservedNamespace` for all keys of `concepts` and
+    /// `dimensions`; `SheetKind` if a kind is invalid, or a name has two; `OutOfMemory`.
     #[tactic(auto, unfolding(crate::specs::Sheet::sheet_outcome))]
     pub fn read(alloc: Global, bytes: &[u8]) -> Result<Sheet, Reason>
         ensures ok { IfOk result (λ s. sheet_outcome bytes.now ≡ Ok s) }
@@ -69,7 +76,7 @@ impl Sheet {
         })
     }
 
-    /// What a concept's values are; None where the sheet does not list it.
+    /// The kind of a concept's values, or None if the sheet does not list it.
     pub fn concept(&self, name: &Name) -> Option<ConceptKind>
         ensures { result ≡ map.get self.now.concepts name.now }
     {
@@ -77,7 +84,7 @@ impl Sheet {
         Some(kind)
     }
 
-    /// What the members of a dimension are; None where the sheet does not list it.
+    /// The kind of a dimension's members, or None if the sheet does not list it.
     pub fn dimension(&self, name: &Name) -> Option<DimensionKind>
         ensures { result ≡ map.get self.now.dimensions name.now }
     {
@@ -85,7 +92,7 @@ impl Sheet {
         Some(kind)
     }
 
-    /// The concept of this URI and local part, and what its values are.
+    /// The concept with this URI and local part, and the kind of its values.
     pub(crate) fn concept_of(&self, uri: &str, local: &str) -> Option<(&Name, ConceptKind)>
         ensures kind { option_map (λ c. c.1) result
             ≡ map.get self.now.concepts (record { uri = uri.now; local_part = local.now }) }
@@ -95,7 +102,7 @@ impl Sheet {
         self.concepts.find(uri, local)
     }
 
-    /// The dimension of this URI and local part, and what its members are.
+    /// The dimension with this URI and local part, and the kind of its members.
     pub(crate) fn dimension_of(&self, uri: &str, local: &str) -> Option<(&Name, DimensionKind)>
         ensures kind { option_map (λ d. d.1) result
             ≡ map.get self.now.dimensions (record { uri = uri.now; local_part = local.now }) }

@@ -12,9 +12,9 @@ use crate::Sheet;
 use oim_names::{Aliases, Reason};
 use std::alloc::AllocError;
 
-// Where a request for memory is refused, the next one is not: the callee is asked again, and must
-// not have changed anything. The line on standard error tells `tests/refused_memory` of it, and whether
-// the request was the test's own.
+// After a refused request for memory the call is made once more, and must not have changed
+// anything. The line on standard error reports it to `tests/refused_memory`, with whether the
+// request was the test's own.
 
 const SHEET: &str =
     r#"{"namespaces":{"eg":"http://example.org/t"},"concepts":{"eg:A":"numeric","eg:B":"numeric","eg:T":"text","eg:Q":"name"},"dimensions":{"eg:Reg":"explicit","eg:Sku":"typed"}}"#;
@@ -27,7 +27,7 @@ fn tell_refused_here(rt: &HostRuntime) {
     let _ = eprintln!(rt; "refused here");
 }
 
-// Tells a text for which a test does not hold; answers whether it holds.
+// Returns whether a test holds for a text, and prints the text if not.
 fn told(rt: &HostRuntime, holds: bool, text: &str) -> bool {
     if !holds {
         let _ = eprintln!(rt; "otherwise: {text}");

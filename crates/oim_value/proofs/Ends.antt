@@ -114,7 +114,7 @@ one_number p q = omega (arith, ints, p, q)
 one_interval : (d e : Interval) → d.low ≡ e.low → d.high ≡ e.high → d ≡ e
 one_interval d e low high = λ i. record { low = low i; high = high i }
 
--- what holds of each holds of the one that is reached
+-- what holds of each end holds of the one that is reached
 at_reached : (P Q : Interval → Type 0) (is : List Interval) → Any P is → All Q is → (i : Interval) × P i × Q i
 at_reached P Q is some each = (some.1, some.4, subst Q some.3 (each some.0 some.1 some.2))
 
@@ -138,7 +138,7 @@ within_ends_is_within_each is e z ends = (
       record { above = subst (λ w. w ≤ℤ z) low.1 low.2.above; below = subst (λ w. z ≤ℤ w) high.1 high.2.below },
 )
 
--- intervals that are not empty are told by what lies in them
+-- two intervals that are not empty are equal if they contain the same numbers
 same_points : (d e : Interval) → HasPoints d → ((z : ℤ) → IsWithin z d → IsWithin z e) → ((z : ℤ) → IsWithin z e → IsWithin z d) → d ≡ e
 same_points d e some to from =
     let low = to d.low (record { above = omega (arith, ints); below = some }) in

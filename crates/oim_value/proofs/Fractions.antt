@@ -14,7 +14,7 @@ step_after v w n d p q h e = rw (h, e) (grind arith)
 first_alone : (v d p w : ℕ) → v ≡ (0 * 10 + d) * p + w → v ≡ d * p + w
 first_alone v d p w h = omega (arith, h)
 
--- the digits so far stand before those that follow
+-- the digits so far come before those that follow
 pub after_split : (n : ℕ) (ds : List ℕ) → digits_value_after 10 n ds ≡ n * 10 ^ length ds + digits_value_after 10 0 ds
 after_split n [] = omega arith
 after_split n (d ∷ ds) =

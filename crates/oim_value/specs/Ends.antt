@@ -25,7 +25,7 @@ EndsAreOne = (is : List Interval) (d e : Interval) → AreEnds d is → AreEnds 
 abbrev pub WithinEndsIsWithinEach : Type 0
 WithinEndsIsWithinEach = (is : List Interval) (e : Interval) (units : ℤ) → AreEnds e is → IsWithin units e ↔ All (IsWithin units) is
 
--- and where some number does, no other interval has just these
+-- and where some number does, no other interval has exactly these
 abbrev pub EndsAreCommonInterval : Type 0
 EndsAreCommonInterval = (is : List Interval) (e : Interval) → 0 < length is → HasPoints e → ((units : ℤ) → IsWithin units e ↔ All (IsWithin units) is) → AreEnds e is
 

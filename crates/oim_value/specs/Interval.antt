@@ -74,7 +74,7 @@ pub record IsCommonPoint (a b : Interval) (units : ℤ) : Type 0 where
   pub first : IsWithin units a
   pub second : IsWithin units b
 
--- intervals that are not empty meet exactly where some number lies in both,
+-- intervals that are not empty meet exactly if some number lies in both,
 abbrev pub MeetsByCommonPoint : Type 0
 MeetsByCommonPoint = (a b : Interval) → HasPoints a → HasPoints b → IsTrue (intervals_meet a b) ↔ ((units : ℤ) × IsCommonPoint a b units)
 

@@ -21,7 +21,7 @@ unsigned (c ∷ cs) = if c == 43 || c == 45 then cs else c ∷ cs
 abbrev pub is_point : ℕ → Bool
 is_point c = c == 46
 
--- what stands before the point, after it, and on both sides of it
+-- the digits before the point, after it, and on both sides of it
 abbrev pub integer_part : List ℕ → List ℕ
 integer_part t = before_first is_point (unsigned t)
 
@@ -44,7 +44,7 @@ abbrev pub signed : Bool → ℕ → ℤ
 signed true n = neg_ℤ (pos n)
 signed false n = pos n
 
--- the text denotes so many units: units / 10^UNIT_PLACES is the number of all digits / 10^(how many stand after the point)
+-- the text denotes so many units: units / 10^UNIT_PLACES is the number of all digits / 10^(how many are after the point)
 pub record Denotes (t : List ℕ) (units : ℤ) : Type 0 where
   pub form : IsTrue (is_number t)
   pub value : units *ℤ pos (10 ^ length (fraction_part t)) ≡ signed (is_negative t) (10 ^ UNIT_PLACES * digits_value 10 (both_parts t))
@@ -64,20 +64,20 @@ abbrev pub without_trailing : List ℕ → List ℕ
 without_trailing [] = []
 without_trailing (c ∷ cs) = onto_digit c (without_trailing cs)
 
--- how many digits count
+-- how many digits are significant
 abbrev pub counted : List ℕ → ℕ
 counted t = length (without_leading (integer_part t)) + length (without_trailing (fraction_part t))
 
--- no more digits count than are kept (own)
+-- at most as many significant digits as are kept (own)
 abbrev pub is_short : List ℕ → Bool
 is_short t = nat_le (counted t) MOST_DIGITS
 
--- why a text is refused as a number, where it is (own)
+-- why a text is refused as a number, if it is (own)
 abbrev pub number_refusal : List ℕ → Option Reason
 number_refusal t =
     if not (is_number t) then Some NumberForm else (if not (is_short t) then Some NumberDigits else None)
 
--- units of which no more digits count than are kept (own): a number of so many digits, so many of them after the point
+-- units with no more significant digits than are kept (own): a number of so many digits, so many of them after the point
 pub record IsShort (units : ℤ) : Type 0 where
   pub number : ℕ
   pub places : ℕ

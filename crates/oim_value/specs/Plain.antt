@@ -36,7 +36,7 @@ abbrev pub has_point : List ℕ → Bool
 has_point t = list_any is_point t
 
 -- the text denotes so many units and has no `+`, a `-` below zero alone, an integer digit, no leading zero but a lone one,
--- a point exactly where there are fraction digits, and no trailing zero among these
+-- a point exactly if there are fraction digits, and no trailing zero among these
 pub record IsPlain (t : List ℕ) (units : ℤ) : Type 0 where
   pub denotes : Denotes t units
   pub no_plus : slice_index t 0 ≢ 43

@@ -1,4 +1,4 @@
--- Whether each two of several different values meet, told by the ends of their intervals (own).
+-- Whether each two of several different values meet, by the ends of their intervals (own).
 use Rattle.std.specs.Prelude.{◌≡◌, ◌≢◌, ◌↔◌, ◌⊎◌, ℕ, ◌≤◌, Bool, false, IsTrue, List, length, slice_get, Contains, Some, ℤ, ◌<ℤ◌}
 use Rattle.std.specs.List.{All, AllPairs, position_or_len}
 use Rattle.std.specs.Ordering.{int_eq}
@@ -56,7 +56,7 @@ place_of_greatest_low e = position_or_len (has_low e.low)
 abbrev pub place_of_least_high : Interval → List Value → ℕ
 place_of_least_high e = position_or_len (has_high e.high)
 
--- values stand at both places, and do not meet
+-- both places have values, and these do not meet
 pub record AreApart (vs : List Value) (i j : ℕ) : Type 0 where
   pub first : Value
   pub second : Value

@@ -16,7 +16,7 @@ pub(crate) fn split_sign(text: &[u8]) -> (bool, &[u8])
     }
 }
 
-/// What stands before the first point, and after it.
+/// Splits a number's text at its first point.
 pub(crate) fn split_point(body: &[u8]) -> (&[u8], &[u8])
     ensures integer { result.0.now ≡ before_first is_point body.now }
     ensures fraction { result.1.now ≡ after_first is_point body.now }

@@ -15,7 +15,7 @@ use oim_names::{Reason, Text};
 use std::alloc::{AllocError, Global};
 use std::marker::Model;
 
-/// A decimal number of which at most `MOST_DIGITS` digits count. Contracts see it in units of 10 to
+/// A decimal number with at most `MOST_DIGITS` significant digits. Contracts see it in units of 10 to
 /// the power of minus `UNIT_PLACES`.
 #[derive(Clone, Copy, Debug, PartialEq, Eq, PartialOrd, Ord)]
 pub struct Fixed {
@@ -81,7 +81,7 @@ fn number_of(integer: &[u8], fraction: &[u8]) -> u64
     append_digits(append_digits(0, integer), fraction)
 }
 
-// A number whose last digits, `places` of them, stand after the point.
+// A number with `places` of its digits after the point.
 fn scaled(number: u64, places: u32, negative: bool) -> Fixed
     requires few { number < 10 ^ MOST_DIGITS }
     requires places { places ≤ MOST_DIGITS }
@@ -106,7 +106,7 @@ fn size_of(number: u64, zeros: u32) -> i128
 
 /// Writes a number as its one plain text, as `write_units` does.
 ///
-/// Errors: want of memory.
+/// Errors: out of memory.
 pub fn write_fixed(alloc: Global, value: Fixed) -> Result<Text, AllocError>
     ensures { IfOk result (λ text. text ≡ plain value) }
 {

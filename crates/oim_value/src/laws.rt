@@ -110,12 +110,12 @@ pub fn common_ignores_order()
     ensures idempotent { CommonIsIdempotent }
 {}
 
-/// The common part has just the numbers that lie in both intervals.
+/// The common part has exactly the numbers that lie in both intervals.
 pub fn common_has_both()
     ensures { CommonIsBoth }
 {}
 
-/// Intervals that are not empty meet exactly where some number lies in both, which is where their
+/// Intervals that are not empty meet exactly if some number lies in both, which is where their
 /// common part is not empty.
 pub fn meets_by_common_point()
     ensures point { MeetsByCommonPoint }
@@ -128,7 +128,7 @@ pub fn values_meet_both_ways()
     ensures symmetric { MeetsIsSymmetric }
 {}
 
-/// Each two of several values meet exactly where any two among them do.
+/// Each two of several values meet exactly if any two among them do.
 pub fn each_two_meet_by_members()
     ensures { EachTwoMeetByMembers }
 {}

@@ -11,10 +11,6 @@ mod limits;
 mod plain;
 #[cfg(test)]
 mod tests;
-#[cfg(test)]
-mod tests_intervals;
-#[cfg(test)]
-mod tests_level;
 mod value;
 
 pub use decimals::Decimals;

@@ -10,7 +10,7 @@ use std::alloc::{AllocError, Global};
 /// below zero, the integer digits without leading zeros (`0` where there are none), and a point and
 /// the fraction digits without trailing zeros where there are any.
 ///
-/// Errors: want of memory.
+/// Errors: out of memory.
 pub fn write_units(alloc: Global, units: i128) -> Result<Text, AllocError>
     ensures { IfOk result (λ text. text ≡ plain units) }
 {

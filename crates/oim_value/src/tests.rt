@@ -1,3 +1,6 @@
+mod intervals;
+mod level;
+
 use crate::{Decimals, Fixed, Value, read_fixed, write_fixed, write_units};
 use oim_names::{Aliases, Copied, Name, Reason, Text};
 use std::alloc::AllocError;

@@ -7,8 +7,8 @@ use crate::interval::{interval_of, meets};
 use oim_names::{Copied, Key, Name, Text};
 use std::alloc::{AllocError, Global};
 
-/// A fact's value. Values are ordered by kind as they stand here; numbers by units and then
-/// decimals, texts by bytes, names by URI and then local part.
+/// A fact's value. Values are ordered by kind, in the order of the variants; numbers by units and
+/// then decimals, texts by bytes, names by URI and then local part.
 #[derive(Debug, Drop, PartialEq, Eq, PartialOrd, Ord)]
 pub enum Value {
     /// Nothing is reported.

@@ -16,7 +16,7 @@ use Rattle.fact_base.specs.Body.{Body}
 use Rattle.fact_base.specs.Fits.{Fits}
 use Rattle.fact_base.specs.Passed.{IsSet, Sheet, fact_object, level_of}
 use Rattle.oim_write.specs.Bytes.{canonical}
-use Rattle.oim_write.specs.Parts.{facts_text, has_some, head_text, namespace_members, numbered_members, part, parts, text_parts}
+use Rattle.oim_write.specs.Parts.{has_some, head_text, namespace_members, numbered_members, part, parts, parts_text, text_parts}
 use Rattle.oim_write.specs.Rank.{padded, rank, width}
 use Rattle.oim_write.specs.Tree.{identifier, members_before, members_by, name_text, prefix, xbrl_member}
 use Rattle.oim_write.specs.Uris.{uris}
@@ -74,11 +74,11 @@ quoted_level AllLevel = refl
 
 rejoin : (level names comma bound references facts : List ℕ) →
     (((34 ∷ (level ++ 34 ∷ [])) ++ 125 ∷ []) ++ (codes ",\"namespaces\":{" ++ (((names ++ (comma ++ bound)) ++ 125 ∷ []) ++ (codes ",\"taxonomy\":[" ++ ((references ++ 93 ∷ []) ++ 125 ∷ []))))) ++ (codes ",\"facts\":{" ++ ((facts ++ 125 ∷ []) ++ 125 ∷ []))
-    ≡ (34 ∷ (level ++ (codes "\"},\"namespaces\":{" ++ (names ++ (comma ++ (bound ++ (codes "},\"taxonomy\":[" ++ (references ++ codes "]},\"facts\":{")))))))) ++ (facts ++ codes "}}")
+    ≡ (34 ∷ (level ++ (codes "\"},\"namespaces\":{" ++ (names ++ (comma ++ (bound ++ codes "},\"taxonomy\":[")))))) ++ (references ++ (codes "]},\"facts\":{" ++ (facts ++ codes "}}")))
 rejoin level names comma bound references facts = simp append_assoc
 
--- the text is the head, the facts, and two braces
-pub canonical_is : (sheet : Sheet) (b : Body) → Fits sheet b → canonical b ≡ head_text (level_of b.facts) (uris b.facts) b.references ++ (facts_text (uris b.facts) b.facts ++ codes "}}")
+-- the text is the head, the references, the facts, and two braces
+pub canonical_is : (sheet : Sheet) (b : Body) → Fits sheet b → canonical b ≡ parts_text (head_text (level_of b.facts) (uris b.facts)) (uris b.facts) b
 unfolding canonical escape_byte
 canonical_is sheet b fits =
     let us : List (List ℕ) = uris b.facts in
@@ -92,10 +92,9 @@ canonical_is sheet b fits =
     ++ (codes ",\"facts\":{" ++ ((ap (members_text false) numbered ∙ members_text-parts false facts) i ++ 125 ∷ [])))
     ∙ rejoin (level_entry level).text (parts false (namespace_members us us)) (comma_if (has_some us)) bound_text (text_parts false b.references) (parts false facts))
 
--- the head, the facts and the end of a base
-pub canonical_of : (sheet : Sheet) (b : Body) (level : Level) (us references : List (List ℕ)) (head : List ℕ) → Fits sheet b → head ≡ head_text level us references → level ≡ level_of b.facts → us ≡ uris b.facts → references ≡ b.references
-    → head ++ (facts_text us b.facts ++ codes "}}") ≡ canonical b
-canonical_of sheet b level us references head fits first declared table taxonomy =
-    ap (λ t. t ++ (facts_text us b.facts ++ codes "}}")) first
-    ∙ (λ i. head_text (declared i) (table i) (taxonomy i) ++ (facts_text (table i) b.facts ++ codes "}}"))
+-- the head of a base, and all that stands behind it
+pub canonical_of : (sheet : Sheet) (b : Body) (level : Level) (us : List (List ℕ)) (head : List ℕ) → Fits sheet b → head ≡ head_text level us → level ≡ level_of b.facts → us ≡ uris b.facts → parts_text head us b ≡ canonical b
+canonical_of sheet b level us head fits first declared table =
+    ap (λ t. parts_text t us b) first
+    ∙ (λ i. parts_text (head_text (declared i) (table i)) (table i) b)
     ∙ sym (canonical_is sheet b fits)

@@ -10,15 +10,15 @@ use Rattle.fact_base.specs.Body.{Body, body}
 use Rattle.fact_base.specs.Fits.{Fits}
 use Rattle.oim_write.specs.Tree.{earlier_tree, tree, tree_declaring}
 
--- the JSON text with no space
+-- the JSON text without spaces
 unfoldable pub canonical : Body → List ℕ
 canonical b = compact_text (tree b)
 
--- that of before levels were declared
+-- the text from before levels were declared
 unfoldable pub earlier : Body → List ℕ
 earlier b = compact_text (earlier_tree b)
 
--- neither the order of documents nor how often each comes matters
+-- neither the order of documents nor repeats matter
 abbrev pub BytesIgnoreOrder : Type 0
 BytesIgnoreOrder = (ds es : List Document) → SameMembers ds es → canonical (body ds) ≡ canonical (body es)
 

@@ -13,7 +13,7 @@ use Rattle.fact_base.specs.Passed.{fact_object, member_data, option_spelled, opt
 use Rattle.oim_write.specs.Tree.{name_text}
 use Rattle.oim_write.specs.Uris.{uris}
 
--- a text at a key, where there is one, before other members
+-- a text at a key, if there is one, before other members
 abbrev pub text_member : List ℕ → Option (List ℕ) → Members → Members
 text_member key None ms = ms
 text_member key (Some t) ms = member key (string t) ms
@@ -32,7 +32,7 @@ module _ (spelled : QName → List ℕ) where
   defined_members [] ms = ms
   defined_members (e ∷ es) ms = member (spelled e.0) (member_data spelled e.1) (defined_members es ms)
 
-  -- they stand between `language` and `period`
+  -- they are between `language` and `period`
   abbrev pub ordered_dimensions : DimensionSet → Members
   ordered_dimensions d =
       member (codes "concept") (string (spelled d.concept))
@@ -48,6 +48,6 @@ module _ (spelled : QName → List ℕ) where
       (member (codes "dimensions") (object (ordered_dimensions f.dimensions))
       (member (codes "value") (value_data spelled f.value) no_members)))
 
--- where prefixes are n and a rank, this is the object of each of the facts
+-- if prefixes are n and a rank, this is the object of each fact
 abbrev pub FactsAreWrittenInOrder : Type 0
 FactsAreWrittenInOrder = (facts : List Fact) (f : Fact) → Contains facts f → IsDimensionSet f.dimensions → fact_object (name_text (uris facts)) f ≡ ordered_fact (name_text (uris facts)) f

@@ -1,4 +1,4 @@
--- The canonical text part by part: what is written at a time (own).
+-- The canonical text in the parts that are written (own).
 use Rattle.std.specs.Prelude.{◌≡◌, ℕ, ◌+◌, nat_lt, List, [], ◌∷◌, ◌++◌, length, codes, Bool, true, false}
 use Rattle.json.specs.Print.{quoted}
 use Rattle.json.specs.Token.{Token, key}
@@ -9,16 +9,17 @@ use Rattle.serde_json.specs.Written.{comma_if, compact_text, outline}
 use Rattle.oim_value.specs.Level.{level_entry}
 use Rattle.oim_value.specs.declared.level.Level.{Level}
 use Rattle.oim_dims.specs.declared.fact.Fact.{Fact}
+use Rattle.fact_base.specs.Body.{Body}
 use Rattle.oim_write.specs.Ordered.{ordered_fact}
 use Rattle.oim_write.specs.Rank.{padded, width}
 use Rattle.oim_write.specs.Tree.{members_by, name_text, prefix}
 
--- the tokens were written behind what stood there
+-- the tokens were appended
 pub record Adds (old new : Written) (further : List Token) : Type 0 where
   pub tokens : new.tokens ≡ old.tokens ++ further
   pub before : new.before ≡ old.before
 
--- a value's tokens were
+-- the tokens of a value were
 abbrev pub AddsValue : Written → Written → Data → Type 0
 AddsValue old new d = Adds old new (json_tokens (outline d))
 
@@ -31,7 +32,7 @@ members_tokens (member k d ms) = key k ∷ (json_tokens (outline d) ++ members_t
 abbrev pub AddsMembers : Written → Written → Members → Type 0
 AddsMembers old new ms = Adds old new (members_tokens ms)
 
--- a member of an object, behind a comma where it is not the first
+-- a member of an object, after a comma unless it is the first
 abbrev pub part : Bool → List ℕ → Data → List ℕ
 part later name d = comma_if later ++ (quoted name ++ 58 ∷ compact_text d)
 
@@ -53,19 +54,17 @@ abbrev pub text_parts : Bool → List (List ℕ) → List ℕ
 text_parts later [] = []
 text_parts later (t ∷ ts) = (comma_if later ++ quoted t) ++ text_parts true ts
 
--- all that stands before the first fact
-abbrev pub head_text : Level → List (List ℕ) → List (List ℕ) → List ℕ
-head_text level us references =
+-- everything before the first reference
+abbrev pub head_text : Level → List (List ℕ) → List ℕ
+head_text level us =
     codes "{\"documentInfo\":{\"documentType\":\"https://xbrl.org/2021/xbrl-json\",\"features\":{\"xbrl:allowedDuplicates\":\""
     ++ ((level_entry level).text
     ++ (codes "\"},\"namespaces\":{"
     ++ (parts false (namespace_members us us)
     ++ (comma_if (has_some us)
-    ++ (codes "\"xbrl\":\"https://xbrl.org/2021\"},\"taxonomy\":["
-    ++ (text_parts false references
-    ++ codes "]},\"facts\":{"))))))
+    ++ codes "\"xbrl\":\"https://xbrl.org/2021\"},\"taxonomy\":["))))
 
--- facts that are numbered with so many digits, where so many stand before them
+-- facts numbered with so many digits, after so many others
 abbrev pub numbered_members : List (List ℕ) → ℕ → ℕ → List Fact → Members
 numbered_members us digits before [] = no_members
 numbered_members us digits before (f ∷ fs) = member (102 ∷ padded digits (before + 1)) (ordered_fact (name_text us) f) (numbered_members us digits (before + 1) fs)
@@ -76,3 +75,7 @@ numbered_text us digits before fs = parts (nat_lt 0 before) (numbered_members us
 -- all facts, one after another
 abbrev pub facts_text : List (List ℕ) → List Fact → List ℕ
 facts_text us facts = numbered_text us (width (length facts)) 0 facts
+
+-- a head, and all that stands behind it
+abbrev pub parts_text : List ℕ → List (List ℕ) → Body → List ℕ
+parts_text head us b = head ++ (text_parts false b.references ++ (codes "]},\"facts\":{" ++ (facts_text us b.facts ++ codes "}}")))

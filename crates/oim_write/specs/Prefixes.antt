@@ -12,11 +12,11 @@ use Rattle.oim_write.specs.Uris.{uris}
 abbrev pub bindings_of : List (List ℕ) → List Binding
 bindings_of us = map (λ u. record { prefix = prefix us u; uri = u }) us
 
--- what a table of prefixes keeps: the URIs rise, and so many digits number them
+-- the invariant of a table of prefixes: the URIs rise, and so many digits number them
 pub record IsTable (us : List (List ℕ)) (digits : ℕ) : Type 0 where
   pub rises : IsSet text_cmp us
   pub enough : digits ≡ width (length us)
 
--- each name of the facts is spelled by a prefix that is bound to its URI
+-- the names of the facts are spelled with prefixes that are bound to their URIs
 abbrev pub FactsAreSpelled : Type 0
 FactsAreSpelled = (facts : List Fact) (f : Fact) → Contains facts f → SpellsFact (bindings_of (uris facts)) (name_text (uris facts)) f

@@ -11,12 +11,12 @@ use Rattle.std.specs.Str.Parse.{AllDigits, digits_value}
 abbrev pub rank : {K : Type 0} → (K → K → Ordering) → K → List K → ℕ
 rank R x members = suc (count_by (λ y. is_lt (R y x)) members)
 
--- the last `width` digits of n, with zeros on the left where it has fewer
+-- the last `width` digits of n, padded with zeros if it has fewer
 unfoldable pub padded : ℕ → ℕ → List ℕ
 padded zero n = []
 padded (suc width) n = padded width (n / 10) ++ (48 + n % 10) ∷ []
 
--- how many digits n has, where n is at most `most`
+-- how many digits n has, for n at most `most`
 unfoldable pub digits_up_to : ℕ → ℕ → ℕ
 digits_up_to zero n = 1
 digits_up_to (suc most) n = if nat_lt n 10 then 1 else suc (digits_up_to most (n / 10))

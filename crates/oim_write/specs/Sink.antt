@@ -8,11 +8,11 @@ use Rattle.oim_write.specs.declared.write_fault.WriteFault.TheVariants.{OutOfMem
 abbrev pub AppendsFirst : Option (List ℕ) → Option (List ℕ) → List ℕ → ℕ → Type 0
 AppendsFirst old new text n = Appends old new (take n text) × (n ≤ length text)
 
--- a count that has reached the greatest u64 stays there
+-- a count stays at the greatest u64
 abbrev pub saturated : ℕ → ℕ
 saturated n = min n (2 ^ 64 - 1)
 
--- the sink took a front of the text, and `written` counts its bytes
+-- the sink took the first part of the text, and `written` counts its bytes
 pub record AppendsFront (old new : Option (List ℕ)) (text : List ℕ) (written : ℕ) : Type 0 where
   pub front : List ℕ
   pub rest : List ℕ
@@ -25,12 +25,12 @@ abbrev pub written_of : WriteFault → ℕ
 written_of (OutOfMemory n) = n
 written_of (Device n) = n
 
--- the failures of a sink that had n of them: one more exactly where a device is at fault
+-- the failures of a sink that had n of them: one more exactly if a device is at fault
 abbrev pub failures_after_fault : WriteFault → ℕ → ℕ
 failures_after_fault (OutOfMemory w) n = n
 failures_after_fault (Device w) n = n + 1
 
--- after a call with this answer
+-- after a call with this result
 abbrev pub failures_after_write : {T : Type 0} → Result T WriteFault → ℕ → ℕ
 failures_after_write (Ok x) n = n
 failures_after_write (Err fault) n = failures_after_fault fault n

@@ -3,7 +3,7 @@ use Rattle.std.specs.Prelude.{◌≡◌, ℕ, ◌+◌, ◌++◌, List, [], Optio
 use Rattle.std.specs.Io.KnownBytes.{Appends}
 use Rattle.oim_write.specs.Sink.{saturated}
 
--- how many bytes the sink took, and those that wait to be put
+-- how many bytes the sink took, and the bytes that wait
 pub record Pending : Type 0 where
   pub written : ℕ
   pub bytes : List ℕ
@@ -12,14 +12,14 @@ pub record Pending : Type 0 where
 abbrev pub nothing_yet : Pending
 nothing_yet = record { written = 0; bytes = [] }
 
--- the text came behind what waited: the sink took a front of both, and the rest waits
+-- the text was appended to what waited: the sink took the first part of both, and the rest waits
 pub record Passes (old new : Option (List ℕ)) (before after : Pending) (text : List ℕ) : Type 0 where
   pub front : List ℕ
   pub whole : before.bytes ++ text ≡ front ++ after.bytes
   pub appended : Appends old new front
   pub count : saturated after.written ≡ saturated (before.written + length front)
 
--- the text was to come behind what waited: the sink took a front of both before a fault, which tells what is written
+-- the text was to be appended to what waited: the sink took the first part of both before a fault, which says how much
 pub record Breaks (old new : Option (List ℕ)) (before : Pending) (text : List ℕ) (written : ℕ) : Type 0 where
   pub front : List ℕ
   pub rest : List ℕ

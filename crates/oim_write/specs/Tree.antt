@@ -1,5 +1,5 @@
 -- The JSON value by which a body is written: xBRL-JSON 1.0, sections 2 and 3, with one choice of prefixes and identifiers (own).
--- A text declares a level of duplicates, as the feature `xbrl:allowedDuplicates` (OIM Common 1.0); those of before declare none.
+-- A text declares a level of duplicates, as the feature `xbrl:allowedDuplicates` (OIM Common 1.0); earlier texts declare none.
 -- In bytes, `:` is 58, `f` 102, `n` 110.
 use Rattle.std.specs.Prelude.{ℕ, List, [], ◌∷◌, ◌++◌, codes, Option, Some, None}
 use Rattle.serde_json.specs.Data.{Data, string, array, object, Items, no_items, item, Members, no_members, member}
@@ -18,7 +18,7 @@ use Rattle.oim_write.specs.Uris.{uris}
 abbrev pub prefix : List (List ℕ) → List ℕ → List ℕ
 prefix us uri = numbered 110 text_cmp uri us
 
--- how a name is spelled
+-- the spelling of a name
 abbrev pub name_text : List (List ℕ) → QName → List ℕ
 name_text us n = prefix us n.uri ++ 58 ∷ n.local_part
 
@@ -26,36 +26,36 @@ name_text us n = prefix us n.uri ++ 58 ∷ n.local_part
 abbrev pub identifier : List Fact → Fact → List ℕ
 identifier facts f = numbered 102 fact_cmp f facts
 
--- a member for each of a list, before others
+-- a member for each item of a list, before others
 abbrev pub members_before : {A : Type 0} → (A → List ℕ) → (A → Data) → List A → Members → Members
 members_before key shown [] others = others
 members_before key shown (x ∷ xs) others = member (key x) (shown x) (members_before key shown xs others)
 
--- and with none behind them
+-- and with none after them
 abbrev pub members_by : {A : Type 0} → (A → List ℕ) → (A → Data) → List A → Members
 members_by key shown xs = members_before key shown xs no_members
 
--- an item for each
+-- an item for each text
 abbrev pub text_items : List (List ℕ) → Items
 text_items [] = no_items
 text_items (t ∷ ts) = item (string t) (text_items ts)
 
 -- ---- what a text declares
 
--- the feature that declares a level, before other members; where none is declared there is none
+-- the feature that declares a level, if one is declared, before other members
 abbrev pub features_member : Option Level → Members → Members
 features_member None others = others
 features_member (Some level) others =
     member (codes "features") (object (member (codes "xbrl:allowedDuplicates") (string (level_entry level).text) no_members)) others
 
--- the prefix of that feature, bound where a level is declared
+-- the prefix of that feature, bound if a level is declared
 abbrev pub xbrl_member : Option Level → Members
 xbrl_member None = no_members
 xbrl_member (Some level) = member (codes "xbrl") (string reserved_uri) no_members
 
 -- ---- the whole
 
--- each URI at its prefix, and then `xbrl`
+-- each URI under its prefix, and then `xbrl`
 abbrev pub namespaces_object : Option Level → List (List ℕ) → Data
 namespaces_object declared us = object (members_before (prefix us) string us (xbrl_member declared))
 
@@ -66,7 +66,7 @@ info_object declared us references =
     member (codes "namespaces") (namespaces_object declared us) (
     member (codes "taxonomy") (array (text_items references)) no_members))))
 
--- each fact at its identifier
+-- each fact under its identifier
 abbrev pub facts_object : List Fact → Data
 facts_object facts = object (members_by (identifier facts) (fact_object (name_text (uris facts))) facts)
 
@@ -75,10 +75,10 @@ tree_declaring declared b =
     object (member (codes "documentInfo") (info_object declared (uris b.facts) b.references) (
     member (codes "facts") (facts_object b.facts) no_members))
 
--- a text declares the least level that allows its facts
+-- a text declares the strictest level that allows its facts
 abbrev pub tree : Body → Data
 tree b = tree_declaring (Some (level_of b.facts)) b
 
--- a text of before declares none
+-- an earlier text declares none
 abbrev pub earlier_tree : Body → Data
 earlier_tree b = tree_declaring None b

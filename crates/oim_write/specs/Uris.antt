@@ -1,4 +1,4 @@
--- The namespaces of the names of facts, each of which a prefix stands for (OIM Common 1.0: names are expanded, so that prefixes carry no meaning).
+-- The namespaces of the names of facts, which get a prefix each (OIM Common 1.0: names are expanded, so prefixes carry no meaning).
 use Rattle.std.specs.Prelude.{◌↔◌, ◌⊎◌, Contains, ℕ, List, [], ◌∷◌, ◌++◌, map, flat_map, Option, Some, None}
 use Rattle.oim_names.specs.QName.{QName}
 use Rattle.oim_value.specs.declared.value.Value.{Value}
@@ -20,7 +20,7 @@ abbrev pub unit_names : Option Measures → List QName
 unit_names None = []
 unit_names (Some m) = m.numerators ++ m.denominators
 
--- a dimension, and its member where that is a name
+-- a dimension, and its member if that is a name
 abbrev pub defined_names : QName × Member → List QName
 defined_names (n, NoMember) = n ∷ []
 defined_names (n, MemberText t) = n ∷ []
@@ -35,7 +35,7 @@ value_names (Number units d) = []
 value_names (AText t) = []
 value_names (AName n) = n ∷ []
 
--- each name of a fact: its concept, entity, measures, dimensions, explicit members, and a value that is one
+-- the names of a fact: its concept, entity, measures, dimensions, explicit members, and a value that is a name
 abbrev pub fact_names : Fact → List QName
 fact_names f = dimension_names f.dimensions ++ value_names f.value
 
@@ -50,6 +50,6 @@ uris facts = set_of text_cmp (uris_of_names (flat_map fact_names facts))
 abbrev pub row_names : Row → List QName
 row_names r = dimension_names r.0 ++ flat_map value_names r.1
 
--- what a set of URIs has after it was given the namespaces of further names
+-- a set of URIs after the namespaces of further names are added
 pub record Gains (old : List (List ℕ)) (names : List QName) (new : List (List ℕ)) : Type 0 where
   pub members : (u : List ℕ) → Contains new u ↔ (Contains old u ⊎ Contains (uris_of_names names) u)

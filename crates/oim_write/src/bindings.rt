@@ -9,10 +9,10 @@ use fact_base::Base;
 use oim_names::Aliases;
 use std::alloc::{AllocError, Global};
 
-/// The prefixes of a base's text: for each URI of a name of its facts, in byte order of the URIs,
-/// the letter `n` and its rank, from 1, with zeros on the left to the width of their number (own).
+/// The prefixes of a base's text: for each URI of its names, in byte order, the letter `n` and the
+/// rank of the URI from 1, padded with zeros to the width of their number (own).
 ///
-/// Errors: want of memory.
+/// Errors: out of memory.
 pub fn prefixes(alloc: Global, base: &Base<'_>) -> Result<Aliases, AllocError>
     ensures { IfOk result (λ aliases. aliases ≡ bindings_of (uris base.now.body.facts)) }
 {
@@ -24,7 +24,7 @@ pub fn prefixes(alloc: Global, base: &Base<'_>) -> Result<Aliases, AllocError>
     Ok(aliases)
 }
 
-// Each prefix has its form and is new, so that only memory can be wanting.
+// Prefixes are well-formed and new, so only memory can be refused.
 fn bind(
     alloc: Global,
     aliases: &mut Aliases,

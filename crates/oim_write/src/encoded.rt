@@ -3,7 +3,7 @@ ghost use Rattle.std.specs.Prelude.{◌≡◌, IfOk};
 use std::alloc::{AllocError, Global};
 use std::marker::Model;
 
-/// A text as bytes. Contracts see the list of its bytes.
+/// The bytes of a text. Contracts see their list.
 #[derive(Debug, Drop)]
 pub struct Encoded {
     bytes: Vec<u8>,
@@ -18,7 +18,9 @@ impl Model for Encoded {
 }
 
 impl Encoded {
-    /// A copy of these bytes, where there is memory.
+    /// A copy of these bytes.
+    ///
+    /// Errors: out of memory.
     pub fn new(alloc: Global, bytes: &[u8]) -> Result<Encoded, AllocError>
         ensures { IfOk result (λ made. made ≡ bytes.now) }
     {

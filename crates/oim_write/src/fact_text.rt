@@ -35,7 +35,7 @@ pub(crate) fn write_fact(
     json.end_object()
 }
 
-// The decimals are a member where they are finite.
+// Decimals are written only if they are finite.
 fn write_decimals(json: &mut Writer, value: &Value) -> Result<(), AllocError>
     ensures { OnOk result (AddsMembers json.old json.new (decimals_member value.now no_members)) }
 {

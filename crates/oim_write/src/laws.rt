@@ -6,29 +6,29 @@ ghost use Rattle.oim_write.specs.Ordered.{FactsAreWrittenInOrder};
 ghost use Rattle.oim_write.specs.Prefixes.{FactsAreSpelled};
 ghost use Rattle.oim_write.specs.Rank.{PaddedKeepsOrder, PaddedWritesNumber, RanksAreWithin, WidthIsFewestDigits};
 
-/// Documents in any order, each as often as one likes, are written by the same bytes.
+/// The same documents give the same bytes, in any order and however often each is repeated.
 pub fn bytes_ignore_order()
     ensures { BytesIgnoreOrder }
 {}
 
-/// The tree of a body that fits a sheet has UTF-8 texts and no float, and each of its objects has
-/// its keys in byte order, each once.
+/// The tree of a body that fits a sheet has UTF-8 texts and no float, and the keys of its objects
+/// are distinct and in byte order.
 pub fn trees_are_plain()
     ensures { TreesArePlain }
 {}
 
-/// The members of a fact object stand in byte order of their keys where the dimensions that a
-/// taxonomy defines stand in the order of their names, between `language` and `period`.
+/// The members of a fact object are in byte order of their keys if those of the dimensions that a
+/// taxonomy defines are between `language` and `period`, in the order of their names.
 pub fn facts_are_written_in_order()
     ensures { FactsAreWrittenInOrder }
 {}
 
-/// Each name of a body's facts is spelled by a prefix of letters and digits that is bound to its URI.
+/// Each name of a body's facts is spelled with a prefix of letters and digits, bound to its URI.
 pub fn facts_are_spelled()
     ensures { FactsAreSpelled }
 {}
 
-/// A number that fits is written by so many decimal digits, and they read as the number.
+/// A number that fits in so many decimal digits is written with them, and they read as the number.
 pub fn padded_writes_number()
     ensures { PaddedWritesNumber }
 {}

@@ -16,8 +16,6 @@ mod sink_buffer;
 mod std_sink;
 #[cfg(test)]
 mod tests;
-#[cfg(test)]
-mod tests_writers;
 mod unit_text;
 mod uri_set;
 mod write_fault;

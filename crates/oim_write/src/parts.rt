@@ -3,7 +3,7 @@ ghost use Rattle.serde_json.specs.Data.{string};
 ghost use Rattle.serde_json.specs.Written.{comma_if};
 ghost use Rattle.json.specs.Print.{quoted};
 ghost use Rattle.oim_write.specs.Ordered.{ordered_fact};
-ghost use Rattle.oim_write.specs.Parts.{has_some, head_text, namespace_members, part, parts, text_parts};
+ghost use Rattle.oim_write.specs.Parts.{has_some, head_text, namespace_members, part, parts};
 ghost use Rattle.oim_write.specs.Rank.{padded};
 ghost use Rattle.oim_write.specs.Tree.{name_text, prefix};
 
@@ -32,14 +32,9 @@ pub(crate) struct Labels<'t> {
     pub digits: usize,
 }
 
-/// All that stands before the first fact.
-pub(crate) fn head(
-    alloc: Global,
-    level: Level,
-    table: &PrefixTable,
-    references: &[Text],
-) -> Result<Vec<u8>, AllocError>
-    ensures { IfOk result (λ text. text.items ≡ head_text level table.now references.now) }
+/// All that stands before the first reference.
+pub(crate) fn head(alloc: Global, level: Level, table: &PrefixTable) -> Result<Vec<u8>, AllocError>
+    ensures { IfOk result (λ text. text.items ≡ head_text level table.now) }
 {
     let mut text = Vec::new(alloc);
     text.extend_from_slice(TYPE_AND_FEATURE)?;
@@ -48,8 +43,6 @@ pub(crate) fn head(
     append_namespaces(alloc, &mut text, table)?;
     append_comma(&mut text, has_uris(table))?;
     text.extend_from_slice(b"\"xbrl\":\"https://xbrl.org/2021\"},\"taxonomy\":[")?;
-    append_references(alloc, &mut text, references)?;
-    text.extend_from_slice(b"]},\"facts\":{")?;
     Ok(text)
 }
 
@@ -97,23 +90,8 @@ fn append_namespace(
     Ok(())
 }
 
-fn append_references(
-    alloc: Global,
-    text: &mut Vec<u8>,
-    references: &[Text],
-) -> Result<(), AllocError>
-    ensures { OnOk result (text.new.items ≡ text.old.items ++ text_parts false references.now) }
-{
-    let mut later = false;
-    for reference in references {
-        append_reference(alloc, text, later, reference)?;
-        later = true;
-    }
-    Ok(())
-}
-
-// One item of `taxonomy`.
-fn append_reference(
+/// One item of `taxonomy`.
+pub(crate) fn append_reference(
     alloc: Global,
     text: &mut Vec<u8>,
     later: bool,

@@ -8,10 +8,10 @@ use oim_names::Text;
 use std::alloc::{AllocError, Global};
 use std::marker::Model;
 
-/// How many classes of periods there are: a prime, so that days are spread.
+/// The number of classes: a prime, so that days are spread over them.
 const CLASSES: u64 = 251;
 
-/// A period with its text, which one that always holds has not.
+/// A period with its text; `Period::Forever` has none.
 #[derive(Drop)]
 struct PeriodText {
     period: Period,
@@ -55,8 +55,8 @@ impl PeriodText {
     }
 }
 
-/// The texts of the periods that were spelled last, one of each class, since a report has few.
-/// Contracts see the periods, at the places of their classes.
+/// A cache of the last text for each class of periods, since a report has few periods. Contracts
+/// see the period that is cached for each class.
 #[derive(Drop)]
 pub(crate) struct PeriodTexts {
     texts: Vec<PeriodText>,
@@ -79,7 +79,7 @@ impl PeriodTexts {
         }
     }
 
-    /// Spells a period, unless it was the last of its class, and answers its place.
+    /// Spells a period, unless it is the one cached for its class, and returns its place.
     pub(crate) fn spell(&mut self, alloc: Global, period: Period) -> Result<usize, AllocError>
         ensures there { IfOk result (λ place. place < length self.new) }
         ensures is { IfOk result (λ place. (d : APeriod) → get_or self.new place d ≡ period) }
@@ -90,7 +90,7 @@ impl PeriodTexts {
         Ok(class)
     }
 
-    /// The text of the period at a place, or None for one that always holds.
+    /// The text of the period at a place, or None for `Period::Forever`.
     pub(crate) fn text(&self, place: usize) -> Option<&Text>
         requires { place < length self.now }
         ensures { (d : APeriod) → option_copied result ≡ period_text (get_or self.now place d) }

@@ -7,16 +7,16 @@ ghost use Rattle.oim_write.specs.Uris.{uris};
 use crate::ranked::{label, push_label, width_of};
 use crate::uri_set::UriSet;
 use fact_base::Base;
-use oim_names::{Name, Recent, Text};
+use oim_names::{Name, PositionCache, Text};
 use std::alloc::{AllocError, Global};
 use std::marker::Model;
 
-/// The URIs of a base's names, each of which has a prefix. Contracts see them in order.
+/// The URIs of a base's names, which get a prefix each. Contracts see them in order.
 #[derive(Drop)]
 pub(crate) struct PrefixTable {
     uris: Vec<Text>,
     digits: usize,
-    recent: Recent,
+    cache: PositionCache,
 }
 
 impl Model for PrefixTable {
@@ -41,11 +41,11 @@ impl PrefixTable {
         }
         let uris = set.into_uris();
         let digits = width_of(uris.len() as u128);
-        let recent = places_of(uris.as_slice());
+        let cache = places_of(uris.as_slice());
         Ok(PrefixTable {
             uris,
             digits,
-            recent,
+            cache,
         })
     }
 
@@ -63,11 +63,11 @@ impl PrefixTable {
         label(alloc, "n", self.digits, self.rank(uri))
     }
 
-    // Most are where the URI of their class is.
+    // Most names have the URI that was last found for their class.
     fn rank(&self, uri: &str) -> u128
         ensures { result ≡ rank text_cmp uri.now self.now }
     {
-        let place = self.recent.place(uri);
+        let place = self.cache.place(uri);
         match self.uris.get(place) {
             Some(known) if known.as_str() == uri => 1 + place as u128,
             _ => self.counted(uri),
@@ -89,7 +89,7 @@ impl PrefixTable {
         text.push_str(name.local())
     }
 
-    /// The same in the place of what the text was.
+    /// The same, replacing the text.
     pub(crate) fn spell(&self, text: &mut String, name: &Name) -> Result<(), AllocError>
         ensures { OnOk result (string_bytes text.new ≡ name_text self.now name.now) }
     {
@@ -98,11 +98,11 @@ impl PrefixTable {
     }
 }
 
-// Where the last URI of each class is.
-fn places_of(uris: &[Text]) -> Recent {
-    let mut recent = Recent::new();
+// The place of the last URI for each class of names.
+fn places_of(uris: &[Text]) -> PositionCache {
+    let mut cache = PositionCache::new();
     for (place, uri) in uris.iter().enumerate() {
-        recent.set(uri.as_str(), place);
+        cache.set(uri.as_str(), place);
     }
-    recent
+    cache
 }

@@ -4,13 +4,13 @@ ghost use Rattle.oim_write.specs.Rank.{padded, width};
 use oim_names::Text;
 use std::alloc::{AllocError, Global};
 
-/// Room for a label, asked for at once; most are no longer.
+/// The capacity of a label, requested at once; few labels are longer.
 const LABEL: usize = 16;
 
 /// The identifier of a fact in a canonical text: the letter `f` and its rank, from 1, with zeros on
 /// the left to the width of the count (own).
 ///
-/// Errors: want of memory.
+/// Errors: out of memory.
 pub fn identifier(alloc: Global, rank: u128, count: u128) -> Result<Text, AllocError>
     ensures { IfOk result (λ text. text ≡ 102 ∷ padded (width count) rank) }
 {
@@ -32,7 +32,7 @@ pub(crate) fn width_of(number: u128) -> usize
     digits
 }
 
-/// A text with the last `digits` digits of a number behind it.
+/// A text followed by the last `digits` digits of a number.
 pub(crate) fn label(
     alloc: Global,
     front: &str,
@@ -46,7 +46,7 @@ pub(crate) fn label(
     Ok(text)
 }
 
-/// Appends a text with the last `digits` digits of a number behind it.
+/// Appends a text and the last `digits` digits of a number.
 pub(crate) fn push_label(
     text: &mut String,
     front: &str,

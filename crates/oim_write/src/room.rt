@@ -1,8 +1,8 @@
 use crate::period_texts::PeriodTexts;
 use std::alloc::Global;
 
-/// What is kept from fact to fact, so that little memory is asked for: room for a name, a unit or a
-/// label, and the texts of periods.
+/// Buffers that are reused from fact to fact, so that few requests for memory are made: one for a
+/// name, a unit or a label, and the texts of periods.
 #[derive(Drop)]
 pub(crate) struct Room {
     pub(crate) spelled: String,
@@ -10,7 +10,7 @@ pub(crate) struct Room {
 }
 
 impl Room {
-    /// No room so far. Later calls take their memory from `alloc`.
+    /// Empty buffers. Later calls take their memory from `alloc`.
     pub(crate) fn new(alloc: Global) -> Room {
         Room {
             spelled: String::new(alloc),

@@ -2,20 +2,21 @@ ghost use Rattle.std.specs.Prelude.{◌≡◌, ℕ, ◌+◌, ◌-◌, ◌^◌, �
 ghost use Rattle.std.specs.Io.KnownBytes.{Appends, WriteAppends};
 ghost use Rattle.oim_write.specs.Sink.{AppendsFirst};
 
-/// A sink did not take what it was given.
+/// A sink failed.
 #[derive(Clone, Copy, Debug, PartialEq, Eq)]
 pub struct SinkError;
 
-/// Takes bytes, and counts how often it failed to.
+/// Takes bytes, and counts its failures.
 pub trait Sink {
-    /// The bytes that it holds, where it tells them: a list in memory does, a file does not.
+    /// The bytes that it holds, if contracts can see them: a list in memory shows them, a file does
+    /// not.
     ghost told: { Self → Option (List ℕ) };
 
     /// How often it has failed.
     ghost failures: { Self → ℕ };
 
-    /// Appends the first bytes of these and answers how many, at least one where any were given.
-    /// On an error it appends none and has failed once more.
+    /// Appends the first of these bytes and returns their number, which is at least 1 unless no
+    /// bytes were given. On an error it appends none, and counts one more failure.
     fn put(&mut self, bytes: &[u8]) -> Result<usize, SinkError>
         requires { failures self.old < 2 ^ 64 - 1 }
         ensures bytes { WriteAppends (told self.old) (told self.new) result bytes.now }
@@ -28,7 +29,7 @@ pub trait Sink {
         ensures { result ≡ failures self.now };
 }
 
-/// Puts all the bytes, or answers how many of them the sink took before it failed.
+/// Gives the sink all these bytes, or returns how many it took before it failed.
 pub fn put_all<S: Sink>(sink: &mut S, bytes: &[u8]) -> Result<(), usize>
     requires { S.failures sink.old < 2 ^ 64 - 1 }
     ensures ok { OnOk result (Appends (S.told sink.old) (S.told sink.new) bytes.now) }

@@ -7,11 +7,11 @@ use crate::write_fault::WriteFault;
 use std::alloc::{AllocError, Global};
 use std::marker::Model;
 
-/// How many bytes wait, at least, before a sink is given them.
+/// The number of bytes from which a sink is given what waits.
 const CHUNK: usize = 1 << 16;
 
-/// A text on its way to a sink. What the sink took is counted; the end of the text waits in memory
-/// until it fills a chunk, or is flushed. After a fault it is of no further use.
+/// A text on its way to a sink. It counts what the sink took, and keeps the end of the text until
+/// that fills a chunk or is flushed. After a fault it must not be used any more.
 #[derive(Drop)]
 pub struct SinkBuffer {
     buffer: Vec<u8>,
@@ -30,7 +30,7 @@ impl Model for SinkBuffer {
 }
 
 impl SinkBuffer {
-    /// No text yet, and room for a chunk, where there is memory.
+    /// No text yet, and the memory for a chunk.
     pub fn new(alloc: Global) -> Result<SinkBuffer, AllocError>
         ensures { IfOk result (λ made. made ≡ nothing_yet) }
     {
@@ -40,7 +40,7 @@ impl SinkBuffer {
         })
     }
 
-    /// Lets these bytes follow. The sink is given what waits once that fills a chunk.
+    /// Appends bytes. Once they fill a chunk, the sink is given all that waits.
     pub fn push<S: Sink>(&mut self, sink: &mut S, bytes: &[u8]) -> Result<(), WriteFault>
         requires { S.failures sink.old < 2 ^ 64 - 1 }
         ensures ok { OnOk result
@@ -58,7 +58,7 @@ impl SinkBuffer {
         self.flush(sink)
     }
 
-    /// Gives the sink all that waits.
+    /// Writes all waiting bytes to the sink.
     pub fn flush<S: Sink>(&mut self, sink: &mut S) -> Result<(), WriteFault>
         requires { S.failures sink.old < 2 ^ 64 - 1 }
         ensures ok { OnOk result (Passes (S.told sink.old) (S.told sink.new) self.old self.new []) }
@@ -77,7 +77,8 @@ impl SinkBuffer {
         }
     }
 
-    /// Memory was refused on the way: what waits is put first, so that it is counted.
+    /// Ends the text because memory was refused. The sink is given what waits, so that the reported
+    /// length is that of the text so far.
     pub fn stop<S: Sink>(&mut self, sink: &mut S) -> WriteFault
         requires { S.failures sink.old < 2 ^ 64 - 1 }
         ensures broken { Breaks (S.told sink.old) (S.told sink.new) self.old [] (written_of result) }

@@ -4,8 +4,7 @@ ghost use Rattle.std.specs.Io.KnownBytes.{WriteAppends};
 use crate::sink::{Sink, SinkError};
 use std::io::Write;
 
-/// A sink over a writer. A write that fails, is interrupted or takes nothing of what it was given
-/// is a failure.
+/// A sink over a writer. It fails if a write fails, is interrupted, or takes none of its bytes.
 #[derive(Drop)]
 pub struct StdSink<W: Write> {
     writer: W,
@@ -14,7 +13,7 @@ pub struct StdSink<W: Write> {
 }
 
 impl<W: Write> StdSink<W> {
-    /// A sink over this writer, with no failure and nothing taken yet.
+    /// A sink over this writer, without failures or bytes so far.
     pub fn new(writer: W) -> StdSink<W>
         ensures writer { result.writer ≡ writer }
         ensures failures { result.failures ≡ 0 }
@@ -27,7 +26,7 @@ impl<W: Write> StdSink<W> {
         }
     }
 
-    /// How many bytes the writer has taken; a count that has reached the greatest u64 stays there.
+    /// The number of bytes that the writer took. At the greatest u64 the count stays.
     pub fn taken(&self) -> u64
         ensures { result ≡ self.now.taken }
     {

@@ -1,3 +1,5 @@
+mod writers;
+
 use crate::encoded::Encoded;
 use crate::ranked::identifier;
 use crate::sink::{Sink, put_all};

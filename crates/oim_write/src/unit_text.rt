@@ -7,8 +7,7 @@ use oim_dims::Unit;
 use oim_names::Name;
 use std::alloc::AllocError;
 
-/// Puts the text of a unit in the place of what the text was, each side in the order of names
-/// (xBRL-JSON 1.0).
+/// Replaces the text by that of a unit, with each side in the order of names (xBRL-JSON 1.0).
 pub(crate) fn spell_unit(
     text: &mut String,
     table: &PrefixTable,
@@ -32,7 +31,7 @@ fn push_unit(text: &mut String, table: &PrefixTable, unit: &Unit) -> Result<(), 
     push_side(text, table, unit.denominators())
 }
 
-// Writes a side that stands beside another.
+// Writes one side of a unit that has two.
 fn push_side(text: &mut String, table: &PrefixTable, names: &[Name]) -> Result<(), AllocError>
     ensures { OnOk result (string_bytes text.new ≡ string_bytes text.old ++ side_text (name_text table.now) names.now) }
 {

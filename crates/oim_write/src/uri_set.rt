@@ -8,18 +8,18 @@ ghost use Rattle.oim_write.specs.Uris.{Gains, defined_names, dimension_names, en
 
 use fact_base::Row;
 use oim_dims::{Dimensions, Member};
-use oim_names::{Name, Recent, Text};
+use oim_names::{Name, PositionCache, Text};
 use oim_value::Value;
 use std::alloc::{AllocError, Global};
 use std::marker::Model;
 
-/// The URIs of names. Contracts see each once and in byte order. The first of them stand so, and new
-/// ones behind those as they come; whenever there are more of these, all are put in order.
+/// The URIs of names. Contracts see them distinct and in byte order. In memory the first ones are
+/// sorted and new ones follow as they come; whenever the new ones are more, all are sorted.
 #[derive(Drop)]
 pub(crate) struct UriSet {
     uris: Vec<Text>,
     ordered: usize,
-    recent: Recent,
+    cache: PositionCache,
 }
 
 impl Model for UriSet {
@@ -41,7 +41,7 @@ impl UriSet {
         UriSet {
             uris: Vec::new(alloc),
             ordered: 0,
-            recent: Recent::new(),
+            cache: PositionCache::new(),
         }
     }
 
@@ -55,7 +55,7 @@ impl UriSet {
         uris
     }
 
-    /// Those of a row's names.
+    /// Adds the URIs of a row's names.
     pub(crate) fn add_row(&mut self, alloc: Global, row: Row<'_>) -> Result<(), AllocError>
         ensures { OnOk result (Gains self.old (row_names (shown row.entry)) self.new) }
     {
@@ -111,7 +111,7 @@ impl UriSet {
         Ok(())
     }
 
-    // A dimension, and its member where that is a name.
+    // Adds those of a dimension, and of its member if that is a name.
     fn add_defined(&mut self, alloc: Global, defined: &(Name, Member)) -> Result<(), AllocError>
         ensures { OnOk result (Gains self.old (defined_names defined.now) self.new) }
     {
@@ -140,16 +140,16 @@ impl UriSet {
         }
     }
 
-    // Takes memory for a new URI alone. Most are where one of their class was seen last.
+    // Takes memory for a new URI only. Most URIs are where the last one of their class was found.
     fn add(&mut self, alloc: Global, name: &Name) -> Result<(), AllocError>
         ensures { OnOk result (Gains self.old (name.now ∷ []) self.new) }
     {
         let uri = name.uri();
-        if self.is_at(self.recent.place(uri), uri) {
+        if self.is_at(self.cache.place(uri), uri) {
             return Ok(());
         }
         let place = self.put(alloc, name)?;
-        self.recent.set(uri, place);
+        self.cache.set(uri, place);
         Ok(())
     }
 
@@ -163,7 +163,7 @@ impl UriSet {
         }
     }
 
-    // The same as `add`, and where the URI is, until all are put in order.
+    // Does what `add` does, and returns where the URI is until all are sorted.
     fn put(&mut self, alloc: Global, name: &Name) -> Result<usize, AllocError>
         ensures { OnOk result (Gains self.old (name.now ∷ []) self.new) }
     {
@@ -180,7 +180,7 @@ impl UriSet {
         Ok(place)
     }
 
-    // Puts all in order, which changes nothing that contracts see.
+    // Sorts all, which changes nothing that contracts see.
     fn put_in_order(&mut self)
         ensures { self.new ≡ self.old }
     {

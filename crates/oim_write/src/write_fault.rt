@@ -1,10 +1,10 @@
 use thiserror::Error;
 
-/// Why a text was not written to its end. Each carries the length of what was written; a length
-/// that has reached the greatest u64 stays there.
+/// Why a text was not written to its end, with the length of what was written. At the greatest u64
+/// the length stays.
 #[derive(Clone, Copy, Debug, PartialEq, Eq, Error)]
 pub enum WriteFault {
-    /// There was no memory.
+    /// Memory was refused.
     #[error("out of memory after {0} bytes")]
     OutOfMemory(u64),
     /// The sink failed.

@@ -1,14 +1,14 @@
-ghost use Rattle.std.specs.Prelude.{◌≡◌, ◌+◌, ◌-◌, ◌^◌, ◌<◌, ◌++◌, codes, length, IfOk, IfErr, OnOk};
+ghost use Rattle.std.specs.Prelude.{◌≡◌, ◌+◌, ◌-◌, ◌^◌, ◌<◌, false, length, IfOk, IfErr, OnOk};
 ghost use Rattle.std.specs.Io.KnownBytes.{Appends};
 ghost use Rattle.fact_base.specs.Entries.{facts_with};
 ghost use Rattle.oim_write.specs.Bytes.{canonical};
-ghost use Rattle.oim_write.specs.Parts.{facts_text, numbered_text};
+ghost use Rattle.oim_write.specs.Parts.{facts_text, numbered_text, parts_text, text_parts};
 ghost use Rattle.oim_write.specs.SinkBuffer.{Breaks, Passes};
 ghost use Rattle.oim_write.specs.Sink.{AppendsFront, failures_after_write, written_of};
 
 use crate::encoded::Encoded;
 use crate::memory_sink::MemorySink;
-use crate::parts::{Labels, append_fact, head};
+use crate::parts::{Labels, append_fact, append_reference, head};
 use crate::prefix_table::PrefixTable;
 use crate::ranked::width_of;
 use crate::room::Room;
@@ -16,13 +16,14 @@ use crate::sink::Sink;
 use crate::sink_buffer::SinkBuffer;
 use crate::write_fault::WriteFault;
 use fact_base::{Base, Row};
+use oim_names::Text;
 use std::alloc::{AllocError, Global};
 
 /// The canonical text of a base (xBRL-JSON 1.0; the choice of prefixes and identifiers is own). It
 /// declares the strictest level of duplicates that allows the facts (OIM Common 1.0,
 /// `xbrl:allowedDuplicates`).
 ///
-/// Errors: want of memory.
+/// Errors: out of memory.
 pub fn text(alloc: Global, base: &Base<'_>) -> Result<Encoded, AllocError>
     ensures { IfOk result (λ text. text ≡ canonical base.now.body) }
 {
@@ -33,10 +34,10 @@ pub fn text(alloc: Global, base: &Base<'_>) -> Result<Encoded, AllocError>
     }
 }
 
-/// Appends the canonical text of the base to the sink, fact by fact, in chunks of at least 64 kB but
-/// the last. On a fault the sink has the front of it whose length the fault tells.
+/// Appends the canonical text of the base to the sink, fact by fact. Each chunk but the last has at
+/// least 64 kB. On a fault the sink has the first part of the text, with the length in the fault.
 ///
-/// Errors: `Device` where the sink failed; `OutOfMemory`, and what was written by then is counted.
+/// Errors: `Device` if the sink failed; `OutOfMemory`, with what was written by then counted.
 pub fn write_to<S: Sink>(alloc: Global, base: &Base<'_>, out: &mut S) -> Result<(), WriteFault>
     requires { S.failures out.old < 2 ^ 64 - 1 }
     ensures ok { OnOk result (Appends (S.told out.old) (S.told out.new) (canonical base.now.body)) }
@@ -48,7 +49,7 @@ pub fn write_to<S: Sink>(alloc: Global, base: &Base<'_>, out: &mut S) -> Result<
     let Ok(table) = PrefixTable::of(alloc, base) else {
         return Err(WriteFault::OutOfMemory(0));
     };
-    let Ok(head) = head(alloc, base.level(), &table, base.taxonomy()) else {
+    let Ok(head) = head(alloc, base.level(), &table) else {
         return Err(WriteFault::OutOfMemory(0));
     };
     let Ok(mut buffer) = SinkBuffer::new(alloc) else {
@@ -68,14 +69,44 @@ fn write_parts<S: Sink>(
 ) -> Result<(), WriteFault>
     requires { S.failures out.old < 2 ^ 64 - 1 }
     ensures ok { OnOk result (Passes (S.told out.old) (S.told out.new) buffer.old buffer.new
-        (head.now ++ (facts_text table.now base.now.body.facts ++ codes "}}"))) }
+        (parts_text head.now table.now base.now.body)) }
     ensures err { IfErr result (λ fault. Breaks (S.told out.old) (S.told out.new) buffer.old
-        (head.now ++ (facts_text table.now base.now.body.facts ++ codes "}}")) (written_of fault)) }
+        (parts_text head.now table.now base.now.body) (written_of fault)) }
     ensures failures { S.failures out.new ≡ failures_after_write result (S.failures out.old) }
 {
     buffer.push(out, head)?;
+    write_references(alloc, buffer, out, base.taxonomy())?;
+    buffer.push(out, b"]},\"facts\":{")?;
     write_facts(alloc, buffer, out, table, base)?;
     buffer.push(out, b"}}")
+}
+
+// Writes the references one by one, since each may be long.
+fn write_references<S: Sink>(
+    alloc: Global,
+    buffer: &mut SinkBuffer,
+    out: &mut S,
+    references: &[Text],
+) -> Result<(), WriteFault>
+    requires { S.failures out.old < 2 ^ 64 - 1 }
+    ensures ok { OnOk result (Passes (S.told out.old) (S.told out.new) buffer.old buffer.new
+        (text_parts false references.now)) }
+    ensures err { IfErr result (λ fault. Breaks (S.told out.old) (S.told out.new) buffer.old
+        (text_parts false references.now) (written_of fault)) }
+    ensures failures { S.failures out.new ≡ failures_after_write result (S.failures out.old) }
+{
+    let mut part = Vec::new(alloc);
+    let mut later = false;
+    for reference in references {
+        part.clear();
+        let written = append_reference(alloc, &mut part, later, reference);
+        if written.is_err() {
+            return Err(buffer.stop(out));
+        }
+        buffer.push(out, &part)?;
+        later = true;
+    }
+    Ok(())
 }
 
 fn write_facts<S: Sink>(
@@ -106,7 +137,7 @@ fn write_facts<S: Sink>(
     Ok(())
 }
 
-/// Writes the facts of a row, where so many stand before them. `part` is room for one.
+/// Writes the facts of a row after so many others. `part` is a buffer for one.
 fn write_row<S: Sink>(
     alloc: Global,
     buffer: &mut SinkBuffer,

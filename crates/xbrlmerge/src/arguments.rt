@@ -30,13 +30,26 @@ pub(crate) fn output_argument<'w>(alloc: Global) -> Arg<'w> {
         .help("Write to FILE, whole or not at all")
 }
 
+/// A command of this name under a sheet, with its help.
+pub(crate) fn command<'w>(
+    alloc: Global,
+    name: &'w str,
+    about: &'w str,
+    more: &'w str,
+) -> Result<Command<'w>, AllocError> {
+    Command::new(alloc, name)
+        .about(about)
+        .after_help(more)
+        .arg(sheet_argument(alloc))
+}
+
 /// The option that names the sheet, required.
-pub(crate) fn sheet_argument<'w>(alloc: Global) -> Arg<'w> {
+fn sheet_argument<'w>(alloc: Global) -> Arg<'w> {
     Arg::new(alloc, SHEET)
         .long(SHEET)
         .value_name("SHEET")
         .required(true)
-        .help("The file of the concept sheet, which the reports are read under")
+        .help("The sheet: a file that lists the concepts and dimensions of the reports")
 }
 
 /// A command that reads any number of reports and writes a text, with the words for both.
@@ -44,18 +57,21 @@ pub(crate) fn with_reports<'w>(
     alloc: Global,
     command: Command<'w>,
 ) -> Result<Command<'w>, AllocError> {
-    command
-        .arg(list_argument(alloc))?
-        .arg(null_argument(alloc)?)?
-        .arg(output_argument(alloc))?
-        .arg(quiet_argument(alloc))?
-        .arg(reports_argument(alloc))
+    let null = null_argument(alloc)?;
+    let arguments = vec![in alloc;
+        list_argument(alloc),
+        null,
+        output_argument(alloc),
+        quiet_argument(alloc),
+        reports_argument(alloc),
+    ]?;
+    command.args(arguments)
 }
 
 /// The option that names a file of names.
 fn list_argument<'w>(alloc: Global) -> Arg<'w> {
     Arg::new(alloc, LIST).long(LIST).value_name("FILE").help(
-        "Also read the reports that FILE names, one a line; - is standard input",
+        "Also read the reports named in FILE, one a line; - is standard input",
     )
 }
 
@@ -65,7 +81,7 @@ fn null_argument<'w>(alloc: Global) -> Result<Arg<'w>, AllocError> {
         .short('0')
         .long(NULL)
         .action(ArgAction::SetTrue)
-        .help("The names in FILE end with NUL, not with their line")
+        .help("Names in FILE end with NUL, not with a line end")
         .requires_arg(LIST)
 }
 
@@ -74,19 +90,19 @@ fn quiet_argument<'w>(alloc: Global) -> Arg<'w> {
     Arg::new(alloc, QUIET)
         .long(QUIET)
         .action(ArgAction::SetTrue)
-        .help("Do not tell on a terminal how many reports were read")
+        .help("Do not show on a terminal how many reports were read")
 }
 
 /// The names of any number of reports.
 fn reports_argument<'w>(alloc: Global) -> Arg<'w> {
     Arg::new(alloc, REPORT)
         .num_args(0..)
-        .help("The files of the reports, in this order")
+        .help("The report files, in this order")
 }
 
 /// The name of one report, required.
 pub(crate) fn report_argument<'w>(alloc: Global) -> Arg<'w> {
     Arg::new(alloc, REPORT)
         .required(true)
-        .help("The file of the report")
+        .help("The report file")
 }

@@ -3,46 +3,27 @@
 #![tactic(auto)]
 
 mod arguments;
-#[cfg(test)]
-mod asked_again;
-#[cfg(test)]
-mod canonical_parts;
 mod commands;
-#[cfg(test)]
-mod devices;
-mod ended;
-#[cfg(test)]
-mod expecting;
-mod files;
+mod console;
+mod error;
+mod fault_format;
+mod inputs;
 mod lines;
-mod named;
-mod new_file;
-mod progress;
-#[cfg(test)]
-mod ran;
+mod output;
+mod report_names;
+mod request;
+mod row_format;
 mod run;
-mod stop;
-mod task;
-mod terminals;
+mod streams;
 #[cfg(test)]
-mod tests_explained;
-#[cfg(test)]
-mod tests_files;
-#[cfg(test)]
-mod tests_progress;
-#[cfg(test)]
-mod tests_run;
-#[cfg(test)]
-mod tests_terminals;
-#[cfg(test)]
-mod tests_words;
+mod tests;
 mod words;
 
 use run::run;
 use std::io::IsTerminal;
 use std::process::ExitCode;
 use std::{env, io};
-use terminals::Terminals;
+use streams::Streams;
 
 /// The words after the program's name.
 fn given(rt: &HostRuntime) -> io::Result<Vec<String>> {
@@ -65,19 +46,13 @@ fn main(rt: HostRuntime) -> ExitCode {
             return ExitCode::from(3);
         }
     };
-    let (input, errors) = (rt.stdin(), rt.stderr());
-    let terminals = Terminals {
-        input: input.is_terminal(),
-        errors: errors.is_terminal(),
-    };
-    let status = run(
-        rt.alloc(),
-        &rt,
-        &words,
-        terminals,
+    let (input, err) = (rt.stdin(), rt.stderr());
+    let streams = Streams {
+        is_input_terminal: input.is_terminal(),
+        is_err_terminal: err.is_terminal(),
         input,
-        rt.stdout(),
-        errors,
-    );
-    ExitCode::from(status)
+        out: rt.stdout(),
+        err,
+    };
+    ExitCode::from(run(rt.alloc(), &rt, &words, streams))
 }

@@ -1,18 +1,13 @@
-use crate::arguments::{OUTPUT, QUIET};
-use crate::commands::check::Check;
-use crate::commands::explain::Explain;
-use crate::commands::merge::Merge;
-use crate::commands::replay::Replay;
-use crate::commands::sources::Sources;
-use crate::commands::verdicts::Verdicts;
+use crate::arguments::{OUTPUT, QUIET, SHEET};
 use crate::commands::{check, explain, merge, replay, sources, verdicts};
-use crate::named::Named;
-use crate::stop::Stop;
-use crate::task::{Asked, Task};
+use crate::error::Error;
+use crate::fault_format::format_of;
+use crate::report_names::ReportNames;
+use crate::request::{Args, Request, Subcommand};
+use crate::row_format::print_format_of;
 use clap::error::ErrorKind;
-use clap::{ArgMatches, Command, Error};
+use clap::{ArgMatches, Command};
 use oim_explain::Escaped;
-use oim_merge::Fault;
 use std::alloc::{AllocError, Global};
 use std::convert::AsStr;
 
@@ -21,52 +16,59 @@ const PROGRAM: &str = "xbrlmerge";
 // Between releases it is the next one with `-dev`. tests/tools compares it with the other places.
 const VERSION: &str = "0.3.0-dev";
 
-const ABOUT: &str = "Consolidates xBRL-JSON reports, and finds where they contradict each other";
+const ABOUT: &str = "Merges xBRL-JSON reports, and finds where they contradict each other";
 
 const MORE: &str =
-    "With no words it merges the bundle on standard input: its first line is a concept sheet, and
-each further line that is not empty is a report.
+    "Without a command, it merges the bundle on standard input: the first line is a sheet, and each
+other line that is not empty is a report.
 
 Example:
   cat examples/sheet.json examples/issuer.json examples/statfeed.json | xbrlmerge
 
-Status, of each command:
-  0  everything was done
-  1  a report was refused, and standard error tells why; or `explain` found a fault
-  2  `merge` wrote nothing, because a row is above what --allow allows
-  3  it was not done, or not to the end: invalid arguments, the sheet or an event is refused, a
-     file or a device failed, or out of memory";
+Status of each command, the highest that applies:
+  0  done
+  1  a report was refused, and standard error says why; or `explain` found a fault
+  2  `merge` wrote nothing, because a row exceeds --allow
+  3  not done, or not to the end: invalid arguments, a refused sheet or event, a file or device
+     that failed, or out of memory";
+
+/// The commands, in the order of the help.
+const COMMANDS: [&str; 6] = [
+    merge::NAME,
+    verdicts::NAME,
+    sources::NAME,
+    check::NAME,
+    explain::NAME,
+    replay::NAME,
+];
 
 /// Reads what the words ask for, those after the program's name.
 ///
-/// Errors: `Stop::Words` where they are not those of a command, and want of memory.
-pub(crate) fn read_words<W: AsStr>(alloc: Global, words: &[W]) -> Result<Asked<'_>, Stop<'_>> {
+/// Errors: `Usage` if they are not those of a command, and out of memory.
+pub(crate) fn read_words<W: AsStr>(alloc: Global, words: &[W]) -> Result<Args<'_>, Error<'_>> {
     if words.is_empty() {
-        return Ok(alone(alloc, Task::Bundle));
+        return Ok(alone(alloc, Request::Bundle));
     }
-    match asked(alloc, words) {
-        Ok(asked) => Ok(asked),
+    match parse(alloc, words) {
+        Ok(args) => Ok(args),
         Err(error) => match error.kind() {
             ErrorKind::DisplayHelp | ErrorKind::DisplayVersion => {
-                Ok(alone(alloc, Task::Show(error)))
+                Ok(alone(alloc, Request::Help(error)))
             }
-            ErrorKind::OutOfMemory => Err(stop_of(error)),
-            _ => Err(stop_of(error_shown(alloc, words, error)?)),
+            ErrorKind::OutOfMemory => Err(Error::OutOfMemory),
+            _ => Err(Error::from(error_shown(alloc, words, error)?)),
         },
     }
 }
 
-fn stop_of(error: Error) -> Stop<'static> {
-    match error.kind() {
-        ErrorKind::OutOfMemory => Stop::Run(Fault::OutOfMemory(0)),
-        _ => Stop::Words(error),
-    }
-}
-
 /// The error of these words where they are escaped, since clap's text has them as they are.
-fn error_shown<W: AsStr>(alloc: Global, words: &[W], raw: Error) -> Result<Error, AllocError> {
+fn error_shown<W: AsStr>(
+    alloc: Global,
+    words: &[W],
+    raw: clap::Error,
+) -> Result<clap::Error, AllocError> {
     let escaped = escape_each(alloc, words)?;
-    match asked(alloc, escaped.as_slice()) {
+    match parse(alloc, escaped.as_slice()) {
         Ok(_) => Ok(raw),
         Err(error) => Ok(error),
     }
@@ -81,52 +83,62 @@ fn escape_each<W: AsStr>(alloc: Global, words: &[W]) -> Result<Vec<String>, Allo
     Ok(escaped)
 }
 
-/// A task with no report and no file.
-fn alone(alloc: Global, task: Task<'_>) -> Asked<'_> {
-    Asked {
-        task,
-        reports: Named::none(alloc),
+/// A request with no report and no file.
+fn alone(alloc: Global, request: Request<'_>) -> Args<'_> {
+    Args {
+        request,
+        reports: ReportNames::none(alloc),
         output: None,
         is_quiet: false,
     }
 }
 
-fn asked<W: AsStr>(alloc: Global, words: &[W]) -> Result<Asked<'_>, Error> {
+fn parse<W: AsStr>(alloc: Global, words: &[W]) -> Result<Args<'_>, clap::Error> {
     let mut program = program(alloc)?;
-    let matches = program.try_get_matches_from_mut(words)?;
-    match found(alloc, &matches)? {
-        Some(asked) => Ok(asked),
+    match match_words(alloc, &mut program, words)? {
+        Some(args) => Ok(args),
         None => Err(program.error(ErrorKind::MissingSubcommand, "a command is missing")?),
     }
 }
 
-/// What was found in the words; None where they name no command.
-fn found<'w>(alloc: Global, matches: &ArgMatches<'w>) -> Result<Option<Asked<'w>>, AllocError> {
-    let Some((name, found)) = matches.subcommand() else {
+fn match_words<'w, W: AsStr>(
+    alloc: Global,
+    program: &mut Command<'w>,
+    words: &'w [W],
+) -> Result<Option<Args<'w>>, clap::Error> {
+    let matches = program.try_get_matches_from_mut(words)?;
+    Ok(args_of(alloc, &matches)?)
+}
+
+/// What the words have; None if they name no command.
+fn args_of<'w>(alloc: Global, matches: &ArgMatches<'w>) -> Result<Option<Args<'w>>, AllocError> {
+    let Some((name, matches)) = matches.subcommand() else {
         return Ok(None);
     };
-    let Some(task) = task_of(name, found) else {
+    let Some(request) = request_of(name, matches) else {
         return Ok(None);
     };
-    Ok(Some(Asked {
-        task,
-        reports: Named::found(alloc, found)?,
-        output: found.get_str(OUTPUT),
-        is_quiet: found.get_flag(QUIET),
+    Ok(Some(Args {
+        request,
+        reports: ReportNames::of(alloc, matches)?,
+        output: matches.get_str(OUTPUT),
+        is_quiet: matches.get_flag(QUIET),
     }))
 }
 
-/// What a command is to do; None where there is no such command.
-fn task_of<'w>(name: &str, found: &ArgMatches<'w>) -> Option<Task<'w>> {
-    match name {
-        merge::NAME => Merge::asked(found).map(Task::Merge),
-        verdicts::NAME => Verdicts::asked(found).map(Task::Verdicts),
-        sources::NAME => Sources::asked(found).map(Task::Sources),
-        check::NAME => Check::asked(found).map(Task::Check),
-        explain::NAME => Explain::asked(found).map(Task::Explain),
-        replay::NAME => Replay::asked(found).map(Task::Replay),
-        _ => None,
-    }
+/// What a command is to do; None if there is no such command.
+fn request_of<'w>(name: &str, matches: &ArgMatches<'w>) -> Option<Request<'w>> {
+    let sheet = matches.get_str(SHEET)?;
+    let subcommand = match name {
+        merge::NAME => merge::of(matches)?,
+        verdicts::NAME => Subcommand::Verdicts(print_format_of(matches)?),
+        sources::NAME => Subcommand::Sources(print_format_of(matches)?),
+        check::NAME => check::of(matches)?,
+        explain::NAME => return Some(Request::Explain(sheet, format_of(matches))),
+        replay::NAME => replay::of(matches)?,
+        _ => return None,
+    };
+    Some(Request::Under(sheet, subcommand))
 }
 
 /// The program with its help, and no command yet.
@@ -139,18 +151,23 @@ fn described<'w>(alloc: Global) -> Result<Command<'w>, AllocError> {
     program.bin_name(PROGRAM)
 }
 
-/// The program with the commands that consolidate reports.
-fn consolidating<'w>(alloc: Global) -> Result<Command<'w>, AllocError> {
-    described(alloc)?
-        .subcommand(Merge::words(alloc)?)?
-        .subcommand(Verdicts::words(alloc)?)?
-        .subcommand(Sources::words(alloc)?)
+/// The program with its commands and their help.
+fn program<'w>(alloc: Global) -> Result<Command<'w>, AllocError> {
+    let mut program = described(alloc)?;
+    for name in COMMANDS {
+        program = program.subcommand(words_of(alloc, name)?)?;
+    }
+    Ok(program)
 }
 
-/// The words of the program, with its help.
-fn program<'w>(alloc: Global) -> Result<Command<'w>, AllocError> {
-    consolidating(alloc)?
-        .subcommand(Check::words(alloc)?)?
-        .subcommand(Explain::words(alloc)?)?
-        .subcommand(Replay::words(alloc)?)
+/// The words of the command of this name.
+fn words_of<'w>(alloc: Global, name: &str) -> Result<Command<'w>, AllocError> {
+    match name {
+        merge::NAME => merge::words(alloc),
+        verdicts::NAME => verdicts::words(alloc),
+        sources::NAME => sources::words(alloc),
+        check::NAME => check::words(alloc),
+        explain::NAME => explain::words(alloc),
+        _ => replay::words(alloc),
+    }
 }

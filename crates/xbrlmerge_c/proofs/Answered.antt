@@ -8,7 +8,7 @@ use Rattle.oim_merge.specs.declared.fault.Fault.TheVariants.{OutOfMemory, Device
 use Rattle.xbrlmerge_c.specs.Answers.{Answers, NoRow, StopsBy}
 use Rattle.xbrlmerge_c.specs.Room.{Asks, Hands, HasNoText, Rejects, Room, TellsFirst}
 use Rattle.xbrlmerge_c.specs.Statuses.{done, no_memory, refused_some, sheet_refused, too_loose, too_short}
-use Rattle.xbrlmerge_c.specs.declared.made.Made.{Made}
+use Rattle.xbrlmerge_c.specs.declared.output.Made.{Made}
 
 pub within : (made : Result Made Fault) (old new : Room) (status : ℕ) → Answers made old new status → status ≤ no_memory
 within (Ok made) old new status (inl s) = omega (arith, s.0)

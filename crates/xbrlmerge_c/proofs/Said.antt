@@ -14,9 +14,13 @@ use Rattle.oim_merge.specs.Run.{Stops, Writes}
 use Rattle.oim_merge.specs.Sources.{sources}
 use Rattle.oim_merge.specs.declared.fault.Fault.{Fault}
 use Rattle.oim_merge.specs.declared.fault.Fault.TheVariants.{OutOfMemory, Device, TooLoose, Sheet as SheetFault}
+use Rattle.row_formats.specs.Listing.{ListsRows}
+use Rattle.row_formats.specs.Rows.{AreRows}
+use Rattle.row_formats.specs.SourceRows.{sources_in}
+use Rattle.row_formats.specs.declared.row_format.RowFormat.TheVariants.{Json}
 use Rattle.xbrlmerge_c.specs.Answers.{StopsBy}
-use Rattle.xbrlmerge_c.specs.Calls.{IsLoose, IsSheetRefused, Judges, Merges, TellsSources}
-use Rattle.xbrlmerge_c.specs.declared.made.Made.{Made}
+use Rattle.xbrlmerge_c.specs.Calls.{IsLoose, IsSheetRefused, Judges, JudgesJson, Merges, TellsSources, TellsSourcesJson}
+use Rattle.xbrlmerge_c.specs.declared.output.Made.{Made}
 
 module _ (sheet : List ℕ) (reports : List (List ℕ)) (listed : Sheet) (a : Added) (read : sheet_outcome sheet ≡ Ok listed) (is : a ≡ added listed reports) where
   pub merges : (level : Level) (before after : List ℕ) (told : List (ℕ × Refusal)) → before ≡ [] → Writes level a.body a.refusals (Some before) (Some after) told → Merges sheet reports level after told
@@ -48,6 +52,15 @@ module _ (sheet : List ℕ) (reports : List (List ℕ)) (listed : Sheet) (a : Ad
     refusals_are = w.refusals_are ∙ ap (λ (b : Added). b.refusals) is;
   }
 
+  pub judges_json : (before after : List ℕ) (told : List (ℕ × Refusal)) → before ≡ [] → ListsRows Json a.body a.refusals (Some before) (Some after) told → JudgesJson sheet reports after told
+  judges_json before after told none w = record {
+    listed = listed;
+    read = read;
+    rows = subst (AreRows Json (merged listed reports)) (sym (w.rows.appended ∙ ap (λ b. b ++ w.rows.text) none))
+        (subst (λ b. AreRows Json b w.rows.text) (ap (λ (b : Added). b.body) is) w.rows.rows);
+    refusals_are = w.refusals_are ∙ ap (λ (b : Added). b.refusals) is;
+  }
+
 pub tells_sources : (sheet : List ℕ) (reports each : List (List ℕ)) (listed : Sheet) (made : Result Made Fault) → sheet_outcome sheet ≡ Ok listed → each ≡ reports →
     IfOk made (λ m. m.text.items ≡ sources listed each) → IfOk made (λ m. m.refusals ≡ refused listed each) → IfOk made (λ m. TellsSources sheet reports m.text.items m.refusals)
 tells_sources sheet reports each listed (Ok made) read same text told = record {
@@ -57,3 +70,13 @@ tells_sources sheet reports each listed (Ok made) read same text told = record {
   refusals_are = told ∙ ap (refused listed) same;
 }
 tells_sources sheet reports each listed (Err fault) read same text told = tt
+
+pub tells_sources_json : (sheet : List ℕ) (reports each : List (List ℕ)) (listed : Sheet) (made : Result Made Fault) → sheet_outcome sheet ≡ Ok listed → each ≡ reports →
+    IfOk made (λ m. m.text.items ≡ sources_in Json listed each) → IfOk made (λ m. m.refusals ≡ refused listed each) → IfOk made (λ m. TellsSourcesJson sheet reports m.text.items m.refusals)
+tells_sources_json sheet reports each listed (Ok made) read same text told = record {
+  listed = listed;
+  read = read;
+  text_is = text ∙ ap (sources_in Json listed) same;
+  refusals_are = told ∙ ap (refused listed) same;
+}
+tells_sources_json sheet reports each listed (Err fault) read same text told = tt

@@ -6,7 +6,7 @@ use Rattle.oim_merge.specs.declared.fault.Fault.{Fault}
 use Rattle.oim_merge.specs.declared.fault.Fault.TheVariants.{OutOfMemory, Device, TooLoose, Sheet as SheetFault}
 use Rattle.xbrlmerge_c.specs.Room.{IsHanded, IsTooShort, Room, TellsReason, TellsRow}
 use Rattle.xbrlmerge_c.specs.Statuses.{done, no_memory, refused_some, sheet_refused, too_loose, too_short}
-use Rattle.xbrlmerge_c.specs.declared.made.Made.{Made}
+use Rattle.xbrlmerge_c.specs.declared.output.Made.{Made}
 
 -- it was handed over, and the status tells whether reports were refused
 abbrev pub AnswersText : List ℕ → List (ℕ × Refusal) → Room → Room → ℕ → Type 0
@@ -27,7 +27,7 @@ Answers (Err (SheetFault reason)) old new status = (status ≡ sheet_refused) ×
 Answers (Err (OutOfMemory written)) old new status = (status ≡ no_memory) × (new ≡ old)
 Answers (Err (Device written)) old new status = (status ≡ no_memory) × (new ≡ old)
 
--- why nothing was made, where this is so of a row above the level and of the sheet's refusal. A sink in memory fails for want of memory alone
+-- why nothing was made, where this is so of a row above the level and of the sheet's refusal. A sink in memory fails for out of memory alone
 abbrev pub StopsBy : (ℕ → List (ℕ × Refusal) → Type 0) → (Reason → Type 0) → Fault → Type 0
 StopsBy IsRow IsSheet (TooLoose number told) = IsRow number told
 StopsBy IsRow IsSheet (SheetFault reason) = IsSheet reason

@@ -9,6 +9,9 @@ use Rattle.oim_merge.specs.Above.{IsFirstAbove, StaysWithin}
 use Rattle.oim_merge.specs.Lines.{AreLines}
 use Rattle.oim_merge.specs.Reports.{merged, refused}
 use Rattle.oim_merge.specs.Sources.{sources}
+use Rattle.row_formats.specs.Rows.{AreRows}
+use Rattle.row_formats.specs.SourceRows.{sources_in}
+use Rattle.row_formats.specs.declared.row_format.RowFormat.TheVariants.{Json}
 
 -- the bytes of a sheet are refused
 abbrev pub IsSheetRefused : List ℕ → Reason → Type 0
@@ -41,4 +44,18 @@ pub record TellsSources (sheet : List ℕ) (reports : List (List ℕ)) (text : L
   pub listed : Sheet
   pub read : sheet_outcome sheet ≡ Ok listed
   pub text_is : text ≡ sources listed reports
+  pub refusals_are : told ≡ refused listed reports
+
+-- the same for the verdicts in JSON, an object a line,
+pub record JudgesJson (sheet : List ℕ) (reports : List (List ℕ)) (text : List ℕ) (told : List (ℕ × Refusal)) : Type 0 where
+  pub listed : Sheet
+  pub read : sheet_outcome sheet ≡ Ok listed
+  pub rows : AreRows Json (merged listed reports) text
+  pub refusals_are : told ≡ refused listed reports
+
+-- and of who said what
+pub record TellsSourcesJson (sheet : List ℕ) (reports : List (List ℕ)) (text : List ℕ) (told : List (ℕ × Refusal)) : Type 0 where
+  pub listed : Sheet
+  pub read : sheet_outcome sheet ≡ Ok listed
+  pub text_is : text ≡ sources_in Json listed reports
   pub refusals_are : told ≡ refused listed reports

@@ -9,8 +9,8 @@ use Rattle.oim_report.specs.declared.refusal.Refusal.{Refusal}
 use Rattle.oim_merge.specs.Checked.{IsChecked}
 use Rattle.oim_merge.specs.declared.checked.Checked.{Checked}
 use Rattle.xbrlmerge_c.specs.Rows.{row}
-use Rattle.xbrlmerge_c.specs.declared.checked_row.CheckedReport.{CheckedReport}
-use Rattle.xbrlmerge_c.specs.declared.row.RefusedReport.{RefusedReport}
+use Rattle.xbrlmerge_c.specs.declared.check.CheckedReport.{CheckedReport}
+use Rattle.xbrlmerge_c.specs.declared.output.RefusedReport.{RefusedReport}
 
 -- the numbers of what an accepted report comes to
 abbrev pub IsRowOf : Checked → CheckedReport → Type 0

@@ -1,4 +1,4 @@
--- Reports that stand one behind another in bytes, by the place where each ends (own).
+-- Reports that follow one another in bytes, by the place where each ends (own).
 use Rattle.std.specs.Prelude.{◌≤◌, ◌-◌, ℕ, List, [], ◌∷◌, length, take, drop}
 
 -- each end is no less than the one before it, the first no less than `from`, and none is beyond `count`

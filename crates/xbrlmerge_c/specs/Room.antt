@@ -4,7 +4,7 @@ use Rattle.oim_names.specs.Reasons.{entry_of}
 use Rattle.oim_names.specs.declared.reason.Reason.{Reason}
 use Rattle.oim_report.specs.declared.refusal.Refusal.{Refusal}
 use Rattle.xbrlmerge_c.specs.Rows.{rows_of}
-use Rattle.xbrlmerge_c.specs.declared.row.RefusedReport.{RefusedReport}
+use Rattle.xbrlmerge_c.specs.declared.output.RefusedReport.{RefusedReport}
 
 -- the bytes and the rows that a caller gave room for, and the two numbers that are told
 pub record Room : Type 0 where

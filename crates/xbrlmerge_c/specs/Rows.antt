@@ -4,7 +4,7 @@ use Rattle.oim_names.specs.Reasons.{entry_of}
 use Rattle.oim_report.specs.declared.place.Place.{Place}
 use Rattle.oim_report.specs.declared.place.Place.TheVariants.{Document, Fact}
 use Rattle.oim_report.specs.declared.refusal.Refusal.{Refusal}
-use Rattle.xbrlmerge_c.specs.declared.row.RefusedReport.{RefusedReport}
+use Rattle.xbrlmerge_c.specs.declared.output.RefusedReport.{RefusedReport}
 
 -- facts are counted from 1, and the document is 0
 abbrev pub place_number : Place → ℕ

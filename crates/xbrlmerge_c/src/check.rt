@@ -1,17 +1,39 @@
 ghost use Rattle.std.specs.Prelude.{◌≡◌, ◌≢◌, ◌≤◌, Err, IfOk, MatchResult};
-ghost use Rattle.oim_report.specs.Outcome.{outcome};
 ghost use Rattle.oim_merge.specs.Checked.{IsChecked};
-ghost use Rattle.xbrlmerge_c.specs.Checks.{Accepts, Refuses, RefusesSheet};
+ghost use Rattle.oim_report.specs.Outcome.{outcome};
+ghost use Rattle.xbrlmerge_c.specs.Checks.{IsRowOf, Accepts, Refuses, RefusesSheet};
 ghost use Rattle.xbrlmerge_c.specs.Statuses.{done, no_memory, refused_some, sheet_refused, too_loose, too_short};
 
-use crate::checked_row::CheckedReport;
-use crate::row::RefusedReport;
-use crate::sheet_reading::read_sheet;
-use crate::statuses::{DONE, NO_MEMORY, REFUSED, SHEET_REFUSED};
+use crate::output::{DONE, NO_MEMORY, REFUSED, RefusedReport, SHEET_REFUSED};
+use crate::reports::read_sheet;
 use oim_merge::{Checked, Fault, check_report};
 use oim_names::Reason;
 use oim_report::{Refusal, Sheet};
 use std::alloc::{AllocError, Global};
+
+/// What an accepted report comes to, as numbers.
+#[repr(C)]
+#[derive(Clone, Copy, Debug, PartialEq, Eq)]
+pub struct CheckedReport {
+    /// How many facts it has, repeats counted.
+    pub facts: u64,
+    /// The strictest level that allows its duplicates, from 0 for none to 3 for all.
+    pub level: u32,
+    /// 1 where its bytes are the canonical text of what it says, else 0.
+    pub canonical: u32,
+}
+
+impl CheckedReport {
+    pub(crate) fn new(checked: &Checked) -> CheckedReport
+        ensures { IsRowOf checked.now result }
+    {
+        CheckedReport {
+            facts: checked.facts,
+            level: checked.level as u32,
+            canonical: u32::from(checked.canonical),
+        }
+    }
+}
 
 /// Checks one report, as `oim_merge::check_report` does: `checked` tells what an accepted one comes to,
 /// and `refusal` why it is refused, with the report number 1, or why the sheet is, with 0.
@@ -57,7 +79,7 @@ pub extern "C" fn xbrlmerge_check(
 
 /// What the report comes to, or its refusal.
 ///
-/// Errors: want of memory, which is no refusal here.
+/// Errors: out of memory, which is no refusal here.
 fn checked_or_refused(
     alloc: Global,
     sheet: &Sheet,

@@ -2,21 +2,11 @@
 //! of the caller's. `include/xbrlmerge.h` tells what a caller has to keep.
 #![tactic(auto)]
 
-mod adding;
-mod answering;
+mod calls;
 mod check;
-mod checked_row;
-mod encoding;
-mod ends;
-mod handing;
-mod levels;
-mod made;
-mod merge;
+mod json_calls;
+mod output;
 mod refusal_name;
-mod row;
-mod sheet_reading;
-mod sources;
-mod statuses;
+mod reports;
 #[cfg(test)]
 mod tests;
-mod verdicts;

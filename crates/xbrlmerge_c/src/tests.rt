@@ -1,13 +1,11 @@
-use crate::check::xbrlmerge_check;
-use crate::checked_row::CheckedReport;
-use crate::merge::xbrlmerge_merge;
-use crate::refusal_name::xbrlmerge_refusal_name;
-use crate::row::RefusedReport;
-use crate::sources::xbrlmerge_sources;
-use crate::statuses::{
-    BAD_ENDS, BAD_LEVEL, DONE, NO_MEMORY, REFUSED, SHEET_REFUSED, TOO_LOOSE, TOO_SHORT,
+use crate::calls::{xbrlmerge_merge, xbrlmerge_sources, xbrlmerge_verdicts};
+use crate::check::{CheckedReport, xbrlmerge_check};
+use crate::json_calls::{xbrlmerge_sources_json, xbrlmerge_verdicts_json};
+use crate::output::{
+    BAD_ENDS, BAD_LEVEL, DONE, NO_MEMORY, REFUSED, RefusedReport, SHEET_REFUSED, TOO_LOOSE,
+    TOO_SHORT,
 };
-use crate::verdicts::xbrlmerge_verdicts;
+use crate::refusal_name::xbrlmerge_refusal_name;
 use std::alloc::Global;
 use std::test::Fail;
 
@@ -34,6 +32,12 @@ const VERDICTS: &[u8] = b"1 f1 f2 inconsistent apart f1 f2\n";
 
 const SOURCES: &[u8] = b"f1 1 \"a\"\nf2 3 \"b\"\n";
 
+const VERDICTS_JSON: &[u8] =
+    b"{\"row\":1,\"verdict\":\"inconsistent\",\"dimensions\":{\"concept\":\"{http://example.org/t}A\"},\"facts\":[{\"identifier\":\"f1\",\"value\":\"100\",\"decimals\":0},{\"identifier\":\"f2\",\"value\":\"102\",\"decimals\":0}],\"evidence\":{\"apart\":[\"f1\",\"f2\"]}}\n";
+
+const SOURCES_JSON: &[u8] =
+    b"{\"fact\":\"f1\",\"report\":1,\"identifier\":\"a\"}\n{\"fact\":\"f2\",\"report\":3,\"identifier\":\"b\"}\n";
+
 /// What stands in a room before a call.
 const BEFORE: RefusedReport = RefusedReport {
     report: 7,
@@ -52,7 +56,9 @@ const UNBOUND: RefusedReport = RefusedReport {
 enum Call {
     Merge(u32),
     Verdicts,
+    VerdictsJson,
     Sources,
+    SourcesJson,
 }
 
 /// What a call left in its caller's memory.
@@ -95,8 +101,32 @@ fn called_once(alloc: Global, call: Call, sheet: &str, ends: &[usize], room: usi
                 &mut refused,
             )
         }
+        (Call::VerdictsJson, Some(out)) => {
+            xbrlmerge_verdicts_json(
+                alloc,
+                sheet,
+                reports,
+                ends,
+                out,
+                &mut needed,
+                told,
+                &mut refused,
+            )
+        }
         (Call::Sources, Some(out)) => {
             xbrlmerge_sources(
+                alloc,
+                sheet,
+                reports,
+                ends,
+                out,
+                &mut needed,
+                told,
+                &mut refused,
+            )
+        }
+        (Call::SourcesJson, Some(out)) => {
+            xbrlmerge_sources_json(
                 alloc,
                 sheet,
                 reports,
@@ -142,7 +172,19 @@ fn texts_and_rows_are_handed_over(rt: HostRuntime) -> Result<(), Fail> {
     let ends = ENDS.as_slice();
     assert!(rt; has_all(&called(&rt, Call::Merge(3), SHEET, ends, 400), TEXT));
     assert!(rt; has_all(&called(&rt, Call::Verdicts, SHEET, ends, 400), VERDICTS));
+    assert!(rt;
+        has_all(
+            &called(&rt, Call::VerdictsJson, SHEET, ends, 400),
+            VERDICTS_JSON
+        )
+    );
     assert!(rt; has_all(&called(&rt, Call::Sources, SHEET, ends, 400), SOURCES));
+    assert!(rt;
+        has_all(
+            &called(&rt, Call::SourcesJson, SHEET, ends, 400),
+            SOURCES_JSON
+        )
+    );
     Ok(())
 }
 

@@ -119,7 +119,7 @@ fn an_equal_or_empty_base_adds_nothing(rt: HostRuntime) {
     }
 }
 
-// Has a base absorb one of two facts, and answers whether it did; where a request is refused, the other
+// Has a base absorb one of two facts, and returns whether it did; where a request is refused, the other
 // is lost.
 fn absorb_two(rt: &HostRuntime, base: &mut Base<'_>) -> Option<bool> {
     let other = base_of(rt, base.sheet(), &[TWO, ONE])?;
@@ -129,7 +129,7 @@ fn absorb_two(rt: &HostRuntime, base: &mut Base<'_>) -> Option<bool> {
     Some(base.absorb(other).is_ok())
 }
 
-// The same again where a request is refused and the base is then as before.
+// The same again where a request is refused and the base is then unchanged.
 fn absorbs(rt: &HostRuntime, base: &mut Base<'_>, before: &Base<'_>) -> bool {
     match absorb_two(rt, base) {
         Some(false) if base.same_as(before) => {
@@ -163,7 +163,7 @@ fn what_is_absorbed_is_counted_once(rt: HostRuntime) -> Result<(), Fail> {
     Ok(())
 }
 
-// Has a base absorb a report of one value, and answers whether it did; where a request is refused, the
+// Has a base absorb a report of one value, and returns whether it did; where a request is refused, the
 // report is lost.
 fn absorb_value(rt: &HostRuntime, base: &mut Base<'_>, value: &str) -> Option<bool> {
     let text = joined(rt, FACT, value, OF_A).ok()?;
@@ -174,7 +174,7 @@ fn absorb_value(rt: &HostRuntime, base: &mut Base<'_>, value: &str) -> Option<bo
     Some(base.absorb_report(report).is_ok())
 }
 
-// The same again where a request is refused and the base is then as before.
+// The same again where a request is refused and the base is then unchanged.
 fn absorbs_value(rt: &HostRuntime, base: &mut Base<'_>, value: &str, before: &Base<'_>) -> bool {
     match absorb_value(rt, base, value) {
         Some(false) if base.same_as(before) => {
@@ -185,7 +185,7 @@ fn absorbs_value(rt: &HostRuntime, base: &mut Base<'_>, value: &str, before: &Ba
     }
 }
 
-// Whether a base of two values that absorbs one has all, and has all where that comes again.
+// Whether a base of two values that absorbs one has all, and has all where that is repeated.
 fn has_what_is_given_up(rt: &HostRuntime, before: &Base<'_>, all: &Base<'_>) -> bool {
     match base_of(rt, all.sheet(), &[NINE, ONE]) {
         Some(mut base) => {
@@ -253,7 +253,7 @@ fn references_are_kept_once(rt: HostRuntime) -> Result<(), Fail> {
     Ok(())
 }
 
-// Whether a base has just these references.
+// Whether a base has exactly these references.
 fn are_spelled(base: &Base<'_>, references: &[&str]) -> bool {
     for (place, reference) in references.iter().enumerate() {
         match base.taxonomy().get(place) {

@@ -10,7 +10,7 @@ const TWO: &str = r#""value":"2","decimals":0"#;
 
 const NINE: &str = r#""value":"9","decimals":0"#;
 
-// Adds a report of one value, and answers whether it did; where a request is refused, it is lost.
+// Adds a report of one value, and returns whether it did; where a request is refused, it is lost.
 fn add(rt: &HostRuntime, gathered: &mut Gathering<'_>, value: &str) -> Option<bool> {
     let text = joined(rt, FACT, value, OF_A).ok()?;
     let report = read(rt, gathered.sheet(), text.as_str())?;

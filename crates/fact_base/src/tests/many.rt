@@ -126,7 +126,7 @@ fn join_all(bases: &mut Vec<Base<'_>>) -> Result<(), AllocError> {
 
 type Said = (Verdict, Evidence);
 
-// What is said of the one row of a base with `COUNT` facts.
+// Verdict and evidence on the only row of a base with `COUNT` facts.
 fn said_of(base: &Base<'_>) -> Option<Said> {
     if base.row_count() != 1 || base.fact_count() != u128::from(COUNT) {
         return None;
@@ -134,7 +134,7 @@ fn said_of(base: &Base<'_>) -> Option<Said> {
     judged(base)
 }
 
-// Whether three bases are one, and what is said of it.
+// Whether three bases are equal, and verdict and evidence on them.
 fn said_of_each(one: &Base<'_>, other: &Base<'_>, third: &Base<'_>) -> Option<Said> {
     if !one.same_as(other) || !other.same_as(third) || !third.same_as(one) {
         return None;
@@ -162,7 +162,7 @@ fn said_with_each(rt: &HostRuntime, one: &Base<'_>) -> Result<Option<Said>, Reas
     said_with_joined(rt, one, &other)
 }
 
-// What is said of the base of one report, of one report for each number and of joined bases.
+// Verdict and evidence on a base of one report, of one report a number, and of joined bases.
 fn said_of_all(rt: &HostRuntime, sheet: &Sheet) -> Result<Option<Said>, Reason> {
     let mut base = Base::new(rt.alloc(), sheet);
     take_all(rt, &mut base)?;

@@ -52,7 +52,7 @@ fn push_fact(text: &mut String, digits: [&str; 3]) -> Result<(), AllocError> {
     Ok(())
 }
 
-// Adds the facts of ten numbers, of which the first stands behind the mark.
+// Adds the facts of ten numbers; the first comes after the mark.
 fn push_ten(text: &mut String, mark: &str, hundreds: &str, tens: &str) -> Result<(), AllocError> {
     for (place, ones) in DIGITS.iter().enumerate() {
         text.push_str(if place == 0 { mark } else { "," })?;

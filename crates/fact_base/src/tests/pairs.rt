@@ -142,13 +142,13 @@ fn is_judged_by_pairs(base: &Base<'_>) -> bool {
     }
 }
 
-// Whether the values in an order make the same base, of which the same is said as by pairs.
+// Whether the values in an order make the same base, with the verdict that comparing pairs gives.
 fn is_same_in(rt: &HostRuntime, all: &Base<'_>, values: &[&str], order: &[usize]) -> bool {
     let mut base = Base::new(rt.alloc(), all.sheet());
     add_in_order(rt, &mut base, values, order) && base.same_as(all) && is_judged_by_pairs(&base)
 }
 
-// The first order in which the values make another base, or one of which something else is said.
+// The first order in which the values make another base, or one with another verdict.
 fn first_other(rt: &HostRuntime, all: &Base<'_>, values: &[&str]) -> Option<usize> {
     for (place, order) in ORDERS.iter().enumerate() {
         if !is_same_in(rt, all, values, order) {
@@ -165,7 +165,7 @@ fn is_same_in_each(rt: &HostRuntime, sheet: &Sheet, values: &[&str]) -> bool {
     }
 }
 
-// Values of one dimension set. Where there are fewer than three, one comes again.
+// Values of one dimension set. Where there are fewer than three, one is repeated.
 const ROWS: [[&str; 3]; 11] = [
     [
         r#""value":"100","decimals":0"#,

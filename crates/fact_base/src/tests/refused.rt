@@ -77,7 +77,7 @@ pub(super) fn base_of<'s>(rt: &HostRuntime, report: &Report<'s>) -> Option<Base<
     Some(base)
 }
 
-// How a base gets what a report says.
+// A way in which a base gets what a report says.
 #[derive(Clone, Copy)]
 enum Way {
     Take,
@@ -85,7 +85,7 @@ enum Way {
     Absorb,
 }
 
-// Absorbs the base of a report, of which another base is one too.
+// Absorbs the base of a report; `again` is a second base of that report.
 fn absorb_report(
     rt: &HostRuntime,
     base: &mut Base<'_>,
@@ -191,7 +191,7 @@ fn a_refused_base_leaves_the_one_that_absorbs_it(rt: HostRuntime) {
     assert!(rt; gets_both(&rt, Way::Absorb));
 }
 
-// Adds a report of this text, and answers whether it did; where a request is refused, it is lost.
+// Adds a report of this text, and returns whether it did; where a request is refused, it is lost.
 pub(super) fn gather(rt: &HostRuntime, gathered: &mut Gathering<'_>, text: &str) -> Option<bool> {
     let report = read(rt, gathered.sheet(), text)?;
     if !gathered.sheet().same_as(report.sheet()) {
@@ -211,7 +211,7 @@ fn becomes_both(rt: &HostRuntime, gathered: Gathering<'_>) -> bool {
     }
 }
 
-// Whether what was gathered is that of a base.
+// Whether the gathered facts and references are those of a base.
 fn is_as_before(gathered: Gathering<'_>, before: &Base<'_>) -> bool {
     match gathered.into_base() {
         Ok(base) => base.same_as(before),

@@ -1,4 +1,4 @@
-// Small reports behind a large one: what they say is gathered in lists, which are put in order whenever
+// Small reports after a large one: their facts are collected in lists, which are sorted whenever
 // they have doubled.
 
 use super::refused::gather;
@@ -43,8 +43,7 @@ fn gather_small(
     gather(rt, gathered, text.as_str())
 }
 
-// Adds a small report of each number up to the one for which a request is refused, and returns how many
-// were added.
+// Adds a small report for each number until a request is refused, and returns how many were added.
 fn gather_each(
     rt: &HostRuntime,
     gathered: &mut Gathering<'_>,
@@ -115,8 +114,8 @@ fn becomes_taken(
     }
 }
 
-// Gathers the large report and a small one of each number, and returns whether all of them were added. The
-// base is to have just what was added, where a request is refused too; None where it has not.
+// Gathers the large report and a small one for each number, and returns whether all were added, or
+// None if the base does not have exactly what was added, even after a refused request.
 fn gather_all(rt: &HostRuntime, sheet: &Sheet, facts: &str) -> Option<bool> {
     let mut gathered = Gathering::new(rt.alloc(), sheet);
     if !gather_large(rt, &mut gathered) {

@@ -6,10 +6,10 @@ use std::test::Fail;
 
 type Said = (Verdict, Evidence);
 
-// Values of one dimension set, in any order, and what is said of them.
+// Values of one dimension set, in any order, with their verdict and evidence.
 type Row<'t> = (&'t [&'t str], Said);
 
-// Whether this is said of values of these dimensions.
+// Whether values with these dimensions have this verdict and evidence.
 fn is_said(rt: &HostRuntime, sheet: &Sheet, end: &str, row: &Row<'_>) -> bool {
     match base_between(rt, sheet, FACT, row.0, end) {
         Some(base) => judged(&base) == Some(row.1),
@@ -31,7 +31,7 @@ fn first_other_under(
     None
 }
 
-// The first row of values of these dimensions of which something else is said.
+// The first row of the table whose values, with these dimensions, have another verdict or evidence.
 fn first_other(rt: &HostRuntime, end: &str, rows: &[Row<'_>]) -> Option<usize> {
     match read_sheet(rt) {
         Ok(sheet) => first_other_under(rt, &sheet, end, rows),
@@ -293,7 +293,7 @@ fn add_several(rt: &HostRuntime, base: &mut Base<'_>) -> bool {
     true
 }
 
-// Whether there are two rows of two values, and the level is that of values that do not meet.
+// Whether there are two rows of two values, at the level of values that do not meet.
 fn has_several(base: &Base<'_>) -> bool {
     base.row_count() == 2
         && base.fact_count() == 4

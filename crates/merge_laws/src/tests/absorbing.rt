@@ -13,7 +13,7 @@ use std::test::Fail;
 
 type PairsAt = SortedMap<Text, Pair>;
 
-// Absorbs the set of some items; answers whether there are then just these.
+// Absorbs the set of some items; returns whether there are then exactly these.
 fn absorbs_to(rt: &HostRuntime, first: &mut Items, items: &[&str], all: &[&str]) -> bool {
     match set(rt, items) {
         Ok(second) => absorb_set(rt, first, second).is_ok() && has_just(first, all),
@@ -202,7 +202,7 @@ fn pairs_at_a_key_of_both_are_merged(rt: HostRuntime) -> Result<(), Fail> {
     Ok(())
 }
 
-// The set of two items, of which the first is to be the lesser; else of none.
+// The set of two items if the first is the lesser; else the empty set.
 fn set_of_two(rt: &HostRuntime, first: Text, second: Text) -> Result<Items, AllocError> {
     let mut items = room(rt)?;
     if first.cmp(&second).is_ge() {

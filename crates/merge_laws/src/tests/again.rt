@@ -12,9 +12,9 @@ pub(super) type ItemsAt = SortedMap<Text, Items>;
 
 pub(super) type Pair = (Items, Items);
 
-// Where a request for memory is refused, the next one is not: the callee is asked again, unless it
-// has changed something; then the test fails. The line on standard error tells
-// `tests/refused_memory` of it, and whether the request was the test's own.
+// When a request for memory is refused, the next one succeeds: the call is repeated, unless it has
+// changed something; then the test fails. `tests/refused_memory` counts the lines on standard error,
+// and reads from them whether the request was the test's own.
 
 pub(super) fn tell_refused(rt: &HostRuntime) {
     let _ = eprintln!(rt; "refused");

@@ -39,8 +39,8 @@ fn has_multiples(map: &Many, step: i64, end: i64) -> bool {
     map.len() == seen
 }
 
-// Puts a value at the next multiple of a step. What was there is told by the numbers: to copy the map
-// each time would take too long.
+// Puts a value at the next multiple of a step. The number decides what the map had there: copying the
+// map each time would take too long.
 fn put_next(rt: &HostRuntime, map: &mut Many, step: i64, number: i64) -> Result<(), AllocError> {
     let value = rounded("1");
     match map.put(&place(number), &value) {
@@ -67,7 +67,7 @@ fn is_key_right(map: &Many, number: i64) -> bool {
     map.get(&place(number)).is_some() == there
 }
 
-// Whether the keys are those of each third and each second number, as far as some numbers tell.
+// Whether the keys are those of each third and each second number, by a sample of the numbers.
 fn are_keys_right(map: &Many) -> bool {
     for number in 0..200_000i64 {
         if number % 997 == 0 && !is_key_right(map, number) {
@@ -84,12 +84,12 @@ fn has_last(map: &Many) -> bool {
     }
 }
 
-// Whether there are just the keys of each third and each second number.
+// Whether the keys are exactly those of each third and each second number.
 fn has_all_keys(map: &Many) -> bool {
     map.len() == 133_333 && are_keys_right(map) && has_last(map)
 }
 
-// Takes in the keys of each second number; answers whether they were all there, and all are now.
+// Merges the keys of each second number; returns whether they were all there, and all are now.
 fn merges_halves(rt: &HostRuntime, map: &mut Many) -> bool {
     match put_all(rt, 2) {
         Ok(halves) => {

@@ -139,7 +139,7 @@ const UNIT: [Part; 1] = [Part::Unit("x:a")];
 
 const PURE: [Part; 1] = [Part::Unit("xbrli:pure")];
 
-// The same of the set of eg:A with one other part.
+// The same for the set of eg:A with one other part.
 fn is_set(rt: &HostRuntime, aliases: &Aliases, part: &[Part], wanted: (bool, bool, bool)) -> bool {
     match with(rt, aliases, "eg:A", part) {
         Ok(set) => has_just(&set, wanted.0, wanted.1, wanted.2),
@@ -250,7 +250,8 @@ fn takes(rt: &HostRuntime, aliases: &Aliases, set: &mut Dimensions, names: &[&st
 
 const LAST: [Part; 1] = [Part::Member("eg:c", Kind::Nil)];
 
-// Whether members stand in the order of names, however they come, and stay where others are refused.
+// Whether members are kept in the order of names, in whatever order they are given, and stay when
+// others are refused.
 fn are_put_in_order(rt: &HostRuntime, aliases: &Aliases) -> bool {
     match with(rt, aliases, "eg:A", &LAST) {
         Ok(mut set) => {

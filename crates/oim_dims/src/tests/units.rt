@@ -40,7 +40,7 @@ fn is_measure(rt: &HostRuntime, aliases: &Aliases, found: &Name, spelled: &str) 
     }
 }
 
-// Whether names are those of so many texts.
+// Whether the names are the expansions of the texts.
 fn are_measures(rt: &HostRuntime, aliases: &Aliases, found: &[Name], spelled: &[&str]) -> bool {
     for (name, spelled) in found.iter().zip(spelled) {
         if !is_measure(rt, aliases, name, spelled) {
@@ -50,7 +50,7 @@ fn are_measures(rt: &HostRuntime, aliases: &Aliases, found: &[Name], spelled: &[
     found.len() == spelled.len()
 }
 
-// Whether a text is of a unit with just these numerators and denominators.
+// Whether a text is of a unit with exactly these numerators and denominators.
 fn has_measures(
     rt: &HostRuntime,
     aliases: &Aliases,
@@ -236,7 +236,7 @@ fn units_are_written_and_read_back(rt: HostRuntime) -> Result<(), Fail> {
 // A prefix for one of the measures alone.
 const FEW: [(&str, &str); 1] = [("x", "http://example.org/u")];
 
-// And two for the other, of which the first is not plain.
+// Two for the other; the first is not plain.
 const HIDDEN: [(&str, &str); 3] = [
     ("x", "http://example.org/u"),
     ("e*g", "http://example.org/t"),

@@ -15,7 +15,7 @@ const BINDINGS: [(&str, &str); 6] = [
     ("b-2024", "http://example.org/b"),
 ];
 
-// Whether just the first bindings are there, so many of them.
+// Whether exactly the first bindings are there, so many of them.
 fn has_first(aliases: &Aliases, many: usize) -> bool {
     for (place, (prefix, uri)) in BINDINGS.iter().enumerate() {
         let is_bound = aliases.uri(prefix) == Some(*uri) && aliases.prefix_of(uri) == Some(*prefix);

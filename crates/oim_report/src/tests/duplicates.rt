@@ -1,5 +1,5 @@
 use super::{PREFIXES, aliases_of, tell_refused};
-use crate::duplicates::level_of;
+use crate::document::duplicates::level_of;
 use crate::order::order_of;
 use oim_dims::{Dimensions, Fact};
 use oim_names::{Aliases, Reason, Text as Words};
@@ -7,7 +7,7 @@ use oim_value::Level::{All, Complete, Consistent, Unique};
 use oim_value::{Decimals, Level, Value, read_fixed};
 use std::test::Fail;
 
-// The value of a fact as a report spells it, numbers with their decimals where they have some.
+// The value of a fact as a report spells it, with decimals if it has some.
 #[derive(Clone, Copy)]
 enum Said<'a> {
     Nil,
@@ -60,7 +60,7 @@ fn level_once(rt: &HostRuntime, aliases: &Aliases, rows: &[(&str, Said)]) -> Res
     level_in_order(rt, &facts)
 }
 
-// Where a request for memory is refused, the next one is not: all is asked again.
+// After a refused request for memory everything is done once more.
 fn level(rt: &HostRuntime, aliases: &Aliases, rows: &[(&str, Said)]) -> Result<Level, Reason> {
     match level_once(rt, aliases, rows) {
         Err(Reason::OutOfMemory) => {
@@ -113,7 +113,7 @@ const LEVELS: [(Level, &[(&str, Said)]); 22] = [
             ("eg:A", Name("eg:N")),
         ],
     ),
-    // numbers that meet are consistent, also where one of them comes again
+    // numbers that meet are consistent, also where one of them is repeated
     (
         Consistent,
         &[("eg:A", Rounded("1", 0)), ("eg:A", Number("1"))],

@@ -3,9 +3,9 @@ mod said;
 
 use super::tell_refused;
 use crate::Sheet;
-use crate::fact_reader::read_fact;
-use crate::glossaries::Glossaries;
-use crate::json_tree::read_json;
+use crate::document::json_tree::read_json;
+use crate::fact::fact_reader::read_fact;
+use crate::fact::glossaries::Glossaries;
 use oim_dims::Fact;
 use oim_names::{Aliases, Reason};
 use serde_json::Value;

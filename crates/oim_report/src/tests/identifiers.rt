@@ -14,7 +14,7 @@ fn identifiers(rt: &HostRuntime, text: &str) -> Result<Vec<Text>, Reason> {
     }
 }
 
-/// Whether the text gives just these identifiers, in this order.
+/// Whether the text gives exactly these identifiers, in this order.
 fn gives(rt: &HostRuntime, text: &str, wanted: &[&str]) -> Result<bool, Reason> {
     let found = identifiers(rt, text)?;
     if found.len() != wanted.len() {

@@ -1,6 +1,6 @@
 use super::{joined, repeated, tell_refused};
-use crate::base::{Base, read_base};
-use crate::kept::keep;
+use crate::document::base::{Base, read_base};
+use crate::document::kept::keep;
 use oim_names::{Reason, Text};
 use std::alloc::AllocError;
 use std::test::Fail;

@@ -12,7 +12,7 @@ use oim_names::{Reason, Text};
 use oim_value::Level;
 use std::alloc::AllocError;
 
-// A report up to what else stands in `documentInfo`.
+// The beginning of a report, up to the other members of `documentInfo`.
 const TYPED: &str = r#"{"documentInfo":{"documentType":"https://xbrl.org/2021/xbrl-json""#;
 
 // The same, with the prefixes `eg`, `x`, `xbrli` and `xbrl`.
@@ -42,7 +42,7 @@ enum Answer<'t> {
 
 use Answer::{Declares, HasLevel, InDocument, InFact, Keeps, Read, Sorts};
 
-// What comes of texts that stand in a report between two parts.
+// The outcomes of texts between two parts of a report.
 struct Table<'t> {
     start: &'t str,
     rows: &'t [(Answer<'t>, &'t [&'t str])],

@@ -1,16 +1,14 @@
 ghost use Rattle.std.specs.Prelude.{◌≡◌, ◌-◌, ◌^◌, ◌<◌, OnOk};
 
-use crate::arguments::{SHEET, sheet_argument, with_reports};
-use crate::files::{read_file, read_report};
+use crate::arguments::{command, with_reports};
+use crate::error::{Error, Success};
+use crate::fault_format::format_argument;
+use crate::inputs::{Inputs, sheet_of};
 use crate::lines::put_text;
-use crate::progress::Progress;
-use crate::stop::Stop;
-use clap::{ArgMatches, Command};
-use oim_explain::{Explained, explain, explain_repeated, explain_sheet};
-use oim_merge::Fault;
-use oim_names::Reason;
+use clap::Command;
+use oim_explain::{Explained, Format, Input, explain, explain_repeated, explain_sheet};
 use oim_report::Sheet;
-use oim_write::Sink;
+use oim_write::{Sink, WriteFault};
 use std::alloc::{AllocError, Global};
 use std::io::Write;
 use std::rt::Files;
@@ -18,147 +16,149 @@ use std::rt::Files;
 /// The word of this command.
 pub(crate) const NAME: &str = "explain";
 
-const ABOUT: &str = "Tells what is wrong with reports, in plain words";
+const ABOUT: &str = "Explains what is wrong with reports, in plain words";
 
 const MORE: &str =
-    "Each line describes one fault of one report: the file, the fact where it lies in one, the number
-and the name of the refusal, and what is wrong, with the text at fault. Of an identifier or a text
-at fault 80 characters are shown. Where the other commands tell a report's first fault, this one
-tells more: those of the document, or else those of its facts, or else that its duplicates go beyond
-what it declares. Of several names or members in one place with the same fault the first is told.
-Faults that only show once others are mended come then.
+    "Each line describes a fault of a report: the file, the fact if the fault is in one, the number and
+the name of the refusal, and what is wrong, with the text at fault. At most 80 characters of an
+identifier or a text are shown.
 
-It also tells each member that stands twice in a report or in the sheet, as a fact whose identifier
-another fact has: of these only the last one is read, here and by `merge`, which accepts such a
-file. Run `explain` first on files whose maker you do not know.
+The other commands name only the first fault of a report. `explain` lists all faults of the
+document. If there are none, it lists those of the facts, and if there are none, that of the
+duplicates. If several names or members in one place share a fault, only the first is shown. Some
+faults appear only after others are corrected.
 
-The last line tells how many reports were read, how many of them have a fault, and how many
-faults there are.
+It also lists repeated members of a report or of the sheet, such as two facts with the same
+identifier. Only the last one is read, here and by `merge`, which accepts such a file. Run `explain`
+first on files from untrusted sources.
+
+The last line counts the reports, those with a fault, and the faults.
+
+With --format json each fault is a JSON object on one line, and there is no last line. Its members:
+  report      the number of the report, from 1; null for the sheet
+  file        the name of the file
+  place       where the refusal lies: \"document\" or \"fact N\"
+  number      the number of the refusal
+  name        its name
+  identifier  the identifier of the fact, whole; null for the document
+  part        what is at fault, whole: a text, another value, an object of one member, or an array
+              of two texts; null if the sentence shows none
+  sentence    what is wrong, as in the text
+For a member that stands twice, place, number, name and identifier are null.
 
 Example:
   xbrlmerge explain --sheet examples/sheet.json examples/issuer.json examples/statfeed.json
 
 Status:
   0  there is no fault
-  1  a report has a fault, or a member stands twice in the sheet
-  3  not every report was read: invalid arguments, the sheet is refused, a file or a device
-     failed, or out of memory";
+  1  a report has a fault, or the sheet has a repeated member
+  3  not every report was read: invalid arguments, a refused sheet, a file or device that failed,
+     or out of memory";
 
-/// Reports are explained under the sheet of this file.
-#[derive(Drop)]
-pub(crate) struct Explain<'w> {
-    sheet: &'w str,
+/// The words of this command, with its help.
+pub(crate) fn words<'w>(alloc: Global) -> Result<Command<'w>, AllocError> {
+    let command = command(alloc, NAME, ABOUT, MORE)?;
+    with_reports(alloc, command.arg(format_argument(alloc))?)
 }
 
-impl<'w> Explain<'w> {
-    /// The words of this command, with its help.
-    pub(crate) fn words(alloc: Global) -> Result<Command<'w>, AllocError> {
-        let command = Command::new(alloc, NAME)
-            .about(ABOUT)
-            .after_help(MORE)
-            .arg(sheet_argument(alloc))?;
-        with_reports(alloc, command)
+/// Reads the sheet of this name and the reports, one after another, and writes the lines of each to
+/// `out`.
+///
+/// Errors: those of the files and of the sheet, out of memory, and `Device`.
+pub(crate) fn run<'n, F: Files, E: Write, S: Sink>(
+    name: &'n str,
+    format: Format,
+    inputs: &mut Inputs<'n, F, E>,
+    out: &mut S,
+) -> Result<Success, Error<'n>>
+    requires { S.failures out.old < 2 ^ 64 - 1 }
+{
+    let bytes = inputs.read(name)?;
+    let counts = put_under(name, format, bytes.as_bytes(), inputs, out)?;
+    if let Format::Text = format {
+        put_counts(inputs.alloc, inputs.names.len(), counts, out)?;
     }
+    Ok(Success::Faults(counts.faults))
+}
 
-    /// What was found in its words; None where a word that it needs is not there.
-    pub(crate) fn asked(found: &ArgMatches<'w>) -> Option<Explain<'w>> {
-        let sheet = found.get_str(SHEET)?;
-        Some(Explain { sheet })
+/// Puts the last line, of so many reports.
+///
+/// Errors: out of memory, and `Device`.
+fn put_counts<S: Sink>(
+    alloc: Global,
+    reports: usize,
+    counts: Counts,
+    out: &mut S,
+) -> Result<(), WriteFault>
+    requires { S.failures out.old < 2 ^ 64 - 1 }
+{
+    let (faulty, faults) = (counts.faulty, counts.faults);
+    match format!(in alloc; "reports: {reports}, with faults: {faulty}, faults: {faults}\n") {
+        Ok(line) => put_text(out, line.as_str()),
+        Err(_) => Err(WriteFault::OutOfMemory(0)),
     }
+}
 
-    /// Reads the files, one after another, and writes the lines of each to `out`. It answers how
-    /// many faults there are.
-    ///
-    /// Errors: those of the files, `Stop::Sheet`, want of memory, and `Fault::Device`.
-    pub(crate) fn run<F: Files, E: Write, S: Sink>(
-        &self,
-        alloc: Global,
-        files: &F,
-        names: &[&str],
-        progress: &mut Progress<E>,
-        out: &mut S,
-    ) -> Result<u64, Stop<'w>>
-        requires { S.failures out.old < 2 ^ 64 - 1 }
-    {
-        let bytes = read_file(alloc, files, self.sheet)?;
-        let told = self.put_under(alloc, bytes.as_bytes(), files, names, progress, out)?;
-        let (reports, faulty, faults) = (names.len(), told.reports, told.faults);
-        let line = format!(in alloc;
-            "reports: {reports}, with faults: {faulty}, faults: {faults}\n"
-        )?;
-        put_text(out, line.as_str())?;
-        Ok(faults)
-    }
+/// Puts the lines of the sheet with this name and these bytes, and of the reports.
+///
+/// Errors: those of the reports and of the sheet, out of memory, and `Device`.
+fn put_under<'n, F: Files, E: Write, S: Sink>(
+    name: &str,
+    format: Format,
+    bytes: &[u8],
+    inputs: &mut Inputs<'n, F, E>,
+    out: &mut S,
+) -> Result<Counts, Error<'n>>
+    requires { S.failures out.old < 2 ^ 64 - 1 }
+    ensures { OnOk result (S.failures out.new ≡ S.failures out.old) }
+{
+    let sheet = read_sheet(inputs.alloc, name, bytes)?;
+    let input = Input {
+        report: None,
+        name,
+        format,
+    };
+    let repeated = put_explained(out, explain_repeated(inputs.alloc, input, bytes))?;
+    put_each(&sheet, format, inputs, out, repeated)
+}
 
-    /// Puts the lines of the sheet with these bytes and of the reports of these names.
-    ///
-    /// Errors: `Stop::Report`, `Stop::Sheet`, want of memory, and `Fault::Device`.
-    fn put_under<F: Files, E: Write, S: Sink>(
-        &self,
-        alloc: Global,
-        bytes: &[u8],
-        files: &F,
-        names: &[&str],
-        progress: &mut Progress<E>,
-        out: &mut S,
-    ) -> Result<Told, Stop<'w>>
-        requires { S.failures out.old < 2 ^ 64 - 1 }
-        ensures { OnOk result (S.failures out.new ≡ S.failures out.old) }
-    {
-        let sheet = self.read_sheet(alloc, bytes)?;
-        let repeated = put_repeated(alloc, self.sheet, bytes, out)?;
-        put_each(alloc, &sheet, files, names, progress, out, repeated)
-    }
-
-    /// The sheet with these bytes.
-    ///
-    /// Errors: `Stop::Sheet` with what is said of it; want of memory.
-    fn read_sheet(&self, alloc: Global, bytes: &[u8]) -> Result<Sheet, Stop<'w>> {
-        match Sheet::read(alloc, bytes) {
-            Ok(sheet) => Ok(sheet),
-            Err(Reason::OutOfMemory) => Err(Stop::Run(Fault::OutOfMemory(0))),
-            Err(reason) => {
-                let words = explain_sheet(alloc, self.sheet, bytes, reason)?;
-                Err(Stop::Sheet(reason, words))
-            }
+/// The sheet with this name and these bytes.
+///
+/// Errors: `Sheet` with what is said of it; out of memory.
+fn read_sheet<'n>(alloc: Global, name: &str, bytes: &[u8]) -> Result<Sheet, Error<'n>> {
+    match sheet_of(alloc, bytes) {
+        Err(Error::Sheet(reason, _)) => {
+            let lines = explain_sheet(alloc, name, bytes, reason)?;
+            Err(Error::Sheet(reason, Some(lines)))
         }
+        read => read,
     }
 }
 
 /// How many reports have a fault, and how many faults there are.
 #[derive(Clone, Copy)]
-struct Told {
-    reports: u64,
+struct Counts {
+    faulty: u64,
     faults: u64,
 }
 
-impl Told {
+impl Counts {
     /// With one more report.
-    fn with(self, faults: u64) -> Told {
-        Told {
-            reports: self.reports.saturating_add(u64::from(faults > 0)),
+    fn with(self, faults: u64) -> Counts {
+        Counts {
+            faulty: self.faulty.saturating_add(u64::from(faults > 0)),
             faults: self.faults.saturating_add(faults),
         }
     }
 }
 
-/// Puts a line for each member that stands twice in a sheet, and answers how many they are.
+/// Puts lines on standard output, and returns how many they are.
 ///
-/// Errors: want of memory, and `Fault::Device`.
-fn put_repeated<S: Sink>(alloc: Global, name: &str, bytes: &[u8], out: &mut S) -> Result<u64, Fault>
-    requires { S.failures out.old < 2 ^ 64 - 1 }
-    ensures { OnOk result (S.failures out.new ≡ S.failures out.old) }
-{
-    put_explained(out, explain_repeated(alloc, name, bytes))
-}
-
-/// Puts lines on standard output, and answers how many they are.
-///
-/// Errors: want of memory, and `Fault::Device`.
+/// Errors: out of memory, and `Device`.
 fn put_explained<S: Sink>(
     out: &mut S,
     explained: Result<Explained, AllocError>,
-) -> Result<u64, Fault>
+) -> Result<u64, WriteFault>
     requires { S.failures out.old < 2 ^ 64 - 1 }
     ensures { OnOk result (S.failures out.new ≡ S.failures out.old) }
 {
@@ -167,35 +167,35 @@ fn put_explained<S: Sink>(
             put_text(out, explained.text.as_str())?;
             Ok(explained.faults)
         }
-        Err(_) => Err(Fault::OutOfMemory(0)),
+        Err(_) => Err(WriteFault::OutOfMemory(0)),
     }
 }
 
-/// Reads the reports of these names, one after another, and puts the lines of each on standard
-/// output, after so many faults.
+/// Reads the reports, one after another, and puts the lines of each on standard output, after so many
+/// faults.
 ///
-/// Errors: `Stop::Report`, want of memory, and `Fault::Device`.
-fn put_each<F: Files, E: Write, S: Sink>(
-    alloc: Global,
+/// Errors: those of the reports, out of memory, and `Device`.
+fn put_each<'n, F: Files, E: Write, S: Sink>(
     sheet: &Sheet,
-    files: &F,
-    names: &[&str],
-    progress: &mut Progress<E>,
+    format: Format,
+    inputs: &mut Inputs<'n, F, E>,
     out: &mut S,
     faults: u64,
-) -> Result<Told, Stop<'static>>
+) -> Result<Counts, Error<'n>>
     requires { S.failures out.old < 2 ^ 64 - 1 }
     ensures { OnOk result (S.failures out.new ≡ S.failures out.old) }
 {
-    let mut told = Told { reports: 0, faults };
-    let mut bytes: u64 = 0;
+    let (alloc, names) = (inputs.alloc, inputs.names);
+    let mut counts = Counts { faulty: 0, faults };
     for (place, name) in names.iter().enumerate() {
-        progress.show(place, names.len(), bytes);
-        let read = read_report(alloc, files, place, name);
-        progress.clear();
-        let report = read?;
-        bytes = bytes.saturating_add(report.as_bytes().len() as u64);
-        told = told.with(put_explained(out, explain(alloc, sheet, name, report.as_bytes()))?);
+        let report = inputs.read_report(name)?;
+        inputs.console.clear();
+        let input = Input {
+            report: Some((place as u64).saturating_add(1)),
+            name,
+            format,
+        };
+        counts = counts.with(put_explained(out, explain(alloc, sheet, input, report.as_bytes()))?);
     }
-    Ok(told)
+    Ok(counts)
 }

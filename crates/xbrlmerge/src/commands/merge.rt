@@ -1,12 +1,11 @@
 ghost use Rattle.std.specs.Prelude.{◌-◌, ◌^◌, ◌<◌};
 
-use crate::arguments::{SHEET, sheet_argument, with_reports};
-use crate::files::{read_sheet, read_under};
-use crate::progress::Progress;
-use crate::stop::{Stop, or_stop};
+use crate::arguments::{command, with_reports};
+use crate::error::{Error, Success, ended};
+use crate::inputs::Inputs;
+use crate::request::Subcommand;
 use clap::builder::ValueParser;
 use clap::{Arg, ArgMatches, Command};
-use oim_merge::Refusals;
 use oim_report::Sheet;
 use oim_value::Level;
 use oim_write::Sink;
@@ -22,91 +21,58 @@ const ALLOW: &str = "allow";
 /// The texts of the levels.
 static LEVELS: [&str; 4] = ["none", "complete", "consistent", "all"];
 
-const ABOUT: &str = "Writes one canonical report of all that the reports say";
+const ABOUT: &str = "Writes one canonical report with the facts of all reports";
 
 const MORE: &str =
-    "Equal facts are one, whoever reports them. The text does not depend on the order of the reports,
-nor on how often one is named. A report with a fault is passed over whole.
+    "Equal facts become one, whoever reports them. The output does not depend on the order of the
+reports or on how often a report is named. A report with a fault is skipped as a whole.
 
-LEVEL tells which rows the text may have. A row is all facts with the same dimensions. To refuse
-contradictions, pass --allow consistent.
-  none, complete  rows of one fact
-  consistent      also rows of numbers whose rounding intervals meet
-  all             also rows of facts that contradict each other
+A row is all facts with the same dimensions. LEVEL allows these rows:
+  none, complete  rows with one fact
+  consistent      also rows of numbers that agree within rounding
+  all             also rows with facts that contradict each other
+To refuse contradictions, pass --allow consistent.
 
 Example:
   xbrlmerge merge --sheet examples/sheet.json examples/issuer.json examples/statfeed.json
 
 Status:
   0  every report was merged
-  1  a report was refused, and standard error tells why; the others were merged
-  2  a row is above LEVEL: nothing was written, and standard error tells the number of the
-     first such row, as `verdicts` counts them
-  3  nothing was merged, or not to the end: invalid arguments, the sheet is refused, a file
-     or a device failed, or out of memory";
+  1  a report was refused, and standard error says why; the others were merged
+  2  a row exceeds LEVEL: nothing was written, and standard error has the number of the first
+     such row, as `verdicts` counts rows
+  3  not done, or not to the end: invalid arguments, a refused sheet, a file or device that
+     failed, or out of memory";
 
-/// Reports are merged under the sheet of this file.
-#[derive(Drop)]
-pub(crate) struct Merge<'w> {
-    sheet: &'w str,
-    allow: Level,
+/// The words of this command, with its help.
+pub(crate) fn words<'w>(alloc: Global) -> Result<Command<'w>, AllocError> {
+    let allow = Arg::new(alloc, ALLOW)
+        .long(ALLOW)
+        .value_name("LEVEL")
+        .value_parser(ValueParser::Names(LEVELS.as_slice()))
+        .default_value("all")
+        .help("The loosest rows that the output may have");
+    with_reports(alloc, command(alloc, NAME, ABOUT, MORE)?.arg(allow)?)
 }
 
-impl<'w> Merge<'w> {
-    /// The words of this command, with its help.
-    pub(crate) fn words(alloc: Global) -> Result<Command<'w>, AllocError> {
-        let allow = Arg::new(alloc, ALLOW)
-            .long(ALLOW)
-            .value_name("LEVEL")
-            .value_parser(ValueParser::Names(LEVELS.as_slice()))
-            .default_value("all")
-            .help("Which rows the text may have");
-        let command = Command::new(alloc, NAME)
-            .about(ABOUT)
-            .after_help(MORE)
-            .arg(sheet_argument(alloc))?
-            .arg(allow)?;
-        with_reports(alloc, command)
-    }
+/// The command, if its words have all that it needs.
+pub(crate) fn of<'w>(matches: &ArgMatches<'w>) -> Option<Subcommand<'w>> {
+    let allow = matches.get_str(ALLOW).and_then(Level::read)?;
+    Some(Subcommand::Merge(allow))
+}
 
-    /// What was found in its words; None where a word that it needs is not there.
-    pub(crate) fn asked(found: &ArgMatches<'w>) -> Option<Merge<'w>> {
-        let sheet = found.get_str(SHEET)?;
-        let allow = found.get_str(ALLOW).and_then(Level::read)?;
-        Some(Merge { sheet, allow })
-    }
-
-    /// Reads the files, adds each as it is read, and writes the merged text to `out`. It answers the
-    /// refused reports, by their places among the names, from 1.
-    ///
-    /// Errors: those of the files, of the sheet and of `Consolidation::finish_last`.
-    pub(crate) fn run<F: Files, E: Write, S: Sink>(
-        &self,
-        alloc: Global,
-        files: &F,
-        names: &[&str],
-        progress: &mut Progress<E>,
-        out: &mut S,
-    ) -> Result<Refusals, Stop<'w>>
-        requires { S.failures out.old < 2 ^ 64 - 1 }
-    {
-        let sheet = read_sheet(alloc, files, self.sheet)?;
-        self.merge_under(alloc, &sheet, files, names, progress, out)
-    }
-
-    /// The same under a sheet that is read.
-    fn merge_under<F: Files, E: Write, S: Sink>(
-        &self,
-        alloc: Global,
-        sheet: &Sheet,
-        files: &F,
-        names: &[&str],
-        progress: &mut Progress<E>,
-        out: &mut S,
-    ) -> Result<Refusals, Stop<'w>>
-        requires { S.failures out.old < 2 ^ 64 - 1 }
-    {
-        let reports = read_under(alloc, sheet, files, names, progress)?;
-        or_stop(reports.finish_last(self.allow, out))
-    }
+/// Reads the reports, adds each as it is read, and writes the merged text to `out`. It returns the
+/// refused reports, by their places among the names, from 1.
+///
+/// Errors: those of the reports and of `Consolidation::finish_last`.
+pub(crate) fn run<'n, F: Files, E: Write, S: Sink>(
+    allow: Level,
+    sheet: &Sheet,
+    inputs: &mut Inputs<'n, F, E>,
+    out: &mut S,
+) -> Result<Success, Error<'n>>
+    requires { S.failures out.old < 2 ^ 64 - 1 }
+{
+    let reports = inputs.consolidate(sheet)?;
+    ended(reports.finish_last(allow, out))
 }

@@ -1,13 +1,13 @@
 ghost use Rattle.std.specs.Prelude.{◌-◌, ◌^◌, ◌<◌};
 
-use crate::arguments::{SHEET, sheet_argument, with_reports};
-use crate::files::{read_sheet, read_under};
-use crate::progress::Progress;
-use crate::stop::{Stop, or_stop};
-use clap::{ArgMatches, Command};
-use oim_merge::Refusals;
+use crate::arguments::{command, with_reports};
+use crate::error::{Error, Success, ended};
+use crate::inputs::Inputs;
+use crate::row_format::{PrintFormat, with_format};
+use clap::Command;
 use oim_report::Sheet;
 use oim_write::Sink;
+use row_formats::finish_rows_last;
 use std::alloc::{AllocError, Global};
 use std::io::Write;
 use std::rt::Files;
@@ -18,83 +18,56 @@ pub(crate) const NAME: &str = "verdicts";
 const ABOUT: &str = "Prints a verdict for each set of facts with the same dimensions";
 
 const MORE: &str =
-    "Each line describes one row: all facts with the same dimensions in the text that `merge` writes.
-It says whether they agree exactly, agree within rounding, or contradict each other, with the
-evidence. The line is one of
+    "Each line describes a row: all facts with the same dimensions in the output of `merge`. It says
+whether they agree exactly, agree within rounding, or contradict each other, with the evidence.
 
   ROW FIRST LAST complete
   ROW FIRST LAST consistent common LOW HIGH
   ROW FIRST LAST inconsistent apart I J
 
   ROW           the number of the row, from 1
-  FIRST LAST    its first and its last fact, by their identifiers in that text
+  FIRST LAST    its first and last fact, by their identifiers in that output
   complete      the row has one fact: all who report it agree exactly
-  consistent    it has several, numbers that agree within rounding
-  LOW HIGH      the ends of what the rounding intervals of all its facts share
-  inconsistent  it has facts that contradict each other
+  consistent    the row has several numbers, which agree within rounding
+  LOW HIGH      the lowest and the highest number that fit all of them
+  inconsistent  the row has facts that contradict each other
   I J           two of these
+
+FORMAT tells how rows are printed:
+  lines  as above
+  json   an object a line, with the dimensions and the facts of the row
+  csv    a header and a record for each fact, quoted as RFC 4180 says
 
 Example:
   xbrlmerge verdicts --sheet examples/sheet.json examples/issuer.json examples/statfeed.json
 
 Status:
   0  every report was judged, whatever the verdicts are
-  1  a report was refused, and standard error tells why; the others were judged
-  3  nothing was judged, or not to the end: invalid arguments, the sheet is refused, a file
-     or a device failed, or out of memory";
+  1  a report was refused, and standard error says why; the others were judged
+  3  not done, or not to the end: invalid arguments, a refused sheet, a file or device that
+     failed, or out of memory";
 
-/// The facts of reports are judged under the sheet of this file.
-#[derive(Drop)]
-pub(crate) struct Verdicts<'w> {
-    sheet: &'w str,
+/// The words of this command, with its help.
+pub(crate) fn words<'w>(alloc: Global) -> Result<Command<'w>, AllocError> {
+    let command = command(alloc, NAME, ABOUT, MORE)?;
+    with_reports(alloc, with_format(alloc, command)?)
 }
 
-impl<'w> Verdicts<'w> {
-    /// The words of this command, with its help.
-    pub(crate) fn words(alloc: Global) -> Result<Command<'w>, AllocError> {
-        let command = Command::new(alloc, NAME)
-            .about(ABOUT)
-            .after_help(MORE)
-            .arg(sheet_argument(alloc))?;
-        with_reports(alloc, command)
-    }
-
-    /// What was found in its words; None where a word that it needs is not there.
-    pub(crate) fn asked(found: &ArgMatches<'w>) -> Option<Verdicts<'w>> {
-        let sheet = found.get_str(SHEET)?;
-        Some(Verdicts { sheet })
-    }
-
-    /// Reads the files, adds each as it is read, and writes the line of each row to `out`. It answers
-    /// the refused reports, by their places among the names, from 1.
-    ///
-    /// Errors: those of the files, of the sheet and of `Consolidation::finish_lines_last`.
-    pub(crate) fn run<F: Files, E: Write, S: Sink>(
-        &self,
-        alloc: Global,
-        files: &F,
-        names: &[&str],
-        progress: &mut Progress<E>,
-        out: &mut S,
-    ) -> Result<Refusals, Stop<'w>>
-        requires { S.failures out.old < 2 ^ 64 - 1 }
-    {
-        let sheet = read_sheet(alloc, files, self.sheet)?;
-        judge_under(alloc, &sheet, files, names, progress, out)
-    }
-}
-
-/// The same under a sheet that is read.
-fn judge_under<'w, F: Files, E: Write, S: Sink>(
-    alloc: Global,
+/// Reads the reports, adds each as it is read, and writes the line of each row to `out`. It returns
+/// the refused reports, by their places among the names, from 1.
+///
+/// Errors: those of the reports, of `Consolidation::finish_lines_last` and of `finish_rows_last`.
+pub(crate) fn run<'n, F: Files, E: Write, S: Sink>(
+    format: PrintFormat,
     sheet: &Sheet,
-    files: &F,
-    names: &[&str],
-    progress: &mut Progress<E>,
+    inputs: &mut Inputs<'n, F, E>,
     out: &mut S,
-) -> Result<Refusals, Stop<'w>>
+) -> Result<Success, Error<'n>>
     requires { S.failures out.old < 2 ^ 64 - 1 }
 {
-    let reports = read_under(alloc, sheet, files, names, progress)?;
-    or_stop(reports.finish_lines_last(out))
+    let reports = inputs.consolidate(sheet)?;
+    ended(match format {
+        PrintFormat::Lines => reports.finish_lines_last(out),
+        PrintFormat::Rows(format) => finish_rows_last(inputs.alloc, reports, format, out),
+    })
 }

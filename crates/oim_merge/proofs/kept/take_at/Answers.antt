@@ -3,7 +3,7 @@ use Rattle.std.specs.Prelude.{IfOk}
 use Rattle.std.specs.Result.{result_err}
 use Rattle.std.proofs.lemmas.Result.{IfOk-weaker, on_ok_weaker}
 use Rattle.oim_report.specs.Outcome.{outcome}
-use Rattle.oim_merge.specs.Kept.{IsKept, read_as, with_read}
+use Rattle.oim_merge.specs.Kept.{IsReadingOf, read_as, with_read}
 use Rattle.oim_merge.proofs.KeptTexts.{kept_is, kept_there, refusal_is, sheet_is, with_read_is}
 use Rattle.oim_merge.proofs.Steps.{read_default}
 use Rattle.oim_merge.proofs.Zips.{zip_set}
@@ -53,4 +53,4 @@ returns-clause-kept c =
     let sheet = c.args.sheet.now in
     let texts = c.args.texts.now in
     let bytes = c.as_bytes.ensures ∙ read_default texts c.args.place c.index-texts-place.result [] c.requires.place c.index-texts-place.is in
-    zip_set (IsKept sheet) texts c.args.kept.now c.requires.kept c.args.place [] (Some c.in_ok-read.read) (c.in_ok-read.ensures ∙ ap (λ b. read_as sheet (outcome sheet b)) bytes)
+    zip_set (IsReadingOf sheet) texts c.args.kept.now c.requires.kept c.args.place [] (Some c.in_ok-read.read) (c.in_ok-read.ensures ∙ ap (λ b. read_as sheet (outcome sheet b)) bytes)

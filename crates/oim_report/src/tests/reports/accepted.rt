@@ -89,7 +89,7 @@ const LEVELS: &[Table] = &[
         ],
         end: "}}",
     },
-    // what comes again is read the same
+    // what is repeated is read the same
     Table {
         start: FACTS,
         rows: &[(

@@ -24,7 +24,7 @@ const PLACES: [Table; 3] = [
         ],
         end: "}}",
     },
-    // facts stand in byte order of any identifiers
+    // facts are in byte order of any identifiers
     Table {
         start: FACTS,
         rows: &[
@@ -41,7 +41,7 @@ const PLACES: [Table; 3] = [
         ],
         end: "}}",
     },
-    // what comes again elsewhere is read anew
+    // what is repeated elsewhere is read anew
     Table {
         start: FACTS,
         rows: &[

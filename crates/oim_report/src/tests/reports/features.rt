@@ -69,7 +69,7 @@ const FEATURES: [Table; 4] = [
         )],
         end: REPEATED,
     },
-    // the feature stands once
+    // the feature may not be repeated
     Table {
         start: r#"{"documentInfo":{"documentType":"https://xbrl.org/2021/xbrl-json","namespaces":{"xbrl":"https://xbrl.org/2021","y":"https://xbrl.org/2021"},"features":{"#,
         rows: &[

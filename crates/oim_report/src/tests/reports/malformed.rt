@@ -13,7 +13,7 @@ const EVERY_PART: &str =
 // Zero, a tab, a line feed, an escape's sign and a byte that no UTF-8 text has.
 const OTHERS: &[u8] = &[0, 9, 10, 92, 255];
 
-/// Whether the bytes are read or refused, and not for want of memory.
+/// Whether the bytes are read or refused, and not for out of memory.
 fn is_answered(rt: &HostRuntime, sheet: &Sheet, bytes: &[u8]) -> bool {
     match read(rt, sheet, bytes) {
         Ok(_) => true,

@@ -1,13 +1,13 @@
 use Rattle.std.proofs.Common.{◌≡◌, ℕ, List, ◌++◌, codes, append_assoc, ap, ◌∙◌, false}
 use Rattle.serde_json.specs.Written.{comma_if}
 use Rattle.oim_value.specs.Level.{level_entry}
-use Rattle.oim_write.specs.Parts.{has_some, namespace_members, parts, text_parts}
+use Rattle.oim_write.specs.Parts.{has_some, namespace_members, parts}
 use Rattle.oim_write.proofs.parts.head.Goals as goal
 
-rejoin : (first level middle names comma bound references last : List ℕ) →
-    ((((((first ++ level) ++ middle) ++ names) ++ comma) ++ bound) ++ references) ++ last
-    ≡ first ++ (level ++ (middle ++ (names ++ (comma ++ (bound ++ (references ++ last))))))
-rejoin first level middle names comma bound references last = simp append_assoc
+rejoin : (first level middle names comma bound : List ℕ) →
+    ((((first ++ level) ++ middle) ++ names) ++ comma) ++ bound
+    ≡ first ++ (level ++ (middle ++ (names ++ (comma ++ bound))))
+rejoin first level middle names comma bound = simp append_assoc
 
 pub returns : goal.returns
 returns c =
@@ -16,14 +16,10 @@ returns c =
     let middle = codes "\"},\"namespaces\":{" in
     let names = parts false (namespace_members c.args.table.now c.args.table.now) in
     let bound = codes "\"xbrl\":\"https://xbrl.org/2021\"},\"taxonomy\":[" in
-    let references = text_parts false c.args.references.now in
-    let last = codes "]},\"facts\":{" in
-    c.in_ok-extend_from_slice-5.ensures.items
-    ∙ ap (λ t. t ++ last) (c.in_ok-append_references.ensures
-    ∙ ap (λ t. t ++ references) (c.in_ok-extend_from_slice-4.ensures.items
+    c.in_ok-extend_from_slice-4.ensures.items
     ∙ ap (λ t. t ++ bound) (c.in_ok-append_comma.ensures
     ∙ (λ i. (c.in_ok-append_namespaces.ensures
     ∙ ap (λ t. t ++ names) (c.in_ok-extend_from_slice-3.ensures.items
     ∙ ap (λ t. t ++ middle) (c.in_ok-extend_from_slice-2.ensures.items
-    ∙ (λ j. (c.in_ok-extend_from_slice.ensures.items ∙ ap (λ t. t ++ first) c.new-text.ensures.items) j ++ (c.as_bytes.ensures.value ∙ c.text.ensures) j)))) i ++ comma_if (c.has_uris.ensures i)))))
-    ∙ rejoin first level middle names (comma_if (has_some c.args.table.now)) bound references last
+    ∙ (λ j. (c.in_ok-extend_from_slice.ensures.items ∙ ap (λ t. t ++ first) c.new-text.ensures.items) j ++ (c.as_bytes.ensures.value ∙ c.text.ensures) j)))) i ++ comma_if (c.has_uris.ensures i)))
+    ∙ rejoin first level middle names (comma_if (has_some c.args.table.now)) bound

@@ -1,5 +1,4 @@
-use Rattle.std.proofs.Common.{◌≡◌, ◌+◌, ◌++◌, false, Result, Ok, Err, drop, refl, subst, ◌∙◌, arith, take_all}
-use Rattle.std.specs.Prelude.{OnOk, is_err}
+use Rattle.std.proofs.Common.{◌+◌, ◌++◌, drop, refl, subst, ◌∙◌, arith, take_all}
 use Rattle.std.proofs.lemmas.Result.{err_from_is_err_and}
 use Rattle.oim_dims.specs.declared.fact.Fact.{Fact}
 use Rattle.fact_base.specs.Entries.{facts_with}
@@ -8,12 +7,8 @@ use Rattle.oim_write.specs.Sink.{written_of}
 use Rattle.oim_write.specs.SinkBuffer.{Breaks, Passes}
 use Rattle.oim_write.proofs.NumberedFacts.{fact_part, left_facts, next_fact, rest_text}
 use Rattle.oim_write.proofs.PartTexts.{behind_nothing}
-use Rattle.oim_write.proofs.Passing.{Breaks-more, Breaks-trans, Passes-nil, Passes-trans}
+use Rattle.oim_write.proofs.Passing.{Breaks-more, Breaks-trans, Passes-nil, Passes-trans, holds_where_ok}
 use Rattle.oim_write.proofs.writer.write_row.Goals as goal
-
-holds_where_ok : {T E P : Type 0} (r : Result T E) → false ≡ is_err r → OnOk r P → P
-holds_where_ok (Ok x) e p = p
-holds_where_ok (Err x) e p = cc
 
 pub loop-i-init : goal.loop-i-init
 loop-i-init g c = record { passed = Passes-nil _ _; failures = refl }

@@ -6,6 +6,7 @@ use Rattle.fact_base.specs.Contents.{Contents}
 use Rattle.fact_base.specs.Fits.{Fits}
 use Rattle.fact_base.specs.Gathered.{gathered}
 use Rattle.fact_base.proofs.Gathers.{document_fits, gathered_document}
+use Rattle.fact_base.proofs.Puts.{same_moved}
 use Rattle.fact_base.proofs.gathering.Gathering.gather.Goals as goal
 
 pub append-requires : goal.append-requires
@@ -13,7 +14,7 @@ append-requires c =
     let d = c.args.report.document in
     let facts = c.in_ok-facts.facts.items in
     let references = c.in_ok-references.references.items in
-    let same = subst (SameMembers facts) c.into_facts-facts.ensures.facts c.in_ok-facts.ensures in
+    let same = subst (SameMembers facts) c.into_facts-facts.ensures.facts (same_moved c.into_facts-facts.result.0.items facts c.in_ok-facts.ensures.moved) in
     let is = gathered_document facts references d same (c.in_ok-references.ensures ∙ c.taxonomy.ensures) in
     let sheet = c.requires ∙ ap (λ (b : Contents). b.sheet) (sym c.settle.ensures) in
     subst (Fits c.settle.new.self.sheet) (sym is) (subst (λ s. Fits s (body (d ∷ []))) sheet (document_fits c.args.report.sheet d c.known.ensures.facts c.known.ensures.references))
@@ -23,7 +24,7 @@ returns-clause-ok c =
     let d = c.args.report.document in
     let facts = c.in_ok-facts.facts.items in
     let references = c.in_ok-references.references.items in
-    let same = subst (SameMembers facts) c.into_facts-facts.ensures.facts c.in_ok-facts.ensures in
+    let same = subst (SameMembers facts) c.into_facts-facts.ensures.facts (same_moved c.into_facts-facts.result.0.items facts c.in_ok-facts.ensures.moved) in
     let is = gathered_document facts references d same (c.in_ok-references.ensures ∙ c.taxonomy.ensures) in
     on_ok_weaker c.append.result (λ with.
     with

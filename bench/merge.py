@@ -1,0 +1,276 @@
+#!/usr/bin/env python3
+"""Measures xbrlmerge on reports that it makes itself: bench/merge [FOLDER]
+
+Three workloads, each of two sizes: one report, reports of 50 facts, and eight providers of the same
+facts. Beside it runs a peer, a program of a few lines that reads each report by serde_json and writes
+it back, so that the ratio tells what is done beyond reading and writing JSON. Growth is the exponent:
+1 where ten times the facts take ten times as much. It goes by instructions where valgrind is there to
+count them, and else by processor time. Each text that is written is looked at: it has every fact once.
+FOLDER keeps the bundles and texts; without it nothing is kept. The status is 2 where nothing could be
+measured.
+"""
+import json
+import math
+import os
+import random
+import re
+import shutil
+import subprocess
+import sys
+import tempfile
+
+REPOSITORY = os.path.dirname(os.path.dirname(os.path.realpath(__file__)))
+SIZES = 4_000, 40_000
+RUNS = 5
+
+TAXONOMY = "https://xbrl.ifrs.org/taxonomy/2023-03-23/ifrs-full"
+ISSUER = "https://issuer.example/taxonomy/2023"
+SCHEME = "http://standards.iso.org/iso/17442"
+CURRENCIES = "http://www.xbrl.org/2003/iso4217"
+SUBJECTS = (
+    "Revenue", "CostOfSales", "Inventories", "PropertyPlantAndEquipment", "LongtermBorrowings",
+    "TradeAndOtherCurrentReceivables", "CashFlowsFromUsedInOperatingActivities", "RetainedEarnings",
+    "IntangibleAssetsOtherThanGoodwill", "ShareOfProfitLossOfAssociatesAndJointVentures",
+)
+CONCEPTS = 500
+YEARS = 5
+
+PEER = """\
+//! Reads each line of standard input as JSON, and writes it back.
+#![tactic(auto)]
+
+use serde_json::Value;
+use std::io::{self, BufRead, BufReader, BufWriter, ErrorKind, Write};
+
+fn main(rt: HostRuntime) -> io::Result<()> {
+    let alloc = rt.alloc();
+    let mut out = BufWriter::new(alloc, rt.stdout())?;
+    for line in BufReader::new(alloc, rt.stdin())?.lines(alloc) {
+        let line = line?;
+        let Ok(value) = Value::from_slice(alloc, line.as_bytes()) else {
+            return Err(io::Error::from(ErrorKind::InvalidData));
+        };
+        out.write_all(value.to_vec(alloc)?.as_slice())?;
+    }
+    out.flush()
+}
+"""
+
+
+class Failure(Exception):
+    """Nothing could be measured."""
+
+
+def in_child(work, *words):
+    """Runs it in a process of its own. A child begins with the memory of this process at its peak,
+    so that this one is to stay small."""
+    sys.stdout.flush()
+    child = os.fork()
+    if child == 0:
+        status = 1
+        try:
+            work(*words)
+            status = 0
+        finally:
+            os._exit(status)
+    if os.waitpid(child, 0)[1] != 0:
+        raise Failure(f"{work.__name__} failed")
+
+
+def concept(n):
+    """The URI and the local part of a concept. One in ten is the issuer's own, and a text."""
+    n %= CONCEPTS
+    return (ISSUER if n % 10 == 9 else TAXONOMY), f"{SUBJECTS[n % len(SUBJECTS)]}Item{n}"
+
+
+def fact(n, entity, prefixes, value, decimals):
+    """The fact n of an entity: no two have the same concept, year and segment."""
+    year, segment = 2018 + n // CONCEPTS % YEARS, n // CONCEPTS // YEARS
+    uri, local = concept(n)
+    dimensions = {
+        "concept": f"{prefixes[uri]}:{local}",
+        "entity": f"{prefixes[SCHEME]}:{entity}",
+        "period": f"{year}-01-01T00:00:00/{year + 1}-01-01T00:00:00",
+    }
+    if segment > 0:
+        dimensions[f"{prefixes[TAXONOMY]}:SegmentsAxis"] = f"{prefixes[ISSUER]}:Segment{segment}Member"
+    if uri == ISSUER:
+        dimensions["language"] = "en"
+        return {"value": f"What the {value} are for", "dimensions": dimensions}
+    dimensions["unit"] = f"{prefixes[CURRENCIES]}:EUR"
+    return {"value": str(value), "decimals": decimals, "dimensions": dimensions}
+
+
+def report(number, facts, rng):
+    """A report of facts, each its number, entity, value and decimals, with prefixes of its own."""
+    uris = TAXONOMY, ISSUER, SCHEME, CURRENCIES
+    prefixes = {uri: f"{name}{number}" for uri, name in zip(uris, ("ifrs", "own", "lei", "iso"))}
+    return {
+        "documentInfo": {
+            "documentType": "https://xbrl.org/2021/xbrl-json",
+            "namespaces": {prefix: uri for uri, prefix in prefixes.items()},
+            "taxonomy": [f"{TAXONOMY}/full_ifrs_entry_point.xsd"],
+        },
+        "facts": {f"{rng.getrandbits(64):016x}": fact(n, entity, prefixes, value, decimals) for n, entity, value, decimals in facts},
+    }
+
+
+def reports_of(workload, size, rng):
+    """The facts of each report of a workload."""
+    def drawn(count, entity):
+        # one fact in twenty has decimals from the whole range, -18 to 18
+        return [(n, entity, rng.randrange(10**9), n // 20 % 37 - 18 if n % 20 == 7 else 0) for n in range(count)]
+
+    if workload == "one report":
+        return [drawn(size, "ISSUER")]
+    if workload == "reports of 50":
+        return [drawn(50, f"ISSUER{r}") for r in range(size // 50)]
+    # one fact in twenty is said as rounded to thousands
+    said = drawn(size // 8, "ISSUER")
+    rounded = [(n, entity, round(value, -3), -3) for n, entity, value, _ in said]
+    return [[rounded[n] if rng.random() < 0.05 else said[n] for n in range(len(said))] for _ in range(8)]
+
+
+WORKLOADS = "one report", "reports of 50", "8 providers"
+
+
+def write_bundle(workload, size, path):
+    rng = random.Random(size)
+    with open(path, "w") as bundle:
+        def put(value):
+            bundle.write(json.dumps(value, separators=(",", ":")) + "\n")
+
+        uris = {"ifrs": TAXONOMY, "own": ISSUER}
+        prefixes = {uri: prefix for prefix, uri in uris.items()}
+        kinds = {f"{prefixes[uri]}:{local}": "text" if uri == ISSUER else "numeric" for uri, local in map(concept, range(CONCEPTS))}
+        put({"namespaces": uris, "concepts": kinds, "dimensions": {"ifrs:SegmentsAxis": "explicit"}})
+        for number, facts in enumerate(reports_of(workload, size, rng)):
+            put(report(number, facts, rng))
+
+
+def said_by(line):
+    """The facts of a report, names expanded."""
+    said = json.loads(line)
+    uris = said["documentInfo"]["namespaces"]
+
+    def name(text):
+        prefix, local = text.split(":")
+        return uris[prefix], local
+
+    for one in said["facts"].values():
+        dimensions = one["dimensions"]
+        names = tuple(sorted((name(key), name(dimensions[key])) for key in dimensions if ":" in key))
+        yield name(dimensions["concept"]), name(dimensions["entity"]), dimensions["period"], names, one["value"], one.get("decimals")
+
+
+def check_text(bundle, text):
+    """The text has each fact of the bundle, once."""
+    with open(bundle) as lines, open(text) as merged:
+        next(lines)
+        wanted = {one for line in lines for one in said_by(line)}
+        given = list(said_by(merged.read()))
+    if len(given) != len(wanted) or set(given) != wanted:
+        raise Failure(f"{text} does not have the facts of {bundle}")
+
+
+def build(crate):
+    """Proves and builds a program, and answers where it lies."""
+    made = subprocess.run(["rt", "run"], cwd=crate, stdin=subprocess.DEVNULL, stdout=subprocess.PIPE, stderr=subprocess.STDOUT)
+    # the program itself runs too, on nothing: its status says nothing here
+    if b"rt: running" not in made.stdout:
+        raise Failure(f"{crate} is not built:\n{made.stdout.decode(errors='replace')}")
+    return os.path.join(crate, "out", os.path.basename(crate))
+
+
+def build_peer(folder):
+    crate = os.path.join(folder, "crates", "peer")
+    os.makedirs(os.path.join(crate, "src"))
+    with open(os.path.join(folder, "crates.txt"), "w") as crates:
+        crates.write("peer: serde_json\n")
+    with open(os.path.join(crate, "src", "main.rt"), "w") as source:
+        source.write(PEER)
+    return build(crate)
+
+
+def run(program, bundle, text):
+    """The processor seconds and the peak kilobytes of one run."""
+    with open(bundle, "rb") as given, open(text, "wb") as taken:
+        child = subprocess.Popen([program], stdin=given, stdout=taken)
+        _, status, used = os.wait4(child.pid, 0)
+    child.returncode = os.waitstatus_to_exitcode(status)
+    if child.returncode != 0:
+        raise Failure(f"{program} ended with status {child.returncode} on {bundle}")
+    return used.ru_utime + used.ru_stime, used.ru_maxrss
+
+
+def instructions(program, bundle):
+    """How many instructions a run takes, or None where valgrind is not there."""
+    if shutil.which("valgrind") is None:
+        return None
+    command = ["valgrind", "--tool=cachegrind", "--cache-sim=no", "--cachegrind-out-file=/dev/null", program]
+    with open(bundle, "rb") as given:
+        told = subprocess.run(command, stdin=given, stdout=subprocess.DEVNULL, stderr=subprocess.PIPE).stderr
+    counted = re.search(rb"I\s+refs:\s+([\d,]+)", told)
+    if counted is None:
+        raise Failure(f"valgrind counted nothing:\n{told.decode(errors='replace')}")
+    return int(counted[1].replace(b",", b""))
+
+
+def measure(workload, size, programs, folder):
+    """What each program took: seconds, kilobytes and instructions."""
+    stem = os.path.join(folder, f"{workload.replace(' ', '_')}_{size}")
+    bundle = f"{stem}.bundle"
+    in_child(write_bundle, workload, size, bundle)
+    took = []
+    for name, program in programs.items():
+        text = f"{stem}_{name}.json"
+        runs = [run(program, bundle, text) for _ in range(RUNS)]
+        took.append((min(seconds for seconds, _ in runs), max(peak for _, peak in runs), instructions(program, bundle)))
+        if name == "xbrlmerge":
+            in_child(check_text, bundle, text)
+    return os.path.getsize(bundle), took
+
+
+def peak_told(peak, floor):
+    return f"{peak / 1000:.1f}" if peak > floor else f"<{floor / 1000:.0f}"
+
+
+def row(cells):
+    print("".join(f"{cell:>{width}}" for cell, width in zip(cells, (14, 9, 7, 8, 8, 7, 12, 7, 9, 9, 7, 8))), flush=True)
+
+
+def compare(folder):
+    print("building both programs", flush=True)
+    with tempfile.TemporaryDirectory() as room:
+        programs = {"xbrlmerge": build(os.path.join(REPOSITORY, "crates", "xbrlmerge"))}
+        programs["peer"] = shutil.copy(build_peer(room), os.path.join(folder, "peer"))
+    # what this process has itself at the fork counts as a child's
+    floor = run("true", os.devnull, os.devnull)[1]
+    row(("", "facts", "MB", "CPU s", "peer's", "ratio", "instr/fact", "ratio", "peak MB", "peer's", "ratio", "growth"))
+    for workload in WORKLOADS:
+        small = None
+        for size in SIZES:
+            length, ((seconds, peak, count), (others, other_peak, other_count)) = measure(workload, size, programs, folder)
+            cost = count or seconds
+            growth = f"{math.log(cost / small) / math.log(SIZES[1] / SIZES[0]):.2f}" if small else ""
+            small = small or cost
+            told = (f"{count // size:,}", f"{count / other_count:.2f}") if count else ("", "")
+            row((workload, f"{size:,}", f"{length / 1e6:.1f}", f"{seconds:.3f}", f"{others:.3f}", f"{seconds / others:.2f}", *told,
+                 peak_told(peak, floor), peak_told(other_peak, floor), f"{peak / other_peak:.2f}" if other_peak > floor else "", growth))
+
+
+def main(words):
+    if len(words) > 1:
+        raise Failure("bench/merge [FOLDER]")
+    if words:
+        os.makedirs(words[0], exist_ok=True)
+        return compare(os.path.realpath(words[0]))
+    with tempfile.TemporaryDirectory() as folder:
+        return compare(folder)
+
+
+try:
+    main(sys.argv[1:])
+except (Failure, OSError) as failure:
+    print(f"merge: {failure}", file=sys.stderr)
+    sys.exit(2)

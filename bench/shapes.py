@@ -1,0 +1,159 @@
+#!/usr/bin/env python3
+"""Checks that no shape of input costs more than its size: bench/shapes [options] [SHAPE ..]
+
+Each shape makes one part of the input long, as whoever sends a report, a sheet or a schedule can. The
+program runs on n of them and on four times as many, and the second run may take at most five times the
+instructions of the first, as `valgrind --tool=callgrind` counts them: what costs n log n does, and what
+costs the square of n takes sixteen times. The table goes to standard output, in Markdown.
+
+    --list              names the shapes
+    --seconds           measures processor seconds, the least of five runs, in place of instructions
+    --memory            measures the most memory that is taken at a time, in place of instructions
+    --size N            the smaller number of each, in place of the shape's own
+    --bound TIMES       how many times as much the larger may take (5)
+    --program FILE      the program, in place of the one that is built in crates/xbrlmerge
+    --keep FOLDER       keeps the files of each shape there
+
+The status is 0 where each shape keeps the bound, 1 where one does not, and 2 where nothing could be
+measured.
+"""
+import argparse
+import json
+import os
+import re
+import shutil
+import subprocess
+import sys
+import tempfile
+
+sys.dont_write_bytecode = True
+from shaped import REFUSED, SHAPES  # noqa: E402
+
+REPOSITORY = os.path.dirname(os.path.dirname(os.path.realpath(__file__)))
+BUILT = os.path.join(REPOSITORY, "crates", "xbrlmerge", "out", "xbrlmerge")
+TIMES = 4
+BOUND = 5
+RUNS = 5
+
+
+class Failure(Exception):
+    """Nothing could be measured."""
+
+
+# ---- measuring
+
+def write_files(files, folder):
+    os.makedirs(folder, exist_ok=True)
+    for name, content in files.items():
+        with open(os.path.join(folder, name), "w", encoding="utf-8") as file:
+            file.write(content if isinstance(content, str) else json.dumps(content, separators=(",", ":")))
+
+
+def run(command, folder):
+    """Runs it, and returns what it prints on standard error and what it used."""
+    with tempfile.TemporaryFile() as told:
+        child = subprocess.Popen(command, cwd=folder, stdin=subprocess.DEVNULL, stdout=subprocess.DEVNULL, stderr=told)
+        _, status, used = os.wait4(child.pid, 0)
+        child.returncode = os.waitstatus_to_exitcode(status)
+        told.seek(0)
+        said = told.read().decode(errors="replace")
+    if child.returncode != ("explain" in command or REFUSED in command):
+        raise Failure(f"{' '.join(command)[:200]} in {folder} ended with status {child.returncode}: {said[-400:]}")
+    return said, used
+
+
+def instructions(command, folder):
+    counter = ["valgrind", "--tool=callgrind", "--callgrind-out-file=/dev/null", "--"]
+    counted = re.search(r"Collected : (\d+)", run([*counter, *command], folder)[0])
+    if counted is None:
+        raise Failure("valgrind counted nothing")
+    return int(counted[1])
+
+
+def seconds(command, folder):
+    times = (run(command, folder)[1] for _ in range(RUNS))
+    return min(it.ru_utime + it.ru_stime for it in times)
+
+
+def kilobytes(command, folder):
+    return run(command, folder)[1].ru_maxrss
+
+
+# how a cost is shown
+UNITS = {instructions: lambda it: f"{it / 1e6:,.1f} M", seconds: lambda it: f"{it:.3f} s", kilobytes: lambda it: f"{it / 1e3:,.1f} MB"}
+
+
+def cost_of(shape, size, measure, program, folder):
+    words, files = shape(size)
+    place = os.path.join(folder, f"{shape.__name__}_{size}")
+    write_files(files, place)
+    return measure([program, *words], place)
+
+
+def measure_all(shapes, given, measure, folder):
+    """Prints a line for each shape, and answers those that break the bound."""
+    print(f"| Shape | n | n of them | {TIMES}n of them | Times |\n|---|--:|--:|--:|--:|", flush=True)
+    broken, told = [], UNITS[measure]
+    for shape in shapes:
+        size = given.size or SHAPES[shape]
+        small, large = (cost_of(shape, count, measure, given.program, folder) for count in (size, TIMES * size))
+        times = large / small
+        name = shape.__name__.replace("_", " ")
+        print(f"| {name} | {size:,} | {told(small)} | {told(large)} | {times:.2f} |", flush=True)
+        if times > given.bound:
+            broken.append(name)
+    return broken
+
+
+def chosen(words):
+    """The shapes of these names, which may have `_` or spaces between their words; all where there is none."""
+    named = {shape.__name__: shape for shape in SHAPES}
+    names = [word.replace(" ", "_") for word in words]
+    unknown = [name for name in names if name not in named]
+    if unknown:
+        raise Failure(f"no shape is named {', '.join(unknown)}: --list names them")
+    return [named[name] for name in names] or list(SHAPES)
+
+
+def read_words():
+    parser = argparse.ArgumentParser(usage=__doc__.split("\n")[0].split(": ")[1], description=__doc__, formatter_class=argparse.RawDescriptionHelpFormatter, add_help=False)
+    parser.add_argument("-h", "--help", action="store_true")
+    parser.add_argument("--list", action="store_true")
+    parser.add_argument("--seconds", action="store_true")
+    parser.add_argument("--memory", action="store_true")
+    parser.add_argument("--size", type=int)
+    parser.add_argument("--bound", type=float, default=BOUND)
+    parser.add_argument("--program", default=BUILT)
+    parser.add_argument("--keep", metavar="FOLDER")
+    parser.add_argument("shapes", nargs="*", metavar="SHAPE")
+    return parser.parse_args()
+
+
+def main():
+    given = read_words()
+    if given.help:
+        print(__doc__, end="")
+        return 0
+    if given.list:
+        print("\n".join(shape.__name__ for shape in SHAPES))
+        return 0
+    shapes = chosen(given.shapes)
+    given.program = os.path.realpath(given.program)
+    if not os.access(given.program, os.X_OK):
+        raise Failure(f"{given.program} is not there: ./build makes it")
+    measure = kilobytes if given.memory else seconds if given.seconds else instructions
+    if measure is instructions and shutil.which("valgrind") is None:
+        raise Failure("valgrind is not there; --seconds and --memory measure without it")
+    with tempfile.TemporaryDirectory() as room:
+        broken = measure_all(shapes, given, measure, given.keep or room)
+    for name in broken:
+        print(f"shapes: {name}: more than {given.bound:g} times", file=sys.stderr)
+    return 1 if broken else 0
+
+
+if __name__ == "__main__":
+    try:
+        sys.exit(main())
+    except (Failure, OSError) as failure:
+        print(f"shapes: {failure}", file=sys.stderr)
+        sys.exit(2)

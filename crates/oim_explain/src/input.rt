@@ -1,0 +1,19 @@
+/// How faults are printed.
+#[derive(Clone, Copy)]
+pub enum Format {
+    /// A line of text for each fault.
+    Text,
+    /// A JSON object for each fault, on one line.
+    Json,
+}
+
+/// A file that is explained.
+#[derive(Clone, Copy)]
+pub struct Input<'n> {
+    /// The number of the report, from 1. The sheet has none.
+    pub report: Option<u64>,
+    /// The name of the file.
+    pub name: &'n str,
+    /// How its faults are printed.
+    pub format: Format,
+}

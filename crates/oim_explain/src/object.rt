@@ -1,0 +1,105 @@
+use super::escaped::Escaped;
+use super::found::Found;
+use super::input::Input;
+use json::{Error, Scratch, Writer};
+use oim_names::Reason;
+use oim_report::Place;
+use serde_json::Value;
+use std::alloc::{AllocError, Global};
+
+/// A fault as a JSON object. A member that stands twice is no refusal, and has the last two alone.
+#[derive(Clone, Copy)]
+pub(crate) struct Object<'f, 's> {
+    pub place: Option<Place>,
+    pub reason: Option<Reason>,
+    pub identifier: Option<&'f str>,
+    pub part: Found<'f>,
+    pub sentence: &'s str,
+}
+
+impl Object<'_, '_> {
+    /// Appends the object on a line. What a terminal does not show is escaped, as in a text.
+    ///
+    /// Errors: out of memory.
+    pub(crate) fn push_to(
+        &self,
+        alloc: Global,
+        text: &mut String,
+        input: &Input<'_>,
+    ) -> Result<(), AllocError> {
+        let mut writer = Writer::new(Vec::new(alloc));
+        writer.begin_object()?;
+        put_number(&mut writer, "report", input.report)?;
+        put_text(&mut writer, "file", Some(input.name))?;
+        writer.key("place")?;
+        put_place(alloc, &mut writer, self.place)?;
+        let number = self.reason.map(|reason| u64::from(reason.number()));
+        put_number(&mut writer, "number", number)?;
+        put_text(&mut writer, "name", self.reason.map(|reason| reason.name()))?;
+        put_text(&mut writer, "identifier", self.identifier)?;
+        writer.key("part")?;
+        put_part(alloc, &mut writer, self.part)?;
+        put_text(&mut writer, "sentence", Some(self.sentence))?;
+        writer.end_object()?;
+        let object = writer.into_inner();
+        let line = str::from_utf8(object.as_slice()).unwrap_or_default();
+        write!(text, "{}\n", Escaped(line))
+    }
+}
+
+fn put_number(writer: &mut Writer, key: &str, number: Option<u64>) -> Result<(), AllocError> {
+    writer.key(key)?;
+    match number {
+        Some(number) => writer.u64(number),
+        None => writer.null(),
+    }
+}
+
+fn put_text(writer: &mut Writer, key: &str, text: Option<&str>) -> Result<(), AllocError> {
+    writer.key(key)?;
+    match text {
+        Some(text) => writer.string(text),
+        None => writer.null(),
+    }
+}
+
+/// Puts a place in the words of the other commands.
+fn put_place(alloc: Global, writer: &mut Writer, place: Option<Place>) -> Result<(), AllocError> {
+    match place {
+        Some(Place::Document) => writer.string("document"),
+        Some(Place::Fact(number)) => { writer.string(format!(in alloc; "fact {number}")?.as_str()) }
+        None => writer.null(),
+    }
+}
+
+/// Puts what is at fault, whole: a text, a value, a member, or an array of two texts.
+fn put_part(alloc: Global, writer: &mut Writer, part: Found<'_>) -> Result<(), AllocError> {
+    match part {
+        Found::Nothing | Found::Words(_) | Found::Quoted(_, _) => writer.null(),
+        Found::Text(text) | Found::Entity(text) | Found::Within(text, _) => writer.string(text),
+        Found::Pair(one, other) => {
+            writer.begin_array()?;
+            writer.string(one)?;
+            writer.string(other)?;
+            writer.end_array()
+        }
+        Found::Value(value) => put_value(alloc, writer, value),
+        Found::Member(key, value) => {
+            writer.begin_object()?;
+            writer.key(key)?;
+            put_value(alloc, writer, value)?;
+            writer.end_object()
+        }
+    }
+}
+
+/// Puts a value of `serde_json`, read again, since `json` writes its own values alone.
+fn put_value(alloc: Global, writer: &mut Writer, value: &Value) -> Result<(), AllocError> {
+    let text = value.to_string(alloc)?;
+    let mut scratch = Scratch::new(alloc);
+    match json::Value::from_slice(alloc, text.as_bytes(), &mut scratch) {
+        Ok(value) => writer.value(&value),
+        Err(Error::OutOfMemory) => Err(AllocError),
+        Err(_) => writer.null(),
+    }
+}

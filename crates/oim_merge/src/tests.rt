@@ -1,0 +1,15 @@
+mod asked_again;
+mod calls;
+mod canonical_parts;
+mod checked;
+mod devices;
+mod drawn;
+mod expecting;
+mod io;
+mod refused;
+mod replay;
+mod round_trip;
+mod sinks;
+mod sources;
+mod texts;
+mod writers;

@@ -1,0 +1,75 @@
+use std::io::{self, Write};
+
+/// Compares what is written with a text.
+#[derive(Clone, Copy)]
+pub(crate) struct Expecting<'a> {
+    left: &'a [u8],
+    differs: bool,
+    goes_on: bool,
+}
+
+impl<'a> Expecting<'a> {
+    /// Exactly this text.
+    pub(crate) fn just(text: &'a [u8]) -> Expecting<'a> {
+        Expecting {
+            left: text,
+            differs: false,
+            goes_on: false,
+        }
+    }
+
+    /// This text, and then any other.
+    pub(crate) fn front(text: &'a [u8]) -> Expecting<'a> {
+        Expecting {
+            left: text,
+            differs: false,
+            goes_on: true,
+        }
+    }
+
+    /// Whether what was written is as expected.
+    pub(crate) fn is_met(&self) -> bool {
+        self.left.is_empty() && !self.differs
+    }
+
+    /// Whether what was written so far is as expected.
+    pub(crate) fn is_front(&self) -> bool {
+        !self.differs
+    }
+
+    /// How many bytes are still to come.
+    pub(crate) fn left(&self) -> usize {
+        self.left.len()
+    }
+}
+
+impl Write for Expecting<'_> {
+    fn write(&mut self, bytes: &[u8]) -> io::Result<usize> {
+        let left = self.left;
+        match left.strip_prefix(bytes) {
+            Some(rest) => self.left = rest,
+            None if self.goes_on && bytes.starts_with(left) => self.left = &[],
+            None => self.differs = true,
+        }
+        Ok(bytes.len())
+    }
+
+    fn flush(&mut self) -> io::Result<()> {
+        Ok(())
+    }
+}
+
+/// Compares what is written with two texts.
+#[derive(Clone, Copy)]
+pub(crate) struct Either<'a>(pub Expecting<'a>, pub Expecting<'a>);
+
+impl Write for Either<'_> {
+    fn write(&mut self, bytes: &[u8]) -> io::Result<usize> {
+        let _ = self.0.write(bytes)?;
+        self.1.write(bytes)
+    }
+
+    fn flush(&mut self) -> io::Result<()> {
+        Ok(())
+    }
+}

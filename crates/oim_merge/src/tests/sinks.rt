@@ -1,0 +1,87 @@
+use crate::tests::asked_again::{SHEET, holds, tell_refused};
+use crate::tests::devices::{Step, TestWriter, Then};
+use fact_base::Base;
+use oim_names::Aliases;
+use oim_report::{Sheet, read_report};
+use oim_write::{StdSink, WriteFault, prefixes, write_to};
+use std::alloc::{AllocError, Global};
+use std::test::Fail;
+
+// Where a request for memory is refused, the next one is not: what asked for it is asked again.
+
+/// Two numbers whose rounding intervals touch.
+pub(crate) const TOUCHING: &str =
+    r#"{"documentInfo":{"documentType":"https://xbrl.org/2021/xbrl-json","namespaces":{"eg":"http://example.org/t"}},"facts":{"a":{"value":"100","decimals":0,"dimensions":{"concept":"eg:A"}},"b":{"value":"101","decimals":0,"dimensions":{"concept":"eg:A"}}}}"#;
+
+/// A fact with names of two namespaces.
+pub(crate) const EVERY_DIMENSION: &str =
+    r#"{"documentInfo":{"documentType":"https://xbrl.org/2021/xbrl-json","namespaces":{"eg":"http://example.org/t","x":"http://example.org/u"}},"facts":{"a":{"value":"Blue","dimensions":{"concept":"eg:T","entity":"x:529900:A1","period":"2020-01-01T00:00:00/2020-12-31T24:00:00","language":"en-GB","eg:Reg":"eg:North","eg:Sku":"a b"}}}}"#;
+
+/// The sheet of a text that is accepted.
+pub(crate) fn sheet_of(alloc: Global, text: &str) -> Result<Sheet, AllocError> {
+    match Sheet::read(alloc, text.as_bytes()) {
+        Ok(sheet) => Ok(sheet),
+        Err(_) => Err(AllocError),
+    }
+}
+
+pub(crate) fn sheet(alloc: Global) -> Result<Sheet, AllocError> {
+    sheet_of(alloc, SHEET)
+}
+
+/// The base of one report, which is accepted.
+pub(crate) fn base_of<'s>(
+    alloc: Global,
+    sheet: &'s Sheet,
+    report: &str,
+) -> Result<Base<'s>, AllocError> {
+    let Ok(report) = read_report(alloc, sheet, report.as_bytes()) else {
+        return Err(AllocError);
+    };
+    let mut base = Base::new(alloc, sheet);
+    base.take(&report)?;
+    Ok(base)
+}
+
+/// Whether a sink that takes seven bytes, and then does this, holds the first seven, and the fault
+/// says so.
+fn takes_seven(alloc: Global, then: Then) -> Result<bool, AllocError> {
+    let sheet = sheet(alloc)?;
+    let base = Base::new(alloc, &sheet);
+    let mut sink = StdSink::new(TestWriter::new(alloc, Step::All, 7, then)?);
+    let ended = write_to(alloc, &base, &mut sink);
+    if matches!(ended, Err(WriteFault::OutOfMemory(_))) {
+        return Err(AllocError);
+    }
+    Ok(ended == Err(WriteFault::Device(7)) && sink.into_inner().held() == br#"{"docum"#.as_slice())
+}
+
+fn are_two(aliases: &Aliases) -> bool {
+    aliases.uri("n2") == Some("http://example.org/u")
+        && aliases.prefix_of("http://example.org/t") == Some("n1")
+        && aliases.uri("n3") == None
+}
+
+fn has_two_prefixes(alloc: Global) -> Result<bool, AllocError> {
+    let sheet = sheet(alloc)?;
+    let base = base_of(alloc, &sheet, EVERY_DIMENSION)?;
+    Ok(are_two(&prefixes(alloc, &base)?))
+}
+
+#[test]
+fn a_sink_that_takes_seven_bytes_holds_these(rt: HostRuntime) -> Result<(), Fail> {
+    for then in [Then::Ends, Then::Fails, Then::IsInterrupted] {
+        let mut answer = takes_seven(rt.alloc(), then);
+        if answer.is_err() {
+            tell_refused(&rt);
+            answer = takes_seven(rt.alloc(), then);
+        }
+        assert!(rt; answer == Ok(true));
+    }
+    Ok(())
+}
+
+#[test]
+fn prefixes_are_those_of_the_text(rt: HostRuntime) {
+    assert!(rt; holds(&rt, has_two_prefixes));
+}

@@ -1,0 +1,73 @@
+ghost use Rattle.std.specs.Prelude.{◌≡◌, ◌<◌, ◌≤◌};
+ghost use Rattle.oim_names.specs.Places.{byte_from_end, place_in, text_class};
+
+use std::marker::Model;
+
+/// How many classes of texts there are.
+const CLASSES: usize = 2048;
+
+/// Remembers, for each class of texts, the place where one was put last. The place is a hint: it may
+/// belong to another text of the class, or to none, so the caller compares what it finds there.
+/// Contracts see the places, one a class.
+#[derive(Clone, Copy, Debug)]
+pub struct PositionCache {
+    places: [u16; CLASSES],
+}
+
+impl Model for PositionCache {
+    ghost use Rattle.std.specs.Prelude.{ℕ, List};
+
+    ghost Value = { List ℕ };
+
+    ghost view = { λ r. r.places };
+
+    ghost inverse = { λ places. record { places = places } };
+}
+
+impl PositionCache {
+    /// Each class has the place 0.
+    pub fn new() -> PositionCache {
+        PositionCache {
+            places: [0; CLASSES],
+        }
+    }
+
+    /// Where a text of this class was put last.
+    pub fn place(&self, text: &str) -> usize
+        ensures { result ≡ place_in self.now text.now }
+    {
+        usize::from(self.places[class_of(text)])
+    }
+
+    /// Remembers that the text was put at the place. A place above 65,535 is not remembered.
+    pub fn set(&mut self, text: &str, place: usize)
+        ensures { place ≤ 65535 → place_in self.new text.now ≡ place }
+    {
+        if let Ok(place) = u16::try_from(place) {
+            self.places[class_of(text)] = place;
+        }
+    }
+}
+
+/// The class of a text, by its length and its last four bytes.
+#[tactic(auto, unfolding(crate::specs::Places::text_class))]
+fn class_of(text: &str) -> usize
+    ensures is { result ≡ text_class text.now }
+    ensures bounded { result < CLASSES }
+{
+    let two = byte_from_end(text, 3) + 31 * byte_from_end(text, 4);
+    let four = byte_from_end(text, 1) + 31 * (byte_from_end(text, 2) + 31 * two);
+    (text.len() % CLASSES + 31 * four) % CLASSES
+}
+
+/// The byte that is so many from the end, the first of a shorter text, 0 of the empty one.
+fn byte_from_end(text: &str, back: usize) -> usize
+    ensures is { result ≡ byte_from_end text.now back }
+    ensures bounded { result < 256 }
+{
+    let place = text.len().saturating_sub(back);
+    match text.as_bytes().get(place) {
+        Some(byte) => usize::from(*byte),
+        None => 0,
+    }
+}

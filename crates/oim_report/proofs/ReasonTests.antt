@@ -1,0 +1,55 @@
+-- Which refusal a reading answers, by the row that holds.
+use Rattle.std.proofs.Common.{◌≡◌, ℕ, ℤ, List, Bool, true, false, not, ◌||◌, ◌&&◌, Ok, Err, refl}
+use Rattle.std.specs.Prelude.{Option, Some, None, is_none, int_lt, if◌then◌else◌}
+use Rattle.std.specs.Option.{option_eq}
+use Rattle.std.specs.Ordering.{int_eq}
+use Rattle.std.specs.Result.{result_err}
+use Rattle.oim_names.specs.contracts.reason.ReasonPartialEq.TheImpl.{eq-value as same_reason}
+use Rattle.oim_names.specs.declared.reason.Reason.{Reason}
+use Rattle.oim_names.specs.declared.reason.Reason.TheVariants.{PeriodForm, PeriodOrder, NumberForm, NumberDigits}
+use Rattle.oim_value.specs.Number.{is_number, is_short, number_refusal}
+use Rattle.oim_dims.specs.DateTime.{moment_of}
+use Rattle.oim_dims.specs.Period.{end_part, from_to, period_of, start_part}
+use Rattle.oim_dims.specs.declared.period.Period.{Period}
+use Rattle.oim_dims.specs.declared.period.Period.TheVariants.{Instant, Duration}
+use Rattle.oim_report.specs.Holds.{is_some_and, lacks_moment, runs_backward}
+
+abbrev pub answers : Option Reason → Reason → Bool
+answers o r = option_eq same_reason.it o (Some r)
+
+ordered : (before same : Bool) (p q : Period) → answers (result_err (if before then Err PeriodOrder else (if same then Ok p else Ok q))) PeriodOrder ≡ before
+ordered true same p q = refl
+ordered false true p q = refl
+ordered false false p q = refl
+
+formed : (before same : Bool) (p q : Period) → answers (result_err (if before then Err PeriodOrder else (if same then Ok p else Ok q))) PeriodForm ≡ false
+formed true same p q = refl
+formed false true p q = refl
+formed false false p q = refl
+
+form_between : (start end : Option ℤ) → answers (result_err (from_to start end)) PeriodForm ≡ (is_none start || is_none end)
+form_between None end = refl
+form_between (Some s) None = refl
+form_between (Some s) (Some e) = formed (int_lt e s) (int_eq s e) (Instant s) (Duration s e)
+
+order_between : (start end : Option ℤ) → answers (result_err (from_to start end)) PeriodOrder ≡ is_some_and (λ s. is_some_and (λ e. int_lt e s) end) start
+order_between None end = refl
+order_between (Some s) None = refl
+order_between (Some s) (Some e) = ordered (int_lt e s) (int_eq s e) (Instant s) (Duration s e)
+
+pub period_form : (t : List ℕ) → answers (result_err (period_of t)) PeriodForm ≡ lacks_moment t
+period_form t = form_between (moment_of (start_part t)) (moment_of (end_part t))
+
+pub period_order : (t : List ℕ) → answers (result_err (period_of t)) PeriodOrder ≡ runs_backward t
+period_order t = order_between (moment_of (start_part t)) (moment_of (end_part t))
+
+number_so : (number short : Bool) → (answers (if not number then Some NumberForm else (if not short then Some NumberDigits else None)) NumberForm ≡ not number) × (answers (if not number then Some NumberForm else (if not short then Some NumberDigits else None)) NumberDigits ≡ (number && not short))
+number_so false short = (refl, refl)
+number_so true false = (refl, refl)
+number_so true true = (refl, refl)
+
+pub number_form : (t : List ℕ) → answers (number_refusal t) NumberForm ≡ not (is_number t)
+number_form t = (number_so (is_number t) (is_short t)).0
+
+pub number_digits : (t : List ℕ) → answers (number_refusal t) NumberDigits ≡ (is_number t && not (is_short t))
+number_digits t = (number_so (is_number t) (is_short t)).1

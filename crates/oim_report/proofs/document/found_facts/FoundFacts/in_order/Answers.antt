@@ -1,0 +1,22 @@
+use Rattle.std.proofs.Common.{◌≡◌, List, None, Ok, map, sym, ap, ◌∙◌}
+use Rattle.oim_names.specs.Bindings.{Binding}
+use Rattle.serde_json.specs.Data.{Members, no_members}
+use Rattle.oim_report.specs.FoundFacts.{AreFound, rise_after}
+use Rattle.oim_report.specs.Outcome.{facts_said}
+use Rattle.oim_report.specs.Pieces.{put_all}
+use Rattle.oim_report.specs.Sheet.{Sheet}
+use Rattle.oim_report.proofs.FoundInOrder.{rising_said, found_said, weaker}
+use Rattle.oim_report.proofs.document.found_facts.FoundFacts.in_order.Goals as goal
+
+pub returns-then-rise : goal.returns-then-rise
+returns-then-rise c = λ sheet bs ms h.
+    rising_said sheet bs ms _ _ h (ap (rise_after None) (sym c.as_slice.ensures.value) ∙ sym c.rise.ensures ∙ c.if-rise.true)
+
+pub returns : goal.returns
+returns c =
+    let es = c.in_ok-found.found.entries in
+    weaker c.facts_of.result
+    (λ facts. facts.items ≡ map (λ e. e.1) es)
+    (λ facts. (sheet : Sheet) (bs : List Binding) (ms : Members) → AreFound sheet bs ms c.args.self.identifiers.items c.args.self.facts.items → facts_said sheet bs (put_all ms no_members) ≡ Ok facts.items)
+    c.facts_of.ensures
+    (λ facts e sheet bs ms h. found_said sheet bs (put_all ms no_members) (map (λ e. e.0) es) (map (λ e. e.1) es) (c.in_ok-found.ensures sheet bs ms h) ∙ ap Ok (sym e))

@@ -1,0 +1,12 @@
+use Rattle.std.proofs.Common.{◌≡◌, ◌≤◌, length, vec_len, vec_capacity}
+use Rattle.oim_report.specs.Glossaries.{AreGlossaries}
+use Rattle.oim_report.proofs.InTurn.{AreFound}
+use Rattle.oim_report.proofs.fact.members_reader.read_members.Given as goal
+
+abbrev pub invariant-loop-key : goal.invariant-loop-key
+invariant-loop-key l = record {
+  known : AreGlossaries l.sheet l.aliases l.glossaries;
+  found : AreFound l.sheet l.aliases l.defined l.found.items l.key-index;
+  count : vec_len l.found ≡ l.key-index;
+  room : length l.defined ≤ vec_capacity l.found;
+}

@@ -1,0 +1,44 @@
+use Rattle.std.proofs.Common.{rules, ◌≡◌, ◌++◌, List, option_map, Ok, subst, refl}
+use Rattle.oim_names.specs.Bindings.{Binding}
+use Rattle.serde_json.specs.Data.{Members, no_members}
+use Rattle.serde_json.specs.View.{members_view}
+use Rattle.oim_report.specs.FoundFacts.{AreFound}
+use Rattle.oim_report.specs.Outcome.{facts_said}
+use Rattle.oim_report.specs.Pieces.{IsNext, IsPiece, append, put_all}
+use Rattle.oim_report.specs.Sheet.{Sheet}
+use Rattle.oim_report.proofs.FoundInOrder.{none_found, found_append, found_by, weaker}
+use Rattle.oim_report.proofs.PiecesInTurn.{one_more, last_one}
+use Rattle.oim_report.proofs.pieces.facts_in_pieces.read_facts_in_pieces.Goals as goal
+
+pub loop-init : goal.loop-init
+loop-init c = (search rules, no_members, refl, none_found c.args.sheet.now c.args.aliases.now _ _ c.new-identifiers.ensures.items c.new-facts.ensures.items)
+
+pub returns-in-None : goal.returns-in-None
+returns-in-None c =
+    let sheet = c.args.sheet.now in
+    let bs = c.args.aliases.now in
+    let new = members_view c.in_ok-objects.objects.entries in
+    let more = c.in_ok-more.more in
+    let objects = c.loop.invariant.1 in
+    let next = subst (λ r. IsNext c.loop.left.now new (option_map (λ r. r.now) r)) c.in-None.is c.in_ok-objects.ensures in
+    let pushed : c.append.new.self.items ≡ c.loop.identifiers.items ++ more.identifiers.items = search rules in
+    let added : c.append-in-loop.new.self.items ≡ c.loop.facts.items ++ more.facts.items = search rules in
+    let found = found_by sheet bs _ _ _ _ _ pushed added (found_append sheet bs objects new c.loop.identifiers.items more.identifiers.items c.loop.facts.items more.facts.items c.loop.invariant.3 c.in_ok-more.ensures) in
+    weaker c.in_order.result
+    (λ facts. (s : Sheet) (b : List Binding) (ms : Members) → AreFound s b ms c.append.new.self.items c.append-in-loop.new.self.items → facts_said s b (put_all ms no_members) ≡ Ok facts.items)
+    (λ facts. (ms : Members) × IsPiece c.args.text.now ms × (facts_said sheet bs ms ≡ Ok facts.items))
+    c.in_order.ensures
+    (λ facts h. (put_all (append objects new) no_members, last_one c.args.text.now c.loop.left.now objects new c.loop.invariant.2 next, h sheet bs (append objects new) found))
+
+pub loop-preserved : goal.loop-preserved
+loop-preserved c =
+    let sheet = c.args.sheet.now in
+    let bs = c.args.aliases.now in
+    let new = members_view c.in_ok-objects.objects.entries in
+    let more = c.in_ok-more.more in
+    let objects = c.loop.invariant.1 in
+    let next = subst (λ r. IsNext c.loop.left.now new (option_map (λ r. r.now) r)) c.in-Some.is c.in_ok-objects.ensures in
+    let pushed : c.append.new.self.items ≡ c.loop.identifiers.items ++ more.identifiers.items = search rules in
+    let added : c.append-in-loop.new.self.items ≡ c.loop.facts.items ++ more.facts.items = search rules in
+    let found = found_by sheet bs _ _ _ _ _ pushed added (found_append sheet bs objects new c.loop.identifiers.items more.identifiers.items c.loop.facts.items more.facts.items c.loop.invariant.3 c.in_ok-more.ensures) in
+    (search rules, append objects new, one_more c.args.text.now c.loop.left.now c.in-Some.rest.now objects new c.loop.invariant.2 next, found)

@@ -1,0 +1,12 @@
+use Rattle.std.proofs.Common.{◌≡◌}
+use Rattle.serde_json.specs.Data.{Members}
+use Rattle.serde_json.specs.View.{members_view}
+use Rattle.oim_report.specs.FoundFacts.{AreFound}
+use Rattle.oim_report.specs.Glossaries.{AreGlossaries}
+use Rattle.oim_report.specs.Pieces.{append}
+use Rattle.oim_report.proofs.pieces.facts_in_pieces.read_objects.Given as goal
+
+abbrev pub invariant-loop-identifier : goal.invariant-loop-identifier
+invariant-loop-identifier l =
+    (done : Members) × (append done (members_view l.identifier-iterator) ≡ members_view l.objects.entries) × AreFound l.sheet l.aliases done l.identifiers.items l.facts.items
+    × AreGlossaries l.sheet l.aliases l.glossaries

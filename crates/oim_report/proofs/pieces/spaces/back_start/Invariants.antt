@@ -1,0 +1,10 @@
+use Rattle.std.proofs.Common.{length, drop, ◌≤◌}
+use Rattle.oim_report.specs.Pieces.{AreSpaces}
+use Rattle.oim_report.proofs.pieces.spaces.back_start.Given as goal
+
+abbrev pub invariant-loop-at : goal.invariant-loop-at
+invariant-loop-at l = (l.at ≤ length l.bytes) × AreSpaces (drop l.at l.bytes)
+
+-- proposed from the loop's first test
+abbrev pub decreases-loop-at : goal.decreases-loop-at
+decreases-loop-at l = l.at

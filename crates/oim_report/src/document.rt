@@ -1,0 +1,14 @@
+//! Parts of a report around its facts.
+
+pub(crate) mod base;
+pub(crate) mod base_url;
+pub(crate) mod document_form;
+pub(crate) mod duplicates;
+pub(crate) mod features;
+pub(crate) mod found_facts;
+pub(crate) mod identifiers;
+pub(crate) mod info;
+pub(crate) mod json_tree;
+pub(crate) mod kept;
+pub(crate) mod namespaces;
+pub(crate) mod taxonomy;

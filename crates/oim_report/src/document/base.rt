@@ -1,0 +1,60 @@
+ghost use Rattle.std.specs.Prelude.{◌≡◌, ◌⊎◌, Some, IfOk, IfErr, IsTrue};
+ghost use Rattle.url.specs.Parser.{Gives, parse_url};
+ghost use Rattle.oim_report.specs.Kept.{base_url, is_base_refused, is_web};
+
+use crate::limits::MOST_REFERENCE_BYTES;
+use oim_names::Reason;
+use std::alloc::Global;
+use std::marker::Model;
+use url::{ParseError, ParseResult, Url};
+
+/// The URL of a report against which its taxonomy references are resolved. Contracts see its parts.
+#[derive(Drop)]
+pub(crate) struct Base {
+    url: Url,
+}
+
+impl Model for Base {
+    ghost use Rattle.url.specs.Parts.{Parts, parts_code};
+
+    ghost Value = { Parts };
+
+    ghost coded = { parts_code };
+
+    ghost view = { λ b. b.url };
+}
+
+impl Base {
+    /// Resolves a reference against this base (URL Standard, section 4.4).
+    pub(crate) fn join(&self, reference: &str) -> ParseResult<Url>
+        ensures { Gives result (parse_url (Some self.now) reference.now) }
+    {
+        self.url.join(reference)
+    }
+}
+
+/// Whether the URL is http or https.
+pub(crate) fn is_web(url: &Url) -> bool
+    ensures { result ≡ is_web url.now }
+{
+    matches!(url.scheme(), "http" | "https")
+}
+
+/// Reads the `baseURL` of a report (xBRL-JSON 1.0).
+///
+/// Errors: `BaseUrl` if the text has more than `MOST_REFERENCE_BYTES` bytes or is not an http or
+/// https URL (own); `OutOfMemory`.
+pub(crate) fn read_base(alloc: Global, text: &str) -> Result<Base, Reason>
+    ensures ok { IfOk result (λ base. base_url text.now ≡ Some base) }
+    ensures errors { IfErr result
+        (λ r. (r ≡ Reason.OutOfMemory) ⊎ ((r ≡ Reason.BaseUrl) × IsTrue (is_base_refused text.now))) }
+{
+    if text.len() > MOST_REFERENCE_BYTES {
+        return Err(Reason::BaseUrl);
+    }
+    match Url::parse(alloc, text) {
+        Ok(url) if is_web(&url) => Ok(Base { url }),
+        Err(ParseError::OutOfMemory | ParseError::Overflow) => Err(Reason::OutOfMemory),
+        Ok(_) | Err(_) => Err(Reason::BaseUrl),
+    }
+}

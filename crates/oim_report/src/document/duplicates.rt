@@ -1,0 +1,74 @@
+ghost use Rattle.std.specs.Prelude.{◌≡◌};
+ghost use Rattle.oim_report.specs.Beside.{both_common, both_meet, interval_at, level_beside};
+ghost use Rattle.oim_report.specs.Duplicates.{level_of};
+ghost use Rattle.oim_report.specs.Order.{IsOrderOf};
+
+use oim_dims::Fact;
+use oim_value::{Interval, Level, Value, common, interval_of, meets};
+
+/// The strictest level of duplicates that allows the facts, repeats kept (`xbrl:allowedDuplicates`
+/// of OIM Common 1.0). `order` is their order, from `order_of`. It takes no memory and looks at
+/// each fact once: in one dimension set, values in order agree with each other exactly if all are
+/// equal, or all are numbers whose intervals have a common part.
+pub(crate) fn level_of(facts: &[Fact], order: &[usize]) -> Level
+    requires { IsOrderOf facts.now order.now }
+    ensures { result ≡ level_of facts.now }
+{
+    let Some((first, rest)) = order.split_first() else {
+        return Level::Unique;
+    };
+    let mut level = Level::Unique;
+    let mut last = &facts[*first];
+    let mut shared = interval_at(&last.value);
+    for place in rest {
+        let fact = &facts[*place];
+        let interval = interval_at(&fact.value);
+        if last.dimensions == fact.dimensions {
+            level = level.max(level_beside(&last.value, shared, &fact.value));
+            shared = both_common(shared, interval);
+        } else {
+            shared = interval;
+        }
+        last = fact;
+    }
+    level
+}
+
+// The strictest level that allows a value beside the earlier ones of its dimension set: the last
+// one, and the common part of all their intervals.
+fn level_beside(last: &Value, shared: Option<Interval>, value: &Value) -> Level
+    ensures { result ≡ level_beside last.now shared value.now }
+{
+    if last == value {
+        Level::Complete
+    } else if both_meet(shared, interval_at(value)) {
+        Level::Consistent
+    } else {
+        Level::All
+    }
+}
+
+// The rounding interval of a number.
+fn interval_at(value: &Value) -> Option<Interval>
+    ensures { result ≡ interval_at value.now }
+{
+    match value {
+        Value::Number(number, decimals) => Some(interval_of(*number, *decimals)),
+        Value::Nil | Value::Text(_) | Value::Name(_) => None,
+    }
+}
+
+fn both_common(a: Option<Interval>, b: Option<Interval>) -> Option<Interval>
+    ensures { result ≡ both_common a b }
+{
+    Some(common(a?, b?))
+}
+
+fn both_meet(a: Option<Interval>, b: Option<Interval>) -> bool
+    ensures { result ≡ both_meet a b }
+{
+    match (a, b) {
+        (Some(a), Some(b)) => meets(a, b),
+        _ => false,
+    }
+}

@@ -1,0 +1,71 @@
+ghost use Rattle.std.specs.Prelude.{◌≡◌, ◌∷◌, [], None, IfErr, IsSome};
+ghost use Rattle.std.specs.Result.{result_ok};
+ghost use Rattle.oim_names.specs.QName.{prefix_part, local_part};
+ghost use Rattle.serde_json.specs.View.{view, members_view};
+ghost use Rattle.oim_report.specs.Given.{seen};
+ghost use Rattle.oim_report.specs.Info.{declarations, features_of, is_allowed_duplicates, level_said, said_level};
+
+use crate::document::json_tree::within;
+use crate::fact::given::Given;
+use oim_names::{Aliases, Reason};
+use oim_value::Level;
+use serde_json::{Map, Value};
+
+const RESERVED: &str = "https://xbrl.org/2021";
+
+/// The level of duplicates that a report declares by the feature `xbrl:allowedDuplicates`; without
+/// it all are allowed.
+///
+/// Errors: `Feature` if the feature is repeated, or its value is not a level.
+pub(crate) fn read_level(aliases: &Aliases, tree: &Value) -> Result<Level, Reason>
+    ensures level { result_ok result ≡ said_level (declarations aliases.now (features_of (view tree.now))) }
+    ensures refused { IfErr result (λ r. r ≡ Reason.Feature) }
+{
+    match within(tree, "documentInfo", "features").and_then(Value::as_object) {
+        Some(features) => match declared_level(aliases, features) {
+            Some(level) => Ok(level),
+            None => Err(Reason::Feature),
+        },
+        None => Ok(Level::All),
+    }
+}
+
+fn declared_level(aliases: &Aliases, features: &Map<String, Value>) -> Option<Level>
+    ensures { result ≡ said_level (declarations aliases.now (members_view features.now.entries)) }
+{
+    let mut declared = None;
+    for (key, value) in features.iter() {
+        if is_allowed_duplicates(aliases, key.as_str()) {
+            match only_level(declared, Given::of_value(value)) {
+                Some(level) => declared = Some(level),
+                None => return None,
+            }
+        }
+    }
+    Some(declared.unwrap_or(Level::All))
+}
+
+// The level of a declaration, if there is none before it.
+fn only_level(before: Option<Level>, value: Given<'_>) -> Option<Level>
+    ensures first { before ≡ None → result ≡ said_level (seen value.entry ∷ []) }
+    ensures again { IsSome before → result ≡ None }
+{
+    match before {
+        Some(_) => None,
+        None => value.text().and_then(Level::read),
+    }
+}
+
+fn is_allowed_duplicates(aliases: &Aliases, key: &str) -> bool
+    ensures { result ≡ is_allowed_duplicates aliases.now key.now }
+{
+    let (prefix, local) = split(key);
+    aliases.uri(prefix) == Some(RESERVED) && local == "allowedDuplicates"
+}
+
+fn split(key: &str) -> (&str, &str)
+    ensures prefix { result.0.now ≡ prefix_part key.now }
+    ensures local { result.1.now ≡ local_part key.now }
+{
+    key.split_once(':').unwrap_or((key, ""))
+}

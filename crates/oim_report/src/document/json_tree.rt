@@ -1,0 +1,147 @@
+ghost use Rattle.std.specs.Prelude.{◌≡◌, ◌⊎◌, Some, None, IfOk, IfErr, IfSome, codes, map, is_some, option_map, bytes_eq};
+ghost use Rattle.std.specs.List.{list_any};
+ghost use Rattle.serde_json.specs.Data.{Members, null, object, put};
+ghost use Rattle.oim_report.specs.Pieces.{IsPiece};
+ghost use Rattle.serde_json.specs.View.{view, members_view};
+ghost use Rattle.oim_report.specs.Json.{without_mark, json, object_at, within, any_member, any_in, has_member, has_colon, is_unknown, is_no_object, is_no_array};
+
+use crate::pieces::outline::{Outline, read_outline};
+use oim_names::Reason;
+use serde_json::{Map, Value};
+use std::alloc::Global;
+use std::str;
+
+/// The JSON value that the bytes are, after at most one byte order mark.
+///
+/// Errors: `NotJson` where they are not a text that `serde_json` reads (UTF-8, RFC 8259, nesting at
+/// most 127); `OutOfMemory`.
+pub(crate) fn read_json(alloc: Global, bytes: &[u8]) -> Result<Value, Reason>
+    ensures value { IfOk result (λ v. json bytes.now ≡ Some (view v)) }
+    ensures refused { IfErr result
+        (λ r. (r ≡ Reason.OutOfMemory) ⊎ ((r ≡ Reason.NotJson) × (json bytes.now ≡ None))) }
+{
+    match Value::from_slice(alloc, after_mark(bytes)) {
+        Ok(value) => Ok(value),
+        Err(error) if error.is_memory() => Err(Reason::OutOfMemory),
+        Err(_) => Err(Reason::NotJson),
+    }
+}
+
+/// The object that the bytes are without its member `facts`, and the text of the fact objects. If
+/// that text can be read, so can the whole. `None` if the text was not cut so, or memory ran out.
+pub(crate) fn read_json_outline(alloc: Global, bytes: &[u8]) -> Option<Outline<'_>>
+    ensures { IfSome result (λ o. (before : Members) × (view o.tree ≡ object before)
+        × ((found : Members) → IsPiece o.facts.now found
+        → json bytes.now ≡ Some (object (put (codes "facts") (object found) before)))) }
+{
+    let text = str::from_utf8(after_mark(bytes)).ok()?;
+    read_outline(alloc, text)
+}
+
+fn after_mark(bytes: &[u8]) -> &[u8]
+    ensures { result.now ≡ without_mark bytes.now }
+{
+    match bytes.strip_prefix(b"\xef\xbb\xbf") {
+        Some(rest) => rest,
+        None => bytes,
+    }
+}
+
+/// The object at a key.
+pub(crate) fn object_at<'a>(value: &'a Value, key: &str) -> Option<&'a Map<String, Value>>
+    ensures { option_map (λ m. members_view m.now.entries) result
+        ≡ object_at key.now (view value.now) }
+{
+    value.get(key).and_then(Value::as_object)
+}
+
+/// The member at `key` of the object at `outer`.
+pub(crate) fn within<'a>(value: &'a Value, outer: &str, key: &str) -> Option<&'a Value>
+    ensures { option_map (λ v. view v.now) result ≡ within outer.now key.now (view value.now) }
+{
+    match value.get(outer) {
+        Some(object) => object.get(key),
+        None => None,
+    }
+}
+
+/// Whether there is an object that has a member.
+pub(crate) fn has_member(object: Option<&Map<String, Value>>) -> bool
+    ensures { result ≡ has_member (option_map (λ m. members_view m.now.entries) object.entry) }
+{
+    match object {
+        Some(members) => !members.is_empty(),
+        None => false,
+    }
+}
+
+/// Whether a key is an extension's.
+pub(crate) fn has_colon(key: &str) -> bool
+    ensures { result ≡ has_colon key.now }
+{
+    key.as_bytes().iter().any(|byte| *byte == b':')
+}
+
+/// The first key of an object that is no extension's and none of these.
+pub(crate) fn unknown_in<'a>(
+    object: Option<&'a Map<String, Value>>,
+    known: &[&str],
+) -> Option<&'a str>
+    ensures { let members = option_map (λ m. members_view m.now.entries) object.entry in
+        is_some result ≡ any_in (is_unknown (map (λ s. s.now) known.now)) members }
+{
+    match object {
+        Some(members) => unknown_key(members, known),
+        None => None,
+    }
+}
+
+fn unknown_key<'a>(members: &'a Map<String, Value>, known: &[&str]) -> Option<&'a str>
+    ensures { is_some result
+        ≡ any_member (is_unknown (map (λ s. s.now) known.now)) (members_view members.now.entries) }
+{
+    for (key, _value) in members.iter() {
+        if is_unknown_key(key.as_str(), known) {
+            return Some(key.as_str());
+        }
+    }
+    None
+}
+
+fn is_unknown_key(key: &str, known: &[&str]) -> bool
+    ensures { result ≡ is_unknown (map (λ s. s.now) known.now) key.now null }
+{
+    !has_colon(key) && !is_one_of(key, known)
+}
+
+/// Whether a key is one of these.
+pub(crate) fn is_one_of(key: &str, known: &[&str]) -> bool
+    ensures { result ≡ list_any (λ k. bytes_eq k key.now) (map (λ s. s.now) known.now) }
+{
+    for name in known {
+        if *name == key {
+            return true;
+        }
+    }
+    false
+}
+
+/// Whether there is a value, and it is no object.
+pub(crate) fn is_no_object(member: Option<&Value>) -> bool
+    ensures { result ≡ is_no_object (option_map (λ v. view v.now) member.entry) }
+{
+    match member {
+        Some(value) => !value.is_object(),
+        None => false,
+    }
+}
+
+/// Whether there is a value, and it is no array.
+pub(crate) fn is_no_array(member: Option<&Value>) -> bool
+    ensures { result ≡ is_no_array (option_map (λ v. view v.now) member.entry) }
+{
+    match member {
+        Some(value) => !value.is_array(),
+        None => false,
+    }
+}

@@ -1,0 +1,116 @@
+ghost use Rattle.std.specs.Prelude.{◌≡◌, ◌⊎◌, Ok, Err, Some, None, IfOk, IfErr, OnOk};
+ghost use Rattle.serde_json.specs.View.{view};
+ghost use Rattle.oim_report.specs.Conditions.{content_refusal, form_refusal};
+ghost use Rattle.oim_report.specs.Glossaries.{AreGlossaries};
+ghost use Rattle.oim_report.specs.Outcome.{fact_outcome};
+ghost use Rattle.oim_report.specs.Said.{fact_of};
+ghost use Rattle.oim_report.specs.SeenParts.{seen_dimensions, seen_parts};
+
+use crate::fact::dimensions_reader::read_dimensions;
+use crate::fact::fact_form::well_formed;
+use crate::fact::fact_value::read_value;
+use crate::fact::glossaries::Glossaries;
+use crate::fact::parts::{DimensionParts, FactParts};
+use crate::findings::fact_faults::add_fact_faults;
+use crate::findings::fault_list::Faults;
+use crate::place::Place;
+use crate::sheet::Sheet;
+use crate::sheet::listed::find_concept;
+use oim_dims::Fact;
+use oim_names::{Aliases, Copied, Reason};
+use serde_json::Value;
+use std::alloc::Global;
+
+/// The fact that a fact object says under a sheet and these prefixes.
+///
+/// Errors: the least condition that holds; `OutOfMemory`.
+pub(crate) fn read_fact<'s, 'a>(
+    alloc: Global,
+    sheet: &'s Sheet,
+    aliases: &Aliases,
+    glossaries: &mut Glossaries<'s, 'a>,
+    object: &'a Value,
+) -> Result<Fact, Reason>
+    requires known { AreGlossaries sheet.now aliases.now glossaries.old }
+    ensures ok { IfOk result (λ f. fact_outcome sheet.now aliases.now (view object.now) ≡ Ok f) }
+    ensures errors { IfErr result
+        (λ r. (r ≡ Reason.OutOfMemory)
+        ⊎ (fact_outcome sheet.now aliases.now (view object.now) ≡ Err r)) }
+    ensures known { OnOk result (AreGlossaries sheet.now aliases.now glossaries.new) }
+{
+    match read_object(alloc, sheet, aliases, glossaries, object) {
+        Ok(fact) => Ok(fact),
+        Err(Reason::OutOfMemory) => Err(Reason::OutOfMemory),
+        Err(_) => Err(least_fault(alloc, sheet, aliases, object)),
+    }
+}
+
+// The least condition of a fact object that holds; `OutOfMemory` if none does.
+fn least_fault(alloc: Global, sheet: &Sheet, aliases: &Aliases, object: &Value) -> Reason
+    ensures { (result ≡ Reason.OutOfMemory)
+        ⊎ (fact_outcome sheet.now aliases.now (view object.now) ≡ Err result) }
+{
+    let mut faults = Faults::new(alloc);
+    match add_fact_faults(alloc, sheet, aliases, object, Place::Document, &mut faults) {
+        Ok(()) => match faults.as_slice().first() {
+            Some(refusal) => refusal.reason,
+            None => Reason::OutOfMemory,
+        },
+        Err(_) => Reason::OutOfMemory,
+    }
+}
+
+// The fact, unless a condition holds or memory runs out. Most facts are accepted, so this reads each
+// part once and does not find out which condition is the least.
+fn read_object<'s, 'a>(
+    alloc: Global,
+    sheet: &'s Sheet,
+    aliases: &Aliases,
+    glossaries: &mut Glossaries<'s, 'a>,
+    object: &'a Value,
+) -> Result<Fact, Reason>
+    requires known { AreGlossaries sheet.now aliases.now glossaries.old }
+    ensures ok { IfOk result (λ f. fact_outcome sheet.now aliases.now (view object.now) ≡ Ok f) }
+    ensures known { OnOk result (AreGlossaries sheet.now aliases.now glossaries.new) }
+{
+    let Some(parts) = FactParts::of(alloc, object)? else {
+        return Err(Reason::MemberForm);
+    };
+    let Some(dimensions) = well_formed(&parts) else {
+        return Err(Reason::MemberForm);
+    };
+    read_content(alloc, sheet, aliases, glossaries, &parts, dimensions)
+}
+
+// The fact with these parts, which are well-formed.
+fn read_content<'s, 'a>(
+    alloc: Global,
+    sheet: &'s Sheet,
+    aliases: &Aliases,
+    glossaries: &mut Glossaries<'s, 'a>,
+    parts: &FactParts<'a>,
+    dimensions: &DimensionParts<'a>,
+) -> Result<Fact, Reason>
+    requires known { AreGlossaries sheet.now aliases.now glossaries.old }
+    requires there { parts.now.dimensions ≡ Some dimensions.now }
+    requires form { form_refusal (seen_parts parts.now) ≡ None }
+    ensures said { let p = seen_parts parts.now in
+        let ds = seen_dimensions dimensions.now in
+        IfOk result (λ f. fact_of sheet.now aliases.now p ds ≡ Some f) }
+    ensures accepted { let p = seen_parts parts.now in
+        let ds = seen_dimensions dimensions.now in
+        IfOk result (λ _. content_refusal sheet.now aliases.now p ds ≡ None) }
+    ensures known { OnOk result (AreGlossaries sheet.now aliases.now glossaries.new) }
+{
+    let concepts = &mut glossaries.concepts;
+    let Some((name, kind)) = find_concept(sheet, aliases, concepts, dimensions.concept) else {
+        return Err(Reason::UnknownConcept);
+    };
+    let concept = name.copied(alloc)?;
+    let read = read_dimensions(alloc, sheet, aliases, glossaries, concept, kind, dimensions)?;
+    let value = read_value(alloc, aliases, kind, parts.value, parts.decimals)?;
+    Ok(Fact {
+        dimensions: read,
+        value,
+    })
+}

@@ -1,0 +1,54 @@
+//! The values of a fact object, and what they are.
+
+ghost use Rattle.std.specs.Prelude.{◌≡◌, is_none, codes, option_map, option_and_then};
+ghost use Rattle.serde_json.specs.View.{view};
+ghost use Rattle.serde_json.specs.Find.{get_member};
+ghost use Rattle.oim_report.specs.Holds.{as_text, as_whole, is_some_and, no_text, no_text_or_null};
+ghost use Rattle.oim_report.specs.Json.{members, object_at};
+
+use crate::document::json_tree::within;
+use crate::fact::given::Given;
+use serde_json::Value;
+
+/// The member of `dimensions` at a key.
+pub(crate) fn dimension<'a>(object: &'a Value, key: &str) -> Option<&'a Value>
+    ensures { option_map (λ v. view v.now) result
+        ≡ get_member key.now (members (object_at (codes "dimensions") (view object.now))) }
+{
+    within(object, "dimensions", key)
+}
+
+/// The text of a value.
+pub(crate) fn text(value: Option<&Value>) -> Option<&str>
+    ensures { option_map (λ t. t.now) result
+        ≡ option_and_then as_text (option_map (λ v. view v.now) value.entry) }
+{
+    Given::of(value).text()
+}
+
+/// Whether there is a value, and it is no text.
+pub(crate) fn is_no_text(value: Option<&Value>) -> bool
+    ensures { result ≡ is_some_and no_text (option_map (λ v. view v.now) value.entry) }
+{
+    Given::of(value).is_no_text()
+}
+
+/// Whether there is a value, and it is neither a text nor null.
+pub(crate) fn is_no_text_or_null(value: Option<&Value>) -> bool
+    ensures { result ≡ is_some_and no_text_or_null (option_map (λ v. view v.now) value.entry) }
+{
+    match value {
+        Some(found) => text(value).is_none() && !found.is_null(),
+        None => false,
+    }
+}
+
+/// The whole number that a value is.
+pub(crate) fn whole(value: Option<&Value>) -> Option<i128>
+    ensures { result ≡ option_and_then as_whole (option_map (λ v. view v.now) value.entry) }
+{
+    match value {
+        Some(Value::Number(number)) => number.as_i128(),
+        _ => None,
+    }
+}

@@ -1,0 +1,52 @@
+ghost use Rattle.std.specs.Prelude.{List, IfOk};
+ghost use Rattle.oim_names.specs.Bindings.{Binding};
+ghost use Rattle.oim_report.specs.Glossaries.{AreGlossaries};
+ghost use Rattle.oim_report.specs.Sheet.{Sheet};
+
+use crate::concept_kind::ConceptKind;
+use crate::dimension_kind::DimensionKind;
+use crate::fact::glossary::Glossary;
+use oim_dims::{Period, Unit};
+use oim_names::{Name, Text};
+use std::alloc::{AllocError, Global};
+
+/// Caches of what the texts of one report were read as, under one sheet and one set of prefixes.
+#[derive(Drop)]
+pub(crate) struct Glossaries<'s, 'a> {
+    /// The concepts that the sheet lists.
+    pub(crate) concepts: Glossary<'a, (&'s Name, ConceptKind)>,
+    /// The taxonomy-defined dimensions that the sheet lists.
+    pub(crate) dimensions: Glossary<'a, (&'s Name, DimensionKind)>,
+    pub(crate) entities: Glossary<'a, Name>,
+    pub(crate) periods: Glossary<'a, Period>,
+    pub(crate) units: Glossary<'a, Option<Unit>>,
+    pub(crate) languages: Glossary<'a, Text>,
+    /// The members of explicit dimensions.
+    pub(crate) members: Glossary<'a, Name>,
+}
+
+impl<'s, 'a> Glossaries<'s, 'a> {
+    /// Empty caches, each with room for so many texts, and at most `MOST_MEANINGS`.
+    ///
+    /// Errors: out of memory.
+    pub(crate) fn with_room(alloc: Global, texts: usize) -> Result<Self, AllocError>
+        ensures { IfOk result (λ gs. (sheet : Sheet) (bs : List Binding) → AreGlossaries sheet bs gs) }
+    {
+        let concepts = Glossary::with_room(alloc, texts)?;
+        let dimensions = Glossary::with_room(alloc, texts)?;
+        let entities = Glossary::with_room(alloc, texts)?;
+        let periods = Glossary::with_room(alloc, texts)?;
+        let units = Glossary::with_room(alloc, texts)?;
+        let languages = Glossary::with_room(alloc, texts)?;
+        let members = Glossary::with_room(alloc, texts)?;
+        Ok(Glossaries {
+            concepts,
+            dimensions,
+            entities,
+            periods,
+            units,
+            languages,
+            members,
+        })
+    }
+}

@@ -1,0 +1,75 @@
+ghost use Rattle.std.specs.Prelude.{◌≡◌, Some, None, false, IfOk, OnOk};
+ghost use Rattle.oim_names.specs.Expansion.{Expands};
+ghost use Rattle.oim_report.specs.Conditions.{defined_refusal, is_misfit};
+ghost use Rattle.oim_report.specs.Given.{seen};
+ghost use Rattle.oim_report.specs.Glossary.{IsGlossary};
+ghost use Rattle.oim_report.specs.Glossaries.{AreGlossaries};
+ghost use Rattle.oim_report.specs.Said.{concept_with, said_member, said_members};
+ghost use Rattle.oim_report.specs.SeenParts.{seen_defined};
+
+use crate::dimension_kind::DimensionKind;
+use crate::fact::given::Given;
+use crate::fact::glossaries::Glossaries;
+use crate::fact::glossary::Glossary;
+use crate::fact::recall::{recall_dimension, recall_name};
+use crate::sheet::Sheet;
+use oim_dims::{Dimensions, Member};
+use oim_names::{Aliases, Copied, Name, Reason, Text};
+use std::alloc::Global;
+
+/// The dimensions of a fact with this concept and these taxonomy-defined dimensions. Keys come in
+/// the order of prefixes, so the members are sorted by name once, when all are there.
+///
+/// Errors: some condition holds; `OutOfMemory`.
+pub(crate) fn read_members<'s, 'a>(
+    alloc: Global,
+    sheet: &'s Sheet,
+    aliases: &Aliases,
+    glossaries: &mut Glossaries<'s, 'a>,
+    concept: Name,
+    defined: &[(&'a str, Given<'a>)],
+) -> Result<Dimensions, Reason>
+    requires known { AreGlossaries sheet.now aliases.now glossaries.old }
+    ensures said { let all = seen_defined defined.now in
+        IfOk result (λ d. said_members sheet.now aliases.now all ≡ Some d.members) }
+    ensures others { IfOk result (λ d. d ≡ concept_with concept d.members) }
+    ensures accepted { let all = seen_defined defined.now in
+        IfOk result (λ _. defined_refusal sheet.now aliases.now all ≡ None) }
+    ensures known { OnOk result (AreGlossaries sheet.now aliases.now glossaries.new) }
+{
+    let mut found = Vec::with_capacity(alloc, defined.len())?;
+    for (key, member) in defined {
+        let Some((name, kind)) = recall_dimension(sheet, aliases, &mut glossaries.dimensions, *key)
+        else {
+            return Err(Reason::UnknownDimension);
+        };
+        let member = read_member(alloc, aliases, &mut glossaries.members, kind, *member)?;
+        found.push_reserved((name.copied(alloc)?, member));
+    }
+    let mut dimensions = Dimensions::new(alloc, concept);
+    dimensions.set_members(found)?;
+    Ok(dimensions)
+}
+
+// The member of a dimension of this kind.
+fn read_member<'a>(
+    alloc: Global,
+    aliases: &Aliases,
+    members: &mut Glossary<'a, Name>,
+    kind: DimensionKind,
+    member: Given<'a>,
+) -> Result<Member, Reason>
+    requires known { IsGlossary (Expands aliases.now) members.old }
+    ensures said { IfOk result (λ m. said_member aliases.now (Some kind) (seen member.entry) ≡ Some m) }
+    ensures accepted { IfOk result (λ _. is_misfit (Some kind) (seen member.entry) ≡ false) }
+    ensures known { OnOk result (IsGlossary (Expands aliases.now) members.new) }
+{
+    match (kind, member) {
+        (DimensionKind::Explicit, Given::Text(text)) => {
+            Ok(Member::Name(recall_name(alloc, aliases, members, text)?))
+        }
+        (DimensionKind::Typed, Given::Text(text)) => Ok(Member::Text(Text::new(alloc, text)?)),
+        (DimensionKind::Typed, Given::Nil) => Ok(Member::Nil),
+        _ => Err(Reason::DimensionValue),
+    }
+}

@@ -1,0 +1,166 @@
+ghost use Rattle.std.specs.Prelude.{◌≡◌, ◌||◌, IfOk, option_map, option_and_then};
+ghost use Rattle.serde_json.specs.Find.{as_object};
+ghost use Rattle.serde_json.specs.View.{view, members_view};
+ghost use Rattle.oim_report.specs.Json.{has_member, is_no_object};
+ghost use Rattle.oim_report.specs.Parts.{dimension_parts, fact_parts, parts_of};
+ghost use Rattle.oim_report.specs.SeenParts.{seen_dimensions, seen_parts};
+
+use crate::document::json_tree::{has_colon, has_member, is_no_object};
+use crate::fact::given::Given;
+use serde_json::{Map, Value};
+use std::alloc::{AllocError, Global};
+
+/// What the members of a fact's `dimensions` are.
+#[derive(Drop)]
+pub(crate) struct DimensionParts<'a> {
+    pub(crate) concept: Given<'a>,
+    pub(crate) entity: Given<'a>,
+    pub(crate) period: Given<'a>,
+    pub(crate) unit: Given<'a>,
+    pub(crate) language: Given<'a>,
+    pub(crate) note: Given<'a>,
+    /// The members whose keys have a colon, in byte order of these.
+    pub(crate) defined: Vec<(&'a str, Given<'a>)>,
+    /// Whether there is a member of another key.
+    pub(crate) unknown: bool,
+}
+
+impl<'a> DimensionParts<'a> {
+    /// The parts of a value that is an object.
+    fn of(alloc: Global, value: &'a Value) -> Result<Option<DimensionParts<'a>>, AllocError>
+        ensures { IfOk result (λ parts. option_map seen_dimensions parts
+            ≡ option_map dimension_parts (as_object (view value.now))) }
+    {
+        match value.as_object() {
+            Some(members) => Ok(Some(DimensionParts::of_members(alloc, members)?)),
+            None => Ok(None),
+        }
+    }
+
+    // The core dimensions (OIM Common 1.0), and the others. No key comes twice.
+    fn of_members(
+        alloc: Global,
+        members: &'a Map<String, Value>,
+    ) -> Result<DimensionParts<'a>, AllocError>
+        ensures { IfOk result (λ parts. seen_dimensions parts
+            ≡ dimension_parts (members_view members.now.entries)) }
+    {
+        let mut concept = None;
+        let mut entity = None;
+        let mut period = None;
+        let mut unit = None;
+        let mut language = None;
+        let mut note = None;
+        let mut defined = Vec::new(alloc);
+        let mut unknown = false;
+        for (key, value) in members.iter() {
+            match key.as_str() {
+                "concept" => concept = Some(value),
+                "entity" => entity = Some(value),
+                "period" => period = Some(value),
+                "unit" => unit = Some(value),
+                "language" => language = Some(value),
+                "noteId" => note = Some(value),
+                key if has_colon(key) => defined.push((key, Given::of_value(value)))?,
+                _ => unknown = true,
+            }
+        }
+        Ok(DimensionParts {
+            concept: Given::of(concept),
+            entity: Given::of(entity),
+            period: Given::of(period),
+            unit: Given::of(unit),
+            language: Given::of(language),
+            note: Given::of(note),
+            defined,
+            unknown,
+        })
+    }
+}
+
+/// What the members of a fact object are.
+#[derive(Drop)]
+pub(crate) struct FactParts<'a> {
+    pub(crate) value: Given<'a>,
+    pub(crate) decimals: Given<'a>,
+    /// The parts of `dimensions`, where that is an object.
+    pub(crate) dimensions: Option<DimensionParts<'a>>,
+    /// Whether `links` has a member.
+    pub(crate) linked: bool,
+    /// Whether `dimensions` or `links` is there and no object.
+    pub(crate) misshapen: bool,
+    /// Whether there is a member of another key without a colon.
+    pub(crate) unknown: bool,
+}
+
+impl<'a> FactParts<'a> {
+    /// The parts of a value that is an object.
+    pub(crate) fn of(alloc: Global, object: &'a Value) -> Result<Option<FactParts<'a>>, AllocError>
+        ensures { IfOk result (λ parts. option_map seen_parts parts ≡ fact_parts (view object.now)) }
+    {
+        match object.as_object() {
+            Some(members) => Ok(Some(FactParts::of_members(alloc, members)?)),
+            None => Ok(None),
+        }
+    }
+
+    // The members that are no extension's (xBRL-JSON 1.0, section 3.1). No key comes twice.
+    fn of_members(
+        alloc: Global,
+        members: &'a Map<String, Value>,
+    ) -> Result<FactParts<'a>, AllocError>
+        ensures { IfOk result (λ parts. seen_parts parts ≡ parts_of (members_view members.now.entries)) }
+    {
+        let mut value = None;
+        let mut decimals = None;
+        let mut dimensions = None;
+        let mut links = None;
+        let mut unknown = false;
+        for (key, member) in members.iter() {
+            match key.as_str() {
+                "value" => value = Some(member),
+                "decimals" => decimals = Some(member),
+                "dimensions" => dimensions = Some(member),
+                "links" => links = Some(member),
+                key if has_colon(key) => {}
+                _ => unknown = true,
+            }
+        }
+        Ok(FactParts {
+            value: Given::of(value),
+            decimals: Given::of(decimals),
+            dimensions: dimensions_of(alloc, dimensions)?,
+            linked: is_linked(links),
+            misshapen: is_misshapen(dimensions, links),
+            unknown,
+        })
+    }
+}
+
+fn dimensions_of<'a>(
+    alloc: Global,
+    dimensions: Option<&'a Value>,
+) -> Result<Option<DimensionParts<'a>>, AllocError>
+    ensures { let found = option_map (λ v. view v.now) dimensions.entry in
+        IfOk result (λ parts. option_map seen_dimensions parts
+        ≡ option_map dimension_parts (option_and_then as_object found)) }
+{
+    match dimensions {
+        Some(value) => DimensionParts::of(alloc, value),
+        None => Ok(None),
+    }
+}
+
+fn is_linked(links: Option<&Value>) -> bool
+    ensures { let found = option_map (λ v. view v.now) links.entry in
+        result ≡ has_member (option_and_then as_object found) }
+{
+    has_member(links.and_then(Value::as_object))
+}
+
+fn is_misshapen(dimensions: Option<&Value>, links: Option<&Value>) -> bool
+    ensures { let found = option_map (λ v. view v.now) dimensions.entry in
+        result ≡ (is_no_object found || is_no_object (option_map (λ v. view v.now) links.entry)) }
+{
+    is_no_object(dimensions) || is_no_object(links)
+}

@@ -1,0 +1,179 @@
+//! The meaning of a text, from a glossary. A text that is not there is read and added. What depends
+//! on more than the text, such as a unit's kind of concept, is tested each time.
+
+ghost use Rattle.std.specs.Prelude.{◌≡◌, ◌⊎◌, Some, IsTrue, IfOk, IfErr, IfSome, OnOk, option_map};
+ghost use Rattle.std.specs.Str.{str_to_ascii_lowercase};
+ghost use Rattle.oim_names.specs.Expansion.{Expands, ExpandsEntity, entity_refusal, name_refusal};
+ghost use Rattle.oim_dims.specs.Language.{is_language};
+ghost use Rattle.oim_dims.specs.Period.{period_of};
+ghost use Rattle.oim_dims.specs.Unit.{IsUnit, UnitOf, unit_refusal};
+ghost use Rattle.oim_report.specs.Conditions.{concept_kind, dimension_kind};
+ghost use Rattle.oim_report.specs.Glossary.{IsGlossary};
+ghost use Rattle.oim_report.specs.Glossaries.{NamesConcept, NamesDimension, TextSaysLanguage, TextSaysPeriod, TextSaysUnit};
+ghost use Rattle.oim_report.specs.Json.{text as a_text};
+ghost use Rattle.oim_report.specs.Names.{named};
+
+use crate::concept_kind::ConceptKind;
+use crate::dimension_kind::DimensionKind;
+use crate::fact::glossary::Glossary;
+use crate::sheet::Sheet;
+use crate::sheet::listed::{find_dimension, find_named_concept};
+use oim_dims::{Period, Unit, read_language, read_period, read_unit};
+use oim_names::{Aliases, Copied, Name, Reason, Text};
+use std::alloc::Global;
+
+/// The concept that the text names, as the sheet has it, and the kind of its values.
+pub(crate) fn recall_concept<'s, 'a>(
+    sheet: &'s Sheet,
+    aliases: &Aliases,
+    concepts: &mut Glossary<'a, (&'s Name, ConceptKind)>,
+    text: &'a str,
+) -> Option<(&'s Name, ConceptKind)>
+    requires known { IsGlossary (NamesConcept sheet.now aliases.now) concepts.old }
+    ensures kind { option_map (λ c. c.1) result
+        ≡ concept_kind sheet.now aliases.now (a_text text.now) }
+    ensures name { IfSome result (λ c. named aliases.now text.now ≡ Some c.0.now) }
+    ensures known { IsGlossary (NamesConcept sheet.now aliases.now) concepts.new }
+{
+    if let Some(known) = concepts.find(text) {
+        return Some(*known);
+    }
+    let found = find_named_concept(sheet, aliases, text)?;
+    concepts.add(text, found);
+    Some(found)
+}
+
+/// The dimension that the text names, as the sheet has it, and the kind of its members.
+pub(crate) fn recall_dimension<'s, 'a>(
+    sheet: &'s Sheet,
+    aliases: &Aliases,
+    dimensions: &mut Glossary<'a, (&'s Name, DimensionKind)>,
+    text: &'a str,
+) -> Option<(&'s Name, DimensionKind)>
+    requires known { IsGlossary (NamesDimension sheet.now aliases.now) dimensions.old }
+    ensures kind { option_map (λ d. d.1) result ≡ dimension_kind sheet.now aliases.now text.now }
+    ensures name { IfSome result (λ d. named aliases.now text.now ≡ Some d.0.now) }
+    ensures known { IsGlossary (NamesDimension sheet.now aliases.now) dimensions.new }
+{
+    if let Some(known) = dimensions.find(text) {
+        return Some(*known);
+    }
+    let found = find_dimension(sheet, aliases, text)?;
+    dimensions.add(text, found);
+    Some(found)
+}
+
+/// The expanded name that the text spells.
+///
+/// Errors: those of `Aliases::name_refusal`; `OutOfMemory`.
+pub(crate) fn recall_name<'a>(
+    alloc: Global,
+    aliases: &Aliases,
+    names: &mut Glossary<'a, Name>,
+    text: &'a str,
+) -> Result<Name, Reason>
+    requires known { IsGlossary (Expands aliases.now) names.old }
+    ensures ok { IfOk result (Expands aliases.now text.now) }
+    ensures errors { IfErr result
+        (λ r. (r ≡ Reason.OutOfMemory) ⊎ (name_refusal aliases.now text.now ≡ Some r)) }
+    ensures known { OnOk result (IsGlossary (Expands aliases.now) names.new) }
+{
+    if let Some(known) = names.find(text) {
+        return Ok(known.copied(alloc)?);
+    }
+    let name = aliases.expand(text)?;
+    names.add(text, name.copied(alloc)?);
+    Ok(name)
+}
+
+/// The entity that the text spells.
+///
+/// Errors: those of `Aliases::entity_refusal`; `OutOfMemory`.
+pub(crate) fn recall_entity<'a>(
+    alloc: Global,
+    aliases: &Aliases,
+    entities: &mut Glossary<'a, Name>,
+    text: &'a str,
+) -> Result<Name, Reason>
+    requires known { IsGlossary (ExpandsEntity aliases.now) entities.old }
+    ensures ok { IfOk result (ExpandsEntity aliases.now text.now) }
+    ensures errors { IfErr result
+        (λ r. (r ≡ Reason.OutOfMemory) ⊎ (entity_refusal aliases.now text.now ≡ Some r)) }
+    ensures known { OnOk result (IsGlossary (ExpandsEntity aliases.now) entities.new) }
+{
+    if let Some(known) = entities.find(text) {
+        return Ok(known.copied(alloc)?);
+    }
+    let entity = aliases.expand_entity(text)?;
+    entities.add(text, entity.copied(alloc)?);
+    Ok(entity)
+}
+
+/// The period that the text spells.
+///
+/// Errors: those of `read_period`.
+pub(crate) fn recall_period<'a>(
+    alloc: Global,
+    periods: &mut Glossary<'a, Period>,
+    text: &'a str,
+) -> Result<Period, Reason>
+    requires known { IsGlossary TextSaysPeriod periods.old }
+    ensures period { result ≡ period_of text.now }
+    ensures known { OnOk result (IsGlossary TextSaysPeriod periods.new) }
+{
+    if let Some(known) = periods.find(text) {
+        return Ok(*known);
+    }
+    let read = read_period(alloc, text);
+    if let Ok(period) = &read {
+        periods.add(text, *period);
+    }
+    read
+}
+
+/// The unit that the text spells, or none.
+///
+/// Errors: those of `read_unit`.
+pub(crate) fn recall_unit<'a>(
+    alloc: Global,
+    aliases: &Aliases,
+    units: &mut Glossary<'a, Option<Unit>>,
+    text: &'a str,
+) -> Result<Option<Unit>, Reason>
+    requires known { IsGlossary (TextSaysUnit aliases.now) units.old }
+    ensures unit { IfOk result (UnitOf aliases.now text.now) }
+    ensures sorted { IfOk result (λ unit. IfSome unit IsUnit) }
+    ensures errors { IfErr result
+        (λ r. (r ≡ Reason.OutOfMemory) ⊎ (unit_refusal aliases.now text.now ≡ Some r)) }
+    ensures known { OnOk result (IsGlossary (TextSaysUnit aliases.now) units.new) }
+{
+    if let Some(known) = units.find(text) {
+        return Ok(Copied::copied(known, alloc)?);
+    }
+    let unit = read_unit(alloc, aliases, text)?;
+    units.add(text, Copied::copied(&unit, alloc)?);
+    Ok(unit)
+}
+
+/// The language that the text spells, in lower case.
+///
+/// Errors: those of `read_language`.
+pub(crate) fn recall_language<'a>(
+    alloc: Global,
+    languages: &mut Glossary<'a, Text>,
+    text: &'a str,
+) -> Result<Text, Reason>
+    requires known { IsGlossary TextSaysLanguage languages.old }
+    ensures language { IfOk result (λ language. language ≡ str_to_ascii_lowercase text.now) }
+    ensures form { IfOk result (λ _. IsTrue (is_language text.now)) }
+    ensures errors { IfErr result (λ r. (r ≡ Reason.OutOfMemory)
+        ⊎ ((r ≡ Reason.LanguageForm) × ¬ (IsTrue (is_language text.now)))) }
+    ensures known { OnOk result (IsGlossary TextSaysLanguage languages.new) }
+{
+    if let Some(known) = languages.find(text) {
+        return Ok(known.copied(alloc)?);
+    }
+    let language = read_language(alloc, text)?;
+    languages.add(text, language.copied(alloc)?);
+    Ok(language)
+}

@@ -1,0 +1,13 @@
+//! All conditions that a report meets.
+
+pub(crate) mod content_rows;
+pub(crate) mod defined_rows;
+pub(crate) mod document_faults;
+pub(crate) mod fact_faults;
+pub(crate) mod fact_rows;
+pub(crate) mod facts_faults;
+pub(crate) mod fault_list;
+pub(crate) mod faults_reader;
+pub(crate) mod form_rows;
+pub(crate) mod name_rows;
+pub(crate) mod part;

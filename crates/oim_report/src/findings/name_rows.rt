@@ -1,0 +1,187 @@
+//! Of which name of a fact object a condition on names holds. It takes no memory.
+
+ghost use Rattle.std.specs.Prelude.{◌≡◌, ◌&&◌, [], codes, if◌then◌else◌, is_some, map, option_map, option_and_then};
+ghost use Rattle.std.specs.Option.{option_map_or, option_to_list};
+ghost use Rattle.serde_json.specs.View.{view, members_view};
+ghost use Rattle.oim_report.specs.Holds.{as_text, is_kind, names, pieces, value_text};
+ghost use Rattle.oim_report.specs.Json.{members, object_at};
+ghost use Rattle.oim_report.specs.Names.{a_name, an_entity, refuses_name, refuses_some};
+ghost use Rattle.oim_report.specs.Rows.{any_defined, is_defined, refuses_in};
+
+use crate::concept_kind::ConceptKind;
+use crate::dimension_kind::DimensionKind;
+use crate::document::json_tree::object_at;
+use crate::fact::fact_values::{dimension, text};
+use crate::findings::content_rows::kind_of;
+use crate::findings::defined_rows::is_defined;
+use crate::findings::part::Part;
+use crate::sheet::Sheet;
+use crate::sheet::listed::find_dimension;
+use oim_dims::{is_unit_text, refuses_some_piece};
+use oim_names::{Aliases, Reason};
+use serde_json::{Map, Value};
+
+/// The first name that is none for this reason.
+#[tactic(auto, using(crate::proofs::DefinedRows::names_parts))]
+pub(crate) fn refused_name<'a>(
+    sheet: &Sheet,
+    aliases: &Aliases,
+    object: &'a Value,
+    reason: Reason,
+) -> Option<Part<'a>>
+    ensures { let dimensions = members (object_at (codes "dimensions") (view object.now)) in
+        let all = names sheet.now aliases.now (view object.now) dimensions in
+        is_some result ≡ refuses_some reason aliases.now all }
+{
+    if let Some(part) = refused_text(aliases, dimension(object, "concept"), reason) {
+        return Some(part);
+    }
+    if let Some(part) = refused_entity(aliases, dimension(object, "entity"), reason) {
+        return Some(part);
+    }
+    if let Some(part) = refused_dimension(sheet, aliases, object, reason) {
+        return Some(part);
+    }
+    if let Some(part) = refused_piece(aliases, dimension(object, "unit"), reason) {
+        return Some(part);
+    }
+    refused_value(sheet, aliases, object, reason)
+}
+
+// The value, if the concept's values are names.
+fn refused_value<'a>(
+    sheet: &Sheet,
+    aliases: &Aliases,
+    object: &'a Value,
+    reason: Reason,
+) -> Option<Part<'a>>
+    ensures { let dimensions = members (object_at (codes "dimensions") (view object.now)) in
+        let named = is_kind sheet.now aliases.now (view object.now) dimensions ConceptKind.Name in
+        let text = value_text sheet.now aliases.now (view object.now) dimensions in
+        is_some result ≡ refuses_some reason aliases.now (map a_name (if named then option_to_list text else [])) }
+{
+    match kind_of(sheet, aliases, object) {
+        Some(ConceptKind::Name) => refused_text(aliases, object.get("value"), reason),
+        _ => None,
+    }
+}
+
+fn refused_text<'a>(aliases: &Aliases, value: Option<&'a Value>, reason: Reason) -> Option<Part<'a>>
+    ensures { let found = option_and_then as_text (option_map (λ v. view v.now) value.entry) in
+        is_some result ≡ refuses_some reason aliases.now (map a_name (option_to_list found)) }
+{
+    match text(value) {
+        Some(text) if is_refused(aliases, text, reason) => Some(Part::Name(text)),
+        _ => None,
+    }
+}
+
+/// Whether this is why the text is no name.
+pub(crate) fn is_refused(aliases: &Aliases, text: &str, reason: Reason) -> bool
+    ensures { result ≡ refuses_name reason aliases.now (a_name text.now) }
+{
+    aliases.name_refusal(text) == Some(reason)
+}
+
+fn refused_entity<'a>(
+    aliases: &Aliases,
+    value: Option<&'a Value>,
+    reason: Reason,
+) -> Option<Part<'a>>
+    ensures { let found = option_and_then as_text (option_map (λ v. view v.now) value.entry) in
+        is_some result ≡ refuses_some reason aliases.now (map an_entity (option_to_list found)) }
+{
+    match text(value) {
+        Some(text) if is_refused_entity(aliases, text, reason) => Some(Part::Entity(text)),
+        _ => None,
+    }
+}
+
+// Whether this is why the text is no entity.
+fn is_refused_entity(aliases: &Aliases, text: &str, reason: Reason) -> bool
+    ensures { result ≡ refuses_name reason aliases.now (an_entity text.now) }
+{
+    aliases.entity_refusal(text) == Some(reason)
+}
+
+// The dimensions that a taxonomy defines, and the members of the explicit ones.
+fn refused_dimension<'a>(
+    sheet: &Sheet,
+    aliases: &Aliases,
+    object: &'a Value,
+    reason: Reason,
+) -> Option<Part<'a>>
+    ensures { let dimensions = members (object_at (codes "dimensions") (view object.now)) in
+        is_some result ≡ any_defined (refuses_in reason sheet.now aliases.now) dimensions }
+{
+    refused_in(sheet, aliases, object_at(object, "dimensions")?, reason)
+}
+
+fn refused_in<'a>(
+    sheet: &Sheet,
+    aliases: &Aliases,
+    dimensions: &'a Map<String, Value>,
+    reason: Reason,
+) -> Option<Part<'a>>
+    ensures { let refused = refuses_in reason sheet.now aliases.now in
+        is_some result ≡ any_defined refused (members_view dimensions.now.entries) }
+{
+    for (key, value) in dimensions.iter() {
+        if let Some(part) = refused_if_defined(sheet, aliases, key.as_str(), value, reason) {
+            return Some(part);
+        }
+    }
+    None
+}
+
+fn refused_if_defined<'a>(
+    sheet: &Sheet,
+    aliases: &Aliases,
+    key: &'a str,
+    value: &'a Value,
+    reason: Reason,
+) -> Option<Part<'a>>
+    ensures { is_some result
+        ≡ (is_defined key.now && refuses_in reason sheet.now aliases.now key.now (view value.now)) }
+{
+    if is_defined(key) {
+        refused_member(sheet, aliases, key, value, reason)
+    } else {
+        None
+    }
+}
+
+fn refused_member<'a>(
+    sheet: &Sheet,
+    aliases: &Aliases,
+    key: &'a str,
+    value: &'a Value,
+    reason: Reason,
+) -> Option<Part<'a>>
+    ensures { is_some result ≡ refuses_in reason sheet.now aliases.now key.now (view value.now) }
+{
+    if is_refused(aliases, key, reason) {
+        return Some(Part::Name(key));
+    }
+    match find_dimension(sheet, aliases, key) {
+        Some((_name, DimensionKind::Explicit)) => refused_text(aliases, Some(value), reason),
+        _ => None,
+    }
+}
+
+// The unit, if it has the form and one of its pieces is no name for this reason.
+fn refused_piece<'a>(aliases: &Aliases, unit: Option<&'a Value>, reason: Reason) -> Option<Part<'a>>
+    ensures { let found = option_and_then as_text (option_map (λ v. view v.now) unit.entry) in
+        is_some result ≡ refuses_some reason aliases.now (map a_name (option_map_or pieces found [])) }
+{
+    match text(unit) {
+        Some(text) if is_refused_unit(aliases, text, reason) => Some(Part::Piece(text)),
+        _ => None,
+    }
+}
+
+fn is_refused_unit(aliases: &Aliases, text: &str, reason: Reason) -> bool
+    ensures { result ≡ refuses_some reason aliases.now (map a_name (pieces text.now)) }
+{
+    is_unit_text(text) && refuses_some_piece(aliases, reason, text)
+}

@@ -1,0 +1,7 @@
+//! A long report, read in pieces.
+
+pub(crate) mod facts_in_pieces;
+pub(crate) mod next_piece;
+pub(crate) mod outline;
+pub(crate) mod piece;
+pub(crate) mod spaces;

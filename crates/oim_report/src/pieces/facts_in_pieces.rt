@@ -1,0 +1,67 @@
+ghost use Rattle.std.specs.Prelude.{◌≡◌, Ok, IfSome};
+ghost use Rattle.serde_json.specs.Data.{Members};
+ghost use Rattle.serde_json.specs.View.{members_view};
+ghost use Rattle.oim_report.specs.FoundFacts.{AreFound};
+ghost use Rattle.oim_report.specs.Outcome.{facts_said};
+ghost use Rattle.oim_report.specs.Pieces.{IsPiece};
+
+use crate::document::found_facts::FoundFacts;
+use crate::fact::fact_reader::read_fact;
+use crate::fact::glossaries::Glossaries;
+use crate::pieces::next_piece::read_next;
+use crate::sheet::Sheet;
+use oim_dims::Fact;
+use oim_names::Aliases;
+use serde_json::{Map, Value};
+use std::alloc::Global;
+
+/// The facts of a text of fact objects, in byte order of their identifiers, read in pieces of `size`
+/// bytes or more. `None` if a piece was not read, a fact is refused, or memory ran out: only reading
+/// the whole text shows which.
+pub(crate) fn read_facts_in_pieces(
+    alloc: Global,
+    sheet: &Sheet,
+    aliases: &Aliases,
+    text: &str,
+    size: usize,
+) -> Option<Vec<Fact>>
+    ensures { IfSome result (λ facts. (objects : Members) × IsPiece text.now objects
+        × (facts_said sheet.now aliases.now objects ≡ Ok facts.items)) }
+{
+    let mut buffer = String::new(alloc);
+    let mut identifiers = Vec::new(alloc);
+    let mut facts = Vec::new(alloc);
+    let mut left = text;
+    for _ in 0..text.len() {
+        let (objects, rest) = read_next(alloc, &mut buffer, left, size)?;
+        let mut more = read_objects(alloc, sheet, aliases, &objects)?;
+        identifiers.append(&mut more.identifiers).ok()?;
+        facts.append(&mut more.facts).ok()?;
+        match rest {
+            Some(rest) => left = rest,
+            None => return FoundFacts { identifiers, facts }.in_order(alloc),
+        }
+    }
+    None
+}
+
+fn read_objects(
+    alloc: Global,
+    sheet: &Sheet,
+    aliases: &Aliases,
+    objects: &Map<String, Value>,
+) -> Option<FoundFacts>
+    ensures { IfSome result (λ f. AreFound sheet.now aliases.now (members_view objects.now.entries)
+        f.identifiers.items f.facts.items) }
+{
+    let mut identifiers = Vec::new(alloc);
+    let mut facts = Vec::new(alloc);
+    let mut glossaries = Glossaries::with_room(alloc, objects.len()).ok()?;
+    for (identifier, object) in objects.iter() {
+        let fact = read_fact(alloc, sheet, aliases, &mut glossaries, object).ok()?;
+        let key = identifier.clone().ok()?;
+        identifiers.push(key).ok()?;
+        facts.push(fact).ok()?;
+    }
+    Some(FoundFacts { identifiers, facts })
+}

@@ -1,0 +1,75 @@
+ghost use Rattle.std.specs.Prelude.{◌≡◌, ◌∷◌, ◌++◌, Some, IfSome, option_map};
+ghost use Rattle.serde_json.specs.View.{members_view};
+ghost use Rattle.oim_report.specs.Pieces.{IsNext, with_rest};
+
+use crate::pieces::piece::read_piece;
+use crate::pieces::spaces::strip_front;
+use serde_json::{Map, Value};
+use std::alloc::Global;
+
+/// The next piece of a text of members, of `size` bytes or more, and the text after its comma.
+/// `None` if it could not be read, or memory ran out.
+pub(crate) fn read_next<'t>(
+    alloc: Global,
+    buffer: &mut String,
+    text: &'t str,
+    size: usize,
+) -> Option<(Map<String, Value>, Option<&'t str>)>
+    ensures { IfSome result
+        (λ p. IsNext text.now (members_view p.0.entries) (option_map (λ r. r.now) p.1)) }
+{
+    let (piece, rest) = split_piece(text, size);
+    match read_piece(alloc, buffer, piece) {
+        Some(members) => Some((members, rest)),
+        None => None,
+    }
+}
+
+fn split_piece(text: &str, size: usize) -> (&str, Option<&str>)
+    ensures { text.now ≡ with_rest result.0.now (option_map (λ r. r.now) result.1) }
+{
+    match guess_end(text, size) {
+        Some(at) => match cut_at_comma(text, at) {
+            Some((piece, rest)) => (piece, Some(rest)),
+            None => (text, None),
+        },
+        None => (text, None),
+    }
+}
+
+// The parts before and behind the comma at a place.
+fn cut_at_comma(text: &str, at: usize) -> Option<(&str, &str)>
+    ensures { IfSome result (λ p. text.now ≡ p.0.now ++ 44 ∷ p.1.now) }
+{
+    let (front, rest) = text.split_at_checked(at)?;
+    let rest = rest.strip_prefix(',')?;
+    Some((front, rest))
+}
+
+// A guess at the end of a piece of `size` bytes or more: the place of a comma after a closing brace
+// and before a fact. A wrong guess costs time: what is read there is not a piece.
+fn guess_end(text: &str, size: usize) -> Option<usize> {
+    let bytes = text.as_bytes();
+    let mut after_brace = false;
+    for i in size..bytes.len() {
+        if after_brace && bytes[i] == b',' && begins_fact(text.get(i + 1..)?) {
+            return Some(i);
+        }
+        after_brace = bytes[i] == b'}';
+    }
+    None
+}
+
+fn begins_fact(text: &str) -> bool {
+    match key_of_object(text) {
+        Some(key) => key != "dimensions" && key != "links",
+        None => false,
+    }
+}
+
+// The key with which the text begins, if its value is an object.
+fn key_of_object(text: &str) -> Option<&str> {
+    let (key, rest) = strip_front(text, "\"")?.split_once('"')?;
+    let _members = strip_front(strip_front(rest, ":")?, "{")?;
+    Some(key)
+}

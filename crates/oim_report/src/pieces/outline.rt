@@ -1,0 +1,161 @@
+ghost use Rattle.std.specs.Prelude.{◌≡◌, ◌∷◌, ◌++◌, Some, IfSome, option_map};
+ghost use Rattle.serde_json.specs.View.{view, members_view};
+ghost use Rattle.oim_report.specs.Pieces.{AreBoth, IsBeside, IsEnd, IsHead, IsOutline, IsSplit, IsTail};
+
+use crate::pieces::piece::read_piece;
+use crate::pieces::spaces::{strip_back, strip_front, trim_back};
+use serde_json::{Map, Value};
+use std::alloc::Global;
+
+// How far from the end of a document the end of `facts` is searched for.
+const MOST_BEHIND: usize = 16_384;
+
+/// A document without its member `facts`, and the text of the members of `facts`.
+#[derive(Drop)]
+pub(crate) struct Outline<'t> {
+    pub(crate) tree: Value,
+    pub(crate) facts: &'t str,
+}
+
+// The texts of a document's members: those before `facts`, those in it, and those after it.
+#[derive(Drop)]
+struct Split<'t> {
+    before: Option<&'t str>,
+    facts: &'t str,
+    behind: Option<&'t str>,
+}
+
+/// The document without its member `facts`, and the text of the fact objects. If that text can be
+/// read, so can the whole. `None` if the text was not cut so, or memory ran out.
+pub(crate) fn read_outline(alloc: Global, text: &str) -> Option<Outline<'_>>
+    ensures { IfSome result (λ o. IsOutline text.now (view o.tree) o.facts.now) }
+{
+    let split = split_document(text)?;
+    let tree = Value::Object(read_beside(alloc, split.before, split.behind)?);
+    match tree.get("facts") {
+        Some(_) => None,
+        None => Some(Outline {
+            tree,
+            facts: split.facts,
+        }),
+    }
+}
+
+fn split_document(text: &str) -> Option<Split<'_>>
+    ensures { IfSome result
+        (λ s. IsSplit text.now (option_map (λ t. t.now) s.before) s.facts.now (option_map (λ t. t.now) s.behind)) }
+{
+    let (head, tail) = text.split_once("\"facts\"")?;
+    let before = split_head(head)?;
+    let (facts, behind) = split_tail(tail)?;
+    Some(Split {
+        before,
+        facts,
+        behind,
+    })
+}
+
+// The members before the key `facts`, if there are any.
+fn split_head(text: &str) -> Option<Option<&str>>
+    ensures { IfSome result (λ b. IsHead text.now (option_map (λ t. t.now) b)) }
+{
+    let rest = strip_front(text, "{")?;
+    let front = trim_back(rest)?;
+    if front.is_empty() {
+        return Some(None);
+    }
+    let inner = front.strip_suffix(",")?;
+    Some(Some(trim_back(inner)?))
+}
+
+// The members of `facts` and those after it, from the text after the key.
+fn split_tail(text: &str) -> Option<(&str, Option<&str>)>
+    ensures { IfSome result (λ p. IsTail text.now p.0.now (option_map (λ t. t.now) p.1)) }
+{
+    let inner = strip_front(strip_front(text, ":")?, "{")?;
+    let (front, rest) = cut_at_brace(inner, guess_end(trim_back(inner)?.as_bytes()))?;
+    let facts = trim_back(front)?;
+    let behind = split_end(rest)?;
+    Some((facts, behind))
+}
+
+// The parts before and behind the closing brace at a place.
+fn cut_at_brace(text: &str, at: usize) -> Option<(&str, &str)>
+    ensures { IfSome result (λ p. text.now ≡ p.0.now ++ 125 ∷ p.1.now) }
+{
+    let (front, rest) = text.split_at_checked(at)?;
+    let rest = rest.strip_prefix('}')?;
+    Some((front, rest))
+}
+
+// The members after `facts`, if there are any.
+fn split_end(text: &str) -> Option<Option<&str>>
+    ensures { IfSome result (λ b. IsEnd text.now (option_map (λ t. t.now) b)) }
+{
+    let inner = strip_back(text, "}")?;
+    let front = trim_back(inner)?;
+    if front.is_empty() {
+        return Some(None);
+    }
+    Some(Some(strip_front(front, ",")?))
+}
+
+// A guess at the place of the brace that closes `facts`: the last one that is not closed again on the
+// way back from the end of the document.
+fn guess_end(bytes: &[u8]) -> usize {
+    let mut end = 0;
+    let mut depth: usize = 0;
+    let mut in_text = false;
+    for i in (bytes.len().saturating_sub(MOST_BEHIND)..bytes.len().saturating_sub(1)).rev() {
+        let byte = bytes[i];
+        if byte == b'"' && !(i > 0 && bytes[i - 1] == b'\\') {
+            in_text = !in_text;
+        } else if !in_text && (byte == b'}' || byte == b']') {
+            if depth == 0 {
+                end = i;
+            }
+            depth = depth.saturating_add(1);
+        } else if !in_text && (byte == b'{' || byte == b'[') {
+            depth = depth.saturating_sub(1);
+        }
+    }
+    end
+}
+
+fn read_beside(
+    alloc: Global,
+    before: Option<&str>,
+    behind: Option<&str>,
+) -> Option<Map<String, Value>>
+    ensures { IfSome result
+        (λ m. IsBeside (option_map (λ t. t.now) before.entry) (option_map (λ t. t.now) behind.entry) (members_view m.entries)) }
+{
+    let mut buffer = String::new(alloc);
+    match before {
+        Some(before) => match behind {
+            Some(behind) => read_both(alloc, &mut buffer, before, behind),
+            None => read_piece(alloc, &mut buffer, before),
+        },
+        None => match behind {
+            Some(behind) => read_piece(alloc, &mut buffer, behind),
+            None => None,
+        },
+    }
+}
+
+fn read_both(
+    alloc: Global,
+    buffer: &mut String,
+    before: &str,
+    behind: &str,
+) -> Option<Map<String, Value>>
+    ensures { IfSome result (λ m. AreBoth before.now behind.now (members_view m.entries)) }
+{
+    let _before = read_piece(alloc, buffer, before)?;
+    let _behind = read_piece(alloc, buffer, behind)?;
+    let mut both = String::new(alloc);
+    both.push_str(before).ok()?;
+    both.push_str(",").ok()?;
+    both.push_str(behind).ok()?;
+    read_piece(alloc, buffer, both.as_str())
+}

@@ -1,0 +1,82 @@
+ghost use Rattle.std.specs.Prelude.{◌≡◌, Some, if◌then◌else◌, IfOk, OnOk, OnErr};
+ghost use Rattle.std.specs.FinMap as map;
+
+use crate::sheet::kind::Kind;
+use crate::sheet::listing::Listing;
+use oim_names::Name;
+use std::alloc::{AllocError, Global};
+use std::collections::BTreeMap;
+use std::marker::Model;
+
+/// The names of a sheet while it is read, each with its kind, in an ordered map. Keys come in the
+/// order of prefixes, which may not be that of URIs: putting each into the middle of a list would
+/// cost the square of their number.
+#[derive(Drop)]
+pub(crate) struct Gathered<K: Kind> {
+    kinds: BTreeMap<Name, K>,
+}
+
+impl<K: Kind> Model for Gathered<K> {
+    ghost use Rattle.std.specs.Prelude.{◌≡◌, true};
+    ghost use Rattle.std.specs.FinMap as map;
+    ghost use Rattle.std.specs.FinMap.{FinMap, is_sorted};
+    ghost use Rattle.oim_value.specs.ValueOrder.{name_cmp};
+    ghost use Rattle.oim_report.specs.SheetCode.{listing_code};
+
+    ghost Value = { FinMap name_cmp K };
+
+    ghost coded = { listing_code K.code };
+
+    ghost view = { λ g. map.from_sorted g.kinds.entries };
+
+    ghost invariant = { λ g. is_sorted name_cmp g.kinds.entries ≡ true };
+}
+
+impl<K: Kind> Gathered<K> {
+    /// No names. Later calls take their memory from `alloc`.
+    pub(crate) fn new(alloc: Global) -> Self
+        ensures { result ≡ map.empty }
+    {
+        Gathered {
+            kinds: BTreeMap::new(alloc),
+        }
+    }
+
+    /// Whether the name is there.
+    pub(crate) fn has(&self, name: &Name) -> bool
+        ensures { result ≡ map.contains_key self.now name.now }
+    {
+        self.kinds.contains_key(name)
+    }
+
+    /// Adds the name with the kind unless it is there, and returns the kind that it then has.
+    ///
+    /// Errors: out of memory; all is then unchanged.
+    pub(crate) fn put(&mut self, name: Name, kind: K) -> Result<K, AllocError>
+        ensures ok { OnOk result (self.new
+            ≡ (if map.contains_key self.old name then self.old else map.insert self.old name kind)) }
+        ensures kind { IfOk result (λ k. map.get self.new name ≡ Some k) }
+        ensures err { OnErr result (self.new ≡ self.old) }
+    {
+        match self.kinds.get(&name) {
+            Some(known) => Ok(*known),
+            None => {
+                self.kinds.insert(name, kind)?;
+                Ok(kind)
+            }
+        }
+    }
+
+    /// The names in order.
+    ///
+    /// Errors: out of memory.
+    pub(crate) fn into_listing(self, alloc: Global) -> Result<Listing<K>, AllocError>
+        ensures { IfOk result (λ listing. listing ≡ self) }
+    {
+        let mut entries = Vec::with_capacity(alloc, self.kinds.len())?;
+        for entry in self.kinds {
+            entries.push(entry)?;
+        }
+        Ok(Listing::of_rising(entries))
+    }
+}

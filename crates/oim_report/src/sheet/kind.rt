@@ -1,0 +1,81 @@
+ghost use Rattle.std.specs.Prelude.{◌≡◌};
+
+use crate::concept_kind::ConceptKind;
+use crate::dimension_kind::DimensionKind;
+use std::fmt::Debug;
+
+/// The kind that a sheet gives a name, spelled as a text.
+pub(crate) trait Kind: Copy + Debug + Drop {
+    ghost use Rattle.std.specs.Prelude.{ℕ, List, Bool, true, Option};
+
+    /// The kind that a text names.
+    ghost kind_named: { List ℕ → Option Self };
+
+    /// Whether two kinds are the same.
+    ghost same_kind: { Self → Self → Bool };
+
+    /// The kind that the text names.
+    fn named(text: &str) -> Option<Self>
+        ensures { result ≡ kind_named text.now };
+
+    /// Whether both are the same kind.
+    fn is(self, other: Self) -> bool
+        ensures { result ≡ same_kind self other };
+
+    /// Kinds for which `same_kind` holds are equal.
+    ghost exact: { (k l : Self) → same_kind k l ≡ true → k ≡ l };
+
+    /// `same_kind` holds for each kind and itself.
+    ghost itself: { (k : Self) → same_kind k k ≡ true };
+}
+
+impl Kind for ConceptKind {
+    ghost use Rattle.oim_report.specs.Sheet.{concept_kind_named, same_concept_kind};
+    ghost use Rattle.oim_report.specs.KindLaws.{same_concept_kind_is, same_concept_kind-itself};
+
+    ghost kind_named = { concept_kind_named };
+
+    ghost same_kind = { same_concept_kind };
+
+    ghost exact = { same_concept_kind_is };
+
+    ghost itself = { same_concept_kind-itself };
+
+    fn named(text: &str) -> Option<ConceptKind> {
+        match text {
+            "numeric" => Some(ConceptKind::Numeric),
+            "text" => Some(ConceptKind::Text),
+            "name" => Some(ConceptKind::Name),
+            _ => None,
+        }
+    }
+
+    fn is(self, other: ConceptKind) -> bool {
+        self == other
+    }
+}
+
+impl Kind for DimensionKind {
+    ghost use Rattle.oim_report.specs.Sheet.{dimension_kind_named, same_dimension_kind};
+    ghost use Rattle.oim_report.specs.KindLaws.{same_dimension_kind_is, same_dimension_kind-itself};
+
+    ghost kind_named = { dimension_kind_named };
+
+    ghost same_kind = { same_dimension_kind };
+
+    ghost exact = { same_dimension_kind_is };
+
+    ghost itself = { same_dimension_kind-itself };
+
+    fn named(text: &str) -> Option<DimensionKind> {
+        match text {
+            "explicit" => Some(DimensionKind::Explicit),
+            "typed" => Some(DimensionKind::Typed),
+            _ => None,
+        }
+    }
+
+    fn is(self, other: DimensionKind) -> bool {
+        self == other
+    }
+}

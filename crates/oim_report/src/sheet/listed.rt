@@ -1,0 +1,63 @@
+ghost use Rattle.std.specs.Prelude.{◌≡◌, Some, IfSome, option_map};
+ghost use Rattle.oim_report.specs.Conditions.{concept_kind, dimension_kind};
+ghost use Rattle.oim_report.specs.Given.{seen};
+ghost use Rattle.oim_report.specs.Glossary.{IsGlossary};
+ghost use Rattle.oim_report.specs.Glossaries.{NamesConcept};
+ghost use Rattle.oim_report.specs.Json.{text as a_text};
+ghost use Rattle.oim_report.specs.Names.{named};
+ghost use Rattle.oim_report.specs.Said.{said_concept};
+
+use crate::concept_kind::ConceptKind;
+use crate::dimension_kind::DimensionKind;
+use crate::fact::given::Given;
+use crate::fact::glossary::Glossary;
+use crate::fact::recall::recall_concept;
+use crate::sheet::Sheet;
+use oim_names::{Aliases, Name};
+
+/// The concept that a text names, as the sheet has it, and what its values are.
+pub(crate) fn find_concept<'s, 'a>(
+    sheet: &'s Sheet,
+    aliases: &Aliases,
+    concepts: &mut Glossary<'a, (&'s Name, ConceptKind)>,
+    concept: Given<'a>,
+) -> Option<(&'s Name, ConceptKind)>
+    requires known { IsGlossary (NamesConcept sheet.now aliases.now) concepts.old }
+    ensures kind { option_map (λ c. c.1) result
+        ≡ concept_kind sheet.now aliases.now (seen concept.entry) }
+    ensures name { IfSome result (λ c. said_concept aliases.now (seen concept.entry) ≡ Some c.0.now) }
+    ensures known { IsGlossary (NamesConcept sheet.now aliases.now) concepts.new }
+{
+    recall_concept(sheet, aliases, concepts, concept.text()?)
+}
+
+/// The concept that a text names, as the sheet has it, and what its values are.
+pub(crate) fn find_named_concept<'s>(
+    sheet: &'s Sheet,
+    aliases: &Aliases,
+    text: &str,
+) -> Option<(&'s Name, ConceptKind)>
+    ensures kind { option_map (λ c. c.1) result
+        ≡ concept_kind sheet.now aliases.now (a_text text.now) }
+    ensures name { IfSome result (λ c. named aliases.now text.now ≡ Some c.0.now) }
+{
+    match aliases.resolve(text) {
+        Ok((uri, local)) => sheet.concept_of(uri, local),
+        Err(_) => None,
+    }
+}
+
+/// The dimension that a text names, as the sheet has it, and what its members are.
+pub(crate) fn find_dimension<'s>(
+    sheet: &'s Sheet,
+    aliases: &Aliases,
+    text: &str,
+) -> Option<(&'s Name, DimensionKind)>
+    ensures kind { option_map (λ d. d.1) result ≡ dimension_kind sheet.now aliases.now text.now }
+    ensures name { IfSome result (λ d. named aliases.now text.now ≡ Some d.0.now) }
+{
+    match aliases.resolve(text) {
+        Ok((uri, local)) => sheet.dimension_of(uri, local),
+        Err(_) => None,
+    }
+}

@@ -1,0 +1,92 @@
+ghost use Rattle.std.specs.Prelude.{◌≡◌, ◌++◌, ◌∷◌, [], option_map};
+ghost use Rattle.std.specs.List.{find};
+ghost use Rattle.std.specs.Result.{result_err};
+ghost use Rattle.serde_json.specs.View.{view, members_view};
+ghost use Rattle.oim_report.specs.Json.{members};
+ghost use Rattle.oim_report.specs.Names.{names_refusal, refuses_some};
+ghost use Rattle.oim_report.specs.Sheet.{key_names, sheet_holds};
+
+use crate::document::json_tree::{is_no_object, unknown_in};
+use crate::findings::name_rows::is_refused;
+use oim_names::{Aliases, Reason};
+use serde_json::{Map, Value};
+
+/// Whether a sheet has the form: its parts and their keys.
+///
+/// Errors, the first that holds: `MemberForm`, `UnknownMember`.
+#[tactic(auto, unfolding(crate::specs::Sheet::sheet_holds))]
+pub(crate) fn check_form(tree: &Value) -> Result<(), Reason>
+    ensures { let form = Reason.MemberForm ∷ Reason.UnknownMember ∷ [] in
+        result_err result ≡ find (sheet_holds (view tree.now)) form }
+{
+    if !tree.is_object()
+        || is_no_object(tree.get("namespaces"))
+        || is_no_object(tree.get("concepts"))
+        || is_no_object(tree.get("dimensions"))
+    {
+        return Err(Reason::MemberForm);
+    }
+    if unknown_in(tree.as_object(), &["namespaces", "concepts", "dimensions"]).is_some() {
+        return Err(Reason::UnknownMember);
+    }
+    Ok(())
+}
+
+/// Whether each key of both is a name.
+///
+/// Errors, the first that holds of some key: `NameForm`, `UnboundPrefix`, `ReservedNamespace`.
+pub(crate) fn check_names(
+    aliases: &Aliases,
+    concepts: Option<&Map<String, Value>>,
+    dimensions: Option<&Map<String, Value>>,
+) -> Result<(), Reason>
+    ensures { let listed = members (option_map (λ m. members_view m.now.entries) concepts.entry) in
+        let defined = members (option_map (λ m. members_view m.now.entries) dimensions.entry) in
+        result_err result ≡ names_refusal aliases.now (key_names listed ++ key_names defined) }
+{
+    if refuses_either(aliases, concepts, dimensions, Reason::NameForm) {
+        return Err(Reason::NameForm);
+    }
+    if refuses_either(aliases, concepts, dimensions, Reason::UnboundPrefix) {
+        return Err(Reason::UnboundPrefix);
+    }
+    if refuses_either(aliases, concepts, dimensions, Reason::ReservedNamespace) {
+        return Err(Reason::ReservedNamespace);
+    }
+    Ok(())
+}
+
+// Whether this is why some key of either is no name.
+fn refuses_either(
+    aliases: &Aliases,
+    concepts: Option<&Map<String, Value>>,
+    dimensions: Option<&Map<String, Value>>,
+    reason: Reason,
+) -> bool
+    ensures { let listed = members (option_map (λ m. members_view m.now.entries) concepts.entry) in
+        let defined = members (option_map (λ m. members_view m.now.entries) dimensions.entry) in
+        result ≡ refuses_some reason aliases.now (key_names listed ++ key_names defined) }
+{
+    refuses_keys(aliases, concepts, reason) || refuses_keys(aliases, dimensions, reason)
+}
+
+fn refuses_keys(aliases: &Aliases, listed: Option<&Map<String, Value>>, reason: Reason) -> bool
+    ensures { let ms = members (option_map (λ m. members_view m.now.entries) listed.entry) in
+        result ≡ refuses_some reason aliases.now (key_names ms) }
+{
+    match listed {
+        Some(members) => refuses_key(aliases, members, reason),
+        None => false,
+    }
+}
+
+fn refuses_key(aliases: &Aliases, members: &Map<String, Value>, reason: Reason) -> bool
+    ensures { result ≡ refuses_some reason aliases.now (key_names (members_view members.now.entries)) }
+{
+    for (key, _kind) in members.iter() {
+        if is_refused(aliases, key.as_str(), reason) {
+            return true;
+        }
+    }
+    false
+}

@@ -1,0 +1,76 @@
+ghost use Rattle.std.specs.Prelude.{◌≡◌, ◌⊎◌, true, false, None, IfOk, IfErr, option_map};
+ghost use Rattle.serde_json.specs.View.{view, members_view};
+ghost use Rattle.oim_report.specs.Json.{members};
+ghost use Rattle.oim_report.specs.Names.{names_refusal};
+ghost use Rattle.oim_report.specs.Sheet.{has_bad_kind, key_names, kind_in, listed};
+
+use crate::fact::given::Given;
+use crate::sheet::gathered::Gathered;
+use crate::sheet::kind::Kind;
+use crate::sheet::listing::Listing;
+use oim_names::{Aliases, Reason};
+use serde_json::{Map, Value};
+use std::alloc::Global;
+
+/// The names that the keys of an object spell, each with the kind that its value names; none if
+/// there is no object.
+///
+/// Errors: `SheetKind` if a value names no kind, or a name has two; `OutOfMemory`.
+pub(crate) fn read_listing<K: Kind>(
+    alloc: Global,
+    aliases: &Aliases,
+    object: Option<&Map<String, Value>>,
+) -> Result<Listing<K>, Reason>
+    requires { let ms = members (option_map (λ m. members_view m.now.entries) object) in
+        names_refusal aliases.now (key_names ms) ≡ None }
+    ensures listed { let ms = members (option_map (λ m. members_view m.now.entries) object.entry) in
+        IfOk result (λ l. l ≡ listed K.kind_named K.same_kind aliases.now ms) }
+    ensures kinds { let ms = members (option_map (λ m. members_view m.now.entries) object.entry) in
+        IfOk result (λ _. has_bad_kind K.kind_named K.same_kind aliases.now ms ≡ false) }
+    ensures refused { let ms = members (option_map (λ m. members_view m.now.entries) object.entry) in
+        IfErr result (λ r. (r ≡ Reason.OutOfMemory) ⊎ ((r ≡ Reason.SheetKind)
+        × (has_bad_kind K.kind_named K.same_kind aliases.now ms ≡ true))) }
+{
+    match object {
+        Some(members) => list_all(alloc, aliases, members),
+        None => Ok(Listing::new(alloc)),
+    }
+}
+
+fn list_all<K: Kind>(
+    alloc: Global,
+    aliases: &Aliases,
+    members: &Map<String, Value>,
+) -> Result<Listing<K>, Reason>
+    requires { names_refusal aliases.now (key_names (members_view members.now.entries)) ≡ None }
+    ensures listed { let ms = members_view members.now.entries in
+        IfOk result (λ l. l ≡ listed K.kind_named K.same_kind aliases.now ms) }
+    ensures kinds { let ms = members_view members.now.entries in
+        IfOk result (λ _. has_bad_kind K.kind_named K.same_kind aliases.now ms ≡ false) }
+    ensures refused { let ms = members_view members.now.entries in
+        IfErr result (λ r. (r ≡ Reason.OutOfMemory) ⊎ ((r ≡ Reason.SheetKind)
+        × (has_bad_kind K.kind_named K.same_kind aliases.now ms ≡ true))) }
+{
+    let mut gathered = Gathered::new(alloc);
+    for (key, value) in members.iter() {
+        let Some(kind) = kind_in::<K>(value) else {
+            return Err(Reason::SheetKind);
+        };
+        let name = aliases.expand(key.as_str())?;
+        let known = gathered.put(name, kind)?;
+        if !kind.is(known) {
+            return Err(Reason::SheetKind);
+        }
+    }
+    Ok(gathered.into_listing(alloc)?)
+}
+
+/// The kind that a value names.
+fn kind_in<K: Kind>(value: &Value) -> Option<K>
+    ensures { result ≡ kind_in K.kind_named K.same_kind (view value.now) }
+{
+    match Given::of_value(value).text() {
+        Some(text) => K::named(text),
+        None => None,
+    }
+}

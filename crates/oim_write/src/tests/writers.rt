@@ -1,0 +1,239 @@
+ghost use Rattle.std.specs.Prelude.{◌-◌, ◌^◌, ◌<◌};
+
+use crate::sink::{Sink, SinkError, put_all};
+use crate::sink_buffer::SinkBuffer;
+use crate::std_sink::StdSink;
+use crate::tests::tell_refused;
+use crate::write_fault::WriteFault;
+use std::alloc::{AllocError, Global};
+use std::io::{self, ErrorKind, Write};
+use std::test::Fail;
+
+// A sink over writers that stop at each place of a text, which is put at once or waits in a buffer.
+
+/// What a writer does when it is full.
+#[derive(Clone, Copy, Debug, PartialEq, Eq)]
+enum Then {
+    TakesNothing,
+    Fails,
+    IsInterrupted,
+}
+
+/// How much of the given bytes a writer takes at once.
+#[derive(Clone, Copy, Debug, PartialEq, Eq)]
+enum Step {
+    All,
+    /// Half of it, and one byte at least.
+    Half,
+    One,
+}
+
+/// Takes bytes, a step at a time, until it is full, and compares them with a text.
+#[derive(Clone, Copy)]
+struct ShortWriter<'a> {
+    left: &'a [u8],
+    differs: bool,
+    step: Step,
+    room: usize,
+    then: Then,
+}
+
+impl Write for ShortWriter<'_> {
+    fn write(&mut self, bytes: &[u8]) -> io::Result<usize> {
+        if self.room == 0 {
+            return match self.then {
+                Then::TakesNothing => Ok(0),
+                Then::Fails => Err(io::Error::from(ErrorKind::Other)),
+                Then::IsInterrupted => Err(io::Error::from(ErrorKind::Interrupted)),
+            };
+        }
+        let most = match self.step {
+            Step::All => bytes.len(),
+            Step::Half => (bytes.len() / 2).max(1),
+            Step::One => 1,
+        };
+        let n = bytes.len().min(most).min(self.room);
+        self.room -= n;
+        match self.left.strip_prefix(&bytes[..n]) {
+            Some(rest) => self.left = rest,
+            None => self.differs = true,
+        }
+        Ok(n)
+    }
+
+    fn flush(&mut self) -> io::Result<()> {
+        Ok(())
+    }
+}
+
+/// The result of a run: the length that the fault reported, how many bytes were taken, how often
+/// the sink failed, and whether the text was taken.
+type Left = (Option<u64>, u64, u64, bool);
+
+fn left(told: Option<u64>, sink: StdSink<ShortWriter<'_>>) -> Left {
+    let (taken, failures) = (sink.taken(), sink.failures());
+    let writer = sink.into_inner();
+    let met = writer.left.is_empty() && !writer.differs;
+    (told, taken, failures, met)
+}
+
+fn put(writer: ShortWriter<'_>, text: &[u8]) -> Left {
+    let mut sink = StdSink::new(writer);
+    let told = put_all(&mut sink, text).err();
+    left(told.map(|taken| taken as u64), sink)
+}
+
+/// Pushes the text in three pieces; the last two begin at these places.
+fn push_pieces<S: Sink>(
+    buffer: &mut SinkBuffer,
+    sink: &mut S,
+    text: &[u8],
+    places: (usize, usize),
+) -> Result<(), WriteFault>
+    requires { S.failures sink.old < 2 ^ 64 - 1 }
+{
+    let (front, last) = text
+        .split_at_checked(places.1)
+        .unwrap_or((text, b"".as_slice()));
+    let (first, second) = front
+        .split_at_checked(places.0)
+        .unwrap_or((front, b"".as_slice()));
+    buffer.push(sink, first)?;
+    buffer.push(sink, second)?;
+    buffer.push(sink, last)?;
+    buffer.flush(sink)
+}
+
+fn push(
+    alloc: Global,
+    writer: ShortWriter<'_>,
+    text: &[u8],
+    places: (usize, usize),
+) -> Result<Left, AllocError> {
+    let mut sink = StdSink::new(writer);
+    let mut buffer = SinkBuffer::new(alloc)?;
+    match push_pieces(&mut buffer, &mut sink, text, places) {
+        Ok(()) => Ok(left(None, sink)),
+        Err(WriteFault::Device(written)) => Ok(left(Some(written), sink)),
+        Err(WriteFault::OutOfMemory(_)) => Err(AllocError),
+    }
+}
+
+/// Whether a writer that takes so many bytes has exactly these of the text, and the fault says so.
+fn stops_at(
+    alloc: Global,
+    text: &[u8],
+    places: (usize, usize),
+    room: usize,
+    step: Step,
+) -> Result<bool, AllocError> {
+    let front = text.get(..room).unwrap_or(text);
+    let fails = room < text.len();
+    let told = if fails { Some(room as u64) } else { None };
+    let expected = (told, front.len() as u64, u64::from(fails), true);
+    for then in [Then::TakesNothing, Then::Fails, Then::IsInterrupted] {
+        let writer = ShortWriter {
+            left: front,
+            differs: false,
+            step,
+            room,
+            then,
+        };
+        if put(writer, text) != expected || push(alloc, writer, text, places)? != expected {
+            return Ok(false);
+        }
+    }
+    Ok(true)
+}
+
+fn stops(
+    alloc: Global,
+    text: &[u8],
+    places: (usize, usize),
+    room: usize,
+) -> Result<bool, AllocError> {
+    Ok(
+        stops_at(alloc, text, places, room, Step::All)?
+            && stops_at(alloc, text, places, room, Step::Half)?
+            && stops_at(alloc, text, places, room, Step::One)?,
+    )
+}
+
+const LINE: &str = "1 f1 f3 inconsistent apart f1 f3\n";
+
+fn stops_anywhere(alloc: Global) -> Result<bool, AllocError> {
+    for room in 0..=LINE.len() {
+        if !stops(alloc, LINE.as_bytes(), (10, 11), room)? {
+            return Ok(false);
+        }
+    }
+    Ok(true)
+}
+
+/// Places near the end of a chunk, and near both ends of the text.
+const LONG_ROOMS: [usize; 9] = [0, 1, 65_535, 65_536, 65_537, 65_989, 65_990, 65_999, 66_000];
+
+fn stops_about_a_chunk(alloc: Global) -> Result<bool, AllocError> {
+    let text = LINE.repeat(alloc, 2000)?;
+    for room in LONG_ROOMS {
+        // the second piece fills a chunk, just or with more
+        if !stops(alloc, text.as_bytes(), (60_000, 65_536), room)?
+            || !stops(alloc, text.as_bytes(), (65_535, 65_990), room)?
+        {
+            return Ok(false);
+        }
+    }
+    Ok(text.as_bytes().len() == 66_000)
+}
+
+#[test]
+fn a_writer_may_stop_at_any_place(rt: HostRuntime) -> Result<(), Fail> {
+    let mut answer = stops_anywhere(rt.alloc());
+    if answer.is_err() {
+        tell_refused(&rt);
+        answer = stops_anywhere(rt.alloc());
+    }
+    assert!(rt; answer == Ok(true));
+    Ok(())
+}
+
+#[test]
+fn a_writer_may_stop_about_a_chunk(rt: HostRuntime) -> Result<(), Fail> {
+    let mut answer = stops_about_a_chunk(rt.alloc());
+    if answer.is_err() {
+        tell_refused(&rt);
+        answer = stops_about_a_chunk(rt.alloc());
+    }
+    assert!(rt; answer == Ok(true));
+    Ok(())
+}
+
+/// Is interrupted at its first write, and takes the next one.
+#[derive(Clone, Copy)]
+struct InterruptedOnce {
+    is_over: bool,
+}
+
+impl Write for InterruptedOnce {
+    fn write(&mut self, bytes: &[u8]) -> io::Result<usize> {
+        if self.is_over {
+            return Ok(bytes.len());
+        }
+        self.is_over = true;
+        Err(io::Error::from(ErrorKind::Interrupted))
+    }
+
+    fn flush(&mut self) -> io::Result<()> {
+        Ok(())
+    }
+}
+
+#[test]
+fn an_interrupted_write_is_not_tried_again(rt: HostRuntime) -> Result<(), Fail> {
+    let mut sink = StdSink::new(InterruptedOnce { is_over: false });
+    assert!(rt; sink.put(b"ab") == Err(SinkError));
+    assert!(rt; sink.failures() == 1 && sink.taken() == 0);
+    assert!(rt; sink.put(b"ab") == Ok(2));
+    assert!(rt; sink.failures() == 1 && sink.taken() == 2);
+    Ok(())
+}

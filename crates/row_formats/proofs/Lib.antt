@@ -1,0 +1,4 @@
+pub mod Items
+pub mod Pushed
+pub mod RowTexts
+pub mod SourceTexts

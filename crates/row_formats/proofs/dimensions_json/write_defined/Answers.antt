@@ -1,0 +1,20 @@
+use Rattle.std.proofs.Common.{[], ◌∷◌, ◌++◌, take, sym, ap, ◌∙◌, arith}
+use Rattle.std.proofs.lemmas.List.{take_more}
+use Rattle.json.specs.Token.{key}
+use Rattle.serde_json.specs.Data.{no_members}
+use Rattle.oim_write.specs.Ordered.{defined_members}
+use Rattle.oim_write.specs.Parts.{members_tokens}
+use Rattle.row_formats.specs.Spelled.{braced}
+use Rattle.oim_write.proofs.Tokens.{Adds-is, Adds-one, Adds-trans, defined_next}
+use Rattle.row_formats.proofs.dimensions_json.write_defined.Goals as goal
+
+pub loop-name-preserved : goal.loop-name-preserved
+loop-name-preserved c =
+    let spelled = braced in
+    let es = c.args.members.now in
+    let i = c.loop-name.name-index in
+    let e = c.loop-name-item.result in
+    let more = take_more es i e (omega arith) ∙ ap (λ x. take i es ++ x ∷ []) (sym c.loop-name-item.is) in
+    let name = Adds-is (ap (λ t. key t ∷ []) (c.as_str.ensures.value ∙ c.in_ok-spell.ensures)) (Adds-one c.in_ok-key.ensures) in
+    Adds-is (sym (defined_next spelled (take i es) e) ∙ ap (λ ds. members_tokens (defined_members spelled ds no_members)) (sym more))
+    (Adds-trans c.loop-name.invariant (Adds-trans name c.in_ok-write_member.ensures))

@@ -1,0 +1,10 @@
+use Rattle.std.proofs.Common.{take}
+use Rattle.serde_json.specs.Data.{no_members}
+use Rattle.oim_write.specs.Ordered.{defined_members}
+use Rattle.oim_write.specs.Parts.{AddsMembers}
+use Rattle.row_formats.specs.Spelled.{braced}
+use Rattle.row_formats.proofs.dimensions_json.write_defined.Given as goal
+
+-- the dimensions so far are written
+abbrev pub invariant-loop-name : goal.invariant-loop-name
+invariant-loop-name l = AddsMembers l.fn.json l.json (defined_members braced (take l.name-index l.members) no_members)

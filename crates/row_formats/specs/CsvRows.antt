@@ -1,0 +1,103 @@
+-- A row of a body as CSV, a record for each fact (RFC 4180; the columns are own). In bytes, `'` is 39.
+use Rattle.std.specs.Prelude.{ℕ, suc, Bool, true, false, ◌&&◌, ◌||◌, ◌==◌, nat_lt, if◌then◌else◌, List, [], ◌∷◌, ◌++◌, codes, length, Option, Some, None, ℤ}
+use Rattle.std.specs.Fmt.{decimal, signed_decimal}
+use Rattle.std.specs.Option.{unwrap_or}
+use Rattle.csv.specs.Writing.{default_writer, row_text, with_terminator}
+use Rattle.csv.specs.declared.parser.Terminator.TheVariants as term
+use Rattle.csv.specs.declared.writer.WriterBuilder.{WriterBuilder}
+use Rattle.serde_json.specs.Data.{object, no_members}
+use Rattle.serde_json.specs.Written.{compact_text}
+use Rattle.oim_names.specs.QName.{QName}
+use Rattle.oim_value.specs.Plain.{plain}
+use Rattle.oim_value.specs.declared.value.Value.{Value}
+use Rattle.oim_value.specs.declared.value.Value.TheVariants.{Nil, Number, Text as AText, Name as AName}
+use Rattle.oim_dims.specs.DimensionSet.{DimensionSet}
+use Rattle.oim_dims.specs.Period.{period_text}
+use Rattle.oim_dims.specs.declared.member.Member.{Member}
+use Rattle.fact_base.specs.Passed.{option_spelled, option_unit_text}
+use Rattle.fact_base.specs.Rows.{Row}
+use Rattle.fact_base.specs.declared.evidence.Evidence.{Evidence}
+use Rattle.fact_base.specs.declared.evidence.Evidence.TheVariants.{Alike, Common, Apart}
+use Rattle.oim_write.specs.Ordered.{defined_members}
+use Rattle.oim_merge.specs.Lines.{verdict_shown, verdict_word}
+use Rattle.row_formats.specs.Spelled.{braced}
+
+-- commas, quotes where they are needed, each quote in them doubled, and both bytes at a line end
+abbrev pub rfc_4180 : WriterBuilder
+rfc_4180 = with_terminator default_writer term.CRLF
+
+abbrev pub record_text : List (List ℕ) → List ℕ
+record_text = row_text rfc_4180
+
+abbrev pub columns : List (List ℕ)
+columns =
+    codes "row" ∷ codes "verdict" ∷ codes "fact"
+    ∷ codes "concept" ∷ codes "entity" ∷ codes "period" ∷ codes "unit" ∷ codes "language" ∷ codes "dimensions"
+    ∷ codes "value" ∷ codes "nil" ∷ codes "decimals"
+    ∷ codes "common_low" ∷ codes "common_high" ∷ codes "apart_first" ∷ codes "apart_second" ∷ []
+
+-- ---- texts that a spreadsheet takes for a formula
+
+-- bytes that may be skipped before it: blanks, quotes, and those of a character that is a space somewhere, as U+00A0 and U+3000 are
+abbrev pub is_skipped : ℕ → Bool
+is_skipped b = nat_lt b 33 || b == 34 || b == 39 || (nat_lt 127 b && nat_lt b 195) || (nat_lt 224 b && nat_lt b 228)
+
+-- a sign that it begins with: + - = @, or the first byte of these in full width, as of U+FEFF
+abbrev pub is_sign : ℕ → Bool
+is_sign b = b == 43 || b == 45 || b == 61 || b == 64 || b == 239
+
+abbrev pub begins_formula : List ℕ → Bool
+begins_formula [] = false
+begins_formula (b ∷ t) = if is_skipped b then begins_formula t else is_sign b
+
+-- a text for a spreadsheet has a ' before it
+abbrev pub guarded : Bool → List ℕ → List ℕ
+guarded spreadsheet t = if spreadsheet && begins_formula t then 39 ∷ t else t
+
+-- ---- the fields of a fact
+
+abbrev pub or_empty : Option (List ℕ) → List ℕ
+or_empty o = unwrap_or o []
+
+-- the dimensions that a taxonomy defines, as an object of JSON
+abbrev pub defined_text : List (QName × Member) → List ℕ
+defined_text es = if length es == 0 then [] else compact_text (object (defined_members braced es no_members))
+
+abbrev pub dimension_fields : DimensionSet → List (List ℕ)
+dimension_fields d =
+    braced d.concept ∷ or_empty (option_spelled braced d.entity) ∷ or_empty (period_text d.period)
+    ∷ or_empty (option_unit_text braced d.unit) ∷ or_empty d.language ∷ defined_text d.members ∷ []
+
+-- finite decimals
+abbrev pub decimals_text : Option ℤ → List ℕ
+decimals_text None = []
+decimals_text (Some d) = signed_decimal d
+
+-- the value, whether it is nil, and the decimals
+abbrev pub value_fields : Bool → Value → List (List ℕ)
+value_fields spreadsheet Nil = [] ∷ codes "true" ∷ [] ∷ []
+value_fields spreadsheet (Number units places) = plain units ∷ [] ∷ decimals_text places ∷ []
+value_fields spreadsheet (AText t) = guarded spreadsheet t ∷ [] ∷ [] ∷ []
+value_fields spreadsheet (AName n) = braced n ∷ [] ∷ [] ∷ []
+
+-- what shows the verdict, where the facts have these identifiers
+abbrev pub evidence_fields : (ℕ → List ℕ) → Evidence → List (List ℕ)
+evidence_fields name Alike = [] ∷ [] ∷ [] ∷ [] ∷ []
+evidence_fields name (Common c) = plain c.low ∷ plain c.high ∷ [] ∷ [] ∷ []
+evidence_fields name (Apart i j) = [] ∷ [] ∷ name i ∷ name j ∷ []
+
+-- a fact with this identifier, in the row of a number
+abbrev pub fact_fields : Bool → ℕ → DimensionSet → Evidence → List (List ℕ) → List ℕ → Value → List (List ℕ)
+fact_fields spreadsheet n d e shown identifier v =
+    (decimal n ∷ verdict_word (verdict_shown e) ∷ identifier ∷ []) ++ (dimension_fields d ++ (value_fields spreadsheet v ++ shown))
+
+-- ---- rows
+
+-- the facts of a row, the first of which has the place i
+abbrev pub csv_facts : Bool → (ℕ → List ℕ) → ℕ → DimensionSet → Evidence → ℕ → List Value → List ℕ
+csv_facts spreadsheet name n d e i [] = []
+csv_facts spreadsheet name n d e i (v ∷ vs) =
+    record_text (fact_fields spreadsheet n d e (evidence_fields name e) (name i) v) ++ csv_facts spreadsheet name n d e (suc i) vs
+
+abbrev pub csv_row : Bool → (ℕ → List ℕ) → ℕ → Row → Evidence → List ℕ
+csv_row spreadsheet name n r e = csv_facts spreadsheet name n r.0 e 0 r.1

@@ -1,0 +1,6 @@
+pub mod Spelled
+pub mod JsonRows
+pub mod CsvRows
+pub mod Rows
+pub mod Listing
+pub mod SourceRows

@@ -1,0 +1,69 @@
+-- What listing rows in a format leaves behind (own).
+use Rattle.std.specs.Prelude.{◌≡◌, ◌⊎◌, ℕ, Option, List}
+use Rattle.std.specs.Io.KnownBytes.{Appends}
+use Rattle.fact_base.specs.Body.{Body}
+use Rattle.fact_base.specs.Passed.{Sheet}
+use Rattle.oim_report.specs.declared.refusal.Refusal.{Refusal}
+use Rattle.oim_write.specs.Sink.{AppendsFront}
+use Rattle.oim_write.specs.SinkBuffer.{Breaks, Passes, Pending}
+use Rattle.oim_merge.specs.Reports.{merged, refused}
+use Rattle.oim_merge.specs.Run.{StopsBefore}
+use Rattle.oim_merge.specs.declared.fault.Fault.{Fault}
+use Rattle.oim_merge.specs.declared.fault.Fault.TheVariants.{OutOfMemory, Device, TooLoose, Sheet as SheetFault}
+use Rattle.row_formats.specs.Rows.{AreRows, HasRowsOf}
+use Rattle.row_formats.specs.declared.row_format.RowFormat.{RowFormat}
+
+-- the rows of a body were appended
+pub record AppendsRows (format : RowFormat) (b : Body) (old new : Option (List ℕ)) : Type 0 where
+  pub text : List ℕ
+  pub rows : AreRows format b text
+  pub appended : Appends old new text
+
+-- a front of them was, and so many bytes were counted
+pub record AppendsFrontOfRows (format : RowFormat) (b : Body) (old new : Option (List ℕ)) (written : ℕ) : Type 0 where
+  pub text : List ℕ
+  pub rows : AreRows format b text
+  pub front : AppendsFront old new text written
+
+-- they passed a buffer, without what stands before them
+pub record PassesRows (format : RowFormat) (b : Body) (old new : Option (List ℕ)) (before after : Pending) : Type 0 where
+  pub text : List ℕ
+  pub rows : HasRowsOf format b.facts text
+  pub passed : Passes old new before after text
+
+pub record BreaksRows (format : RowFormat) (b : Body) (old new : Option (List ℕ)) (before : Pending) (written : ℕ) : Type 0 where
+  pub text : List ℕ
+  pub rows : HasRowsOf format b.facts text
+  pub broken : Breaks old new before text written
+
+-- with it
+pub record PassesAll (format : RowFormat) (b : Body) (old new : Option (List ℕ)) (before after : Pending) : Type 0 where
+  pub text : List ℕ
+  pub rows : AreRows format b text
+  pub passed : Passes old new before after text
+
+pub record BreaksAll (format : RowFormat) (b : Body) (old new : Option (List ℕ)) (before : Pending) (written : ℕ) : Type 0 where
+  pub text : List ℕ
+  pub rows : AreRows format b text
+  pub broken : Breaks old new before text written
+
+-- its rows were appended, and these refusals were told
+pub record ListsRows (format : RowFormat) (b : Body) (refusals : List (ℕ × Refusal)) (old new : Option (List ℕ)) (told : List (ℕ × Refusal)) : Type 0 where
+  pub refusals_are : told ≡ refusals
+  pub rows : AppendsRows format b old new
+
+-- what a fault leaves behind
+abbrev pub RowsStop : RowFormat → Body → Option (List ℕ) → Option (List ℕ) → Fault → Type 0
+RowsStop format b old new (OutOfMemory written) = StopsBefore old new written ⊎ AppendsFrontOfRows format b old new written
+RowsStop format b old new (Device written) = AppendsFrontOfRows format b old new written
+RowsStop format b old new (TooLoose row told) = ⊥
+RowsStop format b old new (SheetFault reason) = ⊥
+
+-- ---- reports
+
+-- the rows of what the accepted reports say were appended, and the refused ones were told
+abbrev pub ListsVerdictRows : RowFormat → Sheet → List (List ℕ) → Option (List ℕ) → Option (List ℕ) → List (ℕ × Refusal) → Type 0
+ListsVerdictRows format sheet reports = ListsRows format (merged sheet reports) (refused sheet reports)
+
+abbrev pub VerdictRowsStop : RowFormat → Sheet → List (List ℕ) → Option (List ℕ) → Option (List ℕ) → Fault → Type 0
+VerdictRowsStop format sheet reports = RowsStop format (merged sheet reports)

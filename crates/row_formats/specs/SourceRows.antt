@@ -1,0 +1,73 @@
+-- Who said what in a format, a row for each fact object (own). In bytes, `f` is 102, a line end 10.
+use Rattle.std.specs.Prelude.{◌≡◌, ℕ, ◌+◌, Bool, true, false, List, [], ◌∷◌, ◌++◌, flat_map, codes, Option}
+use Rattle.std.specs.Fmt.{decimal}
+use Rattle.std.specs.Io.KnownBytes.{Appends}
+use Rattle.serde_json.specs.Data.{Data, unsigned, number, string, object, no_members, member}
+use Rattle.serde_json.specs.Written.{compact_text}
+use Rattle.oim_dims.specs.declared.fact.Fact.{Fact}
+use Rattle.fact_base.specs.Passed.{Sheet}
+use Rattle.oim_report.specs.declared.refusal.Refusal.{Refusal}
+use Rattle.oim_write.specs.Rank.{padded, width}
+use Rattle.oim_write.specs.Sink.{AppendsFront}
+use Rattle.oim_write.specs.Tree.{identifier}
+use Rattle.oim_merge.specs.Reports.{merged, refused}
+use Rattle.oim_merge.specs.Sources.{Mention, mentions_by_fact}
+use Rattle.oim_merge.specs.declared.fault.Fault.{Fault}
+use Rattle.oim_merge.specs.declared.fault.Fault.TheVariants.{OutOfMemory, Device, TooLoose, Sheet as SheetFault}
+use Rattle.oim_merge.specs.declared.placed_mention.PlacedMention.{PlacedMention}
+use Rattle.row_formats.specs.CsvRows.{guarded, record_text}
+use Rattle.row_formats.specs.declared.row_format.RowFormat.{RowFormat}
+use Rattle.row_formats.specs.declared.row_format.RowFormat.TheVariants.{Json, Csv, SpreadsheetCsv}
+
+-- that the report of a number says a fact, by an object with an identifier of the report's own
+abbrev pub source_data : List ℕ → ℕ → List ℕ → Data
+source_data fact report own =
+    object (member (codes "fact") (string fact) (
+    member (codes "report") (number (unsigned report)) (
+    member (codes "identifier") (string own) no_members)))
+
+abbrev pub json_source : List ℕ → ℕ → List ℕ → List ℕ
+json_source fact report own = compact_text (source_data fact report own) ++ 10 ∷ []
+
+abbrev pub csv_source : Bool → List ℕ → ℕ → List ℕ → List ℕ
+csv_source spreadsheet fact report own = record_text (fact ∷ decimal report ∷ guarded spreadsheet own ∷ [])
+
+abbrev pub source_columns : List (List ℕ)
+source_columns = codes "fact" ∷ codes "report" ∷ codes "identifier" ∷ []
+
+abbrev pub source_text : RowFormat → List ℕ → ℕ → List ℕ → List ℕ
+source_text Json = json_source
+source_text Csv = csv_source false
+source_text SpreadsheetCsv = csv_source true
+
+-- what stands before the first of these
+abbrev pub source_header : RowFormat → List ℕ
+source_header Json = []
+source_header Csv = record_text source_columns
+source_header SpreadsheetCsv = record_text source_columns
+
+-- a mention, by the identifier that its fact has in the canonical text of these
+abbrev pub source_row : RowFormat → List Fact → Mention → List ℕ
+source_row format facts m = source_text format (identifier facts m.fact) m.report m.identifier
+
+-- each fact object of each accepted report, in the order of facts, of reports, and of identifiers
+abbrev pub sources_in : RowFormat → Sheet → List (List ℕ) → List ℕ
+sources_in format sheet reports = source_header format ++ flat_map (source_row format (merged sheet reports).facts) (mentions_by_fact sheet reports)
+
+-- one whose fact has a place among so many
+abbrev pub placed_row : RowFormat → ℕ → PlacedMention → List ℕ
+placed_row format count m = source_text format (102 ∷ padded (width count) (m.place + 1)) m.report m.identifier
+
+-- ---- what listing them leaves behind
+
+-- they were appended, and the refused reports were told
+pub record ListsSourceRows (format : RowFormat) (sheet : Sheet) (reports : List (List ℕ)) (old new : Option (List ℕ)) (told : List (ℕ × Refusal)) : Type 0 where
+  pub refusals_are : told ≡ refused sheet reports
+  pub appended : Appends old new (sources_in format sheet reports)
+
+-- a front of them was appended, and so many bytes were counted
+abbrev pub SourceRowsStop : RowFormat → Sheet → List (List ℕ) → Option (List ℕ) → Option (List ℕ) → Fault → Type 0
+SourceRowsStop format sheet reports old new (OutOfMemory written) = AppendsFront old new (sources_in format sheet reports) written
+SourceRowsStop format sheet reports old new (Device written) = AppendsFront old new (sources_in format sheet reports) written
+SourceRowsStop format sheet reports old new (TooLoose row told) = ⊥
+SourceRowsStop format sheet reports old new (SheetFault reason) = ⊥

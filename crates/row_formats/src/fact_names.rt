@@ -1,0 +1,24 @@
+ghost use Rattle.std.specs.Prelude.{◌≡◌, ◌+◌, ◌<◌, IfOk};
+ghost use Rattle.oim_merge.specs.Named.{named};
+
+use oim_names::Text;
+use oim_write::identifier;
+use std::alloc::{AllocError, Global};
+
+/// What the facts of a row are called: so many facts stand before them, of so many.
+#[derive(Clone, Copy, Debug)]
+pub(crate) struct FactNames {
+    pub before: u128,
+    pub count: u128,
+}
+
+impl FactNames {
+    /// The identifier of the fact at a place, from 0.
+    pub(crate) fn at(&self, alloc: Global, place: usize) -> Result<Text, AllocError>
+        requires { self.now.before + place < self.now.count }
+        ensures { IfOk result (λ text. text ≡ named self.now.before self.now.count place) }
+    {
+        let rank = self.before + place as u128 + 1;
+        identifier(alloc, rank, self.count)
+    }
+}

@@ -1,0 +1,21 @@
+//! Verdicts and sources in formats that other programs read: a JSON object a line, and CSV.
+#![tactic(auto)]
+
+mod csv_record;
+mod dimensions_json;
+mod fact_names;
+mod formulas;
+pub mod laws;
+mod row_csv;
+mod row_format;
+mod row_json;
+mod source_listing;
+mod source_row;
+mod spelling;
+#[cfg(test)]
+mod tests;
+mod verdict_listing;
+
+pub use row_format::RowFormat;
+pub use source_listing::source_rows;
+pub use verdict_listing::{finish_rows, finish_rows_last, verdict_rows};

@@ -1,0 +1,365 @@
+ghost use Rattle.std.specs.Prelude.{◌≡◌, ◌+◌, ◌<◌, ◌≤◌, ◌++◌, ◌∷◌, [], length, IfOk, OnOk, string_bytes};
+ghost use Rattle.std.specs.Option.{option_copied};
+ghost use Rattle.csv.specs.Records.{fields_of};
+ghost use Rattle.oim_dims.specs.Period.{period_text};
+ghost use Rattle.fact_base.specs.Passed.{option_spelled, option_unit_text};
+ghost use Rattle.fact_base.specs.Shown.{shown};
+ghost use Rattle.std.specs.Fmt.{decimal};
+ghost use Rattle.serde_json.specs.Data.{no_members, object};
+ghost use Rattle.serde_json.specs.Written.{compact_text};
+ghost use Rattle.oim_value.specs.Plain.{plain};
+ghost use Rattle.oim_write.specs.Ordered.{defined_members};
+ghost use Rattle.oim_write.specs.Parts.{AddsValue};
+ghost use Rattle.oim_merge.specs.Lines.{verdict_shown, verdict_word};
+ghost use Rattle.oim_merge.specs.Named.{HasPlaces, named};
+ghost use Rattle.row_formats.specs.CsvRows.{columns, csv_row, decimals_text, defined_text, dimension_fields, evidence_fields, fact_fields, or_empty, record_text, value_fields};
+ghost use Rattle.row_formats.specs.Spelled.{braced};
+
+use crate::csv_record::{push_three, text_of_record};
+use crate::dimensions_json::write_defined;
+use crate::fact_names::FactNames;
+use crate::formulas::guard;
+use crate::row_json::{high_text, low_text, word_of};
+use crate::spelling::{spell, spell_unit};
+use csv::StringRecord;
+use fact_base::{Evidence, Row};
+use json::Writer;
+use oim_dims::{Dimensions, Member, Period, Unit, write_period};
+use oim_names::{Name, Text};
+use oim_value::{Decimals, Fixed, Interval, Value, write_fixed};
+use std::alloc::{AllocError, Global};
+use std::str;
+
+/// Room for a record, asked for at once; most are no longer.
+const RECORD: usize = 1 << 9;
+
+/// How many fields a record has.
+const FIELDS: usize = 16;
+
+/// The record of the columns' names.
+pub(crate) fn csv_header(alloc: Global) -> Result<Vec<u8>, AllocError>
+    ensures { IfOk result (λ text. text.items ≡ record_text columns) }
+{
+    let mut record = StringRecord::new(alloc);
+    push_four(&mut record, "row", "verdict", "fact", "concept")?;
+    push_four(&mut record, "entity", "period", "unit", "language")?;
+    push_four(&mut record, "dimensions", "value", "nil", "decimals")?;
+    push_four(
+        &mut record,
+        "common_low",
+        "common_high",
+        "apart_first",
+        "apart_second",
+    )?;
+    text_of_record(alloc, &record)
+}
+
+/// The records of a row with this number and this evidence.
+pub(crate) fn csv_row(
+    alloc: Global,
+    spreadsheet: bool,
+    number: u64,
+    names: &FactNames,
+    row: Row<'_>,
+    evidence: &Evidence,
+) -> Result<Vec<u8>, AllocError>
+    requires room { names.now.before + length row.values.now ≤ names.now.count }
+    requires places { HasPlaces (length row.values.now) evidence.now }
+    ensures { IfOk result (λ text. text.items ≡ csv_row spreadsheet
+        (named names.now.before names.now.count) number (shown row.entry) evidence.now) }
+{
+    let mut text = Vec::new(alloc);
+    for (place, value) in row.values.iter().enumerate() {
+        push_record(
+            alloc,
+            &mut text,
+            spreadsheet,
+            number,
+            names,
+            row,
+            evidence,
+            place,
+            value,
+        )?;
+    }
+    Ok(text)
+}
+
+fn push_record(
+    alloc: Global,
+    text: &mut Vec<u8>,
+    spreadsheet: bool,
+    number: u64,
+    names: &FactNames,
+    row: Row<'_>,
+    evidence: &Evidence,
+    place: usize,
+    value: &Value,
+) -> Result<(), AllocError>
+    requires place { place < length row.values.now }
+    requires room { names.now.before + length row.values.now ≤ names.now.count }
+    requires places { HasPlaces (length row.values.now) evidence.now }
+    ensures { OnOk result (text.new.items ≡ text.old.items ++ record_text
+        (fact_fields spreadsheet number row.entry.dimensions.now evidence.now
+        (evidence_fields (named names.now.before names.now.count) evidence.now)
+        (named names.now.before names.now.count place) value.now)) }
+{
+    let mut record = StringRecord::with_capacity(alloc, RECORD, FIELDS)?;
+    push_front(alloc, &mut record, number, names, place, evidence)?;
+    push_fact(alloc, &mut record, spreadsheet, row.dimensions, value)?;
+    push_evidence(alloc, &mut record, names, row.values.len(), evidence)?;
+    let line = text_of_record(alloc, &record)?;
+    text.extend_from_slice(line.as_slice())?;
+    Ok(())
+}
+
+/// The number of the row, the word of its verdict, and the identifier of the fact at a place.
+fn push_front(
+    alloc: Global,
+    fields: &mut StringRecord,
+    number: u64,
+    names: &FactNames,
+    place: usize,
+    evidence: &Evidence,
+) -> Result<(), AllocError>
+    requires { names.now.before + place < names.now.count }
+    ensures { OnOk result (fields_of fields.new ≡ fields_of fields.old ++ decimal number
+        ∷ verdict_word (verdict_shown evidence.now)
+        ∷ named names.now.before names.now.count place ∷ []) }
+{
+    let number = format!(in alloc; "{number}")?;
+    let identifier = names.at(alloc, place)?;
+    push_three(
+        fields,
+        number.as_str(),
+        word_of(evidence),
+        identifier.as_str(),
+    )
+}
+
+/// What the fact is about, and what it says.
+fn push_fact(
+    alloc: Global,
+    fields: &mut StringRecord,
+    spreadsheet: bool,
+    dimensions: &Dimensions,
+    value: &Value,
+) -> Result<(), AllocError>
+    ensures { OnOk result (fields_of fields.new ≡ fields_of fields.old
+        ++ (dimension_fields dimensions.now ++ value_fields spreadsheet value.now)) }
+{
+    let mut room = String::new(alloc);
+    push_name(fields, &mut room, dimensions.concept())?;
+    push_entity(fields, &mut room, dimensions.entity())?;
+    push_period(alloc, fields, dimensions.period())?;
+    push_unit(fields, &mut room, dimensions.unit())?;
+    push_text(fields, dimensions.language())?;
+    push_defined(alloc, fields, &mut room, dimensions.members())?;
+    push_value(alloc, fields, &mut room, spreadsheet, value)
+}
+
+fn push_name(fields: &mut StringRecord, room: &mut String, name: &Name) -> Result<(), AllocError>
+    ensures { OnOk result (fields_of fields.new ≡ fields_of fields.old ++ braced name.now ∷ []) }
+{
+    spell(room, name)?;
+    fields.push_field(room.as_str())
+}
+
+fn push_entity(
+    fields: &mut StringRecord,
+    room: &mut String,
+    entity: Option<&Name>,
+) -> Result<(), AllocError>
+    ensures { OnOk result (fields_of fields.new ≡ fields_of fields.old ++ or_empty (option_spelled braced (option_copied entity.entry)) ∷ []) }
+{
+    match entity {
+        Some(entity) => push_name(fields, room, entity),
+        None => fields.push_field(""),
+    }
+}
+
+fn push_text(fields: &mut StringRecord, text: Option<&Text>) -> Result<(), AllocError>
+    ensures { OnOk result (fields_of fields.new ≡ fields_of fields.old ++ or_empty (option_copied text.entry) ∷ []) }
+{
+    match text {
+        Some(text) => fields.push_field(text.as_str()),
+        None => fields.push_field(""),
+    }
+}
+
+fn push_period(alloc: Global, fields: &mut StringRecord, period: Period) -> Result<(), AllocError>
+    ensures { OnOk result (fields_of fields.new ≡ fields_of fields.old ++ or_empty (period_text period) ∷ []) }
+{
+    match write_period(alloc, &period)? {
+        Some(text) => fields.push_field(text.as_str()),
+        None => fields.push_field(""),
+    }
+}
+
+fn push_unit(
+    fields: &mut StringRecord,
+    room: &mut String,
+    unit: Option<&Unit>,
+) -> Result<(), AllocError>
+    ensures { OnOk result (fields_of fields.new ≡ fields_of fields.old ++ or_empty (option_unit_text braced (option_copied unit.entry)) ∷ []) }
+{
+    let Some(unit) = unit else {
+        return fields.push_field("");
+    };
+    spell_unit(room, unit)?;
+    fields.push_field(room.as_str())
+}
+
+/// The dimensions that a taxonomy defines, as an object of JSON.
+fn push_defined(
+    alloc: Global,
+    fields: &mut StringRecord,
+    room: &mut String,
+    members: &[(Name, Member)],
+) -> Result<(), AllocError>
+    ensures { OnOk result (fields_of fields.new ≡ fields_of fields.old ++ defined_text members.now ∷ []) }
+{
+    if members.is_empty() {
+        return fields.push_field("");
+    }
+    let text = members_json(alloc, room, members)?;
+    match str::from_utf8(text.as_slice()) {
+        Ok(text) => fields.push_field(text),
+        Err(_) => Err(AllocError),
+    }
+}
+
+fn push_value(
+    alloc: Global,
+    fields: &mut StringRecord,
+    room: &mut String,
+    spreadsheet: bool,
+    value: &Value,
+) -> Result<(), AllocError>
+    ensures { OnOk result (fields_of fields.new ≡ fields_of fields.old ++ value_fields spreadsheet value.now) }
+{
+    match value {
+        Value::Nil => push_three(fields, "", "true", ""),
+        Value::Number(number, decimals) => push_number(alloc, fields, *number, *decimals),
+        Value::Text(text) => {
+            guard(room, spreadsheet, text.as_str())?;
+            push_three(fields, room.as_str(), "", "")
+        }
+        Value::Name(name) => {
+            spell(room, name)?;
+            push_three(fields, room.as_str(), "", "")
+        }
+    }
+}
+
+fn push_number(
+    alloc: Global,
+    fields: &mut StringRecord,
+    number: Fixed,
+    decimals: Decimals,
+) -> Result<(), AllocError>
+    ensures { OnOk result (fields_of fields.new ≡ fields_of fields.old ++ plain number ∷ [] ∷ decimals_text decimals ∷ []) }
+{
+    let number = write_fixed(alloc, number)?;
+    let decimals = decimals_text(alloc, decimals)?;
+    push_three(fields, number.as_str(), "", decimals.as_str())
+}
+
+/// Finite decimals; infinite ones have no text.
+fn decimals_text(alloc: Global, decimals: Decimals) -> Result<String, AllocError>
+    ensures { IfOk result (λ text. string_bytes text ≡ decimals_text decimals) }
+{
+    match decimals.get() {
+        Some(places) => format!(in alloc; "{places}"),
+        None => Ok(String::new(alloc)),
+    }
+}
+
+/// What shows the verdict on the row.
+fn push_evidence(
+    alloc: Global,
+    fields: &mut StringRecord,
+    names: &FactNames,
+    values: usize,
+    evidence: &Evidence,
+) -> Result<(), AllocError>
+    requires room { names.now.before + values ≤ names.now.count }
+    requires places { HasPlaces values evidence.now }
+    ensures { OnOk result (fields_of fields.new ≡ fields_of fields.old
+        ++ evidence_fields (named names.now.before names.now.count) evidence.now) }
+{
+    match evidence {
+        Evidence::Alike => push_four(fields, "", "", "", ""),
+        Evidence::Common(common) => push_common(alloc, fields, common),
+        Evidence::Apart(first, second) => push_apart(alloc, fields, names, *first, *second),
+    }
+}
+
+fn push_common(
+    alloc: Global,
+    fields: &mut StringRecord,
+    common: &Interval,
+) -> Result<(), AllocError>
+    ensures { OnOk result (fields_of fields.new ≡ fields_of fields.old
+        ++ plain common.now.low ∷ plain common.now.high ∷ [] ∷ [] ∷ []) }
+{
+    let low = low_text(alloc, common)?;
+    let high = high_text(alloc, common)?;
+    push_four(fields, low.as_str(), high.as_str(), "", "")
+}
+
+fn push_apart(
+    alloc: Global,
+    fields: &mut StringRecord,
+    names: &FactNames,
+    first: usize,
+    second: usize,
+) -> Result<(), AllocError>
+    requires first { names.now.before + first < names.now.count }
+    requires second { names.now.before + second < names.now.count }
+    ensures { OnOk result (fields_of fields.new ≡ fields_of fields.old ++ [] ∷ []
+        ∷ named names.now.before names.now.count first
+        ∷ named names.now.before names.now.count second ∷ []) }
+{
+    let first = names.at(alloc, first)?;
+    let second = names.at(alloc, second)?;
+    push_four(fields, "", "", first.as_str(), second.as_str())
+}
+
+fn push_four(
+    fields: &mut StringRecord,
+    first: &str,
+    second: &str,
+    third: &str,
+    fourth: &str,
+) -> Result<(), AllocError>
+    ensures { OnOk result (fields_of fields.new ≡ fields_of fields.old ++ first.now ∷ second.now ∷ third.now ∷ fourth.now ∷ []) }
+{
+    push_three(fields, first, second, third)?;
+    fields.push_field(fourth)
+}
+
+/// The dimensions that a taxonomy defines, as an object of JSON.
+fn members_json(
+    alloc: Global,
+    room: &mut String,
+    members: &[(Name, Member)],
+) -> Result<Vec<u8>, AllocError>
+    ensures { IfOk result (λ text. text.items ≡ compact_text (object (defined_members braced members.now no_members))) }
+{
+    let mut json = Writer::new(Vec::new(alloc));
+    write_object(&mut json, room, members)?;
+    Ok(json.into_inner())
+}
+
+fn write_object(
+    json: &mut Writer,
+    room: &mut String,
+    members: &[(Name, Member)],
+) -> Result<(), AllocError>
+    ensures { OnOk result (AddsValue json.old json.new (object (defined_members braced members.now no_members))) }
+{
+    json.begin_object()?;
+    write_defined(json, room, members)?;
+    json.end_object()
+}

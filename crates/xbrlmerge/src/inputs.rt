@@ -1,0 +1,166 @@
+ghost use Rattle.std.specs.Prelude.{◌≡◌};
+
+use crate::console::Console;
+use crate::error::Error;
+use oim_merge::{Consolidation, ReadFault, StdSource, read_all};
+use oim_names::Reason;
+use oim_report::Sheet;
+use oim_write::Encoded;
+use std::alloc::Global;
+use std::fs::{self, File};
+use std::io::{ErrorKind, Read, Write};
+use std::rt::Files;
+
+/// How many bytes a file may have.
+const MOST_BYTES: u32 = 2_147_483_648;
+
+/// What standard input is called in words and in a line.
+pub(crate) const STANDARD_INPUT: &str = "-";
+
+/// What a command reads, and how far it is. The sink that it writes to stands beside: if it were a
+/// field, each method would have to say that it leaves the sink as it is.
+#[derive(Drop)]
+pub(crate) struct Inputs<'n, F, E> {
+    pub alloc: Global,
+    pub files: &'n F,
+    /// The bundle; empty if there are words.
+    pub bundle: &'n [u8],
+    /// The names of the reports.
+    pub names: &'n [&'n str],
+    pub console: &'n mut Console<E>,
+}
+
+impl<'n, F: Files, E: Write> Inputs<'n, F, E> {
+    /// Reads the file of this name.
+    ///
+    /// Errors: `Unread`.
+    pub(crate) fn read(&self, name: &'n str) -> Result<Encoded, Error<'n>> {
+        read_file(self.alloc, self.files, name)
+    }
+
+    /// Reads the concept sheet in the file of this name.
+    ///
+    /// Errors: `Unread`; `Sheet` if the sheet is refused; out of memory.
+    pub(crate) fn read_sheet(&self, name: &'n str) -> Result<Sheet, Error<'n>> {
+        let bytes = self.read(name)?;
+        sheet_of(self.alloc, bytes.as_bytes())
+    }
+
+    /// Reads the next report, which has this name, and shows how many were read before.
+    ///
+    /// Errors: `Unread`.
+    pub(crate) fn read_report(&mut self, name: &'n str) -> Result<Encoded, Error<'n>> {
+        self.console.show(self.names.len());
+        let report = self.read(name)?;
+        self.console.add(report.as_bytes().len());
+        Ok(report)
+    }
+
+    /// Reads all reports, in their order. The first that is not read ends it.
+    ///
+    /// Errors: `Unread`, and out of memory.
+    pub(crate) fn read_reports(&mut self) -> Result<Vec<Encoded>, Error<'n>> {
+        let names = self.names;
+        let mut all = Vec::new(self.alloc);
+        for name in names {
+            all.push(self.read_report(name)?)?;
+        }
+        self.console.clear();
+        Ok(all)
+    }
+
+    /// Reads all reports under a sheet, in their order, adds each and lets it go. The first that is
+    /// not read ends it.
+    ///
+    /// Errors: `Unread`, and out of memory.
+    pub(crate) fn consolidate<'s>(
+        &mut self,
+        sheet: &'s Sheet,
+    ) -> Result<Consolidation<'s>, Error<'n>> {
+        let mut consolidation = Consolidation::new(self.alloc, sheet);
+        self.add_reports(&mut consolidation)?;
+        Ok(consolidation)
+    }
+
+    fn add_reports(&mut self, consolidation: &mut Consolidation<'_>) -> Result<(), Error<'n>>
+        requires { consolidation.old.reports ≡ 0 }
+    {
+        let names = self.names;
+        for place in 0..names.len() {
+            let report = self.read_report(names[place])?;
+            consolidation.add(report.as_bytes())?;
+        }
+        self.console.clear();
+        Ok(())
+    }
+}
+
+/// The concept sheet that these bytes say.
+///
+/// Errors: `Sheet`, and out of memory.
+pub(crate) fn sheet_of<'n>(alloc: Global, bytes: &[u8]) -> Result<Sheet, Error<'n>> {
+    match Sheet::read(alloc, bytes) {
+        Ok(sheet) => Ok(sheet),
+        Err(Reason::OutOfMemory) => Err(Error::OutOfMemory),
+        Err(reason) => Err(Error::Sheet(reason, None)),
+    }
+}
+
+/// Reads standard input.
+///
+/// Errors: `Unread`.
+pub(crate) fn read_input<'n, R: Read + Drop>(
+    alloc: Global,
+    input: R,
+) -> Result<Encoded, Error<'n>> {
+    match read_bytes(alloc, input) {
+        Ok(bytes) => Ok(bytes),
+        Err(fault) => Err(Error::Unread(STANDARD_INPUT, fault, None)),
+    }
+}
+
+/// Opens the file of this name and reads it.
+///
+/// Errors: `Unread`.
+pub(crate) fn read_file<'n, F: Files>(
+    alloc: Global,
+    files: &F,
+    name: &'n str,
+) -> Result<Encoded, Error<'n>> {
+    match open_and_read(alloc, files, name) {
+        Ok(bytes) => Ok(bytes),
+        Err(ReadFault::Device(read)) => {
+            let why = why_unread(files, name);
+            Err(Error::Unread(name, ReadFault::Device(read), why))
+        }
+        Err(fault) => Err(Error::Unread(name, fault, None)),
+    }
+}
+
+fn open_and_read<F: Files>(alloc: Global, files: &F, name: &str) -> Result<Encoded, ReadFault> {
+    match File::open(files, name) {
+        Ok(file) => read_bytes(alloc, file),
+        Err(_) => Err(ReadFault::Device(0)),
+    }
+}
+
+/// Reads a reader to its end.
+fn read_bytes<R: Read + Drop>(alloc: Global, reader: R) -> Result<Encoded, ReadFault> {
+    let mut source = StdSource::new(reader);
+    read_all(alloc, &mut source, MOST_BYTES)
+}
+
+/// Why the file of this name cannot be read, if that is known.
+fn why_unread<F: Files>(files: &F, name: &str) -> Option<&'static str> {
+    match fs::metadata(files, name) {
+        Ok(found) if found.is_dir() => return Some("It is a folder."),
+        Err(fault) if fault.kind() == ErrorKind::NotFound => return Some("There is no such file."),
+        _ => {}
+    }
+    match File::open(files, name) {
+        Err(fault) if fault.kind() == ErrorKind::PermissionDenied => {
+            Some("You may not read it: permission denied.")
+        }
+        _ => None,
+    }
+}

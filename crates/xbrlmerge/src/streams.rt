@@ -1,0 +1,8 @@
+/// The standard streams, and which of them are a terminal.
+pub struct Streams<R, O, E> {
+    pub input: R,
+    pub out: O,
+    pub err: E,
+    pub is_input_terminal: bool,
+    pub is_err_terminal: bool,
+}

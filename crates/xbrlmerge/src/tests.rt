@@ -1,0 +1,11 @@
+mod asked_again;
+mod canonical_parts;
+mod devices;
+mod expecting;
+mod explained;
+mod files;
+mod progress;
+mod ran;
+mod run;
+mod terminals;
+mod words;

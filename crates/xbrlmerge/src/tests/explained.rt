@@ -1,0 +1,394 @@
+use crate::tests::asked_again::{joined, tell_refused};
+use oim_explain::{Format, Input, explain, explain_sheet};
+use oim_names::Reason;
+use oim_report::Sheet;
+use std::alloc::AllocError;
+use std::test::Fail;
+
+// What is said of each fault. Where a request for memory is refused, the next one is not.
+
+const SHEET: &str =
+    r#"{"namespaces":{"eg":"http://example.org/t"},"concepts":{"eg:A":"numeric","eg:T":"text","eg:Q":"name"},"dimensions":{"eg:Reg":"explicit","eg:Sku":"typed"}}"#;
+
+// A report up to its facts, which may not be duplicates.
+const START: &str =
+    r#"{"documentInfo":{"documentType":"https://xbrl.org/2021/xbrl-json","namespaces":{"eg":"http://example.org/t","x":"http://example.org/u","zz":"http://example.org/t","xbrl":"https://xbrl.org/2021"},"features":{"xbrl:allowedDuplicates":"consistent"}},"facts":{"#;
+
+// A report up to what else stands in `documentInfo`.
+const TYPED: &str = r#"{"documentInfo":{"documentType":"https://xbrl.org/2021/xbrl-json""#;
+
+struct Table<'t> {
+    start: &'t str,
+    rows: &'t [(&'t str, &'t str)],
+    end: &'t str,
+}
+
+// 1 to 8, and what a file is
+const DOCUMENTS: [Table<'static>; 2] = [
+    Table {
+        start: "",
+        rows: &[
+            (
+                "{\"documentInfo\":\n}",
+                "r: 1 NotJson: the file is no JSON text, or nests deeper than 127: invalid JSON at line 2 column 1\n",
+            ),
+            (
+                "<?xml version=\"1.0\"?>",
+                "r: 1 NotJson: the file is no JSON text, or nests deeper than 127: invalid JSON at line 1 column 1; the file looks like XML: another program has to write it as xBRL-JSON\n",
+            ),
+            (
+                "<html xmlns:ix=\"http://www.xbrl.org/2013/inlineXBRL\">",
+                "r: 1 NotJson: the file is no JSON text, or nests deeper than 127: invalid JSON at line 1 column 1; the file looks like Inline XBRL: another program has to write it as xBRL-JSON\n",
+            ),
+            (
+                "concept,value\na,1\n",
+                "r: 1 NotJson: the file is no JSON text, or nests deeper than 127: invalid JSON at line 1 column 1; the file looks like CSV: another program has to write it as xBRL-JSON\n",
+            ),
+            (
+                "\"concept\";\"value\"\n",
+                "r: 1 NotJson: the file is no JSON text, or nests deeper than 127: invalid JSON at line 1 column 10; the file looks like CSV: another program has to write it as xBRL-JSON\n",
+            ),
+            // neither prose nor a part of JSON nor a comment before it is CSV
+            (
+                "//a,b\n{}",
+                "r: 1 NotJson: the file is no JSON text, or nests deeper than 127: invalid JSON at line 1 column 1\n",
+            ),
+            (
+                "Dear reader, here is the report\n",
+                "r: 1 NotJson: the file is no JSON text, or nests deeper than 127: invalid JSON at line 1 column 1\n",
+            ),
+            (
+                "\"facts\":{},\"a\":1",
+                "r: 1 NotJson: the file is no JSON text, or nests deeper than 127: invalid JSON at line 1 column 9\n",
+            ),
+            (
+                "\u{feff}\u{feff}<a>",
+                "r: 1 NotJson: the file is no JSON text, or nests deeper than 127: invalid JSON at line 1 column 1; the file looks like XML: another program has to write it as xBRL-JSON\n",
+            ),
+            (
+                "{\0\"\0",
+                "r: 1 NotJson: the file is no JSON text, or nests deeper than 127: invalid JSON at line 1 column 2; the file looks like a text in UTF-16: write it as UTF-8\n",
+            ),
+            // the file has repeated members, but none of them is read
+            (
+                r#"{"documentInfo":{},"facts":{"a":1,"a":2},"x:y":1e999}"#,
+                "r: 1 NotJson: the file is no JSON text, or nests deeper than 127: number out of range at line 1 column 53\n",
+            ),
+            (
+                "[]",
+                "r: 2 MemberForm: the file is no object of \"documentInfo\" and \"facts\"\n",
+            ),
+            (
+                SHEET,
+                "r: 2 MemberForm: \"documentInfo\" is missing; the file looks like a concept sheet, and no report\nr: 3 UnknownMember: the format has no member \"concepts\"\n",
+            ),
+            (
+                r#"{"documentInfo":{"documentType":"https://xbrl.org/2021/xbrl-csv"},"tables":{}}"#,
+                "r: 3 UnknownMember: the format has no member \"tables\"; the file looks like the metadata of an xBRL-CSV report: another program has to write it as xBRL-JSON\nr: 4 DocumentType: the document type is \"https://xbrl.org/2021/xbrl-csv\", but must be \"https://xbrl.org/2021/xbrl-json\"\n",
+            ),
+            (
+                r#"{"documentInfo":{}}"#,
+                "r: 4 DocumentType: there is no \"documentType\", which must be \"https://xbrl.org/2021/xbrl-json\"\n",
+            ),
+        ],
+        end: "",
+    },
+    Table {
+        start: TYPED,
+        rows: &[
+            (
+                r#"},"facts":[]}"#,
+                "r: 2 MemberForm: \"facts\" is no object\n",
+            ),
+            (
+                r#","colour":1}}"#,
+                "r: 3 UnknownMember: the format has no member \"colour\" in \"documentInfo\"\n",
+            ),
+            (
+                r#","namespaces":{"eg":""},"baseURL":"x","taxonomy":[2023]}}"#,
+                "r: 5 Namespace: the entry \"eg\": \"\" of \"namespaces\" is no prefix with its URI: neither may be empty, and a prefix has no colon and no white space\nr: 6 BaseUrl: the \"baseURL\" \"x\" is no http or https URL of at most 65,536 bytes\nr: 7 TaxonomyUrl: the reference 2023 of \"taxonomy\" is no text, has more than 65,536 bytes itself or as a URL, or is no http or https URL against \"baseURL\"\n",
+            ),
+            (
+                r#","namespaces":{"xbrl":"https://xbrl.org/2021"},"features":{"xbrl:allowedDuplicates":"some"}}}"#,
+                "r: 8 Feature: \"allowedDuplicates\" must stand once in \"features\", as \"none\", \"complete\", \"consistent\" or \"all\": not as \"xbrl:allowedDuplicates\": \"some\"\n",
+            ),
+            // what is refused of many is shown, and all of them where two do not go together
+            (
+                r#","baseURL":"http://example.org/","taxonomy":["a.xsd","mailto:x","//["]}}"#,
+                "r: 7 TaxonomyUrl: the reference \"//[\" of \"taxonomy\" is no text, has more than 65,536 bytes itself or as a URL, or is no http or https URL against \"baseURL\"\n",
+            ),
+            (
+                r#","taxonomy":["http://example.org/a-long-way-to-a-schema-that-is-found-without-any-trouble-at-all.xsd","",["b"]]}}"#,
+                "r: 7 TaxonomyUrl: the reference [\"b\"] of \"taxonomy\" is no text, has more than 65,536 bytes itself or as a URL, or is no http or https URL against \"baseURL\"\n",
+            ),
+            (
+                r#","namespaces":{"a":"https://xbrl.org/2021","b":"https://xbrl.org/2021"},"features":{"a:allowedDuplicates":"all","b:allowedDuplicates":"none"}}}"#,
+                "r: 8 Feature: \"allowedDuplicates\" must stand once in \"features\", as \"none\", \"complete\", \"consistent\" or \"all\": not as {\"a:allowedDuplicates\":\"all\",\"b:allowedDuplicates\":\"none\"}\n",
+            ),
+            // what stands twice is told with its place
+            (
+                r#","namespaces":{"eg":"http://a","eg":"http://b"}},"facts":{},"facts":{}}"#,
+                "r: \"facts\" stands twice in the report, and only the last one is read\nr: \"eg\" stands twice in \"namespaces\", and only the last one is read\n",
+            ),
+        ],
+        end: "",
+    },
+];
+
+const TEN: &str =
+    r#""f01":{"value":"1","note":"restated","dimensions":{"concept":"eg:A"}},"f02":{"value":"1","dimensions":{"concept":"eg:A","entity":"lei:5299"}},"f03":{"value":"1","dimensions":{"period":"2024-01-01T00:00:00"}},"f04":{"value":"1","dimensions":{"concept":"eg:Sales"}},"f05":{"value":"1","dimensions":{"concept":"eg:A","eg:Axis":"eg:B"}},"f06":{"value":"1","dimensions":{"concept":"eg:A","period":"2024-12-31"}},"f07":{"value":"1","dimensions":{"concept":"eg:A","unit":"EUR"}},"f08":{"value":12,"dimensions":{"concept":"eg:A"}},"f09":{"value":"1,000","dimensions":{"concept":"eg:A"}},"f10":{"value":"1","decimals":20,"dimensions":{"concept":"eg:A"}}"#;
+
+const TOLD: &str = "r: fact \"f01\": 3 UnknownMember: the format has no member \"note\"
+r: fact \"f02\": 13 UnboundPrefix: the prefix of \"lei:5299\" is not bound
+r: fact \"f03\": 15 MissingConcept: the \"dimensions\" of the fact have no \"concept\"
+r: fact \"f04\": 16 UnknownConcept: the concept \"eg:Sales\" is not in the sheet
+r: fact \"f05\": 17 UnknownDimension: the dimension \"eg:Axis\" is not in the sheet
+r: fact \"f06\": 19 PeriodForm: the period \"2024-12-31\" is no date and time that exists, such as 2024-12-31T00:00:00, without zone and fraction of a second, nor two of these with / between them
+r: fact \"f07\": 12 NameForm: \"EUR\" is no name: that is a prefix, a colon and a local part, without white space and without a second colon
+r: fact \"f08\": 25 ValueForm: the value 12 is neither a text nor null: a number, too, stands in quotes
+r: fact \"f09\": 26 NumberForm: the value \"1,000\" is no plain number such as -1234.5, without exponent, thousands separator or white space, and by the sheet the values of the concept are numbers
+r: fact \"f10\": 29 DecimalsRange: the decimals 20 are not from -18 to 18
+";
+
+// 2, 3 and 9 to 31
+const FACTS: [Table<'static>; 1] = [Table {
+    start: START,
+    rows: &[
+        ("", ""),
+        (
+            r#""a":{"decimals":20,"links":{"y":1}}"#,
+            "r: fact \"a\": 2 MemberForm: \"value\" is missing\nr: fact \"a\": 9 Links: the links {\"y\":1} cannot be merged\nr: fact \"a\": 11 DimensionsMissing: the fact has no \"dimensions\"\nr: fact \"a\": 29 DecimalsRange: the decimals 20 are not from -18 to 18\n",
+        ),
+        (
+            r#""a":{"value":"1","colour":1,"dimensions":{"noteId":"n"}}"#,
+            "r: fact \"a\": 3 UnknownMember: the format has no member \"colour\"\nr: fact \"a\": 10 Notes: the note \"n\" cannot be merged\nr: fact \"a\": 15 MissingConcept: the \"dimensions\" of the fact have no \"concept\"\n",
+        ),
+        (
+            r#""a":{"value":"1","dimensions":{"concept":"ifrs:Revenue","entity":"e","eg:Reg":"xbrl:a"}}"#,
+            "r: fact \"a\": 12 NameForm: \"e\" is no entity: that is a prefix, a colon and an identifier\nr: fact \"a\": 13 UnboundPrefix: the prefix of \"ifrs:Revenue\" is not bound\nr: fact \"a\": 14 ReservedNamespace: the prefix of \"xbrl:a\" is bound to https://xbrl.org/2021, in which no fact has a name\n",
+        ),
+        (
+            r#""a":{"value":"q:b","dimensions":{"concept":"eg:Q"}},"b":{"value":"1","dimensions":{"concept":"eg:A","unit":"x:a/q:b"}}"#,
+            "r: fact \"a\": 13 UnboundPrefix: the prefix of \"q:b\" is not bound\nr: fact \"b\": 13 UnboundPrefix: the prefix of \"q:b\" is not bound\n",
+        ),
+        (
+            r#""a":{"value":"1","dimensions":{"concept":"eg:Z","eg:Hue":"red","eg:Reg":null}}"#,
+            "r: fact \"a\": 16 UnknownConcept: the concept \"eg:Z\" is not in the sheet\nr: fact \"a\": 17 UnknownDimension: the dimension \"eg:Hue\" is not in the sheet\nr: fact \"a\": 18 DimensionValue: the dimension \"eg:Reg\": null has not the kind of value that the sheet gives it\n",
+        ),
+        (
+            r#""a":{"value":"1","dimensions":{"concept":"eg:A","eg:Sku":"b","zz:Sku":"b"}}"#,
+            "r: fact \"a\": 18 DimensionValue: the keys \"eg:Sku\" and \"zz:Sku\" are one dimension\n",
+        ),
+        // a number is shown as it stands in the file, or not at all
+        (
+            r#""a":{"value":"1","decimals":1e23,"dimensions":{"concept":"eg:A","scenario":"s"}}"#,
+            "r: fact \"a\": 3 UnknownMember: the format has no member \"scenario\" in \"dimensions\"\nr: fact \"a\": 28 DecimalsForm: the decimals are no whole number without quotes, point or exponent\n",
+        ),
+        (
+            r#""a":{"value":1,"decimals":"0","dimensions":{"concept":"eg:T","period":"2020","unit":"x:a/","language":"e n"}}"#,
+            "r: fact \"a\": 19 PeriodForm: the period \"2020\" is no date and time that exists, such as 2024-12-31T00:00:00, without zone and fraction of a second, nor two of these with / between them\nr: fact \"a\": 21 UnitForm: the unit \"x:a/\" is no unit such as a:b, a:b*a:c or a:b/a:c\nr: fact \"a\": 22 UnitOnOther: the unit \"x:a/\" must not be there: by the sheet, the values of the concept are no numbers\nr: fact \"a\": 23 LanguageForm: the language \"e n\" is no language such as en or de-AT\nr: fact \"a\": 25 ValueForm: the value 1 is neither a text nor null: a number, too, stands in quotes\nr: fact \"a\": 28 DecimalsForm: the decimals \"0\" are no whole number without quotes\nr: fact \"a\": 30 DecimalsOnOther: the decimals \"0\" must not be there: by the sheet, the values of the concept are no numbers\n",
+        ),
+        (
+            r#""a":{"value":"x","decimals":19,"dimensions":{"concept":"eg:A","language":"en","period":"2020-01-02T00:00:00/2020-01-01T00:00:00"}}"#,
+            "r: fact \"a\": 20 PeriodOrder: the period \"2020-01-02T00:00:00/2020-01-01T00:00:00\" ends before it starts\nr: fact \"a\": 24 LanguageOnNumeric: the language \"en\" must not be there: by the sheet, the values of the concept are numbers\nr: fact \"a\": 26 NumberForm: the value \"x\" is no plain number such as -1234.5, without exponent, thousands separator or white space, and by the sheet the values of the concept are numbers\nr: fact \"a\": 29 DecimalsRange: the decimals 19 are not from -18 to 18\n",
+        ),
+        (
+            r#""a":{"value":"1234567890123456789","dimensions":{"concept":"eg:A"}}"#,
+            "r: fact \"a\": 27 NumberDigits: the value \"1234567890123456789\" has more than 18 digits\n",
+        ),
+        (
+            r#""p":{"value":"1","decimals":0,"dimensions":{"concept":"eg:A"}},"q":{"value":"1.2","decimals":1,"dimensions":{"concept":"eg:A"}},"r":{"value":"3","dimensions":{"concept":"eg:A"}}"#,
+            "r: 31 DisallowedDuplicates: the facts \"q\" and \"r\" have the same dimensions, and the report's own \"allowedDuplicates\" does not allow both\n",
+        ),
+        // ten faults of ten kinds
+        (TEN, TOLD),
+        // what stands twice is told, and nothing goes to a terminal that it would do
+        (
+            r#""a":{"value":"1","value":"2","dimensions":{"concept":"eg:A"}},"\u001b[2J":7,"a":{"value":"1","dimensions":{"concept":"eg:A","concept":"eg:A"}}"#,
+            "r: fact \"\\u001b[2J\": 2 MemberForm: the fact is no object\nr: fact \"a\" stands twice, and only the last one is read\nr: fact \"a\": \"value\" stands twice, and only the last one is read\nr: fact \"a\": \"concept\" stands twice in \"dimensions\", and only the last one is read\n",
+        ),
+        // what is not seen, or turns the direction, is written as an escape
+        (
+            "\"a\\u061c\u{200b}\u{feff}\u{85}\u{202e}\u{ad}\u{e0001}\":7",
+            "r: fact \"a\\u061c\\u200b\\ufeff\\u0085\\u202e\\u00ad\\udb40\\udc01\": 2 MemberForm: the fact is no object\n",
+        ),
+        // a text and an identifier are cut behind 80 characters
+        (
+            r#""yyyyyyyyyyyyyyyyyyyyyyyyyyyyyyyyyyyyyyyyyyyyyyyyyyyyyyyyyyyyyyyyyyyyyyyyyyyyyyyb":{"value":"ä\n9xxxxxxxxxxxxxxxxxxxxxxxxxxxxxxxxxxxxxxxxxxxxxxxxxxxxxxxxxxxxxxxxxxxxxxxxxxxxx","dimensions":{"concept":"eg:A"}},"yyyyyyyyyyyyyyyyyyyyyyyyyyyyyyyyyyyyyyyyyyyyyyyyyyyyyyyyyyyyyyyyyyyyyyyyyyyyyyyyc":{"value":"ä\n9xxxxxxxxxxxxxxxxxxxxxxxxxxxxxxxxxxxxxxxxxxxxxxxxxxxxxxxxxxxxxxxxxxxxxxxxxxxxx+","dimensions":{"concept":"eg:A"}}"#,
+            "r: fact \"yyyyyyyyyyyyyyyyyyyyyyyyyyyyyyyyyyyyyyyyyyyyyyyyyyyyyyyyyyyyyyyyyyyyyyyyyyyyyyyb\": 26 NumberForm: the value \"ä\\n9xxxxxxxxxxxxxxxxxxxxxxxxxxxxxxxxxxxxxxxxxxxxxxxxxxxxxxxxxxxxxxxxxxxxxxxxxxxxx\" is no plain number such as -1234.5, without exponent, thousands separator or white space, and by the sheet the values of the concept are numbers\nr: fact \"yyyyyyyyyyyyyyyyyyyyyyyyyyyyyyyyyyyyyyyyyyyyyyyyyyyyyyyyyyyyyyyyyyyyyyyyyyyyyyyy..: 26 NumberForm: the value \"ä\\n9xxxxxxxxxxxxxxxxxxxxxxxxxxxxxxxxxxxxxxxxxxxxxxxxxxxxxxxxxxxxxxxxxxxxxxxxxxxxx.. is no plain number such as -1234.5, without exponent, thousands separator or white space, and by the sheet the values of the concept are numbers\n",
+        ),
+    ],
+    end: "}}",
+}];
+
+// Files that are no UTF-8, with what they are.
+const BYTES: [(&[u8], &str); 5] = [
+    (
+        b"\xff\xfe{\0",
+        "r: 1 NotJson: the file is no JSON text, or nests deeper than 127: invalid JSON at line 1 column 1; the file looks like a text in UTF-16: write it as UTF-8\n",
+    ),
+    (
+        b"\x1f\x8b\x08\0",
+        "r: 1 NotJson: the file is no JSON text, or nests deeper than 127: invalid JSON at line 1 column 2; the file looks like a gzip file: unpack it first\n",
+    ),
+    (
+        b"PK\x03\x04",
+        "r: 1 NotJson: the file is no JSON text, or nests deeper than 127: invalid JSON at line 1 column 1; the file looks like a ZIP file, as a report package is: unpack it first\n",
+    ),
+    (
+        b"<?xml version=\"1.0\" encoding=\"ISO-8859-1\"?><a>\xe4</a>",
+        "r: 1 NotJson: the file is no JSON text, or nests deeper than 127: invalid JSON at line 1 column 47; the file looks like XML: another program has to write it as xBRL-JSON\n",
+    ),
+    (
+        b"concept,value\nUms\xe4tze,1\n",
+        "r: 1 NotJson: the file is no JSON text, or nests deeper than 127: invalid JSON at line 2 column 4; the file looks like CSV: another program has to write it as xBRL-JSON\n",
+    ),
+];
+
+const SHEETS: [(&str, Reason, &str); 7] = [
+    (
+        r#"{"documentInfo":{}}"#,
+        Reason::UnknownMember,
+        "s: the format has no member \"documentInfo\" in a concept sheet; the file looks like a report, and no concept sheet\n",
+    ),
+    (
+        "<xml>",
+        Reason::NotJson,
+        "s: the file is no JSON text, or nests deeper than 127: invalid JSON at line 1 column 1; the file looks like XML: another program has to write it as xBRL-JSON\n",
+    ),
+    (
+        r#"{"concepts":[]}"#,
+        Reason::MemberForm,
+        "s: \"concepts\" is no object\n",
+    ),
+    (
+        r#"{"namespaces":{"e g":"u"}}"#,
+        Reason::Namespace,
+        "s: the entry \"e g\": \"u\" of \"namespaces\" is no prefix with its URI: neither may be empty, and a prefix has no colon and no white space\n",
+    ),
+    (
+        r#"{"namespaces":{"eg":"u"},"concepts":{"eg:A":"text"},"dimensions":{"q:D":"typed"}}"#,
+        Reason::UnboundPrefix,
+        "s: the prefix of \"q:D\" is not bound\n",
+    ),
+    (
+        r#"{"namespaces":{"eg":"u"},"concepts":{"eg:A":"text"},"dimensions":{"eg:D":"text"}}"#,
+        Reason::SheetKind,
+        "s: the entry \"eg:D\": \"text\" of the sheet has an unknown kind: a concept is \"numeric\", \"text\" or \"name\", a dimension \"explicit\" or \"typed\"\n",
+    ),
+    (
+        r#"{"namespaces":{"eg":"u","zz":"u"},"concepts":{"eg:A":"text","zz:A":"numeric"}}"#,
+        Reason::SheetKind,
+        "s: the entries \"eg:A\" and \"zz:A\" of the sheet are one name with two kinds\n",
+    ),
+];
+
+fn sheet(rt: &HostRuntime) -> Result<Sheet, Reason> {
+    match Sheet::read(rt.alloc(), SHEET.as_bytes()) {
+        Err(Reason::OutOfMemory) => {
+            tell_refused(rt);
+            Sheet::read(rt.alloc(), SHEET.as_bytes())
+        }
+        read => read,
+    }
+}
+
+fn is_said_once(
+    rt: &HostRuntime,
+    sheet: &Sheet,
+    bytes: &[u8],
+    lines: &str,
+) -> Result<bool, AllocError> {
+    let input = Input {
+        report: Some(1),
+        name: "r",
+        format: Format::Text,
+    };
+    let said = explain(rt.alloc(), sheet, input, bytes)?;
+    if said.text.as_str() != lines {
+        let found = said.text.as_str();
+        let _ = eprintln!(rt; "{found}");
+    }
+    let faults = lines.split('\n').count() - 1;
+    Ok(said.text.as_str() == lines && said.faults == faults as u64)
+}
+
+fn is_said(rt: &HostRuntime, sheet: &Sheet, bytes: &[u8], lines: &str) -> Result<bool, AllocError> {
+    match is_said_once(rt, sheet, bytes, lines) {
+        Err(_) => {
+            tell_refused(rt);
+            is_said_once(rt, sheet, bytes, lines)
+        }
+        said => said,
+    }
+}
+
+fn are_said(rt: &HostRuntime, tables: &[Table<'_>]) -> Result<bool, Fail> {
+    let sheet = sheet(rt)?;
+    let mut all = true;
+    for table in tables {
+        for (text, lines) in table.rows {
+            let report = joined(rt, &[table.start, text, table.end])?;
+            all = is_said(rt, &sheet, report.as_slice(), lines)? && all;
+        }
+    }
+    Ok(all)
+}
+
+fn is_said_of_sheet_once(
+    rt: &HostRuntime,
+    text: &str,
+    reason: Reason,
+    line: &str,
+) -> Result<bool, AllocError> {
+    let said = explain_sheet(rt.alloc(), "s", text.as_bytes(), reason)?;
+    if said.as_str() != line {
+        let found = said.as_str();
+        let _ = eprintln!(rt; "{found}");
+    }
+    Ok(said.as_str() == line)
+}
+
+fn is_said_of_sheet(
+    rt: &HostRuntime,
+    text: &str,
+    reason: Reason,
+    line: &str,
+) -> Result<bool, AllocError> {
+    match is_said_of_sheet_once(rt, text, reason, line) {
+        Err(_) => {
+            tell_refused(rt);
+            is_said_of_sheet_once(rt, text, reason, line)
+        }
+        said => said,
+    }
+}
+
+#[test]
+fn faults_of_documents_are_said(rt: HostRuntime) -> Result<(), Fail> {
+    assert!(rt; are_said(&rt, &DOCUMENTS)?);
+    Ok(())
+}
+
+#[test]
+fn faults_of_facts_are_said(rt: HostRuntime) -> Result<(), Fail> {
+    assert!(rt; are_said(&rt, &FACTS)?);
+    Ok(())
+}
+
+#[test]
+fn files_that_are_no_text_are_told_apart(rt: HostRuntime) -> Result<(), Fail> {
+    let sheet = sheet(&rt)?;
+    for (bytes, line) in &BYTES {
+        assert!(rt; is_said(&rt, &sheet, bytes, line)?);
+    }
+    Ok(())
+}
+
+#[test]
+fn refused_sheets_are_told_apart(rt: HostRuntime) -> Result<(), Fail> {
+    for (text, reason, line) in &SHEETS {
+        assert!(rt; is_said_of_sheet(&rt, text, *reason, line)?);
+    }
+    Ok(())
+}

@@ -1,0 +1,62 @@
+use Rattle.std.proofs.Common.{◌≤◌, ap, subst, sym, ◌∙◌, arith}
+use Rattle.std.proofs.lemmas.Option.{none-some}
+use Rattle.std.specs.Option.{unwrap_or}
+use Rattle.std.specs.Prelude.{IfErr, IfOk}
+use Rattle.xbrlmerge_c.specs.Answers.{StopsBy}
+use Rattle.xbrlmerge_c.specs.Calls.{IsLoose, IsSheetRefused, Merges}
+use Rattle.xbrlmerge_c.specs.Ends.{reports_at}
+use Rattle.xbrlmerge_c.proofs.Answered as answered
+use Rattle.xbrlmerge_c.proofs.calls.xbrlmerge_merge.Goals as goal
+
+pub returns-clause-statuses : goal.returns-clause-statuses
+returns-clause-statuses c =
+    let low : c.answer.result ≤ 5 = answered.within c.merged-made.result _ _ _ c.answer.ensures in
+    omega (arith, low)
+
+pub returns-clause-done : goal.returns-clause-done
+returns-clause-done c = λ level is low.
+    let same = ap (λ o. unwrap_or o level) (c.in-Some.ensures ∙ is) in
+    let merges = subst (λ l. IfOk c.merged-made.result (λ m. Merges c.args.sheet.now (reports_at c.args.reports.now c.args.ends.now) l m.text.items m.refusals)) same c.merged-made.ensures.ok in
+    answered.hands (Merges c.args.sheet.now (reports_at c.args.reports.now c.args.ends.now) level) c.merged-made.result _ _ _ merges c.answer.ensures low
+
+pub returns-clause-none_refused : goal.returns-clause-none_refused
+returns-clause-none_refused c = λ is. answered.none_refused c.merged-made.result _ _ _ c.answer.ensures is
+
+pub returns-clause-some_refused : goal.returns-clause-some_refused
+returns-clause-some_refused c = λ is. answered.some_refused c.merged-made.result _ _ _ c.answer.ensures is
+
+pub returns-clause-loose : goal.returns-clause-loose
+returns-clause-loose c = λ level is loose.
+    let same = ap (λ o. unwrap_or o level) (c.in-Some.ensures ∙ is) in
+    let sheet = c.args.sheet.now in
+    let reports = reports_at c.args.reports.now c.args.ends.now in
+    let stops = subst (λ l. IfErr c.merged-made.result (StopsBy (IsLoose sheet reports l) (IsSheetRefused sheet))) same c.merged-made.ensures.err in
+    answered.tells_first (IsLoose sheet reports level) (IsSheetRefused sheet) c.merged-made.result _ _ _ stops c.answer.ensures loose
+
+pub returns-clause-short : goal.returns-clause-short
+returns-clause-short c = λ level is short.
+    let same = ap (λ o. unwrap_or o level) (c.in-Some.ensures ∙ is) in
+    let sheet = c.args.sheet.now in
+    let reports = reports_at c.args.reports.now c.args.ends.now in
+    let merges = subst (λ l. IfOk c.merged-made.result (λ m. Merges sheet reports l m.text.items m.refusals)) same c.merged-made.ensures.ok in
+    let stops = subst (λ l. IfErr c.merged-made.result (StopsBy (IsLoose sheet reports l) (IsSheetRefused sheet))) same c.merged-made.ensures.err in
+    answered.asks (IsLoose sheet reports level) (IsSheetRefused sheet) (Merges sheet reports level) c.merged-made.result _ _ _ merges stops c.answer.ensures short
+
+pub returns-clause-sheet : goal.returns-clause-sheet
+returns-clause-sheet c = λ is.
+    let sheet = c.args.sheet.now in
+    let reports = reports_at c.args.reports.now c.args.ends.now in
+    answered.rejects (IsLoose sheet reports c.in-Some.level) (IsSheetRefused sheet) c.merged-made.result _ _ _ c.merged-made.ensures.err c.answer.ensures is
+
+pub returns-clause-bad_ends : goal.returns-clause-bad_ends
+returns-clause-bad_ends c = λ is ends.
+    let low : c.answer.result ≤ 5 = answered.within c.merged-made.result _ _ _ c.answer.ensures in
+    omega (arith, low, is)
+
+pub returns-clause-bad_level : goal.returns-clause-bad_level
+returns-clause-bad_level c =
+    let low : c.answer.result ≤ 5 = answered.within c.merged-made.result _ _ _ c.answer.ensures in
+    ((λ is. absurd (omega (arith, low, is))), (λ none. absurd (none-some _ (sym (c.in-Some.ensures ∙ none)))))
+
+pub returns-clause-kept : goal.returns-clause-kept
+returns-clause-kept c = λ high. answered.kept c.merged-made.result _ _ _ c.answer.ensures high

@@ -1,0 +1,170 @@
+ghost use Rattle.std.specs.Prelude.{◌≡◌, ◌≤◌, ◌++◌, drop, length, true, false};
+ghost use Rattle.xbrlmerge_c.specs.Answers.{Answers, AnswersRow, AnswersText};
+ghost use Rattle.xbrlmerge_c.specs.Room.{IsHanded, IsTooShort, room};
+ghost use Rattle.xbrlmerge_c.specs.Rows.{place_number, row, rows_of};
+
+use oim_merge::{Fault, Refusals};
+use oim_report::{Place, Refusal};
+
+// How a call ended: the numbers of XBRLMERGE_DONE and the further ones in include/xbrlmerge.h.
+
+/// All is done, and every report was accepted.
+pub(crate) const DONE: u32 = 0;
+
+/// All is done, and some reports were refused.
+pub(crate) const REFUSED: u32 = 1;
+
+/// A dimension set has duplicates above the level that is allowed.
+pub(crate) const TOO_LOOSE: u32 = 2;
+
+/// The text or the rows are longer than the room for them.
+pub(crate) const TOO_SHORT: u32 = 3;
+
+/// The sheet is refused.
+pub(crate) const SHEET_REFUSED: u32 = 4;
+
+/// Memory was wanted and refused.
+pub(crate) const NO_MEMORY: u32 = 5;
+
+/// The ends fall, or one is beyond the bytes.
+pub(crate) const BAD_ENDS: u32 = 6;
+
+/// The number of a level is that of none.
+pub(crate) const BAD_LEVEL: u32 = 7;
+
+/// A refused report as numbers.
+#[repr(C)]
+#[derive(Clone, Copy, Debug, PartialEq, Eq)]
+pub struct RefusedReport {
+    /// The number of the report, from 1; 0 for the sheet.
+    pub report: u64,
+    /// The number of the fact, from 1; 0 for the document.
+    pub fact: u64,
+    /// The number of the refusal.
+    pub number: u32,
+}
+
+impl RefusedReport {
+    /// The refusal of the report of this number.
+    pub(crate) fn new(report: u64, refusal: &Refusal) -> RefusedReport
+        ensures { result ≡ row report refusal.now }
+    {
+        RefusedReport {
+            report,
+            fact: number_of(refusal.place),
+            number: u32::from(refusal.reason.number()),
+        }
+    }
+}
+
+fn number_of(place: Place) -> u64
+    ensures { result ≡ place_number place }
+{
+    match place {
+        Place::Document => 0,
+        Place::Fact(number) => number,
+    }
+}
+
+/// Puts refused reports to the front of the rows.
+pub(crate) fn put_rows(told: &[(u64, Refusal)], rows: &mut [RefusedReport])
+    requires { length told.now ≤ length rows.old }
+    ensures { rows.new ≡ rows_of told.now ++ drop (length told.now) rows.old }
+{
+    for (place, (report, refusal)) in told.iter().enumerate() {
+        rows[place] = RefusedReport::new(*report, refusal);
+    }
+}
+
+/// A text that was made of reports, and those that were refused.
+#[derive(Drop)]
+pub(crate) struct Made {
+    pub text: Vec<u8>,
+    pub refusals: Refusals,
+}
+
+/// Puts a text and refused reports to the front of the room for them, and tells how many there are.
+/// It returns whether both fit; else the room is as it was.
+pub(crate) fn hand_over(
+    text: &[u8],
+    told: &[(u64, Refusal)],
+    out: &mut [u8],
+    needed: &mut usize,
+    rows: &mut [RefusedReport],
+    refused: &mut usize,
+) -> bool
+    ensures fits { result ≡ true → IsHanded text.now told.now
+        (room out.old needed.old rows.old refused.old) (room out.new needed.new rows.new refused.new) }
+    ensures short { result ≡ false → IsTooShort text.now told.now
+        (room out.old needed.old rows.old refused.old) (room out.new needed.new rows.new refused.new) }
+{
+    *needed = text.len();
+    *refused = told.len();
+    if out.len() < text.len() || rows.len() < told.len() {
+        return false;
+    }
+    out[..text.len()].copy_from_slice(text);
+    put_rows(told, rows);
+    true
+}
+
+/// Hands over what was made, or tells why it was not. It returns the status.
+pub(crate) fn answer(
+    made: Result<Made, Fault>,
+    out: &mut [u8],
+    needed: &mut usize,
+    rows: &mut [RefusedReport],
+    refused: &mut usize,
+) -> u32
+    ensures { Answers made (room out.old needed.old rows.old refused.old)
+        (room out.new needed.new rows.new refused.new) result }
+{
+    match made {
+        Ok(made) => answer_text(&made, out, needed, rows, refused),
+        Err(Fault::TooLoose { row, refused: told }) => {
+            answer_row(row, &told, out, needed, rows, refused)
+        }
+        Err(Fault::Sheet(reason)) => {
+            *needed = usize::from(reason.number());
+            *refused = 0;
+            SHEET_REFUSED
+        }
+        Err(Fault::OutOfMemory(_)) => NO_MEMORY,
+        Err(Fault::Device(_)) => NO_MEMORY,
+    }
+}
+
+fn answer_text(
+    made: &Made,
+    out: &mut [u8],
+    needed: &mut usize,
+    rows: &mut [RefusedReport],
+    refused: &mut usize,
+) -> u32
+    ensures { AnswersText made.now.text.items made.now.refusals (room out.old needed.old rows.old refused.old)
+        (room out.new needed.new rows.new refused.new) result }
+{
+    let told = made.refusals.as_slice();
+    if !hand_over(made.text.as_slice(), told, out, needed, rows, refused) {
+        return TOO_SHORT;
+    }
+    if told.is_empty() { DONE } else { REFUSED }
+}
+
+fn answer_row(
+    row: u64,
+    told: &Refusals,
+    out: &mut [u8],
+    needed: &mut usize,
+    rows: &mut [RefusedReport],
+    refused: &mut usize,
+) -> u32
+    ensures { AnswersRow row told.now (room out.old needed.old rows.old refused.old)
+        (room out.new needed.new rows.new refused.new) result }
+{
+    if !hand_over(b"", told.as_slice(), out, needed, rows, refused) {
+        return TOO_SHORT;
+    }
+    *needed = row as usize;
+    TOO_LOOSE
+}

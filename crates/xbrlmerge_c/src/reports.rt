@@ -1,0 +1,81 @@
+ghost use Rattle.std.specs.Prelude.{◌↔◌, IsTrue, length, ◌≡◌, IfOk, Ok, IfErr};
+ghost use Rattle.oim_merge.specs.Added.{added};
+ghost use Rattle.oim_report.specs.Sheet.{sheet_outcome};
+ghost use Rattle.xbrlmerge_c.specs.Answers.{NoRow, StopsBy};
+ghost use Rattle.xbrlmerge_c.specs.Calls.{IsSheetRefused};
+ghost use Rattle.xbrlmerge_c.specs.Ends.{AreEnds, reports_at};
+
+use oim_merge::{Consolidation, Fault};
+use oim_names::Reason;
+use oim_report::Sheet;
+use oim_write::Encoded;
+use std::alloc::{AllocError, Global};
+
+/// Whether no end is less than the one before it, or beyond the bytes.
+pub(crate) fn are_ends(bytes: &[u8], ends: &[usize]) -> bool
+    ensures { IsTrue result ↔ AreEnds bytes.now ends.now }
+{
+    let mut from = 0;
+    for end in ends {
+        if *end < from || *end > bytes.len() {
+            return false;
+        }
+        from = *end;
+    }
+    true
+}
+
+/// A copy of each report, where these follow one another and end at these places.
+///
+/// Errors: out of memory.
+pub(crate) fn reports_of(
+    alloc: Global,
+    reports: &[u8],
+    ends: &[usize],
+) -> Result<Vec<Encoded>, AllocError>
+    requires { AreEnds reports.now ends.now }
+    ensures { IfOk result (λ each. each.items ≡ reports_at reports.now ends.now) }
+{
+    let mut each = Vec::with_capacity(alloc, ends.len())?;
+    let mut from = 0;
+    for end in ends {
+        each.push(Encoded::new(alloc, &reports[from..*end])?)?;
+        from = *end;
+    }
+    Ok(each)
+}
+
+/// Adds the reports, which follow one another and end at these places.
+///
+/// Errors: out of memory.
+pub(crate) fn add_reports<'s>(
+    alloc: Global,
+    sheet: &'s Sheet,
+    reports: &[u8],
+    ends: &[usize],
+) -> Result<Consolidation<'s>, AllocError>
+    requires { AreEnds reports.now ends.now }
+    ensures { IfOk result (λ consolidation. consolidation ≡ added sheet.now (reports_at reports.now ends.now)) }
+{
+    let mut consolidation = Consolidation::new(alloc, sheet);
+    let mut from = 0;
+    for end in ends {
+        consolidation.add(&reports[from..*end])?;
+        from = *end;
+    }
+    Ok(consolidation)
+}
+
+/// The sheet that these bytes say.
+///
+/// Errors: `Sheet` with the first refusal; `OutOfMemory`.
+pub(crate) fn read_sheet(alloc: Global, bytes: &[u8]) -> Result<Sheet, Fault>
+    ensures ok { IfOk result (λ sheet. sheet_outcome bytes.now ≡ Ok sheet) }
+    ensures err { IfErr result (StopsBy NoRow (IsSheetRefused bytes.now)) }
+{
+    match Sheet::read(alloc, bytes) {
+        Ok(sheet) => Ok(sheet),
+        Err(Reason::OutOfMemory) => Err(Fault::OutOfMemory(0)),
+        Err(reason) => Err(Fault::Sheet(reason)),
+    }
+}

@@ -1,0 +1,168 @@
+#!/usr/bin/env python3
+"""Calls the library for C from C, under the address sanitizer. Not part of the gate.
+
+    [XBRLMERGE=PROGRAM] tests/c_abi
+
+It looks at what ./build --library left in lib/: that libxbrlmerge.so exports the calls of include/xbrlmerge.h and no
+other name, that libxbrlmerge.a gives no other, and that the header says of each call and each row of numbers what the
+exports of crates/xbrlmerge_c take. Then tests/c_abi.c, built with both libraries, makes each call on the examples, with
+rooms that are too short, bad ends, a level that is none and lengths of 0, and with each request for memory refused in
+turn; texts, lines and statuses are compared with the program's. It reads the header as C and as C++.
+Status 0: all is so. 1: it is not, and a line says what. 2: library or program are not built, or there is no gcc.
+"""
+import argparse
+import os
+import re
+import shutil
+import subprocess
+import sys
+import tempfile
+
+from support import TOP, built_program, content
+
+SHARED, STATIC, HEADER = f"{TOP}/lib/libxbrlmerge.so", f"{TOP}/lib/libxbrlmerge.a", f"{TOP}/include/xbrlmerge.h"
+CRATE = f"{TOP}/crates/xbrlmerge_c/src"
+WARNINGS = ("-Wall", "-Wextra", "-Werror", "-pedantic", f"-I{TOP}/include")
+SANITIZED = ("-std=c99", "-g", "-O1", "-fsanitize=address,undefined", "-fno-sanitize-recover=all", *WARNINGS)
+WRAPS = ("-Wl,--wrap=malloc", "-Wl,--wrap=realloc", "-Wl,--wrap=calloc")
+LEVELS = ("none", "complete", "consistent", "all")
+# how a type of an export crosses
+CROSSES = {"&[u8]": "const uint8_t *, size_t", "&[usize]": "const size_t *, size_t", "&mut [u8]": "uint8_t *, size_t", "u32": "uint32_t",
+           "usize": "size_t", "&mut usize": "size_t *", "&mut [RefusedReport]": "xbrlmerge_refusal *, size_t",
+           "&mut RefusedReport": "xbrlmerge_refusal *", "&mut CheckedReport": "xbrlmerge_checked *"}
+ROWS = {"RefusedReport": "xbrlmerge_refusal", "CheckedReport": "xbrlmerge_checked"}
+faults = []
+
+
+def check(holds, told):
+    if not holds:
+        faults.append(told)
+        print(f"tests/c_abi: {told}")
+
+
+def run(*words, **more):
+    return subprocess.run(words, capture_output=True, timeout=600, **more)
+
+
+def must(*words):
+    done = run(*words)
+    check(done.returncode == 0, f"{words[0]} failed: {done.stderr.decode()[-600:]}")
+    return done.stdout.decode()
+
+
+def header():
+    """Returns the header's text without its comments."""
+    return re.sub(r"/\*.*?\*/", "", content(HEADER), flags=re.DOTALL)
+
+
+def calls_of_header():
+    """Returns the types that each call of the header takes and returns, spelled without names."""
+    found = re.findall(r"^(\w+) (xbrlmerge_\w+)\(([^)]*)\);", header(), re.MULTILINE)
+    taken = {name: ", ".join(re.sub(r"\w+$", "", it.strip()).strip() for it in words.split(",")) for _, name, words in found}
+    return {name: (taken[name], result) for result, name, _ in found}
+
+
+def calls_of_crate():
+    """Returns the same of the exports. An allocator takes no bytes, so C hands over none."""
+    calls = {}
+    for path in sorted(os.listdir(CRATE)):
+        for name, words, result in re.findall(r'extern "C" fn (\w+)\((.*?)\) -> (\w+)', content(f"{CRATE}/{path}"), re.DOTALL):
+            types = [it.partition(": ")[2].strip() for it in words.split(",") if ": " in it]
+            calls[name] = (", ".join(CROSSES[it] for it in types if it != "Global"), CROSSES[result])
+    return calls
+
+
+def rows_agree():
+    """Looks at the fields of the rows, and at the numbers of statuses."""
+    for source, name in ROWS.items():
+        text = next(it for it in (content(f"{CRATE}/{path}") for path in sorted(os.listdir(CRATE))) if f"pub struct {source} " in it)
+        fields = re.findall(r"pub (\w+): (u\d+)", text.partition(f"pub struct {source} ")[2].partition("}")[0])
+        body = next(it for it in re.findall(r"typedef struct \{(.*?)\} (\w+);", header(), re.DOTALL) if it[1] == name)[0]
+        told = [(field, kind) for kind, field in re.findall(r"uint(\d+)_t (\w+);", body)]
+        check(told == [(field, kind[1:]) for field, kind in fields], f"the header has other fields of {name}: {told}")
+    numbers = dict(re.findall(r"XBRLMERGE_(\w+) = (\d+)", header()))
+    levels = {name: numbers.pop(f"ALLOW_{name.upper()}") for name in LEVELS}
+    statuses = dict(re.findall(r"const (\w+): u32 = (\d+)", content(f"{CRATE}/statuses.rt")))
+    check(numbers == statuses, f"the header has other statuses: {numbers}")
+    check([int(levels[it]) for it in LEVELS] == [0, 1, 2, 3], "the header has other levels")
+
+
+def names_agree():
+    calls = calls_of_header()
+    check(calls == calls_of_crate(), f"header and exports differ: {calls} and {calls_of_crate()}")
+    for words in (("nm", "-D", "--defined-only", SHARED), ("nm", "--defined-only", "--extern-only", STATIC)):
+        names = {it.split()[-1] for it in must(*words).splitlines() if len(it.split()) == 3}
+        check(names == set(calls), f"{os.path.basename(words[-1])} exports {sorted(names)}")
+    needed = re.findall(r"NEEDED.*\[(.*)\]", must("readelf", "-d", SHARED))
+    check(needed == ["libc.so.6"], f"the library needs {needed}")
+
+
+def built(room):
+    """Builds the program in C with each library; that with the archive can refuse memory."""
+    source = f"{TOP}/tests/c_abi.c"
+    must("gcc", *SANITIZED, *WRAPS, source, STATIC, "-o", f"{room}/static")
+    must("gcc", *SANITIZED, *WRAPS, source, f"-L{TOP}/lib", "-lxbrlmerge", f"-Wl,-rpath,{TOP}/lib", "-o", f"{room}/shared")
+    must("gcc", "-std=c99", *WARNINGS, "-fsyntax-only", "-x", "c", HEADER)
+    if shutil.which("g++"):
+        must("g++", "-std=c++11", *WARNINGS, "-fsyntax-only", "-x", "c++", HEADER)
+    return [f"{room}/static", f"{room}/shared"]
+
+
+def lines(text):
+    return [it for it in text.decode().splitlines() if it]
+
+
+def compare(program, callers, words, files):
+    """Makes one call from C, and compares it with the program's command of its name, the one of NAME-json in JSON."""
+    name, *rest = words
+    command, _, in_json = name.partition("-")
+    more = ("--allow", LEVELS[int(rest[0])]) if rest else ("--format", "json") if in_json else ()
+    wanted = run(program, command, "--sheet", files[0], *more, "--", *files[1:])
+    for caller in callers:
+        told = f"{os.path.basename(caller)}: {' '.join(words)} on {' '.join(map(os.path.basename, files))}"
+        done = run(caller, *words, *files)
+        said = lines(done.stderr)
+        requests = [int(it.split()[1]) for it in said if it.startswith("requests:")]
+        said = [it for it in said if not it.startswith("requests:")]
+        if done.returncode == 4:
+            # the header tells the number alone
+            same = wanted.returncode == 3 and said[0] == " ".join(lines(wanted.stderr)[0].split()[:2])
+        else:
+            same = (done.returncode, said) == (wanted.returncode, lines(wanted.stderr)) and done.stdout == wanted.stdout
+        check(same, f"{told}: {done.returncode} {done.stdout[-200:]} {done.stderr.decode()[-400:]}; the program: {wanted.returncode}")
+        check(len(requests) == 1 and (requests[0] > 0 or not caller.endswith("static")), f"{told}: no request was refused")
+
+
+def main():
+    argparse.ArgumentParser(description=__doc__, formatter_class=argparse.RawDescriptionHelpFormatter).parse_args()
+    program, missing = built_program(), [it for it in (SHARED, STATIC) if not os.path.exists(it)]
+    if missing or shutil.which("gcc") is None:
+        print(f"tests/c_abi: not built: {' '.join(missing)} (./build --library), or no gcc", file=sys.stderr)
+        return 2
+    names_agree()
+    rows_agree()
+    examples = {it: f"{TOP}/examples/{it}.json" for it in ("sheet", "issuer", "ledgerline", "statfeed", "oldharbour", "merged")}
+    with tempfile.TemporaryDirectory(prefix="c_abi-") as room:
+        callers = built(room)
+        if faults:
+            return 1
+        bad = f"{room}/bad_sheet.json"
+        with open(bad, "w", encoding="utf-8") as file:
+            file.write(content(examples["sheet"]).replace('"text"', '"words"', 1))
+        some = [examples[it] for it in ("sheet", "issuer", "oldharbour", "ledgerline", "statfeed")]
+        for caller in callers:
+            done = run(caller, "edges", examples["sheet"])
+            check(done.returncode == 0, f"{os.path.basename(caller)}: edges: {done.stderr.decode()[-400:]}")
+        for words in (("merge", "0"), ("merge", "2"), ("merge", "3"), ("verdicts",), ("verdicts-json",), ("sources",), ("sources-json",)):
+            compare(program, callers, words, some)
+            compare(program, callers, words, [bad, examples["issuer"]])
+            compare(program, callers, words, [*some[:2], examples["statfeed"]])
+        for name in ("issuer", "ledgerline", "merged", "oldharbour"):
+            compare(program, callers, ("check",), [examples["sheet"], examples[name]])
+        compare(program, callers, ("check",), [bad, examples["issuer"]])
+    print("tests/c_abi: header, exports and program agree" if not faults else f"tests/c_abi: {len(faults)} faults")
+    return 1 if faults else 0
+
+
+if __name__ == "__main__":
+    sys.exit(main())

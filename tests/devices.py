@@ -1,0 +1,313 @@
+#!/usr/bin/env python3
+"""Runs the program on devices that fail, and on files that are none. Not part of the gate.
+
+    tests/devices [PROGRAM]
+
+PROGRAM, if it is left out, is $XBRLMERGE or the one that was built. The tables below
+have the status and the line that each case has to end in. Where a length is told, standard output has to have just so many
+bytes, a front of the text that a run on good devices gives; where none is, all of it or nothing. No file may change.
+Status 0: each case is as the tables say. 1: some are not, and a line for each tells it. 2: there is no program.
+"""
+import argparse
+import collections
+import fcntl
+import json
+import os
+import re
+import shutil
+import subprocess
+import sys
+import tempfile
+import termios
+import time
+
+from support import built_program, bytes_of
+
+NOBODY, LIMIT, ENDLESS_LIMIT = 65534, 20, 180
+# asks how many bytes a pipe holds; Python has its name from 3.10 on
+PIPE_SIZE = 1032
+# kilobytes of address space: too few for an endless file, and what one takes that has all it wants
+LITTLE, MUCH = 150_000, 6_000_000
+
+GOOD, REFUSED, NOTHING_TAKEN = (0, ""), (1, "report 2: 1 NotJson at document\n"), (3, "device: 0 bytes written\n")
+# each command line: how it ends by itself, and how where standard output takes nothing; the report `cut` is refused
+WORDS = {
+    "": (REFUSED, NOTHING_TAKEN),
+    "merge --sheet sheet long cut": (REFUSED, NOTHING_TAKEN),
+    "verdicts --sheet sheet rows cut": (REFUSED, NOTHING_TAKEN),
+    "replay --sheet sheet --replicas 2 --events both long cut": (REFUSED, NOTHING_TAKEN),
+    "check --sheet sheet report": (GOOD, NOTHING_TAKEN),
+    "check --sheet sheet cut": ((1, "report 1: 1 NotJson at document\n"), (1, "report 1: 1 NotJson at document\n")),
+    "sources --sheet sheet rows cut": (REFUSED, NOTHING_TAKEN),
+    "explain --sheet sheet report cut": ((1, ""), NOTHING_TAKEN),
+    "verdicts --sheet sheet": (GOOD, GOOD),
+    "--help": (GOOD, NOTHING_TAKEN),
+}
+# these print more than a pipe holds
+LONG = tuple(words for words in WORDS if "long" in words or "rows" in words or not words)
+STOPS_OUTPUT = {"standard output full": ">/dev/full", "standard output closed": ">&-"}
+STOPS_ERRORS = {"standard error full": "2>/dev/full", "standard error closed": "2>&-"}
+STOPS_BOTH = {"both full": ">/dev/full 2>/dev/full", "both closed": ">&- 2>&-", "one full, one closed": ">/dev/full 2>&-"}
+STOPS_INPUT = {"standard input closed": "<&-", "standard input a folder": "<.", "standard input for writing": "0>written"}
+
+UNREAD, MEMORY, LENGTH = (3, "file strange: cannot be read\n"), (3, "out of memory\n"), (3, "file strange: too long\n")
+BAD_SHEET, BAD_EVENT, BAD_REPORT = (3, "sheet: 1 NotJson\n"), (3, "event 2: refused\n"), (1, "report 1: 1 NotJson at document\n")
+# each kind of file: how the run ends where it is the sheet, the events, and a report
+FILES = {
+    "missing": (UNREAD, UNREAD, UNREAD),
+    "a folder": (UNREAD, UNREAD, UNREAD),
+    "without permission": (UNREAD, UNREAD, UNREAD),
+    "/dev/null": (BAD_SHEET, GOOD, BAD_REPORT),
+    "a FIFO of nothing": (BAD_SHEET, GOOD, BAD_REPORT),
+    "a FIFO of one half": (BAD_SHEET, BAD_EVENT, BAD_REPORT),
+    "a FIFO of all": (GOOD, GOOD, GOOD),
+    "endless, little memory": (MEMORY, MEMORY, MEMORY),
+    "endless": (LENGTH, LENGTH, LENGTH),
+}
+# where the file is in the sheet's, the events' and a report's place; an endless one takes seconds, and so only the first
+PLACES = {
+    "sheet": ("check --sheet strange report", "merge --sheet strange report", "verdicts --sheet strange report",
+              "replay --sheet strange --replicas 2 --events events report"),
+    "events": ("replay --sheet sheet --replicas 2 --events strange report",),
+    "report": ("merge --sheet sheet strange report", "verdicts --sheet sheet strange", "check --sheet sheet strange",
+               "replay --sheet sheet --replicas 2 --events events strange"),
+}
+
+Ran = collections.namedtuple("Ran", "status out err")
+
+
+def free_memory():
+    """Returns how many kilobytes are free."""
+    with open("/proc/meminfo", encoding="ascii") as file:
+        return int(re.search(r"^MemAvailable: +(\d+)", file.read(), re.MULTILINE).group(1))
+
+
+def report_of(facts):
+    info = {"documentType": "https://xbrl.org/2021/xbrl-json", "namespaces": {"m": "https://made.example/2024"}}
+    return json.dumps({"documentInfo": info, "facts": facts}).encode()
+
+
+def contents():
+    """Returns what is in the files, by their names. The text of `long` has 1 MB, and so have the lines of `rows`."""
+    sheet = {"namespaces": {"m": "https://made.example/2024"}, "concepts": {"m:A": "numeric", "m:T": "text"},
+             "dimensions": {"m:Mill": "typed"}}
+    words = {f"{it}": {"value": "Blue" * 650, "dimensions": {"concept": "m:T", "m:Mill": f"{it}"}} for it in range(400)}
+    numbers = {f"{it}": {"value": f"{it}", "decimals": 0, "dimensions": {"concept": "m:A", "m:Mill": f"{it}"}}
+               for it in range(38_000)}
+    made = {"sheet": json.dumps(sheet).encode(), "report": report_of({"a": numbers["7"], "b": words["7"]}),
+            "long": report_of(words), "rows": report_of(numbers), "cut": report_of(words)[:-1],
+            "events": b"take 1 1\nsend 1\nreceive 2 1\n", "both": b"take 1 1\ntake 2 2\n"}
+    return {**made, "bundle": b"\n".join(made[it] for it in ("sheet", "long", "cut")), "written": b"", "empty": b""}
+
+
+class Room:
+    """A folder with the program and its files, which a run may not change."""
+
+    def __init__(self, program, folder):
+        self.folder, self.contents, self.count, self.wrong, self.left_out = folder, contents(), 0, [], []
+        os.chmod(folder, 0o755)
+        self.program = shutil.copy(program, f"{folder}/xbrlmerge")
+        for name, content in self.contents.items():
+            with open(f"{folder}/{name}", "wb") as file:
+                file.write(content)
+        self.whole = {words: self.run(words) for words in WORDS}
+
+    def command(self, words, redirection):
+        """Returns what runs the program; what is to be closed is closed by a shell, since Python would pass it on."""
+        given = "" if words or "<" in redirection else "<bundle"
+        return ["sh", "-c", f'exec "$@" {given} {redirection}', "sh", self.program, *words.split()]
+
+    def run(self, words, redirection="", around=(), limit=LIMIT, **how):
+        command = [*around, *self.command(words, redirection)]
+        try:
+            done = subprocess.run(command, cwd=self.folder, stdin=subprocess.DEVNULL, capture_output=True, timeout=limit, **how)
+        except subprocess.TimeoutExpired:
+            return Ran(f"none after {limit} seconds", b"", "")
+        return Ran(done.returncode, done.stdout, done.stderr.decode(errors="replace"))
+
+    def expect(self, holds, case, words, ran):
+        """Counts a case, and keeps what is wrong with it."""
+        self.count += 1
+        changed = [it for it, content in self.contents.items() if content != bytes_of(f"{self.folder}/{it}")]
+        told = f"{case}: xbrlmerge {words}: status {ran.status}, {ran.err[:200] or 'no line'}, {len(ran.out):,} bytes"
+        self.wrong += [] if holds else [told.replace("\n", " ")]
+        self.wrong += [f"{told}: {it} was changed" for it in changed]
+
+
+def compare_wholes(room):
+    for words, (ends, _) in WORDS.items():
+        ran = room.whole[words]
+        is_long = len(ran.out) >= 500_000
+        room.expect((ran.status, ran.err) == ends and is_long == (words in LONG), "good devices", words, ran)
+
+
+def compare_outputs(room):
+    """Stops standard output, standard error, and both."""
+    for words, (ends, stopped) in WORDS.items():
+        whole = room.whole[words]
+        for case, redirection in STOPS_OUTPUT.items():
+            ran = room.run(words, redirection)
+            room.expect(ran == (stopped[0], b"", stopped[1]), case, words, ran)
+        for case, redirection in STOPS_ERRORS.items():
+            ran = room.run(words, redirection)
+            room.expect(ran == (ends[0], whole.out, ""), case, words, ran)
+        for case, redirection in STOPS_BOTH.items():
+            ran = room.run(words, redirection)
+            room.expect(ran == (stopped[0], b"", ""), case, words, ran)
+
+
+def compare_inputs(room):
+    """Stops standard input, which only the bundle reads."""
+    for words, (ends, _) in WORDS.items():
+        for case, redirection in STOPS_INPUT.items():
+            ran, expected = room.run(words, redirection), (ends[0], room.whole[words].out, ends[1])
+            room.expect(ran == (expected if words else (3, b"", "file -: cannot be read\n")), case, words, ran)
+
+
+def waiting(pipe):
+    """Returns how many bytes wait in a pipe."""
+    return int.from_bytes(fcntl.ioctl(pipe, termios.FIONREAD, bytes(4)), sys.byteorder)
+
+
+def take_five(child, reader):
+    """Reads 5 bytes, waits until the pipe is full or the program has ended, and goes away. Returns the bytes, and how many
+    the pipe had taken."""
+    front, end = b"", time.monotonic() + LIMIT
+    while len(front) < 5 and (more := os.read(reader, 5 - len(front))):
+        front += more
+    size = fcntl.fcntl(reader, PIPE_SIZE)
+    while len(front) + waiting(reader) < size and child.poll() is None and time.monotonic() < end:
+        time.sleep(0.002)
+    taken = len(front) + waiting(reader)
+    os.close(reader)
+    return front, taken
+
+
+def take_late(child, reader):
+    """Waits for the program's end, and reads all that it has put into a pipe that does not wait. Returns that, and its length."""
+    child.wait(LIMIT)
+    with open(reader, "rb") as file:
+        front = file.read()
+    return front, len(front)
+
+
+def run_with_pipe(room, words, take, waits):
+    """Runs it with a pipe for its output, which is closed before where nothing takes it. Returns what came of it, with the
+    front that was read, and how many bytes were taken."""
+    reader, writer = os.pipe()
+    os.set_blocking(writer, waits)
+    if not take:
+        os.close(reader)
+    with tempfile.TemporaryFile() as lines:
+        child = subprocess.Popen(room.command(words, ""), cwd=room.folder, stdin=subprocess.DEVNULL, stdout=writer, stderr=lines)
+        os.close(writer)
+        try:
+            front, taken = take(child, reader) if take else (b"", 0)
+            status = child.wait(LIMIT)
+        except subprocess.TimeoutExpired:
+            child.kill()
+            front, taken, status = b"", 0, f"none after {LIMIT} seconds"
+        lines.seek(0)
+        return Ran(status, front, lines.read().decode(errors="replace")), taken
+
+
+def compare_pipes(room):
+    """Closes the pipe before it is read, and after 5 bytes; and lets one be full that does not wait."""
+    for words, (ends, stopped) in WORDS.items():
+        whole = room.whole[words].out
+        ran, _ = run_with_pipe(room, words, None, True)
+        room.expect((ran.status, ran.err) == stopped, "a pipe closed before", words, ran)
+        for case, take, waits in (("a pipe closed after 5 bytes", take_five, True), ("a full pipe", take_late, False)):
+            ran, taken = run_with_pipe(room, words, take, waits)
+            expected = (3, f"device: {taken} bytes written\n") if words in LONG else ends
+            is_front = whole.startswith(ran.out) and (0 < taken < len(whole) if words in LONG else taken == len(whole))
+            room.expect((ran.status, ran.err) == expected and is_front, case, words, ran)
+
+
+def make(room, kind, name):
+    """Makes the file `strange`. Returns the process that writes to it, if there is one."""
+    strange, content = f"{room.folder}/strange", room.contents[name]
+    if kind == "a folder":
+        os.mkdir(strange)
+    elif kind == "without permission":
+        os.close(os.open(strange, os.O_CREAT, 0))
+    elif kind == "/dev/null":
+        os.symlink("/dev/null", strange)
+    elif kind.startswith("endless"):
+        os.symlink("/dev/zero", strange)
+    if not kind.startswith("a FIFO"):
+        return None
+    os.mkfifo(strange)
+    length = {"nothing": 0, "one half": len(content) // 2, "all": len(content)}[kind.removeprefix("a FIFO of ")]
+    return subprocess.Popen(["sh", "-c", f"exec head -c {length} {name} >strange"], cwd=room.folder)
+
+
+def remove(room, writer):
+    """Removes the file, and ends what would still write to it."""
+    if writer:
+        writer.kill()
+        writer.wait()
+    strange = f"{room.folder}/strange"
+    if os.path.isdir(strange) and not os.path.islink(strange):
+        os.rmdir(strange)
+    elif os.path.lexists(strange):
+        os.remove(strange)
+
+
+def run_strange(room, kind, words):
+    """Runs it on the file, or with no words on such a standard input, with what the kind asks for."""
+    given = "" if words else "</dev/zero"
+    if kind == "endless, little memory":
+        return room.run(words, given, ("sh", "-c", f'ulimit -v {LITTLE}; exec "$@"', "sh"), ENDLESS_LIMIT)
+    if kind == "endless":
+        return room.run(words, given, limit=ENDLESS_LIMIT)
+    if kind == "without permission" and os.geteuid() == 0:
+        return room.run(words, user=NOBODY, group=NOBODY, extra_groups=[])
+    return room.run(words)
+
+
+def compare_file(room, kind, name, words, ends):
+    """Runs it on such a file. What is written is what a plain file gives; a report that is refused may as well be empty."""
+    writer = make(room, kind, name)
+    try:
+        ran = run_strange(room, kind, words)
+    finally:
+        remove(room, writer)
+    plain = "empty" if kind in ("/dev/null", "a FIFO of nothing", "a FIFO of one half") else name
+    out = b"" if ends[0] == 3 else room.run(words.replace("strange", plain)).out
+    room.expect(ran == (ends[0], out, ends[1]), f"{name} is {kind}", words, ran)
+
+
+def compare_files(room):
+    """Has the sheet, the events and a report be no plain file, or no file."""
+    for kind, all_ends in FILES.items():
+        if kind == "endless" and free_memory() < MUCH:
+            room.left_out.append(f"endless files, with less than {MUCH:,} kB of free memory")
+            continue
+        for (name, all_words), ends in zip(PLACES.items(), all_ends):
+            for words in all_words[:1] if kind == "endless" else all_words:
+                compare_file(room, kind, name, words, ends)
+        if kind.startswith("endless"):
+            ran = run_strange(room, kind, "")
+            room.expect(ran == (3, b"", ends[1].replace("strange", "-")), f"standard input is {kind}", "", ran)
+
+
+def main():
+    parser = argparse.ArgumentParser(description=__doc__, formatter_class=argparse.RawDescriptionHelpFormatter)
+    parser.add_argument("PROGRAM", nargs="?")
+    program = built_program(parser.parse_args().PROGRAM)
+    started, counts = time.monotonic(), []
+    with tempfile.TemporaryDirectory(prefix="devices-") as folder:
+        room = Room(program, folder)
+        for compare in (compare_wholes, compare_outputs, compare_pipes, compare_inputs, compare_files):
+            before = room.count
+            compare(room)
+            counts.append(f"{room.count - before} of {compare.__name__.removeprefix('compare_')}")
+    seconds = time.monotonic() - started
+    told = f"{room.count} cases, {len(room.wrong)} not as they should be, in {seconds:.0f} seconds: {', '.join(counts)}"
+    print(*room.wrong, f"tests/devices: {told}", *(f"left out: {it}" for it in room.left_out), sep="\n")
+    return 1 if room.wrong else 0
+
+
+if __name__ == "__main__":
+    sys.exit(main())

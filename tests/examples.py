@@ -1,0 +1,371 @@
+#!/usr/bin/env python3
+"""Runs what the pages show, and compares the output:
+
+    tests/examples [PROGRAM [EMBEDDED]]
+
+It builds the program and, in a copy of the repository, examples/embed/main.txt, or uses the programs that are named.
+If only PROGRAM is named, nothing that embeds the library is built. It compares
+
+- the output for the reports in examples/ with the files beside them; earlier.json is the merged report as it was
+  written before levels were declared;
+- each page in PAGES with what its commands do. The blocks of a page run in order, as a reader types them, by `sh`
+  and then by `bash`, in a folder with the repository's files, which must not change. The last command of a block
+  must return the status that the paragraph before it names, or 0; each other command must return 0. If a block of
+  output follows, it is exactly what is printed, where `..` at the end of a line stands for its rest. Otherwise
+  standard error may only contain the lines of statuses 1 to 3. A block that proves (`rt`, the gate) is skipped;
+- the JSON that docs/GUIDE.md shows with the examples;
+- what tools/contradictions writes for a taxonomy package and for reports like those of other tools, in
+  tests/normalise/vendors, if it makes the sheet and normalises;
+- the commands in the man pages and in the program's help, in the same way;
+- each example in docs/REFUSALS.md with the line by which it is refused.
+
+The pieces of code in docs/LIBRARY.md are proved with the program that embeds the library. Both take minutes, and
+much longer if ./build was not run before.
+
+Status 0: all is as shown. 1: something is not. 2: the program is not built.
+"""
+import glob
+import json
+import os
+import re
+import shutil
+import subprocess
+import sys
+import tempfile
+import zipfile
+
+from support import TOP, content
+
+CRATE = os.path.join(TOP, "crates", "xbrlmerge")
+# the crates that are made of the example of embedding and of the pieces in docs/LIBRARY.md
+EMBED, SHOWN = "embed", "shown"
+NOT_MERGED = "not merged, or not to the end\n"
+PAGES = ("README", "docs/GUIDE", "docs/REFUSALS", "docs/COSTS")
+SHELLS = ("sh", "bash")
+# the program is built when the commands run
+BUILDS = "./build && "
+# what a block is left out for: it proves for minutes
+SLOW = re.compile(r"(?:^|&& )(?:rt|bash \.ci/run|\./build)\b", re.MULTILINE)
+# the commands that are on lines of their own in the man pages and the help
+STARTS = ("xbrlmerge ", "cat examples/")
+TOLD = re.compile(r"report \d+: \d+ \w+ at (document|fact \d+)|too loose: row \d+|event \d+: refused")
+LIMIT = 120
+GOOD = ("issuer.json", "ledgerline.json", "statfeed.json")
+BAD = "oldharbour.json"
+MERGED, EARLIER = "merged.json", "earlier.json"
+# what a text has had since it declares its level: all, as its rows 12, 34 and 37 are contradictions
+DECLARED = ('"features":{"xbrl:allowedDuplicates":"all"},', ',"xbrl":"https://xbrl.org/2021"')
+# why the report of vendors that needs a lossy option is refused without it
+ODD_UNITS = ('fact "TS1": 12 NameForm', 'fact "TS2": 26 NumberForm', 'fact "TS3": 19 PeriodForm')
+# the text of no report
+EMPTY = ('{"documentInfo":{"documentType":"https://xbrl.org/2021/xbrl-json","features":{"xbrl:allowedDuplicates":"none"},'
+         '"namespaces":{"xbrl":"https://xbrl.org/2021"},"taxonomy":[]},"facts":{}}')
+CUT = " .."
+# declares what tests/normalise/vendors/sheet.json lists
+SCHEMA = """<xs:schema xmlns:xs="http://www.w3.org/2001/XMLSchema" xmlns:xbrli="http://www.xbrl.org/2003/instance"
+    xmlns:xbrldt="http://xbrl.org/2005/xbrldt" targetNamespace="http://statfeed.example/taxonomy">
+    <xs:element name="Sales" type="xbrli:monetaryItemType" substitutionGroup="xbrli:item"/>
+    <xs:element name="Price" type="xbrli:monetaryItemType" substitutionGroup="xbrli:item"/>
+    <xs:element name="Sector" type="xbrli:QNameItemType" substitutionGroup="xbrli:item"/>
+    <xs:element name="Blurb" type="xbrli:stringItemType" substitutionGroup="xbrli:item"/>
+    <xs:element name="Region" type="xbrli:stringItemType" abstract="true" substitutionGroup="xbrldt:dimensionItem"/></xs:schema>"""
+
+
+def build(crate):
+    """Builds a program and returns its path, or nothing, and then what was said is shown."""
+    ran = subprocess.run(["rt", "run"], cwd=crate, stdin=subprocess.DEVNULL, capture_output=True, text=True)
+    said = ran.stdout + ran.stderr
+    if re.search("^rt: running", said, re.MULTILINE):
+        return os.path.join(crate, "out", os.path.basename(crate))
+    print("\n".join(said.splitlines()[-20:]))
+    return ""
+
+
+def copied_libraries(room):
+    """Copies the libraries to a folder, with what is proved of them, and returns their lines of crates.txt."""
+    lines = [it for it in content("crates.txt").splitlines() if it[:1] not in ("", "#")]
+    # no crate stands on a program or on a static library
+    lines = [it for it in lines if it.partition(":")[0] != os.path.basename(CRATE) and " staticlib:" not in it]
+    for name in (it.partition(":")[0] for it in lines):
+        for part in ("src", "specs", "proofs", "out/rlib"):
+            given = os.path.join(TOP, "crates", name, part)
+            if os.path.isdir(given):
+                shutil.copytree(given, os.path.join(room, "crates", name, part))
+    shutil.copy(os.path.join(TOP, "HANDLES"), room)
+    return lines
+
+
+def pieces():
+    """Returns the files of a crate in which each piece of code of docs/LIBRARY.md is a module."""
+    found = re.findall(r"^```rust\n(.*?)^```$", content("docs/LIBRARY.md"), re.MULTILINE | re.DOTALL)
+    files = {f"piece{place}.rt": piece for place, piece in enumerate(found, 1)}
+    modules = "".join(f"pub mod piece{place};\n" for place in range(1, len(found) + 1))
+    return {"lib.rt": f"//! The pieces of code that docs/LIBRARY.md shows.\n#![tactic(auto)]\n\n{modules}", **files}
+
+
+def build_embedded(room):
+    """Proves the pieces of docs/LIBRARY.md and builds the example of embedding; returns its path, or nothing."""
+    lines, embed = copied_libraries(room), re.search("'(embed: .*)'", content("docs/LIBRARY.md"))[1]
+    below = " ".join(it.partition(":")[0] for it in lines)
+    crates = {EMBED: (embed, {"main.rt": content("examples/embed/main.txt")}), SHOWN: (f"{SHOWN}: {below}", pieces())}
+    for name, (line, files) in crates.items():
+        lines.append(line)
+        os.makedirs(os.path.join(room, "crates", name, "src"))
+        for file, text in files.items():
+            with open(os.path.join(room, "crates", name, "src", file), "w", encoding="utf-8") as opened:
+                opened.write(text)
+    with open(os.path.join(room, "crates.txt"), "w", encoding="utf-8") as opened:
+        opened.write("\n".join(lines) + "\n")
+    ran = subprocess.run(["rt", "check"], cwd=os.path.join(room, "crates", SHOWN), capture_output=True, text=True)
+    if ran.returncode != 0:
+        print("\n".join((ran.stdout + ran.stderr).splitlines()[-20:]))
+        return ""
+    return build(os.path.join(room, "crates", EMBED))
+
+
+def whole_lines(text):
+    """Returns the lines of a text. One goes on behind a backslash at its end."""
+    return [it.strip() for it in re.sub(r"\\\n *", "", text).splitlines() if it.strip()]
+
+
+def commands(text):
+    """Returns the commands on lines of their own, each a block with its status."""
+    return [([it], 0, None) for it in whole_lines(text) if it.startswith(STARTS)]
+
+
+def status_before(text, gap):
+    """Returns the status that the last paragraph of a text tells."""
+    return int((re.findall(r"status (?:is )?(\d)", text.rstrip().rpartition(gap)[2]) or ["0"])[-1])
+
+
+def of_page(name):
+    """Returns a page's blocks of commands, each with the status of its last one and the output that is shown."""
+    text = content(f"{name}.md")
+    fences = list(re.finditer(r"^```(\w*)\n(.*?)^```$", text, re.MULTILINE | re.DOTALL))
+    for place, fence in enumerate(fences):
+        if fence.group(1) != "sh" or SLOW.search(fence.group(2).removeprefix(BUILDS)):
+            continue
+        shown = None
+        if place + 1 < len(fences) and fences[place + 1].group(1) == "":
+            between = text[fence.end() : fences[place + 1].start()].strip()
+            # at most one paragraph, which tells of the output
+            shown = fences[place + 1].group(2).splitlines() if not re.search(r"\n\n|^[#|]", between) else None
+        yield whole_lines(fence.group(2).removeprefix(BUILDS)), status_before(text[: fence.start()], "\n\n"), shown
+
+
+def of_man_pages():
+    for path in sorted(glob.glob(f"{TOP}/docs/*.1") + glob.glob(f"{TOP}/share/**/*.1", recursive=True)):
+        text = content(path).replace("\\-", "-").replace("\\e", "\\")
+        for block in re.finditer(r"^\.EX\n(.*?)^\.EE$", text, re.MULTILINE | re.DOTALL):
+            before = text[: block.start()].removesuffix(".PP\n")
+            for found, _, shown in commands(block.group(1)):
+                yield found, status_before(before, "\n.PP\n"), shown
+
+
+def of_help(program):
+    def said(*words):
+        return subprocess.run([program, *words], capture_output=True, text=True, check=True).stdout
+
+    listed = re.search(r"^Commands:\n((?:  .*\n)+)", said("--help"), re.MULTILINE)[1]
+    names = set(re.findall(r"^  (\w+)", listed, re.MULTILINE)) - {"help"}
+    return [it for text in (said("help"), *(said(name, "--help") for name in sorted(names))) for it in commands(text)]
+
+
+def run_lines(shell, lines, room):
+    """Runs lines one behind another in one shell, and returns of each its status and what it says."""
+    script = ["set -o pipefail"] if shell == "bash" else []
+    for place, line in enumerate(lines):
+        with open(f"{room}/line{place}", "w", encoding="utf-8") as file:
+            file.write(f"{line}\n")
+        script.append(f'. "{room}/line{place}" >"{room}/out{place}" 2>"{room}/err{place}"; echo $? >"{room}/status{place}"')
+    around = {**os.environ, "PATH": f"{room}/bin:{os.environ['PATH']}", "TMPDIR": f"{room}/tmp"}
+    subprocess.run([shell, "-c", "\n".join(script)], cwd=f"{room}/top", env=around, stdin=subprocess.DEVNULL, timeout=LIMIT)
+    for place in range(len(lines)):
+        yield [content(f"{room}/{it}{place}") for it in ("status", "out", "err")]
+
+
+def is_as_shown(shown, printed):
+    """Whether lines are those that are shown, of which some are cut."""
+    return len(shown) == len(printed) and all(
+        there.startswith(line[: -len(CUT)]) if line.endswith(CUT) else there == line for line, there in zip(shown, printed)
+    )
+
+
+def wrong_with(blocks, shell, room):
+    """Runs the blocks of a page, and returns what is not as shown."""
+    ran, wrong = run_lines(shell, [line for lines, _, _ in blocks for line in lines], room), []
+    for lines, status, shown in blocks:
+        printed, told = [], []
+        for place, line in enumerate(lines):
+            ended, out, err = next(ran)
+            expected = status if place + 1 == len(lines) else 0
+            wrong += [f"{line}\n    status {ended.strip()}, not {expected}"] if ended.strip() != f"{expected}" else []
+            printed, told = printed + out.splitlines(), told + err.splitlines()
+        if shown is not None and not is_as_shown(shown, printed + told):
+            wrong.append("\n    ".join([f"{lines[-1]}", "other output than is shown:", *(it[:100] for it in printed + told)]))
+        wrong += [f"{lines[-1]}\n    it says: {it}" for it in told if shown is None and not TOLD.fullmatch(it)]
+    return wrong
+
+
+def refusals(program, room):
+    """Returns what is wrong with the examples in docs/REFUSALS.md, and how many there are."""
+    text, seen, wrong = content("docs/REFUSALS.md"), [], []
+    sheet, prefixes = re.findall(r"^```json\n(.*?)^```$", text, re.MULTILINE | re.DOTALL)
+    head = '"documentType":"https://xbrl.org/2021/xbrl-json"'
+    for part in text.split("\n## "):
+        for number, name, example in re.findall(r"^\| (\d+) \| (\w+) \| .* \| `(.*)` \|$", part, re.MULTILINE):
+            files, place = [sheet, example.replace("..", head)], "document"
+            if part.startswith("The facts"):
+                files[1], place = f'{{"documentInfo":{{{head},"namespaces":{prefixes}}},"facts":{{"a":{example}}}}}', "fact 1"
+            if part.startswith("The sheet"):
+                files = [example, ""]
+            line = f"report 1: {number} {name} at {place}\n" if files[1] else f"sheet: {number} {name}\n"
+            for file, bytes_ in zip(("refused_sheet", "refused_report"), files):
+                with open(f"{room}/{file}", "w", encoding="utf-8") as opened:
+                    opened.write(bytes_)
+            words = ["check", "--sheet", f"{room}/refused_sheet", f"{room}/refused_report"]
+            wrong += [f"{example}\n    {it}" for it in gives(program, 1 if files[1] else 3, "", line, words)]
+            seen.append(int(number))
+    wrong += [] if set(seen) == set(range(1, 33)) else ["not each refusal has an example"]
+    return [f"docs/REFUSALS: {it}" for it in wrong], len(seen)
+
+
+def fragments(program):
+    """Returns what is wrong with the JSON in docs/GUIDE.md: a sheet that is refused, a fact that is in no example."""
+    files, wrong = [content(f"examples/{it}") for it in (*GOOD, MERGED)], []
+    for shown in re.findall(r"^```json\n(.*?)\n```$", content("docs/GUIDE.md"), re.MULTILINE | re.DOTALL):
+        if shown.startswith("{"):
+            wrong += gives(program, 0, EMPTY, "", [], f"{shown}\n")
+        elif not any(shown in file for file in files):
+            wrong.append(f"docs/GUIDE: in no example: {shown[:60]}")
+    return wrong
+
+
+def gives(program, status, out, err, words, given=""):
+    """Runs the program in examples/, and returns a line where it ends otherwise."""
+    ran = subprocess.run([program, *words], cwd=os.path.join(TOP, "examples"), capture_output=True, text=True, input=given)
+    if (ran.returncode, ran.stdout, ran.stderr) == (status, out, err):
+        return []
+    return [f"{' '.join(words) or 'a bundle'}: other texts, or another status than {status}: {ran.stderr[-200:]}"]
+
+
+def bundle(*names):
+    return "".join(content(f"examples/{it}").strip("\n") + "\n" for it in names)
+
+
+def compared(program):
+    """Compares the program's output with the files beside the examples, and returns what differs."""
+    merged, refused, verdicts, sources = (content(f"examples/{it}") for it in (MERGED, "refused.txt", "verdicts.txt", "sources.txt"))
+    wrong = []
+    # what was merged merges to itself, and takes in again what it was made of; so does a text of before
+    for status, err, reports in ((0, "", GOOD), (0, "", (GOOD[2], *GOOD[:2], GOOD[2])), (1, refused, (*GOOD, BAD)),
+                                 (0, "", (MERGED,)), (0, "", (GOOD[1], MERGED)),
+                                 (0, "", (EARLIER,)), (0, "", (EARLIER, GOOD[1], MERGED))):
+        wrong += gives(program, status, merged, err, [], bundle("sheet.json", *reports))
+        wrong += gives(program, status, merged, err, ["merge", "--sheet", "sheet.json", *reports])
+        wrong += gives(program, status, verdicts, err, ["verdicts", "--sheet", "sheet.json", *reports])
+    for status, err, reports in ((0, "", GOOD), (1, refused, (*GOOD, BAD))):
+        wrong += gives(program, status, sources, err, ["sources", "--sheet", "sheet.json", *reports])
+    for name, line in zip((*GOOD, MERGED, EARLIER), content("examples/checked.txt").splitlines(keepends=True)):
+        wrong += gives(program, 0, line, "", ["check", "--sheet", "sheet.json", name])
+    schedule = ["replay", "--sheet", "sheet.json", "--replicas", "2", "--events", "offices/events.txt"]
+    wrong += gives(program, 0, f"{merged}\n" * 2, "", [*schedule, *GOOD]) + by_hand(program, merged)
+    wrong += gives(program, 1, "", refused.replace("report 4", "report 1"), ["check", "--sheet", "sheet.json", BAD])
+    return wrong + declares(program, merged)
+
+
+def declares(program, merged):
+    """Returns what is wrong with the level that the merged text declares: it is the least, and the rest is as before."""
+    rest = merged
+    for part in DECLARED:
+        rest = rest.replace(part, "", 1)
+    wrong = [] if rest == content(f"examples/{EARLIER}") else [f"{MERGED} is not {EARLIER} with its level declared"]
+    lowered = merged.replace('"all"', '"consistent"', 1)
+    told = "report 1: 31 DisallowedDuplicates at document\n"
+    return wrong + gives(program, 1, EMPTY, told, [], bundle("sheet.json") + lowered)
+
+
+def embedded(program):
+    """Compares what the example of embedding writes with the files beside the examples."""
+    merged, refused = content(f"examples/{MERGED}"), content("examples/refused.txt")
+    checked = [it.split()[1:3] for it in content("examples/checked.txt").splitlines()[: len(GOOD)]]
+    lines = "".join(f"{facts} facts, {level}\n" for facts, level in checked)
+    wrong = gives(program, 0, merged, lines + refused, ["sheet.json", *GOOD, BAD])
+    return [f"{EMBED} {it}" for it in wrong + gives(program, 1, "", NOT_MERGED, ["sheet.json", "none.json"])]
+
+
+def page_of_vendors(program):
+    """Runs the one command on a taxonomy package and reports of another tool's shape. Returns what is not as it should be."""
+    vendors, names = os.path.join(TOP, "tests", "normalise", "vendors"), ("envelope", "untidy_tokens", "odd_units")
+    options = ["--program", program, "--normalise", *(f"{name} & Co={vendors}/{name}.json" for name in names)]
+    with tempfile.TemporaryDirectory() as room:
+        with zipfile.ZipFile(f"{room}/taxonomy.zip", "w") as package:
+            package.writestr("taxonomy/META-INF/taxonomyPackage.xml", "<a/>")
+            package.writestr("taxonomy/core.xsd", SCHEMA)
+        words = [*options, "--taxonomy", f"{room}/taxonomy.zip", "-o", f"{room}/out"]
+        ran = subprocess.run([os.path.join(TOP, "tools", "contradictions"), *words], capture_output=True, text=True)
+        told = f"3 rows: 0 contradictions, 0 consistent, 3 reported once; 1 report refused; page: {room}/out/page.html\n"
+        if (ran.returncode, ran.stdout) != (1, told):
+            return [f"tools/contradictions ends with {ran.returncode} on the reports of vendors: {ran.stdout}{ran.stderr}"]
+        sheet, merged = content(f"{room}/out/sheet.json").replace("n1:", "v:").replace('"n1"', '"v"'), content(f"{room}/out/merged.json")
+    wrong = [f"odd_units.json is not refused by {it}" for it in ODD_UNITS if f"{vendors}/odd_units.json: {it}" not in ran.stderr]
+    wrong += [] if json.loads(sheet) == json.loads(content(f"{vendors}/sheet.json")) else ["the sheet is not that of the vendors"]
+    words = ["merge", "--sheet", f"{vendors}/sheet.json", *(f"{vendors}/{name}.out.json" for name in names[:2])]
+    return wrong + gives(program, 0, merged, "", words)
+
+
+def by_hand(program, merged):
+    """Lets the two offices exchange files, and returns what they have that is not the merged text."""
+    with tempfile.TemporaryDirectory() as room:
+        ran = subprocess.run([os.path.join(TOP, "examples", "offices", "by_hand"), room], capture_output=True, text=True,
+                             env={**os.environ, "XBRLMERGE": program})
+        texts = [content(os.path.join(room, office, "merged.json")) for office in "12"] if ran.returncode == 0 else []
+    same = texts == [merged] * 2 and ran.stdout + ran.stderr == ""
+    return [] if same else [f"examples/offices/by_hand: other texts, or status {ran.returncode}: {ran.stderr[-200:]}"]
+
+
+def files_of(folder):
+    return sorted(os.path.join(at, it) for at, _, names in os.walk(folder, followlinks=True) for it in names)
+
+
+def make_top(program, room):
+    """Makes a top of the repository where the program is the one that is tested."""
+    for folder in ("bin", "top", "tmp"):
+        os.makedirs(f"{room}/{folder}")
+    for name in set(os.listdir(TOP)) - {"xbrlmerge", "examples", ".git", "crates"}:
+        os.symlink(os.path.join(TOP, name), f"{room}/top/{name}")
+    shutil.copytree(os.path.join(TOP, "examples"), f"{room}/top/examples")
+    for folder in ("bin", "top"):
+        shutil.copy(program, f"{room}/{folder}/xbrlmerge")
+
+
+def told(program, embed):
+    """Returns what is not as shown, and how many commands were run."""
+    wrong, ran = compared(program) + (embedded(embed) if embed else []) + fragments(program) + page_of_vendors(program), 0
+    places = {**{it: list(of_page(it)) for it in PAGES}, "the man pages": list(of_man_pages()), "the help": of_help(program)}
+    with tempfile.TemporaryDirectory() as room:
+        make_top(program, room)
+        before = files_of(f"{room}/top")
+        for place, blocks in places.items():
+            for shell in SHELLS:
+                wrong += [f"{place}, by {shell}: {it}" for it in wrong_with(blocks, shell, room)]
+            ran += sum(len(lines) for lines, _, _ in blocks)
+        wrong += [f"the commands leave files: {it}" for it in sorted(set(files_of(f"{room}/top")) ^ set(before))]
+        faults, count = refusals(program, room)
+    return wrong + faults, f"{ran} commands and {count} refusals"
+
+
+def main(words):
+    with tempfile.TemporaryDirectory() as room:
+        named = [os.path.abspath(it) for it in words[:2]]
+        program, embed = (named + [""])[:2] if named else (build(CRATE), build_embedded(room))
+        if not program or not named and not embed:
+            return 2
+        wrong, ran = told(program, embed)
+    behind = "" if embed else "; what embeds the library was not looked at"
+    print("\n".join(wrong) or f"the examples are as shown, with {ran}{behind}")
+    return 1 if wrong else 0
+
+
+if __name__ == "__main__":
+    sys.exit(main(sys.argv[1:]))

@@ -1,0 +1,241 @@
+#!/usr/bin/env python3
+"""Compares folds of many reports with one run of the program. Not part of the gate.
+
+    [XBRLMERGE=PROGRAM] [REPORTS=200] [JOBS=2] [SEED=1] tests/fold
+
+It makes a sheet and reports that overlap, agree, contradict each other and, some of them, are refused; and compares the
+bytes of one run with those of examples/fold/Makefile and of examples/fold/fold_dask.py, each at three widths; and sees
+which branches a late report makes again. Where Dask is not installed, a module of two lines runs the nodes in turn. Nodes
+that are calls are left out where there is no lib/libxbrlmerge.so, which ./build --library makes.
+Status 0: all are the same. 1: they are not, and a line tells which. 2: the program is not built.
+"""
+import argparse
+import json
+import os
+import random
+import shutil
+import signal
+import subprocess
+import sys
+import tempfile
+import time
+
+from support import TOP, built_program, bytes_of
+
+FOLD = os.path.join(TOP, "examples", "fold")
+LIBRARY = os.path.exists(os.path.join(TOP, "lib", "libxbrlmerge.so"))
+COUNT, JOBS, SEED = (int(os.environ.get(name, usual)) for name, usual in (("REPORTS", 200), ("JOBS", 2), ("SEED", 1)))
+URI, WIDTHS = "https://made.example/2024", (3, 14, 60)
+KINDS = {**{f"A{n}": "numeric" for n in range(12)}, **{f"T{n}": "text" for n in range(3)}, "N0": "name"}
+faults = []
+
+
+def check(holds, told):
+    if not holds:
+        faults.append(told)
+        print(f"tests/fold: {told}")
+
+
+def sheet():
+    concepts = {f"m:{name}": kind for name, kind in KINDS.items()}
+    return {"namespaces": {"m": URI}, "concepts": concepts, "dimensions": {"m:RegionAxis": "explicit", "m:MillAxis": "typed"}}
+
+
+def fact(chance, prefix):
+    """Makes one of few dimension sets, so that reports meet, with one of few values."""
+    concept = chance.choice(sorted(KINDS))
+    dimensions = {"concept": f"{prefix}:{concept}", "entity": f"e:{chance.choice('PQ')}"}
+    dimensions["period"] = f"{chance.randint(2020, 2024)}-12-31T24:00:00"
+    if chance.random() < 0.4:
+        dimensions[f"{prefix}:RegionAxis"] = f"{prefix}:{chance.choice(['North', 'South'])}"
+    if chance.random() < 0.2:
+        dimensions[f"{prefix}:MillAxis"] = chance.choice(["Kaarna", "\u00d6sth\u00e4lsinge", None])
+    if KINDS[concept] != "numeric":
+        text = f"text {chance.randint(0, 9)} \"\u20ac\""
+        return {"dimensions": dimensions, "value": f"{prefix}:B" if concept[0] == "N" else text}
+    dimensions["unit"] = chance.choice(["c:EUR", "c:EUR/x:shares"])
+    made = {"dimensions": dimensions, "value": f"{chance.randint(980, 1020)}.{chance.randint(0, 9)}0"}
+    # mostly near the last place of the values, where some facts agree and some do not; else from the whole range
+    places = chance.randint(-2, 1) if chance.random() < 0.8 else chance.randint(-18, 18)
+    return {**made, "decimals": places} if chance.random() < 0.8 else made
+
+
+def report(chance, is_refused):
+    """Makes the text of a report with prefixes of its own; a refused one has one of three faults."""
+    prefix = chance.choice(["m", "made", "x-1"])
+    uris = {prefix: URI, "e": "http://standards.iso.org/iso/17442"}
+    uris.update({"c": "http://www.xbrl.org/2003/iso4217", "x": "http://www.xbrl.org/2003/instance"})
+    facts = {f"{chance.randint(0, 10**9)}": fact(chance, prefix) for _ in range(chance.randint(1, 20))}
+    references = [f"{URI}/{chance.randint(0, 2)}.xsd"]
+    info = {"documentType": "https://xbrl.org/2021/xbrl-json", "namespaces": uris, "taxonomy": references}
+    if is_refused == 1:
+        uris[prefix] = URI + "/other"
+    elif is_refused == 2:
+        next(iter(facts.values()))["decimals"] = 99
+    text = json.dumps({"documentInfo": info, "facts": facts}, ensure_ascii=chance.random() < 0.5, indent=chance.choice([None, 1]))
+    return text[: len(text) // 2] if is_refused == 3 else text
+
+
+def write(path, text):
+    with open(path, "w", encoding="utf-8") as file:
+        file.write(text)
+
+
+def run(*words, **more):
+    return subprocess.run(words, capture_output=True, text=True, **more)
+
+
+def paths():
+    return [os.path.join("in", name) for name in sorted(os.listdir("in"))]
+
+
+def one_run():
+    """Returns the text of one run over the folder, and the refused files."""
+    files = paths()
+    done = subprocess.run([os.environ["XBRLMERGE"], "merge", "--sheet", "sheet.json", "--", *files], capture_output=True)
+    refused = [files[int(line.split(":")[0].split()[1]) - 1] for line in done.stderr.decode().splitlines()]
+    check(done.returncode == (1 if refused else 0), f"one run ended with {done.returncode}")
+    return done.stdout, sorted(refused)
+
+
+def refused_in(lines):
+    return sorted(line.rpartition(" in ")[2].replace("\\", "") for line in lines.splitlines() if line.startswith("report "))
+
+
+def make(width):
+    words = "SHEET=sheet.json", "REPORTS=in", f"OUT=out{width}.json", f"WIDTH={width}"
+    return run("make", "-s", "-j", str(JOBS), "-f", os.path.join(FOLD, "Makefile"), *words)
+
+
+def compare(told, done, out, wanted):
+    is_same = done.returncode in (0, 1) and bytes_of(out) == wanted[0]
+    check(is_same, f"{told}: other bytes, or status {done.returncode}: {done.stderr[-300:]}")
+    check(refused_in(done.stderr) == wanted[1], f"{told}: other files are refused")
+
+
+def made_again(width, told, branches):
+    """Runs make once more, and checks that just so many branches are made, and that the bytes are those of one run."""
+    done = make(width)
+    compare(told, done, f"out{width}.json", one_run())
+    check(done.stdout.count("merging branch") == branches, f"{told}: made {done.stdout.split()}")
+
+
+def late_reports(width):
+    made_again(width, "nothing came", 0)
+    lists = run("grep", "-h", "-r", "--include=*.list", "in/", f"out{width}.json.room").stdout
+    names = [line.split("/")[1].split(".")[0] for line in lists.splitlines()]
+    changes = sum(one != other for one, other in zip(names, names[1:]))
+    check(len(names) == COUNT and changes == len(set(names)) - 1, "what is named alike is in several branches")
+    write("in/late one.json", report(random.Random("late"), 0))
+    os.utime("in/late one.json", (1, 1))  # its own time is long ago
+    made_again(width, "a late report", 1)
+    write("in/late one.json", report(random.Random("later"), 1))
+    made_again(width, "a changed report", 1)
+    os.remove("in/late one.json")
+    made_again(width, "a report that is gone", 1)
+    made_again(width, "nothing came again", 0)
+
+
+def nodes():
+    """Checks what a node does where the program fails, and that no fold takes a text that is broken."""
+    node, out = os.path.join(FOLD, "merge_files"), "node.json"
+    check(run(node, "sheet.json", out, *paths()[:9]).returncode in (0, 1) and os.path.exists(out), "a node makes its text")
+    wrong = {"sheet": (paths()[0], out, paths()[0]), "file": ("sheet.json", out, "in/none.json"), "usage": ("sheet.json",)}
+    for told, words in wrong.items():
+        before = set(os.listdir("."))
+        check(run(node, *words).returncode == 3 and set(os.listdir(".")) <= before, f"a node with a wrong {told}")
+    check(not os.path.exists(out), "a node leaves the text of a run before")
+    text = f"out{WIDTHS[0]}.json.room/branch0.json"
+    write(text, bytes_of(text).decode()[:-9])
+    check(make(WIDTHS[0]).returncode == 2 and not os.path.exists(f"out{WIDTHS[0]}.json"), "a broken text of a branch is folded")
+
+
+def odd_names():
+    """Checks that a node reads files with any names, and puts nothing where a link could be."""
+    node, odd = os.path.join(FOLD, "merge_files"), b"in odd/\xff -\n.json"
+    os.makedirs(b"in odd/\xfe")
+    for name, source in ((odd, paths()[0]), (b"in odd/\xfe/sheet", "sheet.json"), (b"in odd/refused\xff", "in/001.3.json")):
+        shutil.copy(source, name)
+    plain = run(node, "sheet.json", "plain.json", *paths()[:8])
+    words = b"in odd/\xfe/sheet", b"in odd/\xfe/out", odd, *paths()[1:7], b"in odd/refused\xff"
+    done = run(node, *words)
+    check(plain.returncode == done.returncode == 1 and bytes_of("plain.json") == bytes_of(words[1]), "names that are not UTF-8 change the text")
+    check(done.stderr.endswith(r" in $'in odd/refused\377'" + "\n"), f"the refused name is {done.stderr!r}")
+    lost = run(node, "sheet.json", "plain.json", b"in odd/none\xff")
+    check((lost.returncode, lost.stderr) == (3, r"file $'in odd/none\377': cannot be read" + "\n"), f"a missing name: {lost.stderr!r}")
+    check(sorted(os.listdir(b"in odd/\xfe")) == [b"out", b"sheet"], "a node leaves files")
+
+
+def stopped_nodes():
+    """Checks that a node that is stopped stops its program, and leaves nothing."""
+    write("slow", "#!/bin/sh\nls -A >names\necho $$ >number.part\nmv number.part number\nexec sleep 60\n")
+    os.chmod("slow", 0o755)
+    for kind in (signal.SIGTERM, signal.SIGHUP, signal.SIGINT):
+        write("stopped.json", "of a run before")
+        words = os.path.join(FOLD, "merge_files"), "sheet.json", "stopped.json", *paths()[:2]
+        node = subprocess.Popen(words, env={**os.environ, "XBRLMERGE": os.path.abspath("slow")})
+        while not os.path.exists("number"):
+            time.sleep(0.05)
+        number, names = int(bytes_of("number")), bytes_of("names").decode()
+        node.send_signal(kind)
+        check(node.wait() == 3 and not os.path.exists("stopped.json"), f"{kind.name}: status {node.returncode}")
+        check(not os.path.exists(f"/proc/{number}"), f"{kind.name}: the program goes on")
+        check(not [it for it in os.listdir(".") if it.startswith(".merge_files")], f"{kind.name}: files are left")
+        check(str(node.pid) not in names, f"{kind.name}: a name can be foretold: {names}")
+        os.remove("number")
+
+
+def dask_words():
+    """Returns how fold_dask.py is run, and whether Dask runs its nodes, else what stands in for it in this folder."""
+    pythons = (sys.executable, "/usr/bin/python3")  # the Python of the system has the packages of the system
+    with_dask = next((python for python in pythons if shutil.which(python) and run(python, "-c", "import dask").returncode == 0), None)
+    if not with_dask:
+        os.mkdir("stand_in")
+        write("stand_in/dask.py", "def delayed(work):\n    return work\n\n\ndef compute(*nodes):\n    return nodes\n")
+    module = os.path.join(TOP, "python")
+    os.environ["PYTHONPATH"] = os.pathsep.join([module] if with_dask else [module, os.path.abspath("stand_in")])
+    os.environ["PYTHONDONTWRITEBYTECODE"] = "1"
+    return [with_dask or sys.executable, os.path.join(FOLD, "fold_dask.py")], bool(with_dask)
+
+
+def on_dask(words, width, wanted):
+    """Compares both forms of a fold on Dask, whose nodes are processes, or calls."""
+    done = run(*words, "sheet.json", "dask.json", str(width), *paths())
+    compare(f"Dask, {width} files a node", done, "dask.json", wanted)
+    if LIBRARY:
+        done = run(*words, "--calls", "sheet.json", "calls.json", str(width), *paths())
+        compare(f"Dask, {width} files a call", done, "calls.json", wanted)
+
+
+def main():
+    argparse.ArgumentParser(description=__doc__, formatter_class=argparse.RawDescriptionHelpFormatter).parse_args()
+    os.environ["XBRLMERGE"] = built_program()  # for the Makefile too
+    room = tempfile.mkdtemp()
+    try:
+        os.chdir(room)
+        words, is_dask = dask_words()
+        os.mkdir("in")
+        write("sheet.json", json.dumps(sheet()))
+        for number in range(COUNT):
+            chance = random.Random(f"{SEED} {number}")
+            write(f"in/{number // 4:03}.{number % 4}.json", report(chance, 1 + number // 25 % 3 if number % 25 == 7 else 0))
+        wanted = one_run()
+        check(len(wanted[1]) == len(range(7, COUNT, 25)), f"{len(wanted[1])} reports are refused")
+        for width in WIDTHS:
+            compare(f"make, {width} branches", make(width), f"out{width}.json", wanted)
+            on_dask(words, width, wanted)
+        late_reports(WIDTHS[1])
+        nodes()
+        odd_names()
+        stopped_nodes()
+    finally:
+        os.chdir(os.path.dirname(room))
+        shutil.rmtree(room)
+    told = "make and Dask write" if is_dask else "make writes, and without Dask its nodes in turn write"
+    told = told if LIBRARY else f"no node was a call; {told}"
+    print(f"tests/fold: {told} the bytes of one run of {COUNT} reports" if not faults else f"tests/fold: {len(faults)} faults")
+    return 1 if faults else 0
+
+
+if __name__ == "__main__":
+    sys.exit(main())

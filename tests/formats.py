@@ -1,0 +1,216 @@
+#!/usr/bin/env python3
+"""Compares the formats of `verdicts` and `sources` with their lines and the merged text. Not part of the gate.
+
+    [SETS=300] [SEED=1] tests/formats [PROGRAM]
+
+What `--format json` and `--format csv` print for the examples, for texts with quotes, line ends and formulas, and for SETS
+sets of drawn reports is made again here, from the lines and from what `merge` writes, and has to be the same byte for byte.
+`--spreadsheet` may only put a ' before a text, and has to where tools/contradictions does at its beginning.
+Status 0: all is so. 1: it is not. 2: the program is not built.
+"""
+import csv
+import io
+import json
+import os
+import random
+import subprocess
+import sys
+import tempfile
+
+import fold
+from support import TOP, built_program, content
+
+sys.path.insert(0, f"{TOP}/tools")
+from contradicting.tables import safe  # noqa: E402
+
+SETS, SEED = int(os.environ.get("SETS", 300)), os.environ.get("SEED", "1")
+EXAMPLES = [f"{TOP}/examples/{name}.json" for name in ("issuer", "ledgerline", "statfeed", "oldharbour")]
+CORE = ("concept", "entity", "period", "unit", "language")
+COLUMNS = ["row", "verdict", "fact", *CORE, "dimensions", "value", "nil", "decimals", "common_low", "common_high", "apart_first", "apart_second"]
+TEXTS = ["=1+1", "-2", "+3", "@SUM(A1)", "plain", 'a "word", and more', "two\nlines", "three\r\nlines", "", "'=1", "\t=1", "\u00a0=1", "\uff1d1", "\u3000-1",
+         "\ufeff=1", "\u00e9=1", "1=1", "a", "\u0001"]
+
+
+def printed(program, command, sheet, reports, *words):
+    done = subprocess.run([program, command, "--sheet", sheet, *words, "--", *reports], capture_output=True)
+    if done.returncode > 1:
+        raise RuntimeError(f"{command} {' '.join(words)}: {done.stderr.decode()}")
+    return done.stdout.decode()
+
+
+def lines_of(text):
+    return text.split("\n")[:-1]
+
+
+def compact(tree):
+    return json.dumps(tree, ensure_ascii=False, separators=(",", ":"))
+
+
+def table(rows):
+    made = io.StringIO()
+    csv.writer(made).writerows(rows)
+    return made.getvalue()
+
+
+class Merged:
+    """A merged text, with names that need no prefix."""
+
+    def __init__(self, text, sheet):
+        tree = json.loads(text)
+        self.facts = tree["facts"]
+        self.prefixes = tree["documentInfo"]["namespaces"]
+        uris = sheet["namespaces"]
+        full = {kind: {f"{{{uris[name.split(':')[0]]}}}{name.split(':')[1]}": what for name, what in sheet.get(kind, {}).items()}
+                for kind in ("concepts", "dimensions")}
+        self.concepts, self.axes = full["concepts"], full["dimensions"]
+
+    def name(self, text):
+        prefix, local = text.split(":", 1)
+        return f"{{{self.prefixes[prefix]}}}{local}"
+
+    def unit(self, text):
+        sides = text.split("/")
+        return "/".join(self.side(side) for side in sides)
+
+    def side(self, side):
+        inner = side.strip("()")
+        names = "*".join(map(self.name, inner.split("*")))
+        return f"({names})" if side.startswith("(") else names
+
+    def dimensions(self, given):
+        """Returns the dimensions in the order in which they are written."""
+        made = {}
+        for key, text in given.items():
+            if key in ("concept", "entity"):
+                made[key] = self.name(text)
+            elif key in ("period", "language"):
+                made[key] = text
+            elif key == "unit":
+                made[key] = self.unit(text)
+            else:
+                axis = self.name(key)
+                made[axis] = self.name(text) if text is not None and self.axes[axis] == "explicit" else text
+        return made
+
+    def value(self, fact):
+        is_name = self.concepts[self.name(fact["dimensions"]["concept"])] == "name"
+        return self.name(fact["value"]) if is_name and fact["value"] is not None else fact["value"]
+
+
+def rows_of(lines, merged):
+    """Yields the object of each row."""
+    names = list(merged.facts)
+    for line in lines:
+        number, first, last, verdict, *shown = line.split(" ")
+        these = names[names.index(first) : names.index(last) + 1]
+        facts = [{"identifier": name, "value": merged.value(merged.facts[name]),
+                  **{key: merged.facts[name][key] for key in ("decimals",) if key in merged.facts[name]}} for name in these]
+        row = {"row": int(number), "verdict": verdict, "dimensions": merged.dimensions(merged.facts[first]["dimensions"]), "facts": facts}
+        if verdict == "consistent":
+            row["evidence"] = {"common": {"low": shown[1], "high": shown[2]}}
+        elif verdict == "inconsistent":
+            row["evidence"] = {"apart": shown[1:]}
+        yield row
+
+
+def records_of(row):
+    """Yields the cells of each fact of a row."""
+    given, evidence = row["dimensions"], row.get("evidence", {})
+    defined = {name: member for name, member in given.items() if name not in CORE}
+    common = evidence.get("common", {})
+    shown = [common.get("low", ""), common.get("high", ""), *evidence.get("apart", ["", ""])]
+    for fact in row["facts"]:
+        is_nil = fact["value"] is None
+        yield [row["row"], row["verdict"], fact["identifier"], *(given.get(name, "") for name in CORE), compact(defined) if defined else "",
+               "" if is_nil else fact["value"], "true" if is_nil else "", fact.get("decimals", ""), *shown]
+
+
+def sources_of(lines):
+    for line in lines:
+        fact, report, identifier = line.split(" ", 2)
+        yield {"fact": fact, "report": int(report), "identifier": json.loads(identifier)}
+
+
+def is_guarded(plain, guarded):
+    """Whether cells are the same but for a ' before texts, which is there where a formula would begin."""
+    one, two = (list(csv.reader(io.StringIO(text, newline=""))) for text in (plain, guarded))
+    numeric = {"decimals", "common_low", "common_high"}
+    for cells, others in zip(one, two):
+        for column, cell, other in zip(one[0], cells, others):
+            if other not in (cell, f"'{cell}") or other != cell and column not in ("value", "identifier"):
+                return False
+            is_number = column in numeric or column == "value" and dict(zip(one[0], cells))["decimals"] != ""
+            if not is_number and column in ("value", "identifier") and safe(cell).startswith("'") and not cell.startswith("'") and other == cell:
+                try:
+                    float(cell)
+                except ValueError:
+                    return False
+    return [len(cells) for cells in one] == [len(cells) for cells in two]
+
+
+def wrong_with(program, sheet, reports):
+    """Returns the names of what is not as it should be."""
+    def asked(command, *words):
+        return printed(program, command, sheet, reports, *words)
+
+    merged = Merged(asked("merge"), json.loads(content(sheet)))
+    rows, sources = list(rows_of(lines_of(asked("verdicts")), merged)), list(sources_of(lines_of(asked("sources"))))
+    facts = [cells for row in rows for cells in records_of(row)]
+    wanted = {
+        ("verdicts", "json"): "".join(f"{compact(row)}\n" for row in rows),
+        ("verdicts", "csv"): table([COLUMNS, *facts]),
+        ("sources", "json"): "".join(f"{compact(source)}\n" for source in sources),
+        ("sources", "csv"): table([["fact", "report", "identifier"], *(source.values() for source in sources)]),
+    }
+    wrong = [words for words, text in wanted.items() if asked(words[0], "--format", words[1]) != text]
+    for command in ("verdicts", "sources"):
+        if asked(command, "--format", "lines") != asked(command):
+            wrong.append((command, "lines"))
+        if not is_guarded(wanted[command, "csv"], asked(command, "--format", "csv", "--spreadsheet")):
+            wrong.append((command, "--spreadsheet"))
+    return wrong
+
+
+def odd_report(prefix):
+    """Returns a report with each odd text as a value, as a member and in an identifier."""
+    info = {"documentType": "https://xbrl.org/2021/xbrl-json", "namespaces": {"eg": "http://example.org/t"}}
+    facts = {f"{text}{prefix}{place}": {"value": f"{text}{prefix}", "dimensions": {"concept": "eg:T", "eg:Sku": text or "none"}}
+             for place, text in enumerate(TEXTS)}
+    return json.dumps({"documentInfo": info, "facts": facts})
+
+
+def cases(room):
+    """Yields sheets and lists of reports."""
+    yield f"{TOP}/examples/sheet.json", EXAMPLES
+    sheet = {"namespaces": {"eg": "http://example.org/t"}, "concepts": {"eg:T": "text"}, "dimensions": {"eg:Sku": "typed"}}
+    files = {"odd": json.dumps(sheet), "one": odd_report(""), "two": odd_report("x"), "drawn": json.dumps(fold.sheet())}
+    for name, text in files.items():
+        with open(f"{room}/{name}.json", "w", encoding="utf-8") as file:
+            file.write(text)
+    yield f"{room}/odd.json", [f"{room}/one.json", f"{room}/two.json"]
+    for number in range(SETS):
+        chance, names = random.Random(f"{SEED} {number}"), []
+        for place in range(chance.randint(0, 6)):
+            names.append(f"{room}/{place}.json")
+            with open(names[-1], "w", encoding="utf-8") as file:
+                file.write(fold.report(chance, chance.choice([0, 0, 0, 0, 1, 2, 3])))
+        yield f"{room}/drawn.json", names
+
+
+def main(words):
+    if words in (["-h"], ["--help"]):
+        print(__doc__, end="")
+        return 0
+    program = built_program(*words[:1])
+    faults, ran = 0, 0
+    with tempfile.TemporaryDirectory(prefix="formats-") as room:
+        for ran, (sheet, reports) in enumerate(cases(room), 1):
+            for fault in wrong_with(program, sheet, reports):
+                faults += 1
+                print(f"case {ran}: {' '.join(fault)}")
+    print(f"tests/formats: {ran} cases" + (", all as expected" if not faults else f", {faults} faults"))
+    return 1 if faults else 0
+
+
+if __name__ == "__main__":
+    sys.exit(main(sys.argv[1:]))

@@ -1,0 +1,157 @@
+#!/usr/bin/env python3
+"""Prints what each part of a run of the gate took. At the top of the repository:
+
+    bash .ci/run 2>&1 | tests/gate_times | tee FILE     stamps each line with its second; then the table
+    tests/gate_times FILE                               the table of such a file again
+
+A part is a crate's proof, the proof of its tests, its must-fail edits or its runs. When a part begins
+and ends is seen at its processes, twice a second; 'processor' is their time on all processors.
+The status is 0 exactly where the run's last line tells that none failed.
+"""
+import os
+import re
+import sys
+import threading
+import time
+
+PARTS = ("proof", "tests", "edits", "runs")
+HEAD = f"{'crate':<14}{'part':<7}{'from':>8}{'to':>8}{'seconds':>9}{'processor':>11}"
+TICKS = os.sysconf("SC_CLK_TCK")
+# what the gate prints of the runs, which come last, one at a time
+RUN = re.compile(r"(?:rt: )?(\w+) ran[ ,(]|(?:rt: )?(\w+): its tests (?:passed|FAILED)")
+ENDED = re.compile(r"\d+ passed, (\d+) failed")
+
+
+def contents(path):
+    """Returns the bytes of a file of /proc, none where its process has ended."""
+    try:
+        with open(path, "rb") as it:
+            return it.read()
+    except OSError:
+        return b""
+
+
+def processes():
+    """Returns the parent and the processor seconds of each process, those of its ended children among them."""
+    found = {}
+    for pid in filter(str.isdigit, os.listdir("/proc")):
+        fields = contents(f"/proc/{pid}/stat").rpartition(b")")[2].split()
+        if len(fields) > 15:
+            found[int(pid)] = int(fields[1]), sum(map(int, fields[11:15])) / TICKS
+    return found
+
+
+def writers(pipe):
+    """Returns the processes whose output comes here."""
+    found = set()
+    for pid in filter(str.isdigit, os.listdir("/proc")):
+        try:
+            if os.readlink(f"/proc/{pid}/fd/1") == pipe and int(pid) != os.getpid():
+                found.add(int(pid))
+        except OSError:
+            pass
+    return found
+
+
+def part_of(pid):
+    """Returns the crate and the part that a check works for, if the process is one."""
+    words = contents(f"/proc/{pid}/cmdline").decode(errors="replace").split("\0")
+    if os.path.basename(words[0]) != "rattle" or "--crate-name" not in words:
+        return None
+    try:
+        is_edit = os.path.basename(os.readlink(f"/proc/{pid}/cwd")).startswith("rt-edit-")
+    except OSError:
+        return None
+    part = "edits" if is_edit else "tests" if "--test" in words or "--tests" in words else "proof"
+    return words[words.index("--crate-name") + 1], part
+
+
+class Watch(threading.Thread):
+    """Sees the checks of a run: for each part when it was first and last there, and each check's processor time."""
+
+    def __init__(self, begun):
+        super().__init__(daemon=True)
+        self.begun, self.spans, self.spent, self.parts = begun, {}, {}, {}
+        self.pipe = os.readlink("/proc/self/fd/0")
+        self.over = threading.Event()
+
+    def run(self):
+        while not self.over.wait(0.5):
+            self.look(processes(), round(time.monotonic() - self.begun))
+
+    def look(self, there, now):
+        roots, under = writers(self.pipe), {}
+        for pid in there:
+            # the uppermost check above each process that stands below the run
+            line, at = [], pid
+            while at in there and at not in roots and len(line) < 64:
+                line.append(at)
+                at = there[at][0]
+            if at in roots:
+                for each in reversed(line):
+                    if self.part(each):
+                        under.setdefault(each, []).append(pid)
+                        break
+        for check, below in under.items():
+            part = self.part(check)
+            self.spans[part] = self.spans.get(part, (now, now))[0], now
+            spent = sum(there[it][1] for it in below)
+            of_part = self.spent.setdefault(part, {})
+            of_part[check] = max(of_part.get(check, 0), spent)
+
+    def part(self, pid):
+        if not self.parts.get(pid):
+            self.parts[pid] = part_of(pid)
+        return self.parts[pid]
+
+
+def table(watch, runs, whole):
+    """Returns the lines of the table."""
+    rows = {key: (*span, sum(watch.spent[key].values())) for key, span in watch.spans.items()}
+    rows.update({(crate, "runs"): (*span, 0) for crate, span in runs.items()})
+    crates = sorted({key[0] for key in rows}, key=lambda it: min(rows[key][0] for key in rows if key[0] == it))
+    lines = [HEAD]
+    for key in ((crate, part) for crate in crates for part in PARTS):
+        if key in rows:
+            start, end, spent = rows[key]
+            lines.append(f"{key[0]:<14}{key[1]:<7}{start:>8}{end:>8}{end - start:>9}{spent:>11.0f}")
+    spent = sum(row[2] for row in rows.values())
+    lines.append(f"{'all':<14}{'':<7}{0:>8}{whole:>8}{whole:>9}{spent:>11.0f}")
+    lines.append(f"{whole / 60:.1f} minutes, {spent / 60:.1f} processor minutes")
+    return lines
+
+
+def live():
+    """Stamps the lines of a run as they come, then tells its table; returns the status."""
+    begun, last, failed, runs = time.monotonic(), 0, 1, {}
+    watch = Watch(begun)
+    watch.start()
+    for line in sys.stdin:
+        now = round(time.monotonic() - begun)
+        print(f"{now:>6} {line}", end="", flush=True)
+        ran, ended = RUN.match(line), ENDED.fullmatch(line.rstrip("\n"))
+        if ran:
+            crate = ran[1] or ran[2]
+            runs[crate] = runs.get(crate, (last,))[0], now
+        if ended:
+            failed = int(ended[1])
+        last = now
+    watch.over.set()
+    watch.join()
+    print("\n".join(table(watch, runs, round(time.monotonic() - begun))))
+    return 1 if failed else 0
+
+
+def again(file):
+    """Returns the table at the end of a file."""
+    with open(file, encoding="utf-8", errors="replace") as it:
+        lines = it.read().split("\n")
+    if HEAD not in lines:
+        print(f"gate_times: {file} has no table: it is no whole output of `.. | tests/gate_times`", file=sys.stderr)
+        return 2
+    print("\n".join(lines[lines.index(HEAD) :]), end="")
+    return 0
+
+
+if __name__ == "__main__":
+    sys.exit(again(sys.argv[1]) if len(sys.argv) > 1 else live())

@@ -1,0 +1,380 @@
+#!/usr/bin/env python3
+"""Runs the program on reports, sheets, events and bundles that are drawn and then broken. Not part of the gate.
+
+    [CASES=5000] [SEED=1] [CASE=N] [JOBS=N] tests/malformed [PROGRAM]
+
+PROGRAM, if it is left out, is $XBRLMERGE or the one that was built. Each run has to end
+within 10 seconds, by no signal, with the status and the lines that its input may have. A report is
+read whole and, with spaces after it, in pieces: both must answer the same. A refused report beside two good ones
+leaves their text as it is; what is accepted is written, and the text is accepted, and written again byte for byte.
+JOBS processes run side by side, as many as there are processors. CASE is the number of one case, which alone is run.
+Status 0: all is so. 1: it is not: the seed and the case are told, and the broken bytes are kept as a file. 2: there is no
+program.
+"""
+import argparse
+import collections
+import functools
+import json
+import multiprocessing
+import os
+import random
+import re
+import subprocess
+import sys
+import tempfile
+import time
+
+from support import TOP, built_program
+
+CASES, SEED, CASE = (int(os.environ.get(name, usual)) for name, usual in (("CASES", 5000), ("SEED", 1), ("CASE", -1)))
+JOBS = int(os.environ.get("JOBS", len(os.sched_getaffinity(0))))
+# so many cases have one sheet and the same good reports; a run takes so many seconds at most
+BATCH, LIMIT = 25, 10
+# a report of so many bytes is read in pieces
+IN_PIECES = 131_072
+# so many facts, or so many spaces behind each comma, make a report as long as that
+MANY, SPREAD = 1_300, 3_000
+
+REASONS = """NotJson MemberForm UnknownMember DocumentType Namespace BaseUrl TaxonomyUrl Feature Links Notes DimensionsMissing
+    NameForm UnboundPrefix ReservedNamespace MissingConcept UnknownConcept UnknownDimension DimensionValue PeriodForm PeriodOrder
+    UnitForm UnitOnOther LanguageForm LanguageOnNumeric ValueForm NumberForm NumberDigits DecimalsForm DecimalsRange
+    DecimalsOnOther DisallowedDuplicates SheetKind""".split()
+REASON = "(?:" + "|".join(f"{number} {name}" for number, name in enumerate(REASONS, 1)) + ")"
+REPORT_LINE = re.compile(rf"report ([1-9]\d*): ({REASON}) at (?:document|fact [1-9]\d*)\n")
+SHEET_LINE, EVENT_LINE = re.compile(rf"sheet: ({REASON})\n"), re.compile(r"event ([1-9]\d*): refused\n")
+CHECKED = re.compile(rb"accepted \d+ (none|complete|consistent|all) (canonical|other)\n")
+
+URIS = {"m": "https://made.example/2024", "x": "http://example.org/u", "xbrli": "http://www.xbrl.org/2003/instance"}
+KINDS = {"A": "numeric", "B": "numeric", "T": "text", "Q": "name"}
+VALUES = {"numeric": ("0", "-12.5", "1000000", "+0.0570", ".5", "999999999999999999"), "name": ("m:North", "x:South"),
+          "text": ("", "Blue", "a\"b\\", "\u0001 \u00e9\n", "\U0001f40b")}
+UNITS = ("x:b*x:a", "(x:a*x:b)/x:c", "xbrli:pure", "xbrli:pure/x:c")
+PERIODS = ("2020-12-31T24:00:00", "2020-01-01T00:00:00/2020-12-31T24:00:00", "0001-01-01T00:00:00/9999-12-31T23:59:59")
+# what stands in for a value or a piece of text
+OTHER_VALUES = (b"null", b"true", b"[]", b"{}", b"7", b'""', b'" "', b'":"', b'"m:"', b'"q:A"', b'"m:A"', b'"m:T"',
+                b'"xbrl:note"', b'"none"', b'"complete"', b'"numeric"', b'"text"', b'"1e2"', b'"1234567890123456789"',
+                b'"https://xbrl.org/2021"', b'"2020-12-31"', b'"2021-01-01T00:00:00/2020-01-01T00:00:00"', b'"x:a/"',
+                b'"en_GB"', b'"http://["', b'"//"')
+NUMBERS = (b"-0", b"00", b"+1", b"1.", b".5", b"0.5", b"1e999", b"-1e-999", b"1E2", b"NaN", b"-", b"18", b"-18", b"19", b"-19",
+           b"9223372036854775808", b"18446744073709551615", b"18446744073709551616", b"1" * 400)
+ESCAPES = (rb"\u0000", rb"\ud800", rb"\udc00\ud800", rb"\ud83d\ude00", rb"\q", rb"\u12", rb"\u", b"\\", b'\\"', b"\x00", b"\x1f",
+           b"\xff", b"\xc0\x80", b"\xed\xa0\x80", b"\xf4\x90\x80\x80", b"\xef\xbb\xbf", b"\xc2\x85")
+RUNS = (b"[", b"{", b'{"a:b":', b"]}", b'"', b"\\", b"9", b"a", b" ", b"\n", b"\x00", b"\xff", b",", b"take 1 1\n")
+KEYS = (b"documentInfo", b"namespaces", b"facts", b"value", b"decimals", b"dimensions", b"concept", b"entity", b"period", b"unit",
+        b"language", b"noteId", b"links", b"features", b"taxonomy", b"baseURL", b"m:Reg", b"m:Sku", b"x:y",
+        b"xbrl:allowedDuplicates")
+
+
+class Fault(Exception):
+    """What is not as it should be."""
+
+
+def expect(holds, told):
+    if not holds:
+        raise Fault(told)
+
+
+def maybe(chance, members, name, values):
+    if chance.random() < 0.4:
+        members[name] = chance.choice(values)
+
+
+def drawn_fact(chance):
+    name = chance.choice(sorted(KINDS))
+    dimensions, kind = {"concept": f"m:{name}"}, KINDS[name]
+    maybe(chance, dimensions, "entity", ("x:529900:A1", "m: a"))
+    maybe(chance, dimensions, "period", PERIODS)
+    maybe(chance, dimensions, "m:Reg", ("m:North", "x:South"))
+    maybe(chance, dimensions, "m:Sku", (None, "a b"))
+    fact = {"value": None if chance.random() < 0.1 else chance.choice(VALUES[kind]), "dimensions": dimensions}
+    if kind == "numeric":
+        maybe(chance, dimensions, "unit", UNITS)
+        maybe(chance, fact, "decimals", range(-18, 19))
+    else:
+        maybe(chance, dimensions, "language", ("en-GB", "fi"))
+    maybe(chance, fact, "links", ({},))
+    return fact
+
+
+def drawn_report(chance, count=None, spread=0):
+    """Draws a report of so many facts, at most 6 where no number is given, with so many spaces behind each comma."""
+    info = {"documentType": "https://xbrl.org/2021/xbrl-json", "namespaces": {**URIS, "xbrl": "https://xbrl.org/2021"}}
+    maybe(chance, info, "taxonomy", ([], ["b.xsd", "http://x.org/a.xsd"], ["urn:x:Y"]))
+    maybe(chance, info, "baseURL", ("http://x.org/d/r.json",))
+    maybe(chance, info, "features", ({"xbrl:allowedDuplicates": "all"}, {"x:f": 1.5}))
+    maybe(chance, info, "linkTypes", ({"a": [True, -1e-3]},))
+    report = {"documentInfo": info, "facts": {f"f{number}": drawn_fact(chance) for number in range(chance.randint(0, 6) if count is None else count)}}
+    maybe(chance, report, "x:more", ([[], {"a": "\\"}],))
+    return json.dumps(report, ensure_ascii=chance.random() < 0.5, separators=("," + " " * spread, ":")).encode()
+
+
+def drawn_long(chance):
+    """Draws a report that is read in pieces: of many facts, or with its parts far apart."""
+    return drawn_report(chance, MANY) if chance.random() < 0.1 else drawn_report(chance, 12, SPREAD)
+
+
+def drawn_sheet(chance):
+    sheet = {"namespaces": URIS, "concepts": {f"m:{name}": kind for name, kind in KINDS.items()},
+             "dimensions": {"m:Reg": "explicit", "m:Sku": "typed"}}
+    maybe(chance, sheet, "x:more", (1, "note"))
+    return json.dumps(sheet, separators=(",", ":")).encode()
+
+
+def drawn_events(chance):
+    lines, sent = [], 0
+    for _ in range(chance.randint(0, 8)):
+        one, other = chance.randint(1, 2), chance.randint(1, 2)
+        word = chance.choice(("take", "join", "send", "restart") + ("receive",) * bool(sent))
+        sent += word == "send"
+        last = {"take": f" {other}", "join": f" {other}", "receive": f" {sent}"}.get(word, "")
+        lines.append(f"{word} {one}{last}\n")
+    return "".join(lines).encode()
+
+
+def stretch(chance, text):
+    """Draws the ends of a piece of a text."""
+    start = chance.randint(0, len(text))
+    return start, min(len(text), start + chance.choice((1, 1, 2, 5, 20, 100)))
+
+
+def cut(chance, text, _):
+    start, end = stretch(chance, text)
+    return text[:start] if chance.random() < 0.3 else text[:start] + text[end:]
+
+
+def doubled(chance, text, _):
+    start, end = stretch(chance, text)
+    return text[:end] + text[start:end] * chance.choice((1, 1, 2, 40)) + text[end:]
+
+
+def flipped(chance, text, _):
+    start, end = stretch(chance, text)
+    byte = bytes([text[start] ^ 1 << chance.randint(0, 7)]) if start < end else b"\x00"
+    return text[:start] + byte + text[start + 1:]
+
+
+def swapped(chance, text, _):
+    (start, middle), other = stretch(chance, text), chance.randint(0, 30)
+    return text[:start] + text[middle:middle + other] + text[start:middle] + text[middle + other:]
+
+
+def reordered(chance, text, _):
+    lines = text.splitlines(keepends=True)
+    return b"".join(chance.sample(lines, len(lines)))
+
+
+def spliced(chance, text, other):
+    return text[:chance.randint(0, len(text))] + other[chance.randint(0, len(other)):]
+
+
+def replaced(chance, text, pattern, choices):
+    """Puts one of the choices in the place of one of the pieces of this pattern."""
+    found = list(re.finditer(pattern, text))
+    start, end = chance.choice(found).span() if found else stretch(chance, text)
+    return text[:start] + chance.choice(choices) + text[end:]
+
+
+def renumbered(chance, text, _):
+    return replaced(chance, text, rb"-?\d+(?:\.\d+)?", NUMBERS)
+
+
+def escaped(chance, text, _):
+    return replaced(chance, text, rb'(?<=[\w:.-])(?=[\w:."])', ESCAPES)
+
+
+def retyped(chance, text, _):
+    return replaced(chance, text, rb'(?<=[:,\[])(?:"[^"\\]*"(?!:)|\{[^{}]*\}|\[[^][]*\]|null|-?\d+)', OTHER_VALUES)
+
+
+def renamed(chance, text, _):
+    return replaced(chance, text, rb'(?<=")[\w:]+(?=":)', KEYS)
+
+
+def overrun(chance, text, _):
+    start, end = stretch(chance, text)
+    return text[:start] + chance.choice(RUNS) * chance.choice((2, 126, 127, 128, 5_000, 70_000)) + text[end:]
+
+
+BREAKS = (cut, doubled, flipped, swapped, reordered, spliced, renumbered, escaped, retyped, retyped, renamed, renamed, overrun)
+
+
+def broken(chance, text, other):
+    for _ in range(chance.choice((1, 1, 1, 2, 3))):
+        text = chance.choice(BREAKS)(chance, text, other)
+    return text
+
+
+class Batch:
+    """A folder with a sheet and two good reports, beside which cases are run."""
+
+    def __init__(self, program, number):
+        chance = random.Random(f"{SEED} of {number}")
+        self.program, self.counts, self.content = program, collections.Counter(), b""
+        self.sheet, self.one, self.two = drawn_sheet(chance), drawn_report(chance), drawn_report(chance)
+        for name in ("sheet", "one", "two"):
+            write(name, getattr(self, name))
+
+    @functools.cached_property
+    def text(self):
+        return self.written("one", "two")
+
+    def run(self, *words, given=b""):
+        try:
+            done = subprocess.run((self.program, *words), input=given, capture_output=True, timeout=LIMIT)
+        except subprocess.TimeoutExpired:
+            raise Fault(f"{' '.join(words)}: it has not ended after {LIMIT} seconds") from None
+        told = f"{' '.join(words) or 'the bundle'}: status {done.returncode}, {done.stderr[:200]!r}"
+        expect(done.returncode in (0, 1, 3), told)
+        return done.returncode, done.stdout, done.stderr.decode(errors="replace"), told
+
+    def written(self, *names, sheet="sheet"):
+        """Returns the text of reports of which none may be refused."""
+        status, text, lines, told = self.run("merge", "--sheet", sheet, *names)
+        expect((status, lines) == (0, ""), told)
+        return text
+
+    def expect_text(self, text, sheet="sheet"):
+        """A text that was written is accepted as canonical, and written again as it is."""
+        write("text", text)
+        status, line, lines, told = self.run("check", "--sheet", sheet, "text")
+        found = CHECKED.fullmatch(line)
+        expect((status, lines) == (0, "") and found and found[2] == b"canonical", f"the text that was written: {told}, {line}")
+        expect(self.written("text", sheet=sheet) == text, "the text that was written is not written again")
+
+    def expect_reports(self, status, lines, told, most):
+        """Status 0 has no line, status 1 one for each refused report, by its number."""
+        found = list(REPORT_LINE.finditer(lines))
+        numbers = [int(it[1]) for it in found]
+        expect("".join(it[0] for it in found) == lines and bool(numbers) == (status == 1), told)
+        expect(numbers == sorted(set(numbers) & set(range(1, most + 1))), told)
+        self.counts.update(it[2] for it in found)
+
+    def write_broken(self, chance, text, other):
+        self.content = broken(chance, text, other)
+        write("broken", self.content)
+
+    def of_report(self, chance, drawn=drawn_report):
+        """A broken report between two good ones, which `check` answers alike, and which is read alike in pieces."""
+        self.write_broken(chance, drawn(chance), self.one)
+        status, text, lines, told = self.run("merge", "--sheet", "sheet", "one", "broken", "two")
+        self.expect_reports(status, lines, told, 3)
+        write("longer", self.content + b" " * IN_PIECES)
+        *longer, longer_told = self.run("merge", "--sheet", "sheet", "one", "longer", "two")
+        expect(longer == [status, text, lines], f"{told}, but with spaces behind it {longer_told}")
+        checked, line, check_lines, check_told = self.run("check", "--sheet", "sheet", "broken")
+        expect((checked, check_lines) == (status, lines.replace("report 2", "report 1")), f"{told}, but {check_told}")
+        expect(bool(CHECKED.fullmatch(line)) if status == 0 else line == b"", f"{check_told}, {line}")
+        if status == 0:
+            self.expect_text(text)
+        else:
+            expect(text == self.text, f"{told}: the text is not that of the good reports")
+        return status
+
+    def of_long(self, chance):
+        """The same of a broken report that is long before it is broken."""
+        return self.of_report(chance, drawn_long)
+
+    def of_sheet(self, chance):
+        """A broken sheet, with two good reports."""
+        self.write_broken(chance, self.sheet, self.one)
+        status, text, lines, told = self.run("merge", "--sheet", "broken", "one", "two")
+        if status == 3:
+            expect(SHEET_LINE.fullmatch(lines) and text == b"", told)
+        else:
+            self.expect_reports(status, lines, told, 2)
+            self.expect_text(text, sheet="broken")
+        return status
+
+    def of_events(self, chance):
+        """A broken schedule of two replicas, which take two good reports."""
+        self.write_broken(chance, drawn_events(chance), drawn_events(chance))
+        status, text, lines, told = self.run("replay", "--sheet", "sheet", "--replicas", "2", "--events", "broken", "one", "two")
+        found = EVENT_LINE.fullmatch(lines)
+        if found:
+            count = len(self.content.removesuffix(b"\n").split(b"\n"))
+            expect(status == 3 and text == b"" and int(found[1]) <= count, told)
+        else:
+            texts = text.split(b"\n")
+            expect((status, lines) == (0, "") and len(texts) == 3 and texts[2] == b"", told)
+            self.expect_text(chance.choice(texts[:2]))
+        return status
+
+    def of_bundle(self, chance):
+        """A broken bundle of a sheet and two good reports."""
+        self.write_broken(chance, b"\n".join((self.sheet, self.one, self.two)), drawn_report(chance))
+        status, text, lines, told = self.run(given=self.content)
+        if status == 3:
+            expect(SHEET_LINE.fullmatch(lines) and text == b"", told)
+        else:
+            sheet, *reports = self.content.split(b"\n")
+            self.expect_reports(status, lines, told, sum(map(bool, reports)))
+            write("first", sheet)
+            self.expect_text(text, sheet="first")
+        return status
+
+    def play(self, case):
+        """Plays a case. Returns what is not as it should be, if anything."""
+        chance = random.Random(f"{SEED} {case}")
+        kind = chance.choices((self.of_report, self.of_long, self.of_sheet, self.of_events, self.of_bundle), (5, 1, 2, 2, 2))[0]
+        try:
+            status = kind(chance)
+        except Fault as fault:
+            place = keep(case, self.content)
+            return [f"{fault}\n    SEED={SEED} CASE={case} tests/malformed; the broken bytes are kept as {place}"]
+        self.counts[f"{kind.__name__.removeprefix('of_')} {status}"] += 1
+        return []
+
+
+def write(path, content):
+    with open(path, "wb") as file:
+        file.write(content)
+
+
+def keep(case, content):
+    """Keeps the bytes that were broken, and returns where."""
+    place = os.path.join(tempfile.gettempdir(), f"malformed-{SEED}-{case}")
+    write(place, content)
+    return place
+
+
+def play(task):
+    """Plays the cases of a batch. Returns what they ended in, counted, and what is not as it should be."""
+    program, cases = task
+    with tempfile.TemporaryDirectory(prefix="malformed-") as room:
+        os.chdir(room)
+        batch = Batch(program, cases[0] // BATCH)
+        wrong = [told for case in cases for told in batch.play(case)]
+        os.chdir(TOP)
+    return batch.counts, wrong
+
+
+def is_tame(counts):
+    """Returns whether an ending is missing that thousands of cases have."""
+    ends = [f"{kind} {status}" for kind, statuses in (("report", "01"), ("long", "01"), ("sheet", "013"), ("events", "03"), ("bundle", "013"))
+            for status in statuses]
+    return CASE < 0 and CASES >= 5000 and not all(counts[it] for it in ends)
+
+
+def main():
+    parser = argparse.ArgumentParser(description=__doc__, formatter_class=argparse.RawDescriptionHelpFormatter)
+    parser.add_argument("PROGRAM", nargs="?")
+    program = built_program(parser.parse_args().PROGRAM)
+    started = time.monotonic()
+    cases = range(CASES) if CASE < 0 else [CASE]
+    counts, wrong = collections.Counter(), []
+    with multiprocessing.get_context("fork").Pool(JOBS) as pool:
+        for found, told in pool.imap(play, [(program, cases[it:it + BATCH]) for it in range(0, len(cases), BATCH)]):
+            counts += found
+            wrong += told
+    print(*wrong[:20], sep="\n", end="\n" * bool(wrong))
+    ends = ", ".join(f"{counts[it]} {it}" for it in sorted(counts) if it[-1].isdigit())
+    reasons = sum(1 for it in counts if not it[-1].isdigit())
+    print(f"tests/malformed: {len(cases)} cases with SEED={SEED}, {len(wrong)} not as they should be, in "
+          f"{time.monotonic() - started:.0f} seconds. By kind and status: {ends}; reports were refused for {reasons} reasons")
+    if is_tame(counts):
+        print("tests/malformed: the cases are too tame")
+    return 1 if wrong or is_tame(counts) else 0
+
+
+if __name__ == "__main__":
+    sys.exit(main())

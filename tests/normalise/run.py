@@ -1,0 +1,117 @@
+#!/usr/bin/env python3
+"""Looks at what tools/normalise makes of reports with the built program. Not part of the gate.
+
+    tests/normalise/run [PROGRAM [DRAWN]]
+
+Each report in cases.jsonl is normalised with the options that stand there. `check` has to accept it or not, as it says
+there, and the files have to be those that stand beside it. Where nothing is lost and the report is accepted as it is,
+`check` and `verdicts` have to say the same of both; but a set of names is spelled anew, so of such a report `check` alone
+has to say the same. Of DRAWN reports, 200 if it is left out: a tidy one, and that one spelled as other tools might, have
+to give the same lines; and an untidy one has to be accepted with all options.
+Status 0: all is as it should be. 1: it is not, and lines tell what. 2: usage, or the program could not be run.
+"""
+import argparse
+import json
+import os
+import random
+import subprocess
+import sys
+import tempfile
+
+HERE = os.path.dirname(os.path.abspath(__file__))
+sys.path[:0] = [os.path.dirname(HERE), os.path.join(os.path.dirname(HERE), "tools")]
+import drawn_reports  # noqa: E402
+from support import TOP, built_program, content  # noqa: E402
+
+TOOL = os.path.join(TOP, "tools", "normalise.py")
+
+
+class Room:
+    """A folder to work in, and the program."""
+
+    def __init__(self, program, folder):
+        self.program, self.folder, self.faults = program, folder, []
+
+    def place(self, name, text=None):
+        path = os.path.join(self.folder, name)
+        if text is not None:
+            with open(path, "w", encoding="utf-8") as file:
+                file.write(text)
+        return path
+
+    def run(self, command, sheet, report):
+        done = subprocess.run([self.program, command, "--sheet", sheet, report], capture_output=True, timeout=60)
+        return done.returncode, done.stdout, done.stderr.decode()
+
+    def said(self, sheet, report):
+        """Returns all that the program says of a report."""
+        return [self.run(command, sheet, report) for command in ("check", "verdicts", "merge")]
+
+    def normalise(self, report, sheet, *options):
+        out = self.place("out.json")
+        words = [report, out, self.place("changes.jsonl"), "--sheet", sheet, "--program", self.program, *options]
+        done = subprocess.run([sys.executable, TOOL, *words], capture_output=True, timeout=60)
+        if done.returncode not in (0, 1):
+            self.faults.append(f"{report}: {done.stderr.decode()}")
+        return done.returncode, out
+
+
+def look_at_cases(room):
+    """Looks at the reports of cases.jsonl, and returns how many there are, are accepted, and were before."""
+    with open(os.path.join(HERE, "cases.jsonl"), encoding="utf-8") as file:
+        cases = [json.loads(line) for line in file]
+    accepted = before = 0
+    for case in cases:
+        report = os.path.join(HERE, f"{case['report']}.json")
+        sheet = os.path.join(os.path.dirname(report), "sheet.json")
+        status, out = room.normalise(report, sheet, *case["options"])
+        given, made = room.said(sheet, report), room.said(sheet, out)
+        accepted, before = accepted + (made[0][0] == 0), before + (given[0][0] == 0)
+        if (made[0][0] == 0) != case["accepted"]:
+            room.faults.append(f"{case['report']}: {made[0]}")
+        changes = content(room.place("changes.jsonl"))
+        respelled = any(json.loads(line)["rule"] == "set" for line in changes.splitlines())
+        if (content(out), changes) != tuple(content(f"{report[:-5]}{end}") for end in (".out.json", ".changes.jsonl")):
+            room.faults.append(f"{case['report']}: other text is written than stands beside it")
+        if status == 0 and given[0][0] == 0 and (given[0] != made[0] if respelled else given != made):
+            room.faults.append(f"{case['report']}: {given} became {made}")
+    return len(cases), accepted, before
+
+
+def look_at_drawn(room, count):
+    sheet = room.place("sheet.json", json.dumps(drawn_reports.SHEET))
+    for seed in range(count):
+        chance = random.Random(seed)
+        tidy = drawn_reports.tidy(chance)
+        wanted = room.said(sheet, room.place("tidy.json", tidy))
+        rough = room.place("rough.json", drawn_reports.roughened(chance, tidy))
+        for report in (room.place("tidy.json"), rough):
+            if wanted[0][0] or room.said(sheet, room.normalise(report, sheet)[1]) != wanted:
+                room.faults.append(f"seed {seed}: {wanted} is not what becomes of {os.path.basename(report)}")
+        untidy = room.place("untidy.json", drawn_reports.untidy(chance))
+        _, out = room.normalise(untidy, sheet, *drawn_reports.OPTIONS, "--drop-unreadable")
+        if room.run("check", sheet, out)[0]:
+            room.faults.append(f"seed {seed}: with all options it is refused: {room.run('check', sheet, out)}")
+
+
+def main():
+    parser = argparse.ArgumentParser(description=__doc__, formatter_class=argparse.RawDescriptionHelpFormatter)
+    parser.add_argument("PROGRAM", nargs="?")
+    parser.add_argument("DRAWN", nargs="?", type=int, default=200)
+    options = parser.parse_args()
+    program = built_program(options.PROGRAM)
+    with tempfile.TemporaryDirectory() as folder:
+        room = Room(program, folder)
+        try:
+            total, accepted, before = look_at_cases(room)
+            look_at_drawn(room, options.DRAWN)
+        except (OSError, ValueError, subprocess.SubprocessError) as fault:
+            print(f"tests/normalise/run: {fault}", file=sys.stderr)
+            return 2
+    print(f"tests/normalise/run: of {total} reports {before} are accepted as they are, and {accepted} normalised")
+    print(*(f"tests/normalise/run: {fault}" for fault in room.faults), sep="\n", end="\n" if room.faults else "")
+    return 1 if room.faults else 0
+
+
+if __name__ == "__main__":
+    sys.exit(main())

@@ -1,0 +1,217 @@
+#!/usr/bin/env python3
+"""Looks at the pages of tools/contradictions in headless Chromium. Not part of the gate.
+
+    [XBRLMERGE=PROGRAM] tests/page [PICTURE.png]
+
+On examples/ it runs the tool with the built program, and checks what the browser has of the page: each row that
+contradicts itself, and in light and in dark the ground, the values and the gaps of the number lines. PICTURE is the page in
+light, and is written if all is as it should be: docs/contradictions.png is made so.
+On 11,000 contradictions that it makes itself, the tool has to take at most 10 seconds of a processor and 300 MB. The browser
+has to show the first paint within 2 seconds, draw the page within 30 and hand out all of it within 60. An entry of the index
+has to open the rows of its concept, the filter has to find the rows with the words and no others, and on a narrow screen
+nothing may be wider than it.
+Status 0: all is as it should be, or no Chromium is installed, and a line says so. 1: it is not, and a line says what.
+2: the program is not built, or could not be run.
+"""
+import argparse
+import collections
+import os
+import re
+import resource
+import shutil
+import struct
+import subprocess
+import sys
+import tempfile
+import time
+import zlib
+
+from support import TOP, built_program
+
+TOOL = os.path.join(TOP, "tools", "contradictions.py")
+sys.path.insert(0, os.path.join(TOP, "tests", "tools"))  # has the maker of the large text
+import workload  # noqa: E402
+BROWSERS = ("chromium", "chromium-browser", "google-chrome", "chrome")
+SHEET, *REPORTS = (os.path.join(TOP, "examples", f"{name}.json") for name in ("sheet", "issuer", "ledgerline", "statfeed"))
+# of each look: the ground, a value of the pair, and the gap
+SECONDS, MEGABYTES, CONTRADICTIONS = 10, 300, 11_000
+PAINT = 2_000  # milliseconds until something is shown
+# how the browser tells when it first showed something
+PAINTED = """<body><script>new PerformanceObserver(list => list.getEntries().forEach(entry => console.log("painted", entry.startTime)))
+.observe({type: "paint", buffered: true})</script>"""
+# what the browser is asked for where its window is narrow: an entry of the index is followed and a word is put into the
+# filter, and widths are measured
+ASKED = """<script>
+const root = document.documentElement, answers = [];
+function measure() {
+  const seen = [...document.querySelectorAll("section.row")].filter(row => row.checkVisibility());
+  const wide = seen.filter(row => row.scrollWidth > row.clientWidth);
+  answers.push(document.querySelectorAll("details.group[open] section.row").length, seen.length, wide.length, root.scrollWidth > innerWidth);
+}
+document.querySelector('.index a[href^="#c"]').click();
+setTimeout(() => {
+  measure();
+  const field = document.querySelector(".filter input");
+  field.value = "Concept007 issuer";
+  field.dispatchEvent(new Event("input"));
+  setTimeout(() => {
+    measure();
+    root.dataset.told = [...answers, document.querySelector(".filter output").value].join("|");
+  }, 3000);
+}, 2000);
+</script></body>"""
+# who says the two values of a row that contradict each other, and by which identifiers
+OWN_NAMES = ("issuer f56", "statfeed TS08780")
+LOOKS = {"light": ("ffffff", "b3201f", "f3c9c5"), "dark": ("16181c", "ff8a80", "5c2b2b")}
+
+
+def run(words, seconds=120, wanted=0):
+    done = subprocess.run(words, capture_output=True, timeout=seconds)
+    if done.returncode != wanted:
+        raise OSError(f"{os.path.basename(words[0])} ended with {done.returncode}: {done.stderr.decode(errors='replace')[-300:]}")
+    return done.stdout
+
+
+def build(room):
+    """Makes the page, and returns its place with the numbers and the pairs of the rows that contradict themselves."""
+    page, lines, program = os.path.join(room, "example", "page.html"), os.path.join(room, "lines"), built_program()
+    run([sys.executable, TOOL, "--program", program, "--sheet", SHEET, "-o", os.path.dirname(page), *REPORTS], wanted=1)
+    with open(lines, "wb") as file:
+        file.write(run([program, "verdicts", "--sheet", SHEET, *REPORTS]))
+    with open(lines, encoding="utf-8") as file:
+        rows = [line.split() for line in file]
+    return page, {row[0]: row[5:] for row in rows if row[3] == "inconsistent"}
+
+
+def colours(picture):
+    """Returns how often each colour is in a PNG of 8 bits a channel, as Chromium writes it."""
+    at, data, seen = 8, b"", collections.Counter()
+    width, height, depth, kind = struct.unpack(">IIBB", picture[16:26])
+    channels = {2: 3, 6: 4}[kind if depth == 8 else None]
+    while at < len(picture):
+        length, name = struct.unpack(">I4s", picture[at : at + 8])
+        data += picture[at + 8 : at + 8 + length] if name == b"IDAT" else b""
+        at += 12 + length
+    data, stride = zlib.decompress(data), width * channels
+    above = bytearray(stride)
+    for start in range(0, height * (stride + 1), stride + 1):
+        filtered, line = data[start], bytearray(data[start + 1 : start + 1 + stride])
+        for i in range(stride if filtered else 0):
+            left, up = line[i - channels] if i >= channels else 0, above[i]
+            corner = above[i - channels] if i >= channels else 0
+            nearest = min((abs(up - corner), 0, left), (abs(left - corner), 1, up), (abs(left + up - 2 * corner), 2, corner))
+            line[i] = line[i] + (0, left, up, (left + up) // 2, nearest[2])[filtered] & 255
+        seen.update(line[i : i + 3].hex() for i in range(0, stride, channels))
+        above = line
+    return seen
+
+
+def look_at_example(words, room, kept):
+    """Returns what is wrong with the page of examples/, and keeps its picture where nothing is."""
+    page, rows = build(room)
+    content = run([*words, "--window-size=1100,1200", "--dump-dom", f"file://{page}"]).decode()
+    sections = {part.split('"')[0]: part for part in content.split(' id="row')[1:]}
+    faults = []
+    if not rows or set(sections) != set(rows):
+        faults.append(f"the page has the rows {sorted(sections)}, not {sorted(rows)}")
+    faults += [f"row {row} lacks {fact}" for row in rows for fact in rows[row] if f">{fact}<" not in sections.get(row, "")]
+    faults += [f"the page lacks {name}" for name in OWN_NAMES if name not in content]
+    for look, wanted in LOOKS.items():
+        picture = os.path.join(room, f"{look}.png")
+        setting = f"--blink-settings=preferredColorScheme={0 if look == 'dark' else 1}"
+        run([*words, "--window-size=1100,1350", setting, f"--screenshot={picture}", f"file://{page}"])
+        with open(picture, "rb") as file:
+            seen = colours(file.read())
+        faults += [f"{look} shows next to nothing in #{colour}" for colour in wanted if seen[colour] < 300]
+    if kept and not faults:
+        shutil.copyfile(os.path.join(room, "light.png"), kept)
+    return faults
+
+
+def timed(words, seconds):
+    start = time.monotonic()
+    return run(words, seconds), time.monotonic() - start
+
+
+def look_at_large(words, room):
+    """Returns what is wrong with the page of many contradictions, and a line of what was measured."""
+    workload.make(room, CONTRADICTIONS)
+    inputs = [os.path.join(room, name) for name in ("merged.json", "sheet.json", "verdicts.txt")]
+    page = os.path.join(room, "large", "page.html")
+    own = [f"{name}=" + os.path.join(room, f"{name}.json") for name in workload.PROVIDERS]
+    run([sys.executable, TOOL, "--from", *inputs, "-o", os.path.dirname(page), *own], wanted=1)
+    used = resource.getrusage(resource.RUSAGE_CHILDREN)  # of the only child until now
+    made, peak = used.ru_utime + used.ru_stime, used.ru_maxrss / 1024
+    _, drawn = timed([*words, "--window-size=1100,1200", f"--screenshot={room}/large.png", f"file://{page}"], 30)
+    painted = first_paint(words, page)
+    content, held = timed([*words, "--dump-dom", f"file://{page}"], 60)
+    rows = content.count(b'<section class="row ')
+    told = f"{rows} contradictions: made in {made:.1f} s of a processor and {peak:.0f} MB, {os.path.getsize(page) / 1e6:.1f} MB of page, "
+    faults = [f"the page has {rows} rows"] * (rows != CONTRADICTIONS)
+    faults += [f"the tool took {made:.1f} s and {peak:.0f} MB"] * (made > SECONDS or peak > MEGABYTES)
+    faults += [f"the first paint came after {painted:.0f} ms"] * (painted > PAINT)
+    return faults + ask(words, page), told + f"first paint after {painted:.0f} ms, drawn in {drawn:.1f} s, all of it handed out in {held:.1f} s"
+
+
+def changed(page, name, before, after):
+    """Writes the page with another part, and without its policy. Returns the place of that page, and its text."""
+    with open(page, encoding="utf-8") as file:
+        text = re.sub("<meta http-equiv=[^>]*>", "", file.read())
+    place = os.path.join(os.path.dirname(page), name)
+    with open(place, "w", encoding="utf-8") as file:
+        file.write(text.replace(before, after, 1))
+    return place, text
+
+
+def first_paint(words, page):
+    """Returns after how many milliseconds the browser shows something, the least of three."""
+    place, _ = changed(page, "painted.html", "<body>", PAINTED)
+    options = ["--window-size=1100,1200", "--enable-logging=stderr", f"--screenshot={place}.png", f"file://{place}"]
+    said = [subprocess.run([*words, *options], capture_output=True, timeout=120, check=True).stderr for _ in range(3)]
+    return min(float(found) for each in said for found in re.findall(rb'"painted ([\d.]+)"', each))
+
+
+def ask(words, page):
+    """Returns what is wrong on a narrow screen, with the index, and with what the filter finds."""
+    place, text = changed(page, "asked.html", "</body>", ASKED)
+    options = ["--window-size=500,900", "--virtual-time-budget=20000", "--dump-dom"]
+    content, _ = timed([*words, *options, f"file://{place}"], 120)
+    found = re.search(r'data-told="([^"]*)"', content.decode())
+    if not found:
+        return ["the browser did not tell what is on a narrow screen"]
+    opened, seen, wide, is_wide, _, left, wide_left, is_wide_left, told = found[1].split("|")
+    sections = re.findall('<section class="row .*?</section>', text, re.DOTALL)
+    wanted = sum("Concept007" in section and "issuer" in section for section in sections)
+    faults = [f"the filter says {told}, not {wanted}"] * (told.split(",")[0] != f"{wanted} of {len(sections)}")
+    faults += [f"the filter shows {left} rows"] * (int(left) != min(wanted, 100))
+    faults += [f"the index opens {opened} rows, and {seen} are shown"] * (int(opened) < 1 or int(seen) != 100 + int(opened))
+    faults += ["a narrow screen does not hold the page"] * ("true" in (is_wide, is_wide_left))
+    return faults + [f"{wide} and {wide_left} rows are too wide for it"] * (wide != "0" or wide_left != "0")
+
+
+def main():
+    parser = argparse.ArgumentParser(description=__doc__, formatter_class=argparse.RawDescriptionHelpFormatter)
+    parser.add_argument("PICTURE", nargs="?")
+    kept = parser.parse_args().PICTURE
+    browser = next(filter(None, map(shutil.which, BROWSERS)), None)
+    if not browser:
+        print("tests/page: no Chromium is installed, so nothing was looked at")
+        return 0
+    room = tempfile.mkdtemp()
+    try:
+        words = [browser, "--headless", "--hide-scrollbars", f"--user-data-dir={room}/profile"]
+        words += ["--no-sandbox"] * (os.geteuid() == 0)
+        faults, told = look_at_large(words, room)
+        print(f"tests/page: {told}")
+        faults += look_at_example(words, room, kept)
+    except (OSError, subprocess.SubprocessError, LookupError, struct.error, zlib.error) as fault:
+        print(f"tests/page: {fault}", file=sys.stderr)
+        return 2
+    finally:
+        shutil.rmtree(room, ignore_errors=True)  # the browser may still be writing
+    print(*(f"tests/page: {fault}" for fault in faults or ["the pages are as they should be"]), sep="\n")
+    return 1 if faults else 0
+
+
+if __name__ == "__main__":
+    sys.exit(main())

@@ -1,0 +1,98 @@
+#!/usr/bin/env python3
+"""Counts the words of each page, and follows its links:
+
+    tests/pages [PAGE ..]
+
+It prints the words of each page in BOUNDS beside its bound, or those of the pages that are named. Code blocks do not
+count, nor do comments and generated tables (from a comment that begins with `generated` to one that begins with `end`).
+Of docs/DOUBT.md and docs/FORMAT.md only the prose counts: no table, and no entry line, which names what to read in a file
+of `crates/`.
+
+The status is 1 if a page is missing or too long, or if a relative link of any page has no file or no such heading.
+"""
+import glob
+import os
+import re
+import sys
+
+from support import TOP, content
+
+PROSE = ("docs/DOUBT.md", "docs/FORMAT.md")
+# pages that share a bound have one entry
+BOUNDS = {
+    ("README.md",): 1200,
+    ("docs/GUIDE.md",): 4500,
+    ("docs/REFUSALS.md",): 1500,
+    ("docs/LIBRARY.md",): 1800,
+    PROSE: 1500,
+    ("docs/PROVED.md",): 3000,
+    ("docs/MAP.md",): 1200,
+    ("CONTRIBUTING.md",): 900,
+    ("docs/DECISIONS.md",): 2500,
+    ("docs/COSTS.md",): 700,
+    ("SECURITY.md",): 500,
+    ("CHANGELOG.md",): 900,
+}
+LINKING = ("*.md", "docs/*.md", "bench/results/*.md")
+GENERATED = re.compile(r"^<!-- generated.*?^<!-- end.*?-->$", re.MULTILINE | re.DOTALL)
+COMMENT = re.compile(r"<!--.*?-->", re.DOTALL)
+CODE_BLOCK = re.compile(r"^(```+|~~~+).*?^\1$", re.MULTILINE | re.DOTALL)
+CODE = re.compile(r"`[^`\n]+`")
+NO_PROSE = re.compile(r"^(?:\||- (?:`|\[[^\]]*\]\(\.\./)crates/).*$", re.MULTILINE)
+HEADING = re.compile(r"^#+ (.*)$", re.MULTILINE)
+LINK = re.compile(r"\]\(([^()\s]+)\)")
+ELSEWHERE = re.compile(r"[a-z]+:")
+
+
+def words(path):
+    """Returns how many words of a page count."""
+    text = content(path)
+    for left_out in (GENERATED, COMMENT, CODE_BLOCK, *([NO_PROSE] if path in PROSE else [])):
+        text = left_out.sub("", text)
+    return sum(any(it.isalnum() for it in word) for word in text.split())
+
+
+def anchors(path):
+    """Returns the names by which links reach the headings of a page."""
+    found, seen = set(), {}
+    for heading in HEADING.findall(CODE_BLOCK.sub("", content(path))):
+        shown = re.sub(r"\[([^\]]*)\]\([^)]*\)", r"\1", heading).lower()
+        name = re.sub(r"[^\w\- ]", "", shown).strip().replace(" ", "-")
+        found.add(f"{name}-{seen[name]}" if name in seen else name)
+        seen[name] = seen.get(name, 0) + 1
+    return found
+
+
+def broken_links(path):
+    """Returns the relative links of a page that lead nowhere."""
+    text, broken = CODE.sub("", CODE_BLOCK.sub("", content(path))), []
+    for link in (it for it in LINK.findall(text) if not ELSEWHERE.match(it)):
+        name, _, anchor = link.partition("#")
+        target = os.path.normpath(os.path.join(os.path.dirname(path), name)) if name else path
+        if not os.path.exists(os.path.join(TOP, target)):
+            broken.append(f"{path}: {link} has no file")
+        elif anchor and target.endswith(".md") and anchor not in anchors(target):
+            broken.append(f"{path}: {link} has no heading")
+    return broken
+
+
+def too_long(pages, bound):
+    """Prints the words of pages that share a bound, and returns what is wrong with them."""
+    missing = [it for it in pages if not os.path.isfile(os.path.join(TOP, it))]
+    count = sum(words(it) for it in pages if it not in missing)
+    names = " and ".join(pages)
+    print(f"{count:5} of {bound} words: {names}")
+    return [f"{it} is missing" for it in missing] + ([f"{names}: {count - bound} words too many"] if count > bound else [])
+
+
+def main(named):
+    wrong = [it for pages, bound in BOUNDS.items() if not named or set(pages) & set(named) for it in too_long(pages, bound)]
+    linking = named or sorted(os.path.relpath(it, TOP) for pattern in LINKING for it in glob.glob(os.path.join(TOP, pattern)))
+    wrong += [it for path in linking for it in broken_links(path)]
+    for it in wrong:
+        print(f"pages: {it}", file=sys.stderr)
+    return 1 if wrong else 0
+
+
+if __name__ == "__main__":
+    sys.exit(main(sys.argv[1:]))

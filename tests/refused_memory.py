@@ -1,0 +1,385 @@
+#!/usr/bin/env python3
+"""Refuses each request for memory of the tests, and of the program, in turn. Not part of the gate.
+
+    [JOBS=N] tests/refused_memory [CRATE | program ..]
+
+The tests of a crate are those that `rt test` left as crates/NAME/out/NAME_tests, the program is ./xbrlmerge, or where that
+is not there crates/xbrlmerge/out/xbrlmerge; with no words it takes all. Each test runs once with nothing refused, which
+tells how many requests it makes, and then once for each of them, and once more. A test is to pass, and to say on standard
+error whether a call was refused (`refused`) or what makes its input (`refused here`); a request of which it says nothing is
+passed over. The program, on command lines of every word, is to end in the one line `out of memory` with status 3 and with a
+front of its text, or in its whole answer where what was refused is its runtime's own, which asks again for less.
+JOBS runs stand side by side: as many as there are processors. Where one test makes more than 5,000 requests, each 7th is
+refused from 2,001 on, and fewer where it makes more than 50,000 or its runs are long; a line tells of each such test
+which were refused.
+Status 0: nothing failed and nothing was passed over. 1: something was. 2: tests are not built, or are older than the sources.
+"""
+import argparse
+import collections
+import itertools
+import json
+import multiprocessing
+import os
+import re
+import shutil
+import subprocess
+import sys
+import tempfile
+import time
+
+from support import BUILT, TOP, bytes_of, content
+
+PROGRAM = "program"
+JOBS = int(os.environ.get("JOBS", len(os.sched_getaffinity(0))))
+# a test of more requests than MANY has all up to ALL refused, and then each of number EVERY
+MANY, ALL, EVERY = 5000, 2000, 7
+# a test of more than MOST, as one that tries a device at each place of a text, has FEW refused, evenly over all of them; so
+# has one whose runs would take more than SECONDS of a processor, as many as that gives time for
+MOST, FEW, SECONDS = 50_000, 1000, 240
+# how many requests a process goes through at a time, and how many seconds a run may take
+SHARE, LIMIT = 40, 60
+# how many bytes a sink is given at a time, at least
+CHUNK = 1 << 16
+SHOWN = 20
+CALL, HERE, WHOLE, DEVICE, PASSED, FAILED = "refused calls", "refused here", "whole answers", "device first", "passed over", "failed"
+CLOCK, PROCESSOR = "seconds", "of a processor"
+COLUMNS = ("tests", "requests", "refused in turn", CALL, HERE, WHOLE, DEVICE, PASSED, FAILED, CLOCK, PROCESSOR)
+# in these tests a device fails too: a buffer that is refused room first hands on what waits, and the call ends in that fault;
+# or standard error is full, so that nobody hears what stopped the run
+DEVICE_FAILS_TOO = {
+    "oim_write tests::writers::a_writer_may_stop_about_a_chunk",
+    "oim_merge tests::sources::sources_are_written_up_to_a_place",
+    "oim_merge tests::writers::a_base_is_written_up_to_each_place",
+    "oim_merge tests::writers::a_bundle_of_a_number_is_merged_up_to_each_place",
+    "oim_merge tests::writers::a_bundle_of_numbers_is_merged_up_to_each_place",
+    "oim_merge tests::writers::a_number_is_merged_up_to_each_place",
+    "oim_merge tests::writers::a_verdict_is_written_up_to_each_place",
+    "oim_merge tests::writers::numbers_are_merged_up_to_each_place",
+    "xbrlmerge tests::files::files_are_read_and_answered",
+    "xbrlmerge tests::run::a_full_device_ends_the_run",
+    "xbrlmerge tests::run::an_output_that_failed_is_not_flushed",
+}
+# in these wrong words are searched for similar ones, which a refused request only cuts short
+SIMILAR_WORDS = {"xbrlmerge tests::words::other_words_are_usage", "xbrlmerge tests::words::usage_tells_what_is_wrong"}
+
+# a test, or the program on a command line; of the program it is known what it answers in whole, and whether its runtime
+# asks for less where it is refused room
+Subject = collections.namedtuple("Subject", "label command given whole asks_again")
+Ran = collections.namedtuple("Ran", "status out err came requests")
+# what a subject does where nothing is refused: its requests, the seconds of a run, and what is wrong with that
+Counted = collections.namedtuple("Counted", "requests seconds wrong")
+
+
+class NotBuilt(Exception):
+    """What is missing, or too old."""
+
+
+def crate_names():
+    """Returns the crates, each behind those that it stands on."""
+    return re.findall(r"^(\w+)[^:#\n]*:", content("crates.txt"), re.MULTILINE)
+
+
+def sources_of(crate):
+    return [os.path.join(folder, name) for folder, _, names in os.walk(f"{TOP}/crates/{crate}/src")
+            for name in names if name.endswith(".rt")]
+
+
+def has_tests(crate):
+    return any("#[test]" in content(it) for it in sources_of(crate))
+
+
+def is_older(built, crates):
+    """Returns whether it was built before a source of these crates was changed."""
+    sources = (it for crate in crates for it in sources_of(crate))
+    return os.path.getmtime(built) < max(map(os.path.getmtime, sources))
+
+
+def newest(places, crates):
+    """Returns the first of these files that is there; it has to be newer than the sources."""
+    found = [it for it in places if os.access(it, os.X_OK)]
+    if not found:
+        raise NotBuilt(f"there is no {places[0]}")
+    if is_older(found[0], crates):
+        raise NotBuilt(f"{found[0]} is older than its sources")
+    return found[0]
+
+
+def build_library(room):
+    library = f"{room}/refused_memory.so"
+    source = f"{TOP}/tests/refused_memory.c"
+    if shutil.which("cc") is None:
+        raise NotBuilt("there is no cc, which the library is built with")
+    subprocess.run(["cc", "-O2", "-shared", "-fPIC", "-o", library, source], check=True)
+    return library
+
+
+def run(library, subject, number):
+    """Runs it in a new folder, with this request refused; with 0 none is. Requests are None where the end was not told."""
+    with tempfile.TemporaryDirectory(prefix="refused-") as room:
+        os.makedirs(f"{room}/here/out")
+        around = {**os.environ, "LD_PRELOAD": library, "REFUSE": str(number), "REFUSE_TOLD": f"{room}/told"}
+        with open(subject.given, "rb") as given:
+            try:
+                done = subprocess.run(subject.command, cwd=f"{room}/here", env=around, stdin=given, capture_output=True,
+                                      timeout=LIMIT)
+                status, out, err = done.returncode, done.stdout, done.stderr
+            except subprocess.TimeoutExpired:
+                status, out, err = None, b"", b"it was stopped after %d seconds" % LIMIT
+        told = []
+        if os.path.exists(f"{room}/told"):
+            with open(f"{room}/told", encoding="ascii") as file:
+                told = file.read().split()
+    counted = told and told[-1].isdigit()
+    return Ran(status, out, err, "refused" in told, int(told[-1]) if counted else None)
+
+
+def ending_of_test(subject, ran):
+    if ran.status != 0:
+        return FAILED
+    said = set(re.findall(rb"^ *(refused(?: here)?)$", ran.out + b"\n" + ran.err, re.MULTILINE))
+    untold = DEVICE if subject.label in DEVICE_FAILS_TOO else WHOLE if subject.label in SIMILAR_WORDS else PASSED
+    return CALL if b"refused" in said else HERE if said else untold
+
+
+def ending_of_program(subject, ran):
+    whole = subject.whole
+    if (ran.status, ran.err) == (3, b"out of memory\n") and whole.out.startswith(ran.out):
+        return CALL
+    if (ran.status, ran.out, ran.err) == (whole.status, whole.out, whole.err):
+        return WHOLE if subject.asks_again else PASSED
+    return FAILED
+
+
+def ending(subject, ran):
+    """Returns how a refused request ended."""
+    if not ran.came or ran.requests is None:
+        return FAILED
+    return ending_of_program(subject, ran) if subject.whole else ending_of_test(subject, ran)
+
+
+def told_of(subject, ran):
+    """Returns in a few lines what a run ended in."""
+    said = ran.err if subject.whole else ran.out + b"\n" + ran.err
+    came = "" if ran.came else ", the request did not come"
+    ended = "" if ran.requests is not None else ", it did not end by itself"
+    lines = [it[:160] for it in said.decode(errors="replace").splitlines() if it.strip()]
+    return "\n        ".join([f"status {ran.status}{came}{ended}", *lines[-5:]])
+
+
+def fronts_of(subject, ran):
+    """Returns whether a text was begun before the refusal, and whether a chunk of it was. The tests tell the length that they
+    saw in the sink."""
+    told = [len(ran.out)] if subject.whole else [int(it) for it in re.findall(rb"^ *written (\d+)$", ran.err, re.MULTILINE)]
+    longest = max(told, default=0)
+    return ["fronts"] * (longest > 0) + ["long fronts"] * (longest >= CHUNK)
+
+
+def spent():
+    """Returns the seconds of a processor that this process and those that it waited for took so far."""
+    return sum(os.times()[:4])
+
+
+def refuse(task):
+    """Refuses these requests in turn. Returns what they ended in, counted, and a text for each that did not end as it should."""
+    library, subject, numbers = task
+    counts, wrong, before = collections.Counter(), [], spent()
+    for number in numbers:
+        ran = run(library, subject, number)
+        ends = ending(subject, ran)
+        counts.update(("refused in turn", ends))
+        counts.update(fronts_of(subject, ran) if ends == CALL else ())
+        if ends in (PASSED, FAILED):
+            wrong.append(f"{subject.label}, request {number}: {ends}: {told_of(subject, ran)}")
+    counts[PROCESSOR] = spent() - before
+    return counts, wrong
+
+
+def count_requests(task):
+    """Runs it with nothing refused, and again with the request behind its last one."""
+    library, subject = task
+    started = time.monotonic()
+    ran = run(library, subject, 0)
+    if ran.requests is None or (subject.whole is None and ran.status != 0):
+        return Counted(0, 0, [f"{subject.label}, with nothing refused: {told_of(subject, ran)}"])
+    behind = run(library, subject, ran.requests + 1)
+    seconds = (time.monotonic() - started) / 2
+    is_end = (behind.status, behind.came, behind.requests) == (ran.status, False, ran.requests)
+    wrong = [] if is_end else [f"{subject.label}: it made {ran.requests} requests, and then {behind.requests}"]
+    return Counted(ran.requests, seconds, wrong)
+
+
+def numbers_of(counted):
+    """Returns which requests are refused in turn, and in words which these are where they are not all."""
+    requests = counted.requests
+    if requests > MOST:
+        return spread(requests, FEW)
+    numbers, said = range(1, requests + 1), None
+    if requests > MANY:
+        numbers = [*range(1, ALL + 1), *range(ALL + 1, requests + 1, EVERY)]
+        said = f"of {requests:,} requests each {EVERY}th was refused from {ALL + 1:,} on"
+    room = int(SECONDS / max(counted.seconds, 0.001))
+    return spread(requests, max(room, 100)) if len(numbers) > max(room, 100) else (numbers, said)
+
+
+def spread(requests, many):
+    """Returns about so many numbers, evenly from the first request to the last."""
+    step = -(-requests // many)
+    return range(1, requests + 1, step), f"of {requests:,} requests each {step:,}th was refused from the first on"
+
+
+def shared_out(library, subject, numbers):
+    """Returns the tasks of a subject."""
+    numbers = iter(numbers)
+    return [(library, subject, part) for part in iter(lambda: list(itertools.islice(numbers, SHARE)), [])]
+
+
+def sweep(pool, library, subjects):
+    """Refuses the requests of each subject. Returns the row of the table, and what went wrong or is to be said."""
+    started = time.monotonic()
+    all_counted = pool.map(count_requests, [(library, subject) for subject in subjects], 1)
+    wrong = [line for counted in all_counted for line in counted.wrong]
+    row = collections.Counter({"tests": len(subjects), FAILED: len(wrong)})
+    tasks, thinned = [], []
+    for subject, counted in zip(subjects, all_counted):
+        numbers, said = numbers_of(counted)
+        tasks += shared_out(library, subject, numbers)
+        row["requests"] += counted.requests
+        thinned += [f"{subject.label}: {said}"] if said else []
+    for counts, lines in pool.imap_unordered(refuse, tasks):
+        row += counts
+        wrong += lines
+    row[CLOCK] = round(time.monotonic() - started)
+    return row, wrong, thinned
+
+
+def tests_of(crate):
+    built = newest([f"{TOP}/crates/{crate}/out/{crate}_tests"], [crate])
+    listed = subprocess.run([built, "--list"], capture_output=True, text=True, check=True).stdout
+    names = re.findall(r"^(.+): test$", listed, re.MULTILINE)
+    if not names:
+        raise NotBuilt(f"{built} lists no tests")
+    return [Subject(f"{crate} {name}", (built, name), os.devnull, None, False) for name in names]
+
+
+def long_report(room):
+    """Writes a sheet, and a report whose text goes to the device in several pieces."""
+    uri = "https://made.example/2024"
+    facts = {f"{number}": {"value": "Blue " * 600, "dimensions": {"concept": f"m:T{number % 8}", "m:Mill": f"{number}"}}
+             for number in range(48)}
+    info = {"documentType": "https://xbrl.org/2021/xbrl-json", "namespaces": {"m": uri}}
+    sheet = {"namespaces": {"m": uri}, "concepts": {f"m:T{number}": "text" for number in range(8)},
+             "dimensions": {"m:Mill": "typed"}}
+    for name, content in (("sheet", sheet), ("report", {"documentInfo": info, "facts": facts})):
+        with open(f"{room}/long_{name}.json", "w", encoding="utf-8") as file:
+            json.dump(content, file)
+
+
+def write_inputs(room):
+    """Writes what the examples lack: a bundle, sheets, reports and events that are refused, long reports, long schedules."""
+    examples = [f"{TOP}/examples/{name}.json" for name in ("sheet", "issuer", "oldharbour", "statfeed")]
+    lines = [bytes_of(name).strip(b"\n") for name in examples]
+    names = [os.fsencode(name) for name in examples[1:]]
+    contents = {"bundle": b"\n".join(lines), "names": b"\n".join(names), "ended": b"\0".join(names),
+                "bad_sheet": lines[0].replace(b'"text"', b'"words"', 1), "cut": lines[1][:-1],
+                "events": b"take 1 1\nsend 1\ntake 2 2\nreceive 2 1\njoin 1 2\nrestart 2\n", "bad_events": b"take 1 1\ntake 1\n",
+                "bad_numbers": b"take 1 1\nreceive 1 1\n"}
+    for name, content in contents.items():
+        with open(f"{room}/{name}", "wb") as file:
+            file.write(content)
+    long_report(room)
+
+
+# command lines: a word that begins with @ is a file of the examples, one with % a file that is made, and < is what comes in;
+# in those with ~ clap looks for a word that is like a wrong one: it collects the letters of both, and a list that is refused
+# room for all of them asks again for less
+LINES = """
+ < %bundle
+ < %bad_sheet
+merge --sheet @sheet.json
+merge --sheet @sheet.json @issuer.json @ledgerline.json
+merge --sheet @sheet.json @issuer.json @oldharbour.json @statfeed.json
+merge --sheet @sheet.json --allow consistent @issuer.json @ledgerline.json @statfeed.json
+merge --sheet %long_sheet.json %long_report.json
+merge --sheet %bad_sheet @issuer.json
+merge --sheet @sheet.json %cut %none
+verdicts --sheet @sheet.json @issuer.json @ledgerline.json @statfeed.json
+verdicts --sheet @sheet.json %cut @statfeed.json
+sources --sheet @sheet.json %cut @statfeed.json @issuer.json
+explain --sheet @sheet.json @oldharbour.json %cut @issuer.json
+explain --sheet %bad_sheet @issuer.json
+merge --sheet @sheet.json --quiet -o out/merged @issuer.json @statfeed.json
+verdicts --sheet @sheet.json --reports-from %names
+sources --sheet @sheet.json -0 --reports-from %ended
+check --sheet @sheet.json @ledgerline.json
+check --sheet @sheet.json @merged.json
+check --sheet @sheet.json @oldharbour.json
+replay --sheet @sheet.json --replicas 2 --events @offices/events.txt @issuer.json @ledgerline.json @statfeed.json
+replay --sheet @sheet.json --replicas 3 --events %events @oldharbour.json @statfeed.json
+replay --sheet %long_sheet.json --replicas 2 --events %events %long_report.json %long_report.json
+replay --sheet @sheet.json --replicas 1 --events %bad_events
+replay --sheet @sheet.json --replicas 1 --events %bad_numbers @issuer.json
+--help
+--version
+help replay
+merge --help
+verdicts -h
+check --sheet @sheet.json
+replay --replicas 65 --sheet s --events e
+~ merge --sheet s --allow some
+~ report
+"""
+
+
+def lines_of_program(library, room):
+    """Returns the program on command lines of every word, each with what it answers where nothing is refused."""
+    program = newest([f"{TOP}/{it}" for it in BUILT], crate_names())
+    write_inputs(room)
+    subjects = []
+    for line in LINES.strip("\n").splitlines():
+        words, _, given = line.lstrip("~").partition("<")
+        placed = [it.replace("@", f"{TOP}/examples/").replace("%", f"{room}/") for it in (*words.split(), given.strip())]
+        label = " ".join((PROGRAM, *line.lstrip("~").split()))
+        subject = Subject(label, (program, *placed[:-1]), placed[-1] or os.devnull, None, line.startswith("~"))
+        subjects.append(subject._replace(whole=run(library, subject, 0)))
+    return subjects
+
+
+def table(rows):
+    """Returns the rows as a table of Markdown."""
+    total = sum((row for _, row in rows), collections.Counter())
+    lines = [("", *COLUMNS), ("---",) * (len(COLUMNS) + 1)]
+    lines += [(name, *(f"{round(row[it]):,}" for it in COLUMNS)) for name, row in [*rows, ("all", total)]]
+    return "\n".join(f"| {' | '.join(line)} |" for line in lines)
+
+
+def main():
+    names = [*filter(has_tests, crate_names()), PROGRAM]
+    parser = argparse.ArgumentParser(description=__doc__, formatter_class=argparse.RawDescriptionHelpFormatter)
+    parser.add_argument("CRATE", nargs="*")
+    asked = parser.parse_args().CRATE or names
+    if not set(asked) <= set(names):
+        parser.error(f"these are there: {' '.join(names)}")
+    rows, said, failed = [], [], False
+    with tempfile.TemporaryDirectory(prefix="refused-") as room, multiprocessing.get_context("fork").Pool(JOBS) as pool:
+        try:
+            library = build_library(room)
+            subjects = {it: lines_of_program(library, room) if it == PROGRAM else tests_of(it) for it in asked}
+        except NotBuilt as missing:
+            print(f"tests/refused_memory: {missing} (`rt all test` and ./build make tests and program)", file=sys.stderr)
+            return 2
+        for name, found in subjects.items():
+            row, wrong, thinned = sweep(pool, library, found)
+            rows.append((name, row))
+            said += thinned
+            failed = failed or bool(wrong)
+            print(f"{name}: {row['refused in turn']:,} requests refused in {row[CLOCK]} seconds", *wrong[:SHOWN],
+                  *[f"and {len(wrong) - SHOWN} more"] * (len(wrong) > SHOWN), sep="\n    ", flush=True)
+            if row["fronts"]:
+                said.append(f"{name}: {row['fronts']:,} runs had written a front of their text, {row['long fronts']:,} at least "
+                            f"{CHUNK:,} bytes of it")
+    print(table(rows), *said, sep="\n")
+    return 1 if failed else 0
+
+
+if __name__ == "__main__":
+    sys.exit(main())

@@ -1,0 +1,85 @@
+#!/usr/bin/env python3
+"""Compares what two programs answer to the same drawn reports. Not part of the gate.
+
+    [CASES=20000] [SEED=1] [JOBS=N] tests/same_answers PROGRAM OTHER
+
+The reports are drawn and broken as in tests/malformed; one in four is long enough to be read in pieces. A hundred
+with a sheet go into one `merge`, for which both programs have to print the same bytes and the same lines, and end with the
+same status: so each refusal has the same reason and the same place.
+Status 0: all is so. 1: it is not: the seed and the batch are printed, and its files are kept. 2: there is no program.
+"""
+import argparse
+import collections
+import multiprocessing
+import os
+import random
+import shutil
+import subprocess
+import sys
+import tempfile
+import time
+
+os.environ.setdefault("CASES", "20000")
+import malformed  # noqa: E402  it reads CASES
+
+# so many reports go into one merge, which takes so many seconds at most
+BATCH, LIMIT = 100, 120
+
+
+def drawn(chance):
+    """Draws a report and breaks it, or leaves it in one case of ten."""
+    short = malformed.drawn_report(chance)
+    text = malformed.drawn_long(chance) if chance.random() < 0.05 else short
+    if chance.random() < 0.9:
+        text = malformed.broken(chance, text, short)
+    return text + b" " * malformed.IN_PIECES * (chance.random() < 0.2)
+
+
+def answer(program, names):
+    done = subprocess.run((program, "merge", "--sheet", "sheet", *names), capture_output=True, timeout=LIMIT)
+    return done.returncode, done.stdout, done.stderr
+
+
+def play(task):
+    """Plays a batch. Returns how its reports were answered, counted, and what is not the same."""
+    programs, number, count = task
+    chance = random.Random(f"{malformed.SEED} of {number}")
+    room = tempfile.mkdtemp(prefix="same-answers-")
+    os.chdir(room)
+    malformed.write("sheet", malformed.drawn_sheet(chance))
+    names = [f"report{place}" for place in range(count)]
+    for name in names:
+        malformed.write(name, drawn(chance))
+    one, other = (answer(program, names) for program in programs)
+    refused = one[2].count(b"\n")
+    counts = collections.Counter(refused=refused, accepted=count - refused, long=sum(os.path.getsize(it) >= malformed.IN_PIECES for it in names))
+    os.chdir("/")
+    if one == other and one[0] in (0, 1):
+        shutil.rmtree(room)
+        return counts, []
+    return counts, [f"SEED={malformed.SEED}, batch {number}, kept as {room}: status {one[0]} and {other[0]}, {one[2][:200]!r} and {other[2][:200]!r}"]
+
+
+def main():
+    parser = argparse.ArgumentParser(description=__doc__, formatter_class=argparse.RawDescriptionHelpFormatter)
+    parser.add_argument("PROGRAM")
+    parser.add_argument("OTHER")
+    given = parser.parse_args()
+    programs = [os.path.abspath(it) for it in (given.PROGRAM, given.OTHER)]
+    if not all(os.access(it, os.X_OK) for it in programs):
+        print("tests/same_answers: there is no such program", file=sys.stderr)
+        return 2
+    started, counts, wrong = time.monotonic(), collections.Counter(), []
+    tasks = [(programs, it // BATCH, min(BATCH, malformed.CASES - it)) for it in range(0, malformed.CASES, BATCH)]
+    with multiprocessing.get_context("fork").Pool(malformed.JOBS) as pool:
+        for found, told in pool.imap(play, tasks):
+            counts += found
+            wrong += told
+    print(*wrong[:20], sep="\n", end="\n" * bool(wrong))
+    print(f"tests/same_answers: {malformed.CASES} reports with SEED={malformed.SEED}, {len(wrong)} batches not answered alike, in "
+          f"{time.monotonic() - started:.0f} seconds: {counts['accepted']} accepted, {counts['refused']} refused, {counts['long']} long")
+    return 1 if wrong else 0
+
+
+if __name__ == "__main__":
+    sys.exit(main())

@@ -1,0 +1,32 @@
+"""What the scripts of tests/ share: the files of the repository, and the program."""
+import os
+import sys
+
+TOP = os.path.dirname(os.path.dirname(os.path.abspath(__file__)))
+BUILT = ("xbrlmerge", "crates/xbrlmerge/out/xbrlmerge")
+
+
+def content(path):
+    """Returns the text of a file. A path that is not absolute begins at the top of the repository."""
+    with open(os.path.join(TOP, path), encoding="utf-8") as file:
+        return file.read()
+
+
+def bytes_of(path):
+    """Returns the bytes of a file. A path that is not absolute begins at the working folder."""
+    with open(path, "rb") as file:
+        return file.read()
+
+
+def built_program(named=None):
+    """Returns the path of a program: the one that is named, or $XBRLMERGE, or else the one that was built.
+
+    If there is none, it ends the process with status 2.
+    """
+    given = named or os.environ.get("XBRLMERGE")
+    places = [given] if given else [os.path.join(TOP, place) for place in BUILT]
+    for place in places:
+        if os.path.isfile(place) and os.access(place, os.X_OK):
+            return os.path.abspath(place)
+    print(f"{os.path.relpath(sys.argv[0], TOP)}: there is no program; ./build makes it", file=sys.stderr)
+    sys.exit(2)

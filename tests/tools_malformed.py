@@ -1,0 +1,396 @@
+#!/usr/bin/env python3
+"""Runs the tools on packages, reports, sheets and lines that are drawn and then broken. Not part of the gate.
+
+    [CASES=5000] [SEED=1] [CASE=N] [JOBS=N] tests/tools_malformed
+
+make_sheet reads schemas, catalogs and sheets, contradictions reads label linkbases, merged texts, sheets and the lines of
+`verdicts` and `sources`, and normalise reads reports and sheets. One file of each case is broken, or the package that has
+it. Each run has to end within 10 seconds of a processor and 1 GB, with status 0, 1 or 3 and with lines that a terminal can
+print, and no exception that the tool does not expect. After 0 and 1 all outputs are whole, and what normalise wrote it leaves as it is; after 3 every
+output is as it was. The tools run in this process; of 20 cases one runs as a process too, which has to end alike.
+JOBS processes run side by side, as many as there are processors. CASE is the number of one case, which alone is run.
+Status 0: all is so. 1: it is not: the seed and the case are told, and the files are kept.
+"""
+import argparse
+import collections
+import csv
+import importlib
+import io
+import json
+import multiprocessing
+import os
+import random
+import re
+import resource
+import shutil
+import signal
+import subprocess
+import sys
+import tempfile
+import time
+import types
+import zipfile
+
+HERE = os.path.dirname(os.path.abspath(__file__))
+sys.path.insert(0, os.path.join(HERE, "tools"))
+import drawn_reports  # noqa: E402
+import in_process  # noqa: E402
+import lines_of_verdicts  # noqa: E402
+import malformed  # noqa: E402
+import process  # noqa: E402
+
+CASES, SEED, CASE, JOBS = malformed.CASES, malformed.SEED, malformed.CASE, malformed.JOBS
+TOOLS = {name: importlib.import_module(name) for name in ("make_sheet", "normalise", "contradictions")}
+AS_PROCESS, BATCH, SECONDS, PATIENCE, BYTES = 20, 25, 10, 300, 1 << 30
+BEFORE = b"of a run before"
+
+NAMESPACE = "http://made.example/2024"
+SCHEMA = """<xs:schema xmlns:xs="http://www.w3.org/2001/XMLSchema" xmlns:xbrli="http://www.xbrl.org/2003/instance"
+    xmlns:xbrldt="http://xbrl.org/2005/xbrldt" xmlns:m="{namespace}" targetNamespace="{namespace}">{parts}</xs:schema>"""
+ELEMENTS = (
+    '<xs:element name="{name}" id="m_{name}" type="xbrli:monetaryItemType" substitutionGroup="xbrli:item"/>',
+    '<xs:element name="{name}" type="m:{name}Type" substitutionGroup="xbrli:item"/><xs:complexType name="{name}Type">'
+    '<xs:simpleContent><xs:restriction base="xbrli:stringItemType"/></xs:simpleContent></xs:complexType>',
+    '<xs:element name="{name}" type="xbrli:stringItemType" substitutionGroup="m:{other}"/>',
+    '<xs:element name="{name}" abstract="true" substitutionGroup="xbrldt:dimensionItem" xbrldt:typedDomainRef="#d"/>',
+)
+REFERENCES = (
+    '<xs:import namespace="http://made.example/base" schemaLocation="base.xsd"/>',
+    '<xs:include schemaLocation="http://made.example/xbrl/part.xsd"/>',
+)
+CATALOG = """<catalog xmlns="urn:oasis:names:tc:entity:xmlns:xml:catalog"><rewriteURI
+    uriStartString="http://made.example/xbrl/" rewritePrefix="../"/></catalog>"""
+LINKBASE = """<link:linkbase xmlns:link="http://www.xbrl.org/2003/linkbase" xmlns:xlink="http://www.w3.org/1999/xlink">
+    <link:labelLink xlink:type="extended" xlink:role="http://www.xbrl.org/2003/role/link">{parts}</link:labelLink></link:linkbase>"""
+LABEL = """<link:loc xlink:type="locator" xlink:href="core.xsd#m_{name}" xlink:label="{name}"/>
+    <link:label xlink:type="resource" xlink:label="{name}_l" xml:lang="en">Label of &amp; {name}</link:label>
+    <link:labelArc xlink:type="arc" xlink:from="{name}" xlink:to="{name}_l"/>"""
+# what stands in for an attribute, a tag or a piece of text
+XML_PIECES = (b"", b"<", b">", b"/>", b"&lt;", b"&x;", b"<!DOCTYPE a>", b"<!--", b"]]>", b"<![CDATA[", b"xs:", b"m:", b"q:A", b"\x00",
+              b"\xff", b"\xef\xbb\xbf", b"../", b"/etc/passwd", b"file:///dev/zero", b"http://made.example/xbrl/", b"#", b"%00",
+              b"xbrli:item", b"xbrli:QNameItemType", b"xs:anyType", NAMESPACE.encode(), b"https://xbrl.org/2021", b"true")
+XML_RUNS = (b"<a>", b"<xs:element>", b'<xs:element name="a">', b" ", b"\n", b"A", b"&amp;", b"../", b'<xs:include schemaLocation="a"/>')
+LINES = (b"complete", b"consistent common 1 2", b"inconsistent apart f1 f2", b"f1", b"99", b'"a"', b'"\\ud800"', b"-1", b"NaN", b"1e999999")
+URIS = {"n1": NAMESPACE, "n2": "http://other.example", "n3": "HTTP://other.example"}
+SHEET = {"namespaces": URIS, "concepts": {"n1:A": "numeric", "n1:Q": "name", "n1:T": "text"}, "dimensions": {"n1:R": "explicit", "n1:S": "typed"}}
+NAMES = "Alpha Beta Gamma Delta Epsilon Zeta Eta Theta".split()
+
+
+class Fault(BaseException):
+    """What is not as it should be. No tool catches it."""
+
+
+def expect(holds, told):
+    if not holds:
+        raise Fault(told)
+
+
+def split_at_tags(chance, text, _):
+    """Puts a piece of XML in the place of an attribute's value, a name or a piece of text."""
+    return malformed.replaced(chance, text, rb'(?<=")[^"<>]*(?=")|(?<=[</ ])[\w:]+|(?<=>)[^<]*(?=<)', XML_PIECES)
+
+
+def overrun_by_tags(chance, text, _):
+    start, end = malformed.stretch(chance, text)
+    return text[:start] + chance.choice(XML_RUNS) * chance.choice((2, 200, 5_000, 30_000)) + text[end:]
+
+
+def reworded(chance, text, _):
+    return malformed.replaced(chance, text, rb"\S+", LINES)
+
+
+def dropped(chance, text, _):
+    """Leaves a member out."""
+    return malformed.replaced(chance, text, rb'"[\w:]+": ?(?:"[^"\\]*"|null|true|false|-?\d+)(?:, ?)?', (b"",))
+
+
+JSON_BREAKS = (*malformed.BREAKS, dropped, dropped, dropped)
+XML_BREAKS = (split_at_tags, split_at_tags, split_at_tags, overrun_by_tags, *malformed.BREAKS[:6])
+LINE_BREAKS = (reworded, reworded, malformed.reordered, malformed.renumbered, *malformed.BREAKS[:6], malformed.overrun)
+
+
+def broken(chance, text, other, breaks):
+    """Returns a text broken up to three times; now and then it stays whole."""
+    for _ in range(chance.choice((0, 1, 1, 1, 2, 3))):
+        text = chance.choice(breaks)(chance, text, other)
+    return text
+
+
+def drawn_schema(chance, namespace, suffix="", references=()):
+    names = chance.sample(NAMES, chance.randint(1, len(NAMES)))
+    parts = (chance.choice((*ELEMENTS, *references)).format(name=name + suffix, other=chance.choice(NAMES)) for name in names)
+    return SCHEMA.format(namespace=namespace, parts="".join(parts)).encode()
+
+
+def drawn_taxonomy(chance):
+    """Returns the files of a taxonomy by their paths."""
+    labels = "".join(LABEL.format(name=name) for name in chance.sample(NAMES, 2))
+    return {
+        "t/core.xsd": drawn_schema(chance, NAMESPACE, "", REFERENCES),
+        "t/base.xsd": drawn_schema(chance, "http://made.example/base"),
+        "part.xsd": drawn_schema(chance, NAMESPACE, "OfPart"),
+        "t/labels.xml": LINKBASE.format(parts=labels).encode(),
+        "META-INF/catalog.xml": CATALOG.encode(),
+        "META-INF/taxonomyPackage.xml": b"<a/>",
+    }
+
+
+def drawn_facts(chance):
+    """Returns the facts of a merged text: rows in order, each of one to four facts."""
+    facts = []
+    for concept in sorted(chance.sample("AQT", chance.randint(1, 3))):
+        for period in sorted(chance.sample(["2020-01-01T00:00:00", "2020-01-02T00:00:00", "2021-01-01T00:00:00/2022-01-01T00:00:00"], 2)):
+            dimensions = {"concept": f"n1:{concept}", "entity": chance.choice(("n2:e", "n3:e")), "period": period}
+            dimensions |= {"n1:R": "n1:North"} if chance.random() < 0.3 else {"n1:S": chance.choice((None, "s"))}
+            dimensions |= {"unit": "(n1:a*n2:b)/n1:c"} if concept == "A" and chance.random() < 0.5 else {}
+            facts += [{**of, "dimensions": dimensions} for of in drawn_values(chance, concept)]
+    return facts
+
+
+def drawn_values(chance, concept):
+    if concept == "A":
+        numbers = sorted(chance.sample(range(1, 100_000), chance.randint(1, 3)))
+        return [{"value": str(each), "decimals": chance.randint(-3, 0)} for each in numbers]
+    values = {"Q": ("n1:x", "n2:x"), "T": ("=a", "b\n", "c" * 200, "d\u202e<b>")}[concept]
+    return [{"value": each} for each in chance.sample(values, chance.randint(1, 2))]
+
+
+def drawn_text(chance):
+    """Returns a merged text, the lines of its verdicts and those of its sources."""
+    facts = drawn_facts(chance)
+    names = [f"f{rank:0{len(str(len(facts)))}}" for rank in range(1, len(facts) + 1)]
+    text = json.dumps({"documentInfo": {"namespaces": URIS}, "facts": dict(zip(names, facts))}, indent=chance.choice((None, None, 1)))
+    sources = "".join(f'{name} {chance.randint(1, 3)} "id {name}"\n' for name in names for _ in range(chance.randint(1, 2)))
+    return text.encode(), lines_of_verdicts.lines(text).encode(), sources.encode()
+
+
+class Room:
+    """A folder in which one case is run, and what its runs ended in."""
+
+    def __init__(self, case):
+        self.case, self.counts = case, collections.Counter()
+
+    def write(self, name, content):
+        if os.path.dirname(name):
+            os.makedirs(os.path.dirname(name), exist_ok=True)
+        with open(name, "wb") as file:
+            file.write(content)
+        return name
+
+    def run(self, tool, words, outputs):
+        """Runs a tool, and looks at all that holds of every run. Returns its status and what it wrote on standard output."""
+        for name in outputs[self.case % 3 :]:
+            self.write(name, BEFORE)
+        before = self.files()
+        status, told, out = within_bounds(lambda: in_process.run_whole(expecting(TOOLS[tool]), *words))
+        line = f"{tool} {' '.join(words)}: status {int(status)}, {told[:300]!r}"
+        expect(status in (0, 1, 3), line)
+        expect(all(re.fullmatch(rf"{tool}: .*", each) and each.isprintable() for each in told.split("\n")[:-1]), line)
+        expect("Traceback" not in told and "out of memory" not in told and (status != 3 or told.endswith("\n")), line)
+        after = self.files()
+        expect(after.keys() <= before.keys() | {*outputs}, f"{line}: it left {after.keys() - before.keys()}")
+        expect(status != 3 or after == before and not out, f"{line}: something is written")
+        expect(status == 3 or all(after.get(name, BEFORE) != BEFORE for name in outputs), f"{line}: something is not written")
+        if self.case % AS_PROCESS == 0:
+            self.run_process(tool, words, (int(status), told), before, after)
+        self.counts[f"{tool} {int(status)}"] += 1
+        return status, out
+
+    def run_process(self, tool, words, ended, before, after):
+        for name in after.keys() - before.keys():
+            os.unlink(name)
+        for name, content in before.items():
+            self.write(name, content)
+        run = [sys.executable, os.path.join(in_process.TOOLS, tool + ".py"), *words]
+        done = subprocess.run(run, capture_output=True, timeout=PATIENCE, env={**os.environ, "PYTHONUTF8": "1"})
+        expect((done.returncode, done.stderr.decode()) == ended, f"{tool} {' '.join(words)}: {ended}, but as a process {done}")
+        expect(self.files() == after, f"{tool} {' '.join(words)}: as a process it writes other files")
+
+    @staticmethod
+    def files():
+        paths = (os.path.join(at, name) for at, _, names in os.walk(".") for name in names)
+        return {os.path.relpath(path): open_bytes(path) for path in paths}
+
+
+def expecting(tool):
+    """Returns a tool that is wrong where it raises what it does not expect, though a process makes a line of it."""
+    def main():
+        try:
+            return tool.main()
+        except (process.NotDone, OSError, RecursionError):
+            raise
+        except Exception as fault:
+            raise Fault(f"{tool.__name__} raises {type(fault).__name__}: {fault}") from fault
+
+    return types.SimpleNamespace(__name__=tool.__name__, main=main)
+
+
+def open_bytes(path):
+    with open(path, "rb") as file:
+        return file.read()
+
+
+def within_bounds(run):
+    """Returns what a run returns, which may take so much of a processor and so long."""
+    def stop(number, _):
+        raise Fault(f"it has not ended after {SECONDS} seconds of a processor" if number == signal.SIGPROF else "it waits for ever")
+
+    for number, timer, seconds in ((signal.SIGPROF, signal.ITIMER_PROF, SECONDS), (signal.SIGALRM, signal.ITIMER_REAL, PATIENCE)):
+        signal.signal(number, stop)
+        signal.setitimer(timer, seconds)
+    try:
+        return run()
+    finally:
+        signal.setitimer(signal.ITIMER_PROF, 0)
+        signal.setitimer(signal.ITIMER_REAL, 0)
+
+
+def write_taxonomy(room, chance, kinds):
+    """Writes a taxonomy in which one file of these kinds is broken, or the package. Returns the word that names it."""
+    files = drawn_taxonomy(chance)
+    name = chance.choice([name for name in files if name.endswith(kinds)])
+    files[name] = broken(chance, files[name], files["t/base.xsd"], XML_BREAKS)
+    if chance.random() < 0.5:
+        for path, content in files.items():
+            room.write(os.path.join("taxonomy", path), content)
+        return chance.choice(("taxonomy", "taxonomy/t/core.xsd"))
+    packed = io.BytesIO()
+    with zipfile.ZipFile(packed, "w", chance.choice((zipfile.ZIP_STORED, zipfile.ZIP_DEFLATED))) as package:
+        for path, content in files.items():
+            package.writestr(path, content)
+    content = packed.getvalue()
+    is_whole = chance.random() < 0.6
+    return room.write("taxonomy.zip", content if is_whole else broken(chance, content, content, malformed.BREAKS[:6]))
+
+
+def of_taxonomy(room, chance):
+    """make_sheet on a taxonomy with a broken schema or catalog."""
+    status, out = room.run("make_sheet", [write_taxonomy(room, chance, (".xsd", "catalog.xml"))], [])
+    expect_sheet(status, out)
+
+
+def of_union(room, chance):
+    """make_sheet --union on a broken sheet and a good one."""
+    sheet = json.dumps({**SHEET, "xbrlmerge:sets": ["n1:T"]}).encode()
+    words = [room.write("broken", broken(chance, sheet, sheet, JSON_BREAKS)), room.write("good", sheet)]
+    status, out = room.run("make_sheet", ["--union", *chance.sample(words, 2)], [])
+    expect_sheet(status, out)
+
+
+def expect_sheet(status, out):
+    if status != 3:
+        expect(out.endswith(b"\n") and {"namespaces", "concepts", "dimensions"} <= json.loads(out).keys(), f"it is no sheet: {out[:200]!r}")
+
+
+def of_report(room, chance):
+    """normalise on a broken report, or with a broken sheet, and then on what it wrote."""
+    drawn = drawn_reports.untidy(chance).encode() if chance.random() < 0.7 else malformed.drawn_report(chance)
+    sheet = json.dumps(drawn_reports.SHEET).encode()
+    if chance.random() < 0.8:
+        drawn = broken(chance, drawn, sheet, JSON_BREAKS)
+    else:
+        sheet = broken(chance, sheet, drawn, JSON_BREAKS)
+    options = [word for word in drawn_reports.OPTIONS if chance.random() < 0.4]
+    words = ["--sheet", room.write("sheet", sheet), *options]
+    status, _ = room.run("normalise", [room.write("report", drawn), "out", "changes", *words], ["out", "changes"])
+    if status != 3:
+        changes = [json.loads(line) for line in open_bytes("changes").decode().split("\n")[:-1]]
+        expect(status == int(any(change["loss"] for change in changes)), f"status {status} with {changes}")
+        out = open_bytes("out")
+        expect(out.endswith(b"\n") and isinstance(json.loads(out), dict), f"it is no report: {out[:200]!r}")
+        room.case += 1
+        again, _ = room.run("normalise", ["out", "again", "more", *words], ["again", "more"])
+        expect((again, open_bytes("again"), open_bytes("more")) == (0, out, b""), "what it wrote is changed again")
+
+
+def of_text(room, chance):
+    """contradictions on a merged text, a sheet or lines, one of which is broken."""
+    text, verdicts, sources = drawn_text(chance)
+    files = {"merged": text, "sheet": json.dumps(SHEET).encode(), "verdicts": verdicts, "sources": sources}
+    name = chance.choice(sorted(files) + ["merged"])
+    breaks = JSON_BREAKS if name in ("merged", "sheet") else LINE_BREAKS
+    files[name] = broken(chance, files[name], text, breaks)
+    run_on_text(room, chance, files, [])
+
+
+def of_labels(room, chance):
+    """contradictions with a taxonomy whose linkbase or schema is broken."""
+    text, verdicts, sources = drawn_text(chance)
+    files = {"merged": text, "sheet": json.dumps(SHEET).encode(), "verdicts": verdicts, "sources": sources}
+    run_on_text(room, chance, files, ["--labels", write_taxonomy(room, chance, (".xml", "core.xsd"))])
+
+
+def run_on_text(room, chance, files, words):
+    for name, content in files.items():
+        room.write(name, content)
+    owned = ["A=merged", "B=merged"]
+    if chance.random() < 0.7:
+        words, owned = [*words, "--sources", "sources", "--names", "A,B,C"], []
+    near = ["near"] * chance.randint(0, 1)
+    words += ["--near", "near"] * len(near)
+    tables = [os.path.join("out", name) for name in ("contradictions.csv", "rows.csv")] + near
+    words = [*words, "-o", "out", "--from", "merged", "sheet", "verdicts", *owned]
+    status, _ = room.run("contradictions", words, [os.path.join("out", "page.html"), *tables])
+    if status != 3:
+        expect(open_bytes(os.path.join("out", "page.html")).endswith(b"</body></html>\n"), "the page is not whole")
+        lines = [whole_table(name) for name in tables]
+        expect(status == int(len(lines[0]) > 1), f"status {status} with a table of {len(lines[0])} lines")
+
+
+def whole_table(name):
+    """Returns the lines of a table, which have to have as many cells."""
+    text = open_bytes(name).decode("utf-8-sig")
+    lines = [*csv.reader(io.StringIO(text, newline=""))]
+    expect(text.endswith("\r\n") and len({len(line) for line in lines}) == 1, f"the table {name} is not whole")
+    return lines
+
+
+KINDS = {of_taxonomy: 3, of_union: 2, of_report: 6, of_text: 6, of_labels: 2}
+
+
+def play(case):
+    """Plays a case. Returns what it ended in, counted, and what is not as it should be, if anything."""
+    chance, room = random.Random(f"{SEED} {case}"), Room(case)
+    kind = chance.choices([*KINDS], [*KINDS.values()])[0]
+    with tempfile.TemporaryDirectory(prefix="tools-malformed-") as folder:
+        os.chdir(folder)
+        try:
+            kind(room, chance)
+        except (Fault, Exception) as fault:
+            place = os.path.join(tempfile.gettempdir(), f"tools-malformed-{SEED}-{case}")
+            shutil.rmtree(place, ignore_errors=True)
+            shutil.copytree(folder, place)
+            told = f"{type(fault).__name__}: {fault}\n    SEED={SEED} CASE={case} tests/tools_malformed; the files are kept in {place}"
+            return room.counts, [f"{kind.__name__}: {told}"]
+        finally:
+            os.chdir(HERE)
+    return room.counts, []
+
+
+def limit_memory():
+    resource.setrlimit(resource.RLIMIT_AS, (BYTES, BYTES))
+
+
+def is_tame(counts):
+    """Returns whether an ending is missing that thousands of cases have."""
+    return CASE < 0 and CASES >= 5000 and not all(counts[f"{tool} {status}"] for tool in TOOLS for status in (0, 1, 3))
+
+
+def main():
+    argparse.ArgumentParser(description=__doc__, formatter_class=argparse.RawDescriptionHelpFormatter).parse_args()
+    started, counts, wrong = time.monotonic(), collections.Counter(), []
+    with multiprocessing.get_context("fork").Pool(JOBS, limit_memory) as pool:
+        for found, told in pool.imap(play, range(CASES) if CASE < 0 else [CASE], BATCH):
+            counts += found
+            wrong += told
+    print(*wrong[:20], sep="\n", end="\n" * bool(wrong))
+    ends = ", ".join(f"{counts[it]} {it}" for it in sorted(counts))
+    print(f"tests/tools_malformed: {CASES if CASE < 0 else 1} cases with SEED={SEED}, {len(wrong)} not as they should be, in "
+          f"{time.monotonic() - started:.0f} seconds. By tool and status: {ends}")
+    if is_tame(counts):
+        print("tests/tools_malformed: the cases are too tame")
+    return 1 if wrong or is_tame(counts) else 0
+
+
+if __name__ == "__main__":
+    sys.exit(main())

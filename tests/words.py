@@ -1,0 +1,192 @@
+#!/usr/bin/env python3
+"""Compares the words and options that the program's help tells with the man page and the completions:
+
+    tests/words [PROGRAM]
+
+PROGRAM, if it is left out, is $XBRLMERGE or the one that was built.
+The status is 0 where both name all of them and none besides, else 1, and then a line for each word tells
+where it is missing, or is and should not be. Where there is no program, the status is 2.
+"""
+import os
+import re
+import shlex
+import subprocess
+import sys
+import tempfile
+
+from support import TOP, built_program, content
+
+MAN = "docs/xbrlmerge.1"
+COMPLETIONS = os.path.join(TOP, "share", "bash-completion", "completions", "xbrlmerge")
+ZSH, FISH = "share/zsh/site-functions/_xbrlmerge", "share/fish/vendor_completions.d/xbrlmerge.fish"
+OPTION = re.compile(r"(?<![\w-])--?[A-Za-z0][\w-]*")
+# `help` is a command that takes no options
+NO_OPTIONS = "help"
+FILE = "file"
+# the options that take one of a few words, with the name of these
+CHOSEN = {"--allow": "LEVEL", "--format": "FORMAT"}
+# answers what is completed behind some words: the last is the one that the cursor stands at
+ASK = 'source "$1"; shift; COMP_WORDS=("$@"); COMP_CWORD=$(($# - 1)); _xbrlmerge; printf "%s\\n" "${COMPREPLY[@]}"'
+
+
+def said(*words, folder=None):
+    return subprocess.run(words, capture_output=True, text=True, check=True, cwd=folder).stdout
+
+
+def part(text, title):
+    """Returns the lines below a title of a help, up to the next empty one."""
+    found = re.search(rf"^{title}:\n((?:  .*\n)+)", text, re.MULTILINE)
+    return found.group(1) if found else ""
+
+
+def told_by_help(program):
+    """Returns for the program (the empty name) and each command the words that its help tells."""
+    helps = {"": said(program, "--help")}
+    for command in re.findall(r"^  (\w+)", part(helps[""], "Commands"), re.MULTILINE):
+        helps[command] = said(program, *([command, "--help"] if command != NO_OPTIONS else [command, command]))
+    told = {}
+    for command, text in helps.items():
+        options = part(text, "Options")
+        heads = "\n".join(re.split(r"   *", line.strip())[0] for line in options.splitlines())
+        values = ", ".join(re.findall(r"\[possible values: ([^]]*)\]", options))
+        told[command] = {
+            "options": set(OPTION.findall(heads)),
+            "values": set(filter(None, values.split(", "))),
+            "names": set(re.findall(r"[<\[](\w+)[>\]]", part(text, "Arguments") + heads)),
+        }
+    told[""]["commands"] = set(helps) - {""}
+    return told
+
+
+def forms(text):
+    """Returns the forms of the lines of verdicts, of sources, of check and of events that a help, or the man page, tells."""
+    begins = r"^(?:  |\.\w+ )((?:ROW|FACT|accepted|take|join|send|receive|restart) +[A-Z].*)"
+    found = re.findall(begins, re.sub(r'\\f.|"', "", text), re.MULTILINE)
+    # what a form means may stand behind it, three spaces off
+    return {" ".join(it.partition("   ")[0].split()) for it in found}
+
+
+def section(title):
+    """Returns the lines of a section of the man page, with its hyphens as they are typed."""
+    found = re.search(rf"^\.SH {title}\n(.*?)^\.SH ", content(MAN), re.MULTILINE | re.DOTALL)
+    return found.group(1).replace("\\-", "-")
+
+
+def told_by_synopsis(told):
+    """Returns a line for each command that SYNOPSIS lacks, and for each command or option that is none."""
+    commands = set(re.findall(r"^\.B xbrlmerge (\w+)", section("SYNOPSIS"), re.MULTILINE))
+    options = set(OPTION.findall(section("SYNOPSIS")))
+    wrong = (commands ^ told[""]["commands"]) | (options - set().union(*(it["options"] for it in told.values())))
+    return [f"{it} is missing in the man page's SYNOPSIS, or should not be there" for it in sorted(wrong)]
+
+
+def told_by_man():
+    """Returns the same of the man page: of each part of COMMANDS what its tags name, a tag's font telling its kind."""
+    pieces = re.split(r"^\.SS (.*)\n", section("COMMANDS"), flags=re.MULTILINE)
+    told = {}
+    for title, text in zip(pieces[1::2], pieces[2::2]):
+        tags = "\n".join(re.findall(r"^\.TP\n\.\w+ (.*)", text, re.MULTILINE))
+        # what a text says of options counts too, so that none is named that is not there
+        told["" if " " in title else title] = {
+            "options": set(OPTION.findall(text)),
+            "values": set(re.findall(r"(?<![\w-])[a-z]+", tags)),
+            "names": set(re.findall(r"(?<![\w-])[A-Z]+\b", tags)),
+        }
+    told.setdefault("", {})["commands"] = set(told) - {""}
+    return told
+
+
+def told_by_completions():
+    """Returns the same of the completions. Files are completed by their names, which stand for the words for them."""
+    with tempfile.TemporaryDirectory() as room:
+        with open(os.path.join(room, FILE), "w", encoding="utf-8"):
+            pass
+
+        def completed(*words):
+            asked = said("bash", "-c", ASK, "bash", COMPLETIONS, "xbrlmerge", *words, folder=room)
+            return set(asked.split())
+
+        options = {it for it in completed("") if it[0] == "-"}
+        commands = completed("") - options
+        found = {"": {"options": options, "commands": commands}}
+        for command in commands:
+            options = completed(command, "-")
+            values = set().union(*(completed(command, option, "") for option in options)) - {FILE}
+            names = {"SHEET"} if completed(command, "--sheet", "") == {FILE} else set()
+            names |= {"REPORT"} if completed(command, "--sheet", FILE, "") == {FILE} else set()
+            names |= {"EVENTS"} if completed(command, "--events", "") == {FILE} and "--events" in options else set()
+            names |= {"N"} if "--replicas" in options and not completed(command, "--replicas", "") else set()
+            names |= {"FILE"} if "-o" in options and completed(command, "-o", "") == {FILE} else set()
+            names |= {name for option, name in CHOSEN.items() if option in options}
+            names |= {"COMMAND"} if completed(command, "") == commands else set()
+            found[command] = {"options": options, "values": values, "names": names}
+    return found
+
+
+def told_by_zsh():
+    """Returns the same of the completions for zsh, as its file spells them: zsh itself is not asked."""
+    text = content(ZSH)
+    begin, rest = text.split("common+=(", 1)
+    shared, rest = rest.split("    )\n", 1)
+    listed, rest = rest.split("    )\n", 1)
+    commands = set(re.search(r"commands:command:\(([^)]*)\)", begin).group(1).split())
+    common = re.search(r"^    common=.*", begin, re.MULTILINE).group(0)
+    top = re.search(r"options:option:\(([^)]*)\)", begin).group(1)
+    found = {"": {"options": set(top.split()), "commands": commands}}
+    for several, own in re.findall(r"^        ((?:\w+ \| )*\w+)\)(.*?);;", rest, re.MULTILINE | re.DOTALL):
+        told = (common + shared if "$common" in own else "") + (listed if "$list" in own else "") + own
+        told = re.sub(r"\[[^]]*\]", "", told)
+        values = set(re.findall(r"[a-z]+", "".join(re.findall(rf":(?:{'|'.join(CHOSEN.values())}):\(([^)]*)\)", told))))
+        for command in several.split(" | "):
+            found[command] = {"options": set(OPTION.findall(told)), "values": values,
+                              "names": set(re.findall(r":([A-Z]+):", told))}
+    return found
+
+
+def told_by_fish():
+    """Returns the options, values and commands of the completions for fish, as its file spells them."""
+    found = {}
+    for line in re.findall(r"^complete .*", content(FISH), re.MULTILINE):
+        given = shlex.split(line)
+        told = dict(zip(given, given[1:]))
+        behind = told["-n"].partition("__fish_seen_subcommand_from ")[2].split() or [""]
+        for command in behind:
+            place = found.setdefault(command, {"options": set(), "values": set()})
+            place["options"] |= {f"-{told['-s']}"} if "-s" in told else set()
+            place["options"] |= {f"--{told['-l']}"} if "-l" in told else set()
+            if "-a" in told:
+                place["commands" if "-l" not in told else "values"] = set(told["-a"].split())
+    # `help` completes commands, which are no words of its own
+    found["help"].pop("commands")
+    return found
+
+
+def differences(place, told, found):
+    """Returns a line for each word that only one of both names."""
+    lines = []
+    for command in sorted(set(told) | set(found)):
+        ours, theirs = told.get(command, {}), found.get(command, {})
+        where = f"xbrlmerge {command}".strip()
+        for kind in sorted(theirs):
+            lines += [f"{it} of {where} is missing in {place}" for it in sorted(ours.get(kind, set()) - theirs[kind])]
+            besides = theirs[kind] - ours.get(kind, set())
+            lines += [f"{it} is no word of {where}, but of {place}" for it in sorted(besides)]
+    return lines
+
+
+def main(words):
+    program = built_program(*words)
+    told = told_by_help(program)
+    lines = differences("the man page", told, told_by_man())
+    printed = forms("".join(said(program, command, "--help") for command in ("verdicts", "sources", "check", "replay")))
+    lines += differences("the man page", {"": {"lines": printed}}, {"": {"lines": forms(section("LINES"))}})
+    lines += told_by_synopsis(told)
+    lines += differences("the completions for bash", told, told_by_completions())
+    lines += differences("the completions for zsh", told, told_by_zsh())
+    lines += differences("the completions for fish", told, told_by_fish())
+    print("\n".join(lines) or "the man page and the completions name the words of the program, and no others")
+    return 1 if lines else 0
+
+
+if __name__ == "__main__":
+    sys.exit(main(sys.argv[1:]))

@@ -1,0 +1,172 @@
+#!/usr/bin/env python3
+"""Writes a page and tables of the contradictions between reports.
+
+    tools/contradictions --sheet SHEET -o DIR [options] [NAME=]REPORT ..
+    tools/contradictions --taxonomy PACKAGE -o DIR [options] [NAME=]REPORT ..
+    tools/contradictions --from MERGED SHEET VERDICTS -o DIR [options] [PROVIDER=TEXT ..]
+
+The first form runs `xbrlmerge` on the reports and writes these files into the folder DIR:
+
+    page.html           the contradictions, the largest differences first
+    contradictions.csv  their facts as a table
+    rows.csv            all rows, with how many providers report each ("1 of 3")
+    merged.json         the merged report
+
+Providers are named after their files: issuer.json is by "issuer". NAME=REPORT gives another name. If a provider made several
+reports, repeat its NAME. A refused report is listed, with what `xbrlmerge explain` prints for it, and the other reports are
+used. --taxonomy makes the sheet first and writes it as sheet.json; it may be repeated.
+
+--normalise applies the rules of tools/normalise to each report first, with the same options, and lists the changes in
+changes.csv.
+
+--near NEAR.csv writes a table of pairs of rows that differ in one dimension only, perhaps by mistake: the same name or
+identifier in another namespace or scheme, other letter case or white space, moments at most a day apart, another unit or
+language, or a dimension that one row lacks. Pairs are left out if one provider reports both rows. For each set of rows that
+differ in the same dimension, at most 1,000 pairs are compared.
+
+--from uses what `xbrlmerge merge` and `xbrlmerge verdicts` printed earlier. --sources uses what `xbrlmerge sources` printed,
+and --names lists the providers in the order of the reports. Instead of both, each PROVIDER=TEXT names the merged report of
+that provider's own reports.
+
+The page shows at most 80 characters of an identifier, a URI or a text; the tables contain all. In the tables, a ' precedes
+what a spreadsheet would read as a formula.
+
+Status 0: all reports were read without loss, and there is no contradiction. 1: the files are written, and there is something
+to look at: a contradiction, a refused report, a loss of --normalise or --taxonomy, or pairs that --near did not compare
+(0 with --exit-zero). 2: invalid arguments. 3: not done: an input cannot be read, the inputs do not belong together, or an
+output cannot be written. Then no output has changed.
+"""
+from __future__ import annotations
+
+import argparse
+import os
+import sys
+import tempfile
+
+sys.dont_write_bytecode = True
+from contradicting.inputs import Inputs, Run, counted, inputs_named, output_folder  # noqa: E402
+from contradicting.labels import read_labels  # noqa: E402
+from contradicting.near import Near  # noqa: E402
+from contradicting.page import page  # noqa: E402
+from contradicting.progress import Progress  # noqa: E402
+from contradicting.reports import reports_of  # noqa: E402
+from contradicting.rows import Reader  # noqa: E402
+from contradicting.tables import lines_of, listed_table, table  # noqa: E402
+from normalising.options import add_losses, loses  # noqa: E402
+from process import Status, print_lines, printable, run  # noqa: E402
+from program import add_program, program_at  # noqa: E402
+from whole_files import files_written  # noqa: E402
+
+
+def read_options() -> argparse.Namespace:
+    parser = argparse.ArgumentParser(description=__doc__, formatter_class=argparse.RawDescriptionHelpFormatter,
+                                     usage="%(prog)s (--sheet SHEET | --taxonomy PACKAGE | --from MERGED SHEET VERDICTS)"
+                                     " -o DIR [options] [[NAME=]REPORT ..]")
+    kind = parser.add_mutually_exclusive_group(required=True)
+    kind.add_argument("--sheet", help="the sheet of the reports")
+    kind.add_argument("--taxonomy", action="append", metavar="PACKAGE", help="make the sheet from this package, schema or folder")
+    kind.add_argument("--from", dest="texts", nargs=3, metavar=("MERGED", "SHEET", "VERDICTS"), help="use earlier output, and run nothing")
+    parser.add_argument("-o", "--output", required=True, metavar="DIR", help="the folder for the output; it is created if needed")
+    add_program(parser)
+    parser.add_argument("--normalise", action="store_true", help="normalise the reports first")
+    parser.add_argument("--labels", action="append", default=[], metavar="TAXONOMY",
+                        help="show the standard labels of this package or folder; may be repeated")
+    parser.add_argument("--language", default="en", help="the language of the labels, by default en")
+    parser.add_argument("--near", metavar="NEAR.csv", help="write a table of pairs of rows that are nearly alike")
+    parser.add_argument("--exit-zero", action="store_true", help="return 0 instead of 1")
+    parser.add_argument("--sources", metavar="SOURCES", help="with --from: what `sources` printed")
+    parser.add_argument("--names", metavar="NAME,..", help="with --sources: the providers, in the order of the reports")
+    parser.add_argument("words", nargs="*", metavar="[NAME=]REPORT", help="the reports")
+    add_losses(parser, "options of --normalise that lose something")
+    options = parser.parse_intermixed_args()
+    check(parser, options)
+    return options
+
+
+def check(parser: argparse.ArgumentParser, options: argparse.Namespace) -> None:
+    """Ends with the usage if options do not fit together."""
+    if options.texts:
+        if options.normalise or options.program:
+            parser.error("--from takes neither --normalise nor --program")
+        if bool(options.sources) != bool(options.names) or options.sources and options.words:
+            parser.error("--sources and --names belong together, and PROVIDER=TEXT does not go with them")
+        if options.names and not all(options.names.split(",")):
+            parser.error("a name is empty")
+    elif not options.words or options.sources or options.names:
+        parser.error("name the reports; --sources and --names go with --from alone")
+    if loses(options) and not options.normalise:
+        parser.error("options that lose something need --normalise")
+    try:
+        inputs = inputs_of(options)
+    except ValueError as fault:
+        parser.error(str(fault))
+    written, read = ([os.path.realpath(path) for path in paths] for paths in (outputs_of(options), inputs))
+    if len({*written}) < len(written) or {*written} & {*read}:
+        parser.error("an output is an input, or two outputs are one file")
+
+
+def outputs_of(options: argparse.Namespace) -> list[str]:
+    """Returns the files that are written."""
+    names = ["page.html", "contradictions.csv", "rows.csv", *["merged.json"] * (not options.texts)]
+    names += ["sheet.json"] * bool(options.taxonomy) + ["changes.csv"] * options.normalise
+    return [*(os.path.join(options.output, name) for name in names), *[options.near] * bool(options.near)]
+
+
+def inputs_of(options: argparse.Namespace) -> list[str]:
+    """Returns the files that are read. Errors: ValueError if a name or a report has two meanings."""
+    inputs = [*options.labels, *(options.taxonomy or []), *[options.sheet] * bool(options.sheet)]
+    if options.texts:
+        return [*inputs, *options.texts, *[options.sources] * bool(options.sources), *(word.partition("=")[2] for word in options.words)]
+    return [*inputs, *(report.path for report in reports_of(options.words))]
+
+
+def main() -> Status:
+    options = read_options()
+    with output_folder(options.output), Progress() as progress:
+        if options.texts:
+            status = write(inputs_named(options), options, progress)
+        else:
+            status = run_program(options, progress)
+    return status
+
+
+def run_program(options: argparse.Namespace, progress: Progress) -> Status:
+    """Writes what the program makes of the reports."""
+    program, reports = program_at(options.program), reports_of(options.words)
+    with tempfile.TemporaryDirectory(prefix=".new-", dir=os.path.abspath(options.output)) as folder:
+        return write(Run(program, options, reports, folder, progress).inputs(), options, progress)
+
+
+def write(inputs: Inputs, options: argparse.Namespace, progress: Progress) -> Status:
+    """Writes the page and the tables, and prints the summary."""
+    progress.show("reading the rows")
+    near = Near(inputs.sources.names) if options.near else None
+    reader = Reader(inputs.text, inputs.sheet, inputs.sources, near, [])
+    rows = reader.rows(inputs.verdicts)
+    labels = read_labels(options.labels, options.language)
+    files = [("page.html", page(rows, reader, labels, inputs.refusals)), ("contradictions.csv", lines_of(table(rows, labels, reader))),
+             ("rows.csv", lines_of(listed_table(reader.listed))), *inputs.files]
+    texts = [(os.path.join(options.output, name), pieces) for name, pieces in files]
+    if near:
+        texts.append((options.near, lines_of(near.table(near.pairs(), labels))))
+    progress.clear()
+    print_lines([*inputs.notes, *inputs.refusals.lines(), *(near.notes() if near else [])])
+    progress.show("writing")
+    refused = len(inputs.refusals.reports)
+    parts = [summary(reader), *[f"{counted(refused, 'report')} refused"] * bool(refused), *inputs.losses]
+    with files_written(texts):
+        progress.clear()
+        print("; ".join([*parts, f"page: {printable(os.path.join(options.output, 'page.html'))}"]), flush=True)
+    is_to_look_at = rows or refused or inputs.losses or near and near.cut
+    return Status.LOOK if is_to_look_at and not options.exit_zero else Status.DONE
+
+
+def summary(reader: Reader) -> str:
+    """Returns how many rows there are of each kind."""
+    of = reader.counts
+    rows = counted(of["inconsistent"] + of["consistent"] + of["complete"], "row")
+    return f"{rows}: {counted(of['inconsistent'], 'contradiction')}, {of['consistent']} consistent, {of['complete']} reported once"
+
+
+if __name__ == "__main__":
+    run(main)

@@ -1,0 +1,62 @@
+#!/usr/bin/env python3
+"""Makes a sheet from XBRL taxonomies.
+
+    tools/make_sheet FILE.xsd | PACKAGE.zip | FOLDER .. > sheet.json
+    tools/make_sheet --union SHEET .. > sheet.json
+
+A schema is read together with the schemas that it imports and includes. In a folder or package, every schema is read.
+Nothing is fetched: a schema that is imported by URL must be in a named folder or package whose META-INF/catalog.xml maps
+the URL to it. The schemas of the specifications, at xbrl.org and w3.org, are not needed: their item types are built in.
+
+Enumeration sets are listed as text, and in the member xbrlmerge:sets, which tools/normalise reads. Standard error lists
+what is left out: fractions, other texts that contain prefixes (which would not be expanded), and elements with an unknown
+type or substitution group.
+
+Files may come from untrusted sources. Only regular files are read, and only those in a named folder, in the folder of a
+named file, or in a package. The limits are:
+    64 MB for a file
+    100,000 files in a package, paths of 1,024 characters, and 100 times its size plus 64 MB when unpacked
+    1,000 levels in a document, which must not have a document type
+    1,000 different lengths of uriStartString in the catalogs
+    4 MB for schemas without a namespace, counted again for each further namespace that includes them
+--megabytes N replaces 64 with N, and 4 with N / 16.
+
+Status 0: done. 1: done, but something is left out. 2: invalid arguments. 3: not done; standard output contains no sheet,
+or a part of one. An input is missing or cannot be read, sheets give one name two kinds, or standard output or standard
+error is full.
+"""
+import argparse
+import sys
+
+sys.dont_write_bytecode = True
+from process import Status, print_lines, run  # noqa: E402
+from sheet_making.limits import Limits, reading  # noqa: E402
+from sheet_making.making import kinds_in  # noqa: E402
+from sheet_making.sheets import sheet_text, union  # noqa: E402
+
+
+def read_options() -> argparse.Namespace:
+    parser = argparse.ArgumentParser(description=__doc__, formatter_class=argparse.RawDescriptionHelpFormatter)
+    parser.add_argument("--union", action="store_true", help="make one sheet from several")
+    parser.add_argument("--megabytes", type=int, default=64, metavar="N", help="the largest file to read, by default 64")
+    parser.add_argument("--outside", action="store_true", help="follow references to files outside the named folders")
+    parser.add_argument("inputs", nargs="+", metavar="INPUT", help="a schema, a package, a folder; or a sheet")
+    options = parser.parse_args()
+    if options.megabytes < 1:
+        parser.error("--megabytes takes a number from 1")
+    return options
+
+
+def main() -> Status:
+    options = read_options()
+    limits = Limits(options.megabytes, options.outside)
+    kinds, lines = (union(options.inputs, limits), []) if options.union else kinds_in(options.inputs, limits)
+    print_lines(lines)
+    with reading("standard output"):
+        sys.stdout.buffer.write(sheet_text(kinds).encode())
+        sys.stdout.flush()
+    return Status.LOOK if lines else Status.DONE
+
+
+if __name__ == "__main__":
+    run(main)

@@ -1,0 +1,39 @@
+"""Expanded names of concepts, dimensions and XML elements."""
+from __future__ import annotations
+
+import re
+import sys
+from typing import Any, Mapping, NamedTuple, Optional
+
+from process import shortened
+
+SPACE = " \t\r\n"  # the white space of XML and xBRL-JSON; other characters of Unicode that look so are part of a name
+PART = re.compile(rf"[^{SPACE}:]+")
+NAME = re.compile(f"({PART.pattern}):({PART.pattern})")
+XBRL = "https://xbrl.org/2021"  # no concept and no dimension of a report is in this namespace
+
+Uris = Mapping[str, str]  # by prefix
+
+
+class Name(NamedTuple):
+    """A namespace and a local part. Equal namespaces are one object (`sys.intern`), so that comparing costs nothing."""
+
+    uri: str
+    local: str
+
+    def shown(self) -> str:
+        """Returns the name as lines show it."""
+        return f"{{{shortened(self.uri)}}}{shortened(self.local)}"
+
+
+def expanded(text: Any, uris: Uris) -> Optional[Name]:
+    """Returns an expanded name, None where the text is no name or its prefix is not bound."""
+    parts = NAME.fullmatch(text) if isinstance(text, str) else None
+    uri = parts and uris.get(parts[1])
+    return Name(uri, parts[2]) if parts and uri else None
+
+
+def uris_of(namespaces: Any) -> Uris:
+    """Returns the URIs of the prefixes that are bound to a text."""
+    pairs = namespaces.items() if isinstance(namespaces, dict) else ()
+    return {prefix: sys.intern(uri) for prefix, uri in pairs if type(uri) is str}

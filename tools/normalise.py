@@ -1,0 +1,75 @@
+#!/usr/bin/env python3
+"""Rewrites a report so that xbrlmerge can read it, and lists every change.
+
+    tools/normalise REPORT OUT CHANGES.jsonl [--sheet SHEET] [options]
+
+REPORT is an xBRL-JSON report. OUT is the new report, on one line. CHANGES.jsonl contains a line for each change: the fact,
+the JSON pointer, the old value (was), the new value (now; absent if the member was removed), the rule, and whether
+something was lost. Identifiers, URIs and texts are shortened to 80 characters. Without options, nothing is lost. Some
+rules need the kind of a concept or dimension, and act only if SHEET lists it. If a value cannot be brought into the
+profile, standard error says where and why. docs/GUIDE.md describes the rules.
+
+--drop-unreadable runs the program `xbrlmerge` of the same version, and drops the facts that it refuses.
+
+Status 0: nothing was lost. 1: something was lost. 2: invalid arguments. 3: not done, and nothing is written.
+"""
+from __future__ import annotations
+
+import argparse
+import contextlib
+import os
+import sys
+import tempfile
+from typing import Iterator, Optional
+
+sys.dont_write_bytecode = True
+from normalising.json_text import pieces_of, read_json_of_length  # noqa: E402
+from normalising.names import sheet_at  # noqa: E402
+from normalising.options import add_losses  # noqa: E402
+from normalising.rules import Normaliser  # noqa: E402
+from process import NotDone, Status, print_lines, run  # noqa: E402
+from program import Program, add_program, program_at  # noqa: E402
+from whole_files import write_files  # noqa: E402
+
+
+def read_options() -> argparse.Namespace:
+    parser = argparse.ArgumentParser(description=__doc__, formatter_class=argparse.RawDescriptionHelpFormatter)
+    for word in ("REPORT", "OUT", "CHANGES"):
+        parser.add_argument(word)
+    parser.add_argument("--sheet", help="the sheet with the kinds of concepts and dimensions")
+    add_program(parser)
+    add_losses(parser, "options that lose something")
+    options = parser.parse_args()
+    if (options.drop_unknown or options.drop_unreadable) and not options.sheet:
+        parser.error("--drop-unknown and --drop-unreadable need --sheet")
+    files = [options.REPORT, options.OUT, options.CHANGES, *([options.sheet] if options.sheet else [])]
+    if len({*map(os.path.realpath, files)}) < len(files):
+        parser.error("REPORT, OUT, CHANGES and SHEET are not all different files")
+    return options
+
+
+@contextlib.contextmanager
+def program_asked(options: argparse.Namespace) -> Iterator[Optional[Program]]:
+    """Yields the program, which has a folder beside OUT, or None where no option asks it."""
+    if not options.drop_unreadable:
+        yield None
+        return
+    with tempfile.TemporaryDirectory(prefix=".new-", dir=os.path.dirname(os.path.abspath(options.OUT))) as folder:
+        yield Program(program_at(options.program), options.sheet, folder)
+
+
+def main() -> Status:
+    options = read_options()
+    sheet, (tree, length) = sheet_at(options.sheet), read_json_of_length(options.REPORT)
+    try:
+        with program_asked(options) as program:
+            log = Normaliser(sheet, options, program).normalise(tree, length)
+    except NotDone as fault:
+        raise NotDone(f"{options.REPORT}: {fault}") from None
+    print_lines(log.left)
+    write_files([(options.OUT, [*pieces_of(tree), "\n"]), (options.CHANGES, log.lines)])
+    return Status.LOOK if log.is_lossy else Status.DONE
+
+
+if __name__ == "__main__":
+    run(main)

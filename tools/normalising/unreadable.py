@@ -1,0 +1,28 @@
+"""Asks `xbrlmerge` which facts of a report it refuses."""
+from __future__ import annotations
+
+from typing import NamedTuple
+
+from normalising.json_text import Tree, pieces_of
+from program import Program
+
+
+class Refused(NamedTuple):
+    """What the program refuses of a report."""
+
+    facts: dict[str, str]  # the number and the name of the first refusal of each fact, by identifier
+    lines: list[str]  # why it refuses the document
+
+
+def refused_in(tree: Tree, program: Program) -> Refused:
+    """Returns what the program refuses of a report. Errors: NotDone, OSError."""
+    with open(program.place("normalised"), "w", encoding="utf-8", newline="") as file:
+        file.writelines(pieces_of(tree))
+    refused = Refused({}, [])
+    for fault in program.faults("normalised"):
+        why = f"{fault['number']} {fault['name']}"
+        if fault["identifier"] is not None:
+            refused.facts.setdefault(fault["identifier"], why)
+        elif fault["place"] == "document":
+            refused.lines.append(f"the document is refused: {why}: {fault['sentence']}")
+    return refused

@@ -1,0 +1,76 @@
+"""Runs the commands of `xbrlmerge`."""
+from __future__ import annotations
+
+import argparse
+import json
+import os
+import re
+import shutil
+import subprocess  # nosec B404: it runs the program that the user names, without a shell
+from typing import Any, Iterable, Iterator, Optional, Sequence
+
+from process import NotDone
+
+NAME = "xbrlmerge"
+HERE = os.path.dirname(os.path.abspath(__file__))
+BESIDE = [os.path.join(folder, NAME) for folder in (os.path.dirname(HERE), HERE)]
+REFUSAL = re.compile(r"report ([1-9]\d{0,17}): (\d+ \w+ at .*)")
+
+
+def add_program(parser: argparse.ArgumentParser) -> None:
+    """Adds the option that names the program."""
+    parser.add_argument("--program", metavar="FILE", help="the program, by default ./xbrlmerge beside tools/, or the one on the PATH")
+
+
+def program_at(given: Optional[str]) -> str:
+    """Returns the path of the program: the one that is given, or one of those beside the tool, or the one on the PATH."""
+    places = [place for place in BESIDE if os.path.isfile(place) and os.access(place, os.X_OK)]
+    found = given or next(iter(places), None) or shutil.which(NAME)
+    if not found:
+        raise NotDone(f"{NAME} is neither beside this tool nor on the PATH: build it with ./build, or name it with --program")
+    return os.path.abspath(found) if os.sep in found else shutil.which(found) or found
+
+
+class Program:
+    """The program, a sheet, and a folder for what it prints."""
+
+    def __init__(self, path: str, sheet: str, folder: str) -> None:
+        self.path, self.sheet, self.folder = path, os.path.abspath(sheet), folder
+
+    def place(self, name: str) -> str:
+        return os.path.join(self.folder, name)
+
+    def run(self, command: str, words: Sequence[str]) -> tuple[int, list[str]]:
+        """Runs a command whose output goes into the file of that name. Returns its status and its other lines."""
+        with open(self.place(command), "wb") as out:
+            run = [self.path, command, "--sheet", self.sheet, *words]
+            done = subprocess.run(run, stdin=subprocess.DEVNULL, stdout=out, stderr=subprocess.PIPE, cwd=self.folder)  # nosec B603
+        return done.returncode, done.stderr.decode(errors="replace").splitlines()
+
+    def read_reports(self, command: str, paths: Iterable[str]) -> dict[int, str]:
+        """Runs a command on reports. Returns the refusals by the numbers of the reports, from 1. Errors: NotDone, OSError."""
+        with open(self.place("reports"), "wb") as file:
+            file.writelines(os.fsencode(os.path.abspath(path)) + b"\0" for path in paths)
+        status, lines = self.run(command, ["--reports-from", "reports", "--null"])
+        found = [REFUSAL.fullmatch(line) for line in lines]
+        refusals = {int(each[1]): each[2] for each in found if each}
+        if status not in (0, 1) or len(refusals) < len(lines) or bool(refusals) != bool(status):
+            raise NotDone(*self.reasons(command, status, lines))
+        return refusals
+
+    def reasons(self, command: str, status: int, lines: list[str]) -> list[str]:
+        """Returns why a command failed, for a sheet in the words of `explain`."""
+        if any(line.startswith("sheet: ") for line in lines):
+            lines = [line for line in self.run("explain", [])[1] if not line.startswith("sheet: ")] or lines
+        if any(line.startswith("device: ") for line in lines):
+            lines = [f"its output cannot be written, perhaps for lack of room on the disk ({line})" for line in lines]
+        ended = f"it ended by signal {-status}" if status < 0 else f"it ended with status {status}"
+        return [f"{os.path.basename(self.path)} {command}: {line}" for line in lines or [ended]]
+
+    def faults(self, path: str) -> Iterator[dict[str, Any]]:
+        """Yields the faults of a report, as `explain --format json` prints them. Errors: NotDone, OSError."""
+        status, lines = self.run("explain", ["--format", "json", "--", path])
+        if status not in (0, 1) or lines:
+            raise NotDone(*self.reasons("explain", status, lines))
+        with open(self.place("explain"), encoding="utf-8") as file:
+            yield from map(json.loads, file)
