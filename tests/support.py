@@ -28,5 +28,5 @@ def built_program(named=None):
     for place in places:
         if os.path.isfile(place) and os.access(place, os.X_OK):
             return os.path.abspath(place)
-    print(f"{os.path.relpath(sys.argv[0], TOP)}: there is no program; ./build makes it", file=sys.stderr)
+    print(f"{os.path.relpath(sys.argv[0], TOP).removesuffix('.py')}: there is no program; ./build makes it", file=sys.stderr)
     sys.exit(2)

@@ -59,7 +59,8 @@ from whole_files import files_written  # noqa: E402
 
 
 def read_options() -> argparse.Namespace:
-    parser = argparse.ArgumentParser(description=__doc__, formatter_class=argparse.RawDescriptionHelpFormatter,
+    parser = argparse.ArgumentParser(prog="contradictions", description=__doc__,
+                                     formatter_class=argparse.RawDescriptionHelpFormatter,
                                      usage="%(prog)s (--sheet SHEET | --taxonomy PACKAGE | --from MERGED SHEET VERDICTS)"
                                      " -o DIR [options] [[NAME=]REPORT ..]")
     kind = parser.add_mutually_exclusive_group(required=True)

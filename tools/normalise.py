@@ -33,7 +33,7 @@ from whole_files import write_files  # noqa: E402
 
 
 def read_options() -> argparse.Namespace:
-    parser = argparse.ArgumentParser(description=__doc__, formatter_class=argparse.RawDescriptionHelpFormatter)
+    parser = argparse.ArgumentParser(prog="normalise", description=__doc__, formatter_class=argparse.RawDescriptionHelpFormatter)
     for word in ("REPORT", "OUT", "CHANGES"):
         parser.add_argument(word)
     parser.add_argument("--sheet", help="the sheet with the kinds of concepts and dimensions")

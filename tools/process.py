@@ -148,7 +148,7 @@ def print_lines(lines: Iterable[str]) -> None:
     Print notes before the output is written: when standard error takes none of them, nothing is done.
     Errors: OSError.
     """
-    name = os.path.basename(sys.argv[0])
+    name = os.path.basename(sys.argv[0]).removesuffix(".py")
     for line in lines:
         print(f"{name}: {printable(line)}", file=sys.stderr)
     sys.stderr.flush()
