@@ -1,4 +1,4 @@
--- Nothing refuses a text exactly if it names something, and each refusal has its test.
+-- Nothing refuses a text exactly if it expands to a name, and each refusal has its test.
 use Rattle.std.proofs.Common.{◌≡◌, ◌≢◌, ◌↔◌, ℕ, List, Bool, true, false, refl, sym, ◌∙◌, ap}
 use Rattle.std.specs.Prelude.{Option, Some, None, is_none, IsTrue, not, ◌&&◌, if◌then◌else◌}
 use Rattle.std.specs.Option.{option_map_or}
@@ -10,30 +10,30 @@ use Rattle.oim_names.specs.declared.reason.Reason.{Reason}
 use Rattle.oim_names.specs.declared.reason.Reason.TheVariants.{NameForm, UnboundPrefix, ReservedNamespace}
 use Rattle.oim_names.proofs.Bytes.{other_bytes, bytes_not_eq}
 
--- the refusal, by its three tests: the form, that the prefix is not bound, that its URI is the reserved one
+-- the refusal in terms of three tests: the text has the form, the prefix is not bound, the URI is reserved
 abbrev pub by_tests : Bool → Bool → Bool → Option Reason
 by_tests form unbound reserved =
     if form then (if unbound then Some UnboundPrefix else (if reserved then Some ReservedNamespace else None)) else Some NameForm
 
--- it is none where all three have passed
+-- there is no refusal if all three tests have passed
 pub passed : (a b c : Bool) → by_tests a b c ≡ None → (a ≡ true) × (b ≡ false) × (c ≡ false)
 passed false b c h = absurd (cc)
 passed true true c h = absurd (cc)
 passed true false true h = absurd (cc)
 passed true false false h = (refl, refl, refl)
 
--- an option that is there, and whose value does not pass the test
+-- an option with a value that does not pass the test
 there : (u : Option (List ℕ)) → is_none u ≡ false → option_map_or (λ v. bytes_eq v reserved_uri) u false ≡ false → (v : List ℕ) × (u ≡ Some v) × (v ≢ reserved_uri)
 there None h k = absurd (cc)
 there (Some v) h k = (v, refl, other_bytes v reserved_uri k)
 
--- nothing refuses a text that names something
+-- nothing refuses a text that expands to a name
 pub named_kept : (has_form : List ℕ → Bool) (bs : List Binding) (t : List ℕ) (n : QName) → ExpandsAs has_form bs t n → refusal_as has_form bs t ≡ None
 named_kept has_form bs t n e =
     let differs : bytes_eq n.uri reserved_uri ≡ false = bytes_not_eq n.uri reserved_uri e.allowed in
     rw (e.form, e.uri, differs) refl
 
--- a text that nothing refuses names the URI of its prefix with its local part
+-- a text that nothing refuses expands to the URI of its prefix with its local part
 pub kept_named : (has_form : List ℕ → Bool) (bs : List Binding) (t : List ℕ) → refusal_as has_form bs t ≡ None → (n : QName) × ExpandsAs has_form bs t n
 kept_named has_form bs t none =
     let tests = passed (has_form t) (is_none (uri_of bs (prefix_part t))) (option_map_or (λ v. bytes_eq v reserved_uri) (uri_of bs (prefix_part t)) false) none in
@@ -47,13 +47,13 @@ same_name : (m n : QName) → m.uri ≡ n.uri → m.local_part ≡ n.local_part 
 same_name m n uri part =
     ap (λ u. record { uri = u; local_part = m.local_part }) uri ∙ ap (λ l. record { uri = n.uri; local_part = l }) part
 
--- the URI is the one that is bound, and the local part what follows the colon
+-- a text expands to one name only: both have the bound URI and the part after the colon
 pub names_one : (has_form : List ℕ → Bool) → NamesOne has_form
 names_one has_form bs t m n a b =
     let uris : Some m.uri ≡ Some n.uri = sym a.uri ∙ b.uri in
     same_name m n (cc) (a.local_part ∙ sym b.local_part)
 
--- each refusal, by the tests
+-- each refusal is returned exactly if its test holds
 form_first : (a b c : Bool) → (by_tests a b c ≡ Some NameForm) ↔ IsTrue (not a)
 form_first false b c = (λ h. refl, λ h. refl)
 form_first true true c = (λ h. absurd (cc), λ h. absurd (cc))

@@ -1,15 +1,15 @@
--- Where texts were put last, by their class (own).
+-- The index at which a text of each class was added last (own).
 use Rattle.std.specs.Prelude.{ℕ, List, length, ◌+◌, ◌-◌, ◌*◌, ◌%◌}
 use Rattle.std.specs.List.{slice_index_or}
 
--- the byte that is so many from a text's end, the first of a shorter text, 0 of the empty one
+-- the byte at a distance from a text's end; a shorter text gives its first byte, and an empty one 0
 abbrev pub byte_from_end : List ℕ → ℕ → ℕ
 byte_from_end t back = slice_index_or t (length t - back) 0
 
--- the class of a text, by its length and its last four bytes
+-- the class of a text depends on its length and its last four bytes
 unfoldable pub text_class : List ℕ → ℕ
 text_class t = (length t % 2048 + 31 * (byte_from_end t 1 + 31 * (byte_from_end t 2 + 31 * (byte_from_end t 3 + 31 * byte_from_end t 4)))) % 2048
 
--- the place of a text's class
+-- the index of a text's class
 abbrev pub place_in : List ℕ → List ℕ → ℕ
 place_in places t = slice_index_or places (text_class t) 0

@@ -16,11 +16,12 @@ use std::alloc::{AllocError, Global};
 use std::collections::BTreeMap;
 use std::marker::Model;
 
-/// The namespace of xBRL's own words, in which no fact has a name.
+/// The namespace of xBRL's own words. No name of a fact may lie in it.
 const RESERVED: &str = "https://xbrl.org/2021";
 
-/// Prefixes and their URIs. Contracts see the bindings in the order in which they were added. To
-/// add one, or to find the URI of a prefix, takes as many steps as the logarithm of their number.
+/// Prefixes and their URIs. Contracts see the bindings in the order in which they were added.
+/// Adding a binding and finding a URI take a number of steps that grows as the logarithm of the
+/// number of bindings.
 #[derive(Debug, Drop)]
 pub struct Aliases {
     bindings: Vec<Binding>,
@@ -40,7 +41,7 @@ impl Model for Aliases {
 }
 
 impl Aliases {
-    /// No bindings. Later calls take their memory from `alloc`.
+    /// Returns aliases without bindings. Later calls take their memory from `alloc`.
     pub fn new(alloc: Global) -> Aliases
         ensures { result ≡ [] }
     {
@@ -51,10 +52,10 @@ impl Aliases {
         }
     }
 
-    /// Binds the prefix to the URI. To bind it again to the same URI changes nothing.
+    /// Binds the prefix to the URI. Binding it to the same URI again changes nothing.
     ///
-    /// Errors: `Namespace` where the prefix is empty or has white space or a colon, where the URI is
-    /// empty, or where the prefix is bound to another URI (XML Namespaces 1.0, section 3; that a
+    /// Errors: `Namespace` if the prefix is empty or has white space or a colon, if the URI is
+    /// empty, or if the prefix is bound to another URI (XML Namespaces 1.0, section 3; that a
     /// binding may not change is this project's rule); `OutOfMemory`.
     pub fn add(&mut self, prefix: &str, uri: &str) -> Result<(), Reason>
         ensures ok { OnOk result (self.new ≡ bound self.old prefix.now uri.now) }
@@ -94,7 +95,7 @@ impl Aliases {
         Ok(())
     }
 
-    /// The URI that the prefix is bound to.
+    /// Returns the URI that the prefix is bound to.
     pub fn uri(&self, prefix: &str) -> Option<&str>
         ensures found { option_copied result ≡ uri_of self.now prefix.now }
         ensures filled { IfSome result (λ uri. uri.now ≢ []) }
@@ -102,8 +103,8 @@ impl Aliases {
         self.uri_text(prefix).map(|uri| uri.as_str())
     }
 
-    /// The same as a text, which a name can share. Most are where the prefix of their class is, which
-    /// is found in one step.
+    /// Returns the same URI as a `Text`, so that a name can share it. Most prefixes are the last of
+    /// their class in the cache, which takes one step.
     fn uri_text(&self, prefix: &str) -> Option<&Text>
         ensures found { option_copied result ≡ uri_of self.now prefix.now }
         ensures filled { IfSome result (λ uri. uri.now ≢ []) }
@@ -114,15 +115,15 @@ impl Aliases {
         }
     }
 
-    /// Does nothing. Its contract: each prefix has its form and is bound once, to a URI that is not
-    /// empty.
+    /// Does nothing. Its contract states that each prefix has its form and is bound once, and that
+    /// no URI is empty.
     pub fn known(&self)
         ensures { AreBindings self.now }
     {
         let _bindings = &self.bindings;
     }
 
-    /// The prefix that was bound to the URI first.
+    /// Returns the prefix that was bound to the URI first.
     pub fn prefix_of(&self, uri: &str) -> Option<&str>
         ensures { option_copied result ≡ prefix_of self.now uri.now }
     {
@@ -132,8 +133,8 @@ impl Aliases {
             .map(|binding| binding.prefix())
     }
 
-    /// Expands a prefixed name: a bound prefix, a colon and a local part
-    /// (XML Namespaces 1.0, section 4). It shares the URI of its prefix.
+    /// Expands a prefixed name: a bound prefix, a colon and a local part (XML Namespaces 1.0,
+    /// section 4). The name shares the URI of its prefix.
     ///
     /// Errors: what `name_refusal` returns; `OutOfMemory`.
     pub fn expand(&self, text: &str) -> Result<Name, Reason>
@@ -148,7 +149,7 @@ impl Aliases {
         Ok(named(*self.bindings.allocator(), uri, local)?)
     }
 
-    /// The URI and the local part of a prefixed name. It takes no memory.
+    /// Returns the URI and the local part of a prefixed name. It takes no memory.
     ///
     /// Errors: what `name_refusal` returns.
     pub fn resolve<'a>(&'a self, text: &'a str) -> Result<(&'a str, &'a str), Reason>
@@ -161,8 +162,8 @@ impl Aliases {
         Ok((uri.as_str(), local))
     }
 
-    /// Why the text is no name under these bindings, the first that holds: `NameForm`,
-    /// `UnboundPrefix`, `ReservedNamespace`. It is the test for `expand`, and takes no memory.
+    /// Returns why `expand` refuses the text under these bindings, or None. It tests in this order:
+    /// `NameForm`, `UnboundPrefix`, `ReservedNamespace`. It takes no memory.
     pub fn name_refusal(&self, text: &str) -> Option<Reason>
         ensures { result ≡ name_refusal self.now text.now }
     {
@@ -182,9 +183,9 @@ impl Aliases {
         Ok((self.naming_uri(prefix)?, local))
     }
 
-    /// Expands an entity's text: a bound prefix for the URI of its scheme, a colon and an
-    /// identifier, which may be any text but the empty one (xBRL-JSON 1.0, section 3.1.4). It shares
-    /// the URI of its prefix.
+    /// Expands an entity: a prefix bound to the URI of its scheme, a colon and an identifier, which
+    /// may be any text but the empty one (xBRL-JSON 1.0, section 3.1.4). The name shares the URI of
+    /// its prefix.
     ///
     /// Errors: what `entity_refusal` returns; `OutOfMemory`.
     pub fn expand_entity(&self, text: &str) -> Result<Name, Reason>
@@ -199,7 +200,7 @@ impl Aliases {
         Ok(named(*self.bindings.allocator(), uri, identifier)?)
     }
 
-    /// The scheme's URI and the identifier in an entity's text. It takes no memory.
+    /// Returns the scheme's URI and the identifier of an entity. It takes no memory.
     ///
     /// Errors: what `entity_refusal` returns.
     pub fn resolve_entity<'a>(&'a self, text: &'a str) -> Result<(&'a str, &'a str), Reason>
@@ -212,8 +213,8 @@ impl Aliases {
         Ok((uri.as_str(), identifier))
     }
 
-    /// Why the text is no entity under these bindings, the first that holds: `NameForm`,
-    /// `UnboundPrefix`, `ReservedNamespace`. It is the test for `expand_entity`, and takes no memory.
+    /// Returns why `expand_entity` refuses the text under these bindings, or None. It tests in this
+    /// order: `NameForm`, `UnboundPrefix`, `ReservedNamespace`. It takes no memory.
     pub fn entity_refusal(&self, text: &str) -> Option<Reason>
         ensures { result ≡ entity_refusal self.now text.now }
     {
@@ -233,7 +234,7 @@ impl Aliases {
         Ok((self.naming_uri(prefix)?, identifier))
     }
 
-    /// The URI that a name with this prefix has.
+    /// Returns the URI of the prefix, or why no name may have it.
     fn naming_uri(&self, prefix: &str) -> Result<&Text, Reason>
         ensures uri { IfOk result (λ uri. uri_of self.now prefix.now ≡ Some uri.now) }
         ensures filled { IfOk result (λ uri. uri.now ≢ []) }
@@ -247,7 +248,7 @@ impl Aliases {
         }
     }
 
-    /// The name as a text: the prefix, a colon and the local part, whether the prefix is bound or not.
+    /// Returns the prefix, a colon and the local part of the name. The prefix need not be bound.
     pub fn spell(&self, prefix: &str, name: &Name) -> Result<Text, AllocError>
         ensures text { IfOk result (λ text. text ≡ prefix.now ++ 58 ∷ name.now.local_part) }
         ensures back { uri_of self.now prefix.now ≡ Some name.now.uri →
@@ -272,7 +273,7 @@ fn joined(alloc: Global, prefix: &str, local: &str) -> Result<Text, AllocError>
     Text::from_string(alloc, text)
 }
 
-/// The name of the URI, which it shares, and of the local part.
+/// Returns a name that shares the URI and has a copy of the local part.
 fn named(alloc: Global, uri: &Text, local: &str) -> Result<Name, AllocError>
     ensures { IfOk result (λ name. name ≡ record { uri = uri.now; local_part = local.now }) }
 {

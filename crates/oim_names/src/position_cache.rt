@@ -3,12 +3,12 @@ ghost use Rattle.oim_names.specs.Places.{byte_from_end, place_in, text_class};
 
 use std::marker::Model;
 
-/// How many classes of texts there are.
+/// The number of classes of texts.
 const CLASSES: usize = 2048;
 
-/// Remembers, for each class of texts, the place where one was put last. The place is a hint: it may
-/// belong to another text of the class, or to none, so the caller compares what it finds there.
-/// Contracts see the places, one a class.
+/// Remembers, for each class of texts, the index at which one was added last. The index is a hint:
+/// it may belong to another text of the class, or to none, so the caller compares what it finds
+/// there. Contracts see one index for each class.
 #[derive(Clone, Copy, Debug)]
 pub struct PositionCache {
     places: [u16; CLASSES],
@@ -25,21 +25,21 @@ impl Model for PositionCache {
 }
 
 impl PositionCache {
-    /// Each class has the place 0.
+    /// Returns a cache in which each class has index 0.
     pub fn new() -> PositionCache {
         PositionCache {
             places: [0; CLASSES],
         }
     }
 
-    /// Where a text of this class was put last.
+    /// Returns the index at which a text of this class was added last.
     pub fn place(&self, text: &str) -> usize
         ensures { result ≡ place_in self.now text.now }
     {
         usize::from(self.places[class_of(text)])
     }
 
-    /// Remembers that the text was put at the place. A place above 65,535 is not remembered.
+    /// Remembers that the text was added at the index. An index above 65,535 is not remembered.
     pub fn set(&mut self, text: &str, place: usize)
         ensures { place ≤ 65535 → place_in self.new text.now ≡ place }
     {
@@ -49,7 +49,7 @@ impl PositionCache {
     }
 }
 
-/// The class of a text, by its length and its last four bytes.
+/// Returns the class of a text, which depends on its length and its last four bytes.
 #[tactic(auto, unfolding(crate::specs::Places::text_class))]
 fn class_of(text: &str) -> usize
     ensures is { result ≡ text_class text.now }
@@ -60,7 +60,8 @@ fn class_of(text: &str) -> usize
     (text.len() % CLASSES + 31 * four) % CLASSES
 }
 
-/// The byte that is so many from the end, the first of a shorter text, 0 of the empty one.
+/// Returns the byte at this distance from the end. A shorter text gives its first byte, and an
+/// empty one 0.
 fn byte_from_end(text: &str, back: usize) -> usize
     ensures is { result ≡ byte_from_end text.now back }
     ensures bounded { result < 256 }

@@ -6,8 +6,8 @@ use std::cmp::Ordering;
 use std::marker::Model;
 use std::rc::Rc;
 
-/// A text, whose copies share its bytes. Contracts see the bytes, which are always UTF-8; equality and
-/// order go by them.
+/// A text whose copies share its bytes. Contracts see the bytes, which are always UTF-8. Equality
+/// and order compare the bytes.
 #[derive(Debug, Drop)]
 pub struct Text {
     text: Rc<String>,
@@ -24,24 +24,24 @@ impl Model for Text {
 }
 
 impl Text {
-    /// A text with these bytes, where there is memory.
+    /// Returns a text with these bytes.
     pub fn new(alloc: Global, text: &str) -> Result<Text, AllocError>
         ensures { IfOk result (λ made. made ≡ text.now) }
     {
         Text::from_string(alloc, String::from_str(alloc, text)?)
     }
 
-    /// The text of a string, whose bytes are not copied.
+    /// Returns a text that takes over the bytes of a string without a copy.
     pub fn from_string(alloc: Global, text: String) -> Result<Text, AllocError>
         ensures { IfOk result (λ made. made ≡ string_bytes text) }
     {
-        // That the bytes are UTF-8 is known of what `as_str` gives.
+        // The contract of `as_str` states that the bytes are UTF-8.
         let _utf8 = text.as_str();
         let text = Rc::new(alloc, text)?;
         Ok(Text { text })
     }
 
-    /// The bytes as a text.
+    /// Returns the text as a string slice.
     pub fn as_str(&self) -> &str
         ensures bytes { result.now ≡ self.now }
         ensures utf8 { IsUtf8 self.now }

@@ -11,7 +11,7 @@ fn a_class_has_the_place_that_was_put_last(rt: HostRuntime) -> Result<(), Fail> 
     Ok(())
 }
 
-// These are of one class: they are as long, and end in the same four bytes.
+// These prefixes are in one class: they have the same length and the same last four bytes.
 #[test]
 fn prefixes_of_one_class_keep_their_uris(rt: HostRuntime) -> Result<(), Fail> {
     let mut aliases = Aliases::new(rt.alloc());

@@ -1,11 +1,11 @@
-// Calls whose request for memory may be refused: what they were called on shows what it showed.
+// The aliases are unchanged after a call whose request for memory was refused.
 
 use super::{copied, tell_refused, text};
 use crate::{Aliases, Reason, Text};
 use std::alloc::AllocError;
 use std::test::Fail;
 
-// More than a list has room for at first.
+// More bindings than a list has space for at first.
 const BINDINGS: [(&str, &str); 6] = [
     ("eg", "http://example.org/t"),
     ("x", "http://example.org/u"),
@@ -15,7 +15,7 @@ const BINDINGS: [(&str, &str); 6] = [
     ("b-2024", "http://example.org/b"),
 ];
 
-// Whether exactly the first bindings are there, so many of them.
+// Returns whether the aliases contain exactly the first `many` bindings.
 fn has_first(aliases: &Aliases, many: usize) -> bool {
     for (place, (prefix, uri)) in BINDINGS.iter().enumerate() {
         let is_bound = aliases.uri(prefix) == Some(*uri) && aliases.prefix_of(uri) == Some(*prefix);
@@ -27,7 +27,7 @@ fn has_first(aliases: &Aliases, many: usize) -> bool {
     true
 }
 
-// Binds a prefix where the first are bound, so many of them.
+// Binds one more prefix to aliases that contain the first `many` bindings.
 fn binds(rt: &HostRuntime, aliases: &mut Aliases, row: &(&str, &str), many: usize) -> bool {
     match aliases.add(row.0, row.1) {
         Err(Reason::OutOfMemory) if has_first(aliases, many) => {
