@@ -1,4 +1,4 @@
--- What `decimal` writes of numbers of up to 64 digits.
+-- What `decimal` writes for numbers of at most 64 digits.
 use Rattle.std.proofs.Common.{◌≡◌, ℕ, ◌+◌, ◌*◌, ◌/◌, ◌%◌, ◌^◌, ◌<◌, true, List, [], ◌∷◌, ◌++◌, length, get_or, append_assoc, length-append, sym, ap, ◌∙◌, arith}
 use Rattle.std.proofs.Math.ListN.{get_or-append}
 use Rattle.std.proofs.lemmas.List.{append-nil}
@@ -9,7 +9,7 @@ use Rattle.std.specs.Fmt.{decimal}
 use Rattle.std.specs.Str.Parse.{digits_value_after}
 use Rattle.oim_value.proofs.Numerals.{after_grows, both_true, digit_is, digit_small}
 
--- a digit at least, and no leading zero but a lone one
+-- `decimal` writes at least one digit, and no leading zero unless the number is 0
 lead : (n : ℕ) → n < 10 ^ 64 → (0 < length (decimal n)) × (0 < n → 48 < get_or (decimal n) 0 0)
 lead n small =
     decimal_by_steps_wide (λ m ds. (0 < length ds) × (0 < m → 48 < get_or ds 0 0))
@@ -23,7 +23,7 @@ decimal_some n small = (lead n small).0
 pub decimal_first : (n : ℕ) → 0 < n → n < 10 ^ 64 → 48 < get_or (decimal n) 0 0
 decimal_first n some small = (lead n small).1 some
 
--- further digits follow those of the number so far
+-- further digits follow the digits of the number so far
 decimal_after : (n : ℕ) (ds : List ℕ) → 0 < n → list_all is_ascii_digit ds ≡ true → digits_value_after 10 n ds < 10 ^ 64 → decimal (digits_value_after 10 n ds) ≡ decimal n ++ ds
 decimal_after n [] some e small = sym (append-nil (decimal n))
 decimal_after n (c ∷ cs) some e small =
@@ -35,7 +35,7 @@ decimal_after n (c ∷ cs) some e small =
     ∙ ap (λ ds. ds ++ cs) (decimal_step_wide m (omega arith) (omega (arith, after_grows m cs)) ∙ (λ i. decimal (front i) ++ (last i ∷ [])))
     ∙ append_assoc (decimal n) (c ∷ []) cs
 
--- digits without a leading zero but a lone one are what is written of their number
+-- `decimal` writes the digits of a numeral that has no leading zero or is a single zero
 pub decimal_of_digits : (ds : List ℕ) → list_all is_ascii_digit ds ≡ true → 0 < length ds → (get_or ds 0 0 ≡ 48 → length ds ≡ 1) → digits_value_after 10 0 ds < 10 ^ 64 → decimal (digits_value_after 10 0 ds) ≡ ds
 decimal_of_digits [] e some lone small = absurd (omega arith)
 decimal_of_digits (c ∷ []) e some lone small =

@@ -1,4 +1,4 @@
--- A text denotes one number of units.
+-- A text denotes only one number of units.
 use Rattle.std.proofs.Common.{◌≡◌, ℕ, zero, suc, ◌+◌, ◌-◌, ◌*◌, ◌/◌, ◌^◌, ◌<◌, ◌≤◌, List, ◌++◌, length, Bool, true, false, refl, sym, ap, subst, ◌∙◌, Some, None, arith}
 use Rattle.std.specs.Prelude.{not, if◌then◌else◌, ℤ, pos, negsuc, ◌*ℤ◌, unsigned_abs, IsTrue}
 use Rattle.std.proofs.lemmas.Bool.Decides.{nat_tests}
@@ -27,7 +27,7 @@ no_positive zero n some e = omega arith
 no_positive (suc x) zero some e = cc
 no_positive (suc x) (suc n) some e = cc
 
--- a number that a product has on the right is what the quotient gives
+-- if a product has a number on the right, the quotient is that number
 quotient : (b : Bool) (z : ℤ) (p n : ℕ) → 0 < p → z *ℤ pos p ≡ signed b n → z ≡ signed b (n / p)
 quotient b z p n some e =
     let size : unsigned_abs z * p ≡ n = sym (magnitude z p) ∙ ap unsigned_abs e ∙ unsigned_abs-signed b n in

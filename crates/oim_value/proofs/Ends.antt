@@ -1,4 +1,4 @@
--- Where several intervals end.
+-- The ends of several intervals.
 use Rattle.std.proofs.Common.{◌≡◌, ℕ, zero, suc, ◌<◌, Bool, true, false, cond, List, [], ◌∷◌, length, get_or, refl, sym, ap, subst, ◌∙◌, arith, inl, inr}
 use mathlib.Core.Bool.{true≢false}
 use Rattle.std.specs.Prelude.{◌⊎◌, ℤ, ◌≤ℤ◌, int_le, int_lt, ◌&&◌}
@@ -32,7 +32,7 @@ le_from x y h = grind (arith, ints)
 le_to : (x y : ℤ) → x ≤ℤ y → int_le x y ≡ true
 le_to x y h = grind (arith, ints)
 
--- the low end at one place is at most the high end at another
+-- the low end at one index is at most the high end at another
 crossed : (is : List Interval) (d : Interval) → All HasPoints is → EachTwoMeet is → (i j : ℕ) → i < length is → j < length is → (get_or is i d).low ≤ℤ (get_or is j d).high
 crossed is d points meet i j li lj = elim (cases_lt i j) [
   | inl under ↦ le_from _ _ (first_true (int_le (get_or is i d).low (get_or is j d).high) (int_le (get_or is j d).low (get_or is i d).high) (meet i j d under lj))
@@ -63,7 +63,7 @@ all_meet_iff_ends_meet is e points ends = (
 
 -- ---- there are ends
 
--- places move up by one behind a new first
+-- indices grow by one after an item is added at the front
 later : {A : Type 0} (P : A → Type 0) (x : A) (xs : List A) → Any P xs → Any P (x ∷ xs)
 later P x xs a = (suc a.0, a.1, omega (arith, a.2), a.3, a.4)
 
@@ -114,7 +114,7 @@ one_number p q = omega (arith, ints, p, q)
 one_interval : (d e : Interval) → d.low ≡ e.low → d.high ≡ e.high → d ≡ e
 one_interval d e low high = λ i. record { low = low i; high = high i }
 
--- what holds of each end holds of the one that is reached
+-- a property of each end holds for the end that is reached
 at_reached : (P Q : Interval → Type 0) (is : List Interval) → Any P is → All Q is → (i : Interval) × P i × Q i
 at_reached P Q is some each = (some.1, some.4, subst Q some.3 (each some.0 some.1 some.2))
 
@@ -138,7 +138,7 @@ within_ends_is_within_each is e z ends = (
       record { above = subst (λ w. w ≤ℤ z) low.1 low.2.above; below = subst (λ w. z ≤ℤ w) high.1 high.2.below },
 )
 
--- two intervals that are not empty are equal if they contain the same numbers
+-- intervals that are not empty are equal if they contain the same numbers
 same_points : (d e : Interval) → HasPoints d → ((z : ℤ) → IsWithin z d → IsWithin z e) → ((z : ℤ) → IsWithin z e → IsWithin z d) → d ≡ e
 same_points d e some to from =
     let low = to d.low (record { above = omega (arith, ints); below = some }) in

@@ -1,4 +1,4 @@
--- Values meet themselves, and both ways.
+-- Each value meets itself, and two values meet in either order.
 use Rattle.std.proofs.Common.{refl, sym}
 use Rattle.oim_value.specs.declared.value.Value.TheVariants.{Nil, Number, Text as AText, Name as AName}
 use Rattle.oim_value.specs.Interval.{interval}

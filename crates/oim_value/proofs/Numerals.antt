@@ -14,7 +14,7 @@ use Rattle.std.specs.Str.Parse.{digits_value_after}
 use Rattle.oim_value.specs.declared.limits.TheConstants.{MOST_DIGITS, UNIT_PLACES}
 use Rattle.oim_value.specs.Number.{is_numeral, without_leading, without_trailing, onto_digit}
 
--- further digits never lessen a number
+-- further digits never make a number smaller
 pub after_grows : (n : ℕ) (ds : List ℕ) → n ≤ digits_value_after 10 n ds
 after_grows n [] = omega arith
 after_grows n (d ∷ ds) = omega (arith, after_grows (n * 10 + digit_value d) ds)
@@ -33,7 +33,7 @@ is_zero c e = grind (arith, nat_tests)
 pub digit_small : (c : ℕ) → is_ascii_digit c ≡ true → digit_value c < 10
 digit_small c e = grind (arith, nat_tests)
 
--- the steps of the next lemmas, over plain numbers
+-- arithmetic of the next lemmas
 step_lt : (v n d p q : ℕ) → d < 10 → v < (n * 10 + d + 1) * p → q ≡ p * 10 → v < (n + 1) * q
 step_lt v n d p q small rest is = let more : p * (n * 10 + d + 1) ≤ p * (n * 10 + 10) = mul-le-mul_left p (omega arith) in rw is (grind (arith, rest, more))
 
@@ -80,7 +80,7 @@ pub digits_without_trailing : (ds : List ℕ) → list_all is_ascii_digit ds ≡
 digits_without_trailing [] e = refl
 digits_without_trailing (d ∷ ds) e = digits_onto d (without_trailing ds) (both_true _ _ e).0 (digits_without_trailing ds (both_true _ _ e).1)
 
--- leading zeros don't count
+-- leading zeros do not change a value
 pub value_without_leading : (ds : List ℕ) → digits_value_after 10 0 (without_leading ds) ≡ digits_value_after 10 0 ds
 value_without_leading [] = refl
 value_without_leading (d ∷ ds) =
@@ -89,7 +89,7 @@ value_without_leading (d ∷ ds) =
       | false ↦ λ e. refl
     ] refl
 
--- trailing zeros multiply by ten
+-- dropping a trailing zero divides the value by ten
 value_onto : (n c : ℕ) (cs ws : List ℕ) → digits_value_after 10 (n * 10 + digit_value c) cs * 10 ^ length ws ≡ digits_value_after 10 (n * 10 + digit_value c) ws * 10 ^ length cs → digits_value_after 10 n (c ∷ cs) * 10 ^ length (onto_digit c ws) ≡ digits_value_after 10 n (onto_digit c ws) * 10 ^ length (c ∷ cs)
 value_onto n c cs [] h =
     elim (eqb c 48) as (λ b. eqb c 48 ≡ b → digits_value_after 10 n (c ∷ cs) * 10 ^ length (cond b [] (c ∷ [])) ≡ digits_value_after 10 n (cond b [] (c ∷ [])) * 10 ^ length (c ∷ cs)) [
@@ -102,12 +102,12 @@ pub value_without_trailing : (n : ℕ) (ds : List ℕ) → digits_value_after 10
 value_without_trailing n [] = refl
 value_without_trailing n (d ∷ ds) = value_onto n d ds (without_trailing ds) (value_without_trailing (n * 10 + digit_value d) ds)
 
--- a zero at the end doesn't change what is left without trailing zeros
+-- a zero at the end does not change the digits without trailing zeros
 pub without_trailing_zero : (ds : List ℕ) → without_trailing (ds ++ 48 ∷ []) ≡ without_trailing ds
 without_trailing_zero [] = refl
 without_trailing_zero (d ∷ ds) = ap (onto_digit d) (without_trailing_zero ds)
 
--- digits that end in another digit stay
+-- digits that end in a digit other than zero have no trailing zeros
 pub without_trailing_other : (ds : List ℕ) (c : ℕ) → eqb c 48 ≡ false → without_trailing (ds ++ c ∷ []) ≡ ds ++ c ∷ []
 without_trailing_other [] c e = ap (λ b. cond b [] (c ∷ [])) e
 without_trailing_other (d ∷ []) c e = ap (onto_digit d) (without_trailing_other [] c e)
@@ -123,13 +123,13 @@ no_trailing_zero_at ds i h e = ap without_trailing (take_more ds i 0 h) ∙ (wit
 pub parts_of_numeral : (xs ys : List ℕ) → is_numeral (xs ++ ys) ≡ true → (list_all is_ascii_digit xs ≡ true) × (list_all is_ascii_digit ys ≡ true)
 parts_of_numeral xs ys e = both_true _ _ (rw (list_all-append is_ascii_digit xs ys) at (both_true (nat_lt 0 (length (xs ++ ys))) (list_all is_ascii_digit (xs ++ ys)) e).1)
 
--- digits in two pieces, no more than are kept
+-- two lists of digits, together at most MOST_DIGITS, write a number below 10^MOST_DIGITS
 pub few_digits : (xs ys : List ℕ) → list_all is_ascii_digit xs ≡ true → list_all is_ascii_digit ys ≡ true → length xs + length ys ≤ MOST_DIGITS → digits_value_after 10 0 (xs ++ ys) < 10 ^ MOST_DIGITS
 few_digits xs ys dx dy few =
     let p : 10 ^ length (xs ++ ys) ≤ 10 ^ MOST_DIGITS = pow-le-pow_right {n = 10} (omega arith) {i = length (xs ++ ys)} {j = MOST_DIGITS} (omega (arith, length-append xs ys)) in
     omega (arith, after_lt 0 (xs ++ ys) (list_all-append is_ascii_digit xs ys ∙ (ap (λ b. b && list_all is_ascii_digit ys) dx ∙ dy)), p)
 
--- the number of all digits, in units, is what the digits that count write, moved back by all places
+-- the number of all digits, in units, equals the number of the significant digits, moved back by all places
 pub whole_value : (i f : List ℕ) (k : ℕ) → k + length (without_trailing f) ≡ UNIT_PLACES → (digits_value_after 10 0 (without_leading i ++ without_trailing f) * 10 ^ k) * 10 ^ length f ≡ 10 ^ UNIT_PLACES * digits_value_after 10 0 (i ++ f)
 whole_value i f k e =
     let n : ℕ = digits_value_after 10 0 i in

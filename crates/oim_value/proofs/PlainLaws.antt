@@ -1,4 +1,4 @@
--- Each number has one plain text.
+-- Each number has only one plain text.
 use Rattle.std.proofs.Common.{◌≡◌, ◌≢◌, ℕ, zero, suc, ◌+◌, ◌*◌, ◌-◌, ◌^◌, ◌/◌, ◌%◌, ◌<◌, ◌≤◌, Bool, true, false, cond, eqb, List, [], ◌∷◌, ◌++◌, length, length-append, get_or, refl, sym, ap, ◌∙◌, arith}
 use Rattle.std.specs.Prelude.{ℤ, pos, negsuc, ◌*ℤ◌, ◌<ℤ◌, unsigned_abs}
 use mathlib.Core.Bool.{false≢true}
@@ -93,7 +93,7 @@ pub fitting_is_writable : FittingIsWritable
 fitting_is_writable (pos n) fits = omega (arith, fits.sfits)
 fitting_is_writable (negsuc n) fits = omega (arith, fits.sfits)
 
--- the digits that `plain` puts together
+-- the digits that `plain` joins
 pub record Parts (m : ℤ) : Type 0 where
   pub integer_digits_are : list_all is_ascii_digit (integer_digits (unsigned_abs m)) ≡ true
   pub some_integer : 0 < length (integer_digits (unsigned_abs m))

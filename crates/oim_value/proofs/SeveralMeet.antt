@@ -1,4 +1,4 @@
--- Several different values, and whether each two meet.
+-- Whether each two of several different values meet.
 use Rattle.std.proofs.Common.{◌≡◌, ℕ, zero, suc, ◌<◌, ◌≤◌, Bool, true, false, List, [], ◌∷◌, length, map, get_or, refl, sym, ap, subst, ◌∙◌, arith, inl, inr}
 use mathlib.Core.Bool.{true≢false}
 use Rattle.std.specs.Prelude.{◌≢◌, ◌⊎◌, IsTrue, ℤ, pos, None, int_le}
@@ -70,7 +70,7 @@ each_two_meet_by_members vs = (
 
 -- ---- numbers and their intervals
 
--- the interval of a value, and some interval where it has none
+-- the interval of a value, and any interval for a value without one
 abbrev interval_at : Value → Interval
 interval_at (Number m d) = interval m d
 interval_at other = interval (pos 0) None
@@ -206,7 +206,7 @@ different_meet_between_ends kind vs two different alike = (
 
 -- ---- where low is above high
 
--- a test that holds somewhere holds at its first place
+-- a test that holds somewhere holds at the first index where it does
 first_place : (p : Value → Bool) (vs : List Value) (k : ℕ) → k < length vs → p (get_or vs k Nil) ≡ true → position_or_len p vs < length vs
 first_place p vs k lt is_so = elim (cases_lt (position_or_len p vs) (length vs)) [
   | inl inside ↦ inside

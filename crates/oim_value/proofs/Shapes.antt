@@ -1,4 +1,4 @@
--- A text as its sign, its integer digits, and its fraction digits after a point.
+-- A text split into its sign, its integer digits, and its fraction digits after a point.
 use Rattle.std.proofs.Common.{◌≡◌, ◌≢◌, ℕ, ◌+◌, ◌<◌, Bool, true, false, cond, eqb, List, [], ◌∷◌, ◌++◌, length, get_or, take, drop, refl, sym, ap, ◌∙◌, arith, inl, inr}
 use Rattle.std.specs.Prelude.{ℤ, pos, negsuc}
 use mathlib.Core.Bool.{◌||◌, false≢true}
@@ -12,7 +12,7 @@ use Rattle.oim_value.specs.Number.{is_negative, is_point, unsigned}
 use Rattle.oim_value.specs.Plain.{has_point, sign_text, with_point}
 use Rattle.oim_value.proofs.Numerals.{both_true}
 
--- a digit is none of `+`, `-`, `.`
+-- a digit is none of `+`, `-` and `.`
 digit_no_plus : (d : ℕ) → is_ascii_digit d ≡ true → eqb d 43 ≡ false
 digit_no_plus d e = grind (arith, nat_tests)
 

@@ -1,4 +1,4 @@
--- Numbers that are kept, and texts that are short.
+-- Short numbers and short texts.
 use Rattle.std.proofs.Common.{◌≡◌, ℕ, zero, suc, ◌+◌, ◌*◌, ◌-◌, ◌^◌, ◌/◌, ◌%◌, ◌<◌, ◌≤◌, true, cond, eqb, false, List, [], ◌∷◌, ◌++◌, length, refl, sym, ap, ◌∙◌, arith}
 use Rattle.std.specs.Prelude.{ℤ, pos, negsuc, ◌*ℤ◌, unsigned_abs, None}
 use Rattle.std.proofs.lemmas.Bool.Decides.{nat_tests}
@@ -72,7 +72,7 @@ length-without_leading : (ds : List ℕ) → length (without_leading ds) ≤ len
 length-without_leading [] = omega arith
 length-without_leading (d ∷ ds) = elim (eqb d 48) as (λ b. length (cond b (without_leading ds) (d ∷ ds)) ≤ suc (length ds)) [ true ↦ omega (arith, length-without_leading ds) | false ↦ omega arith ]
 
--- a numeral below 10^k counts k digits at most
+-- a numeral below 10^k has at most k significant digits
 counted_integer : (k q : ℕ) → q < 10 ^ k → k ≤ MOST_DIGITS → length (without_leading (decimal q)) ≤ k
 counted_integer k zero small within = rw (decimal_digit 0 (omega arith)) (omega arith)
 counted_integer zero (suc q) small within = absurd (omega arith)
@@ -81,7 +81,7 @@ counted_integer (suc k) (suc q) small within =
     let some : length (decimal (suc q)) ≤ suc k = length-decimal-le_wide (suc k) (suc q) (omega arith) small (omega arith) in
     omega (arith, length-without_leading (decimal (suc q)))
 
--- p digits of v units of 10^-p
+-- p + 1 digits, with leading zeros, write each number below 10^(p + 1)
 zeros_before : (p v : ℕ) → v < 10 ^ suc p → suc p ≤ MOST_DIGITS → (list_all is_ascii_digit (with_leading_zeros (suc p) (decimal v)) ≡ true) × (length (with_leading_zeros (suc p) (decimal v)) ≡ suc p) × (digits_value_after 10 0 (with_leading_zeros (suc p) (decimal v)) ≡ v)
 zeros_before p v small within =
     let most : 10 ^ suc p ≤ 10 ^ MOST_DIGITS = ten_to (suc p) MOST_DIGITS within in
@@ -91,7 +91,7 @@ zeros_before p v small within =
       zeros_value (suc p - length (decimal v)) (decimal v) ∙ decimal_value v below,
     )
 
--- a fraction of p digits counts p digits at most
+-- a fraction of p digits has at most p significant digits
 counted_fraction : (p v r : ℕ) → v < 10 ^ p → p ≤ MOST_DIGITS → r < 10 ^ UNIT_PLACES → r * 10 ^ p ≡ v * 10 ^ UNIT_PLACES → length (without_trailing (with_leading_zeros UNIT_PLACES (decimal r))) ≤ p
 counted_fraction zero v r small within below e =
     let none : r ≡ 0 = omega (arith, e) in

@@ -1,4 +1,4 @@
--- The derived order of values, in words.
+-- Properties of the derived order of values.
 use Rattle.std.proofs.Common.{◌≡◌, refl, subst, ◌∙◌}
 use Rattle.std.specs.Prelude.{ℤ, Option, Some, None}
 use Rattle.std.specs.declared.cmp.Ordering.{Ordering}
@@ -29,11 +29,11 @@ values_agree = elim [
 pub value_cmp_total : IsTotalOrder value_cmp
 value_cmp_total = subst IsTotalOrder (λ i x y. values_agree x y i) total-law
 
--- values that tie are equal
+-- values that compare as equal are equal
 pub value_cmp_exact : (x y : Value) → value_cmp x y ≡ Equal → x ≡ y
 value_cmp_exact x y h = exact-law x y (values_agree x y ∙ h)
 
--- a value ties with itself
+-- a value compares as equal to itself
 pub value_cmp_self : (x : Value) → value_cmp x x ≡ Equal
 value_cmp_self x = ties (value_cmp x x) (value_cmp_total.antisymm x x)
   where

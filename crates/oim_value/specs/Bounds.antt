@@ -1,4 +1,4 @@
--- How large the ends of intervals get (own).
+-- The size of the ends of intervals (own).
 use Rattle.std.specs.Prelude.{ℕ, ◌+◌, ◌^◌, ◌<◌, ℤ, neg_ℤ, unsigned_abs, Option, Some}
 use Rattle.oim_value.specs.declared.interval.Interval.{Interval}
 use Rattle.oim_value.specs.declared.limits.TheConstants.{MOST_DECIMALS, MOST_DIGITS, UNIT_PLACES}
@@ -6,15 +6,15 @@ use Rattle.oim_value.specs.Decimals.{AreDecimals}
 use Rattle.oim_value.specs.Interval.{half_width, interval}
 use Rattle.oim_value.specs.Number.{IsShort}
 
--- what no number that is kept reaches, and the greatest half width
+-- the bound of a short number's size, plus the greatest half width
 abbrev pub end_bound : ℕ
 end_bound = 10 ^ (MOST_DIGITS + UNIT_PLACES) + half_width (Some (neg_ℤ MOST_DECIMALS))
 
--- both ends of an interval are less than that in size
+-- both ends of an interval are smaller in size than the bound
 pub record EndsAreBounded (i : Interval) : Type 0 where
   pub low : unsigned_abs i.low < end_bound
   pub high : unsigned_abs i.high < end_bound
 
--- those of a number that is kept are, whatever its decimals
+-- the interval of a short number is bounded, whatever its decimals
 abbrev pub IntervalEndsAreBounded : Type 0
 IntervalEndsAreBounded = (units : ℤ) (decimals : Option ℤ) → IsShort units → AreDecimals decimals → EndsAreBounded (interval units decimals)

@@ -4,16 +4,16 @@ use Rattle.oim_value.specs.declared.limits.TheConstants.{MOST_DECIMALS}
 use Rattle.oim_value.specs.declared.decimals.Places.{Places}
 use Rattle.oim_value.specs.declared.decimals.Places.TheVariants.{Finite, Infinite}
 
--- whether there may be so many decimals
+-- finite decimals must lie in this range (own)
 abbrev pub is_finite_decimals : ℤ → Bool
 is_finite_decimals d = nat_le (unsigned_abs d) (unsigned_abs MOST_DECIMALS)
 
--- decimals that a number may have: so many, or infinite ones
+-- the decimals that a number may have: finite ones in the range, or infinite ones
 abbrev pub AreDecimals : Option ℤ → Type 0
 AreDecimals (Some d) = IsTrue (is_finite_decimals d)
 AreDecimals None = Unit {0}
 
--- contracts see the finite number, or None where infinite
+-- contracts see the number of finite decimals, and None for infinite ones
 abbrev pub finite_of : Places → Option ℤ
 finite_of (Finite d) = Some d
 finite_of Infinite = None

@@ -1,4 +1,4 @@
--- Where several intervals end, and which several values have (own).
+-- The ends of several intervals, and the values that have intervals (own).
 use Rattle.std.specs.Prelude.{◌≡◌, ◌↔◌, ◌<◌, Bool, true, false, IsTrue, List, [], ◌∷◌, length, ℤ, ◌≤ℤ◌}
 use Rattle.std.specs.List.{All, Any, AllPairs, flat_map}
 use Rattle.oim_value.specs.Interval.{HasPoints, IsWithin, interval, intervals_meet}
@@ -6,26 +6,26 @@ use Rattle.oim_value.specs.declared.interval.Interval.{Interval}
 use Rattle.oim_value.specs.declared.value.Value.{Value}
 use Rattle.oim_value.specs.declared.value.Value.TheVariants.{Number}
 
--- e goes from the greatest low end of some intervals to their least high end
+-- e ranges from the greatest low end of the intervals to their least high end
 pub record AreEnds (e : Interval) (is : List Interval) : Type 0 where
   pub low_reached : Any (λ i. i.low ≡ e.low) is
   pub low_greatest : All (λ i. i.low ≤ℤ e.low) is
   pub high_reached : Any (λ i. i.high ≡ e.high) is
   pub high_least : All (λ i. e.high ≤ℤ i.high) is
 
--- there are such ends where there is an interval,
+-- one or more intervals have such ends
 abbrev pub EndsExist : Type 0
 EndsExist = (is : List Interval) → 0 < length is → (e : Interval) × AreEnds e is
 
--- and no others
+-- several intervals have at most one such pair of ends
 abbrev pub EndsAreOne : Type 0
 EndsAreOne = (is : List Interval) (d e : Interval) → AreEnds d is → AreEnds e is → d ≡ e
 
--- what lies between them is what lies in each of the intervals,
+-- a number lies between the ends exactly if it lies in each interval
 abbrev pub WithinEndsIsWithinEach : Type 0
 WithinEndsIsWithinEach = (is : List Interval) (e : Interval) (units : ℤ) → AreEnds e is → IsWithin units e ↔ All (IsWithin units) is
 
--- and where some number does, no other interval has exactly these
+-- if some number lies in all intervals, only the interval between the ends contains exactly these numbers
 abbrev pub EndsAreCommonInterval : Type 0
 EndsAreCommonInterval = (is : List Interval) (e : Interval) → 0 < length is → HasPoints e → ((units : ℤ) → IsWithin units e ↔ All (IsWithin units) is) → AreEnds e is
 
@@ -33,11 +33,11 @@ EndsAreCommonInterval = (is : List Interval) (e : Interval) → 0 < length is �
 abbrev pub EachTwoMeet : List Interval → Type 0
 EachTwoMeet = AllPairs (λ i j. IsTrue (intervals_meet i j))
 
--- of intervals that are not empty, each two meet exactly if the greatest low end is at most the least high end
+-- if no interval is empty, each two meet exactly if the greatest low end is at most the least high end
 abbrev pub AllMeetIffEndsMeet : Type 0
 AllMeetIffEndsMeet = (is : List Interval) (e : Interval) → All HasPoints is → AreEnds e is → EachTwoMeet is ↔ (e.low ≤ℤ e.high)
 
--- the intervals of the numbers among some values
+-- the intervals of the numbers in a list of values
 abbrev pub interval_of_one : Value → List Interval
 interval_of_one (Number units decimals) = interval units decimals ∷ []
 interval_of_one other = []
@@ -45,7 +45,7 @@ interval_of_one other = []
 abbrev pub intervals_of : List Value → List Interval
 intervals_of vs = flat_map interval_of_one vs
 
--- whether a value has an interval: whether it is a number
+-- a value has an interval exactly if it is a number
 abbrev pub has_interval : Value → Bool
 has_interval (Number units decimals) = true
 has_interval other = false

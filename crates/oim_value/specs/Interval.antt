@@ -4,20 +4,20 @@ use Rattle.std.specs.Int.{int_max, int_min}
 use Rattle.oim_value.specs.declared.interval.Interval.{Interval}
 use Rattle.oim_value.specs.declared.limits.TheConstants.{UNIT_PLACES}
 
--- UNIT_PLACES - 1 - d; decimals are below UNIT_PLACES
+-- UNIT_PLACES - 1 - d, which is not negative because decimals are below UNIT_PLACES
 abbrev pub half_zeros : ℤ → ℕ
 half_zeros d = unsigned_abs (pos (UNIT_PLACES - 1) -ℤ d)
 
--- half of the last decimal place, 0.5 * 10^-d; nothing where a number is exact
+-- half of the last decimal place, 0.5 * 10^-d; zero for an exact number
 abbrev pub half_width : Option ℤ → ℕ
 half_width (Some d) = 5 * 10 ^ half_zeros d
 half_width None = 0
 
--- what a number with so many decimals may have been rounded from
+-- the numbers that may have been rounded to a number with these decimals
 abbrev pub interval : ℤ → Option ℤ → Interval
 interval units decimals = record { low = units -ℤ pos (half_width decimals); high = units +ℤ pos (half_width decimals) }
 
--- so many units lie in an interval, to which both ends belong
+-- a number of units lies in an interval, which includes both ends
 pub record IsWithin (units : ℤ) (i : Interval) : Type 0 where
   pub above : i.low ≤ℤ units
   pub below : units ≤ℤ i.high
@@ -30,7 +30,7 @@ HasPoints i = i.low ≤ℤ i.high
 abbrev pub intervals_meet : Interval → Interval → Bool
 intervals_meet a b = int_le a.low b.high && int_le b.low a.high
 
--- from the greater low end to the lesser high end; empty where the intervals do not meet
+-- from the greater low end to the lesser high end; empty if the intervals do not meet
 abbrev pub common_part : Interval → Interval → Interval
 common_part a b = record { low = int_max a.low b.low; high = int_min a.high b.high }
 
@@ -41,43 +41,43 @@ HalfAfterPoint = (d : ℕ) → d < UNIT_PLACES → 2 * half_width (Some (pos d))
 abbrev pub HalfBeforePoint : Type 0
 HalfBeforePoint = (d : ℕ) → 2 * half_width (Some (neg_ℤ (pos d))) ≡ 10 ^ UNIT_PLACES * 10 ^ d
 
--- what lies in the interval of a number is no further from it than half of its last decimal place,
+-- a number lies in the interval exactly if it is within half of the last decimal place
 abbrev pub WithinIsNear : Type 0
 WithinIsNear = (z units : ℤ) (decimals : Option ℤ) → IsWithin z (interval units decimals) ↔ (unsigned_abs (z -ℤ units) ≤ half_width decimals)
 
--- so the number does,
+-- the interval of a number contains the number
 abbrev pub IntervalHasNumber : Type 0
 IntervalHasNumber = (units : ℤ) (decimals : Option ℤ) → IsWithin units (interval units decimals)
 
--- and the interval is not empty
+-- the interval of a number is not empty
 abbrev pub IntervalHasPoints : Type 0
 IntervalHasPoints = (units : ℤ) (decimals : Option ℤ) → HasPoints (interval units decimals)
 
--- the common part is one whatever the grouping,
+-- the common part does not depend on the grouping of the intervals
 abbrev pub CommonIsAssociative : Type 0
 CommonIsAssociative = (a b c : Interval) → common_part (common_part a b) c ≡ common_part a (common_part b c)
 
--- whatever the order,
+-- the common part does not depend on the order of the intervals
 abbrev pub CommonIsCommutative : Type 0
 CommonIsCommutative = (a b : Interval) → common_part a b ≡ common_part b a
 
--- and whatever the repetition
+-- an interval is the common part of itself and itself
 abbrev pub CommonIsIdempotent : Type 0
 CommonIsIdempotent = (a : Interval) → common_part a a ≡ a
 
--- what lies in the common part is what lies in both
+-- a number lies in the common part exactly if it lies in both intervals
 abbrev pub CommonIsBoth : Type 0
 CommonIsBoth = (units : ℤ) (a b : Interval) → IsWithin units (common_part a b) ↔ (IsWithin units a × IsWithin units b)
 
--- so many units lie in both intervals
+-- a number of units lies in both intervals
 pub record IsCommonPoint (a b : Interval) (units : ℤ) : Type 0 where
   pub first : IsWithin units a
   pub second : IsWithin units b
 
--- intervals that are not empty meet exactly if some number lies in both,
+-- intervals that are not empty meet exactly if some number lies in both
 abbrev pub MeetsByCommonPoint : Type 0
 MeetsByCommonPoint = (a b : Interval) → HasPoints a → HasPoints b → IsTrue (intervals_meet a b) ↔ ((units : ℤ) × IsCommonPoint a b units)
 
--- which is where their common part is not empty
+-- intervals that are not empty meet exactly if their common part is not empty
 abbrev pub MeetsByCommonPart : Type 0
 MeetsByCommonPart = (a b : Interval) → HasPoints a → HasPoints b → IsTrue (intervals_meet a b) ↔ HasPoints (common_part a b)

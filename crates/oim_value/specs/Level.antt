@@ -1,4 +1,5 @@
--- Which facts of one dimension set a report may have: the feature `xbrl:allowedDuplicates` and its values (Open Information Model Common 1.0).
+-- Which duplicate facts a report may have: the feature `xbrl:allowedDuplicates` and its values (Open Information Model Common
+-- 1.0).
 use Rattle.std.specs.Prelude.{◌≡◌, ℕ, List, [], ◌∷◌, Option, Some, codes, slice_get}
 use Rattle.std.specs.List.{find}
 use Rattle.std.specs.Str.{bytes_eq}
@@ -11,25 +12,25 @@ pub record LevelEntry : Type 0 where
   pub place : ℕ
   pub text : List ℕ
 
--- the place of a level, from the strictest on, and the text that declares it
+-- the rank of a level, from the strictest on, and the text that declares it
 abbrev pub level_entry : Level → LevelEntry
 level_entry Unique = record { place = 0; text = codes "none" }
 level_entry Complete = record { place = 1; text = codes "complete" }
 level_entry Consistent = record { place = 2; text = codes "consistent" }
 level_entry All = record { place = 3; text = codes "all" }
 
--- every level, each at its place
+-- every level, at the index of its rank
 abbrev pub levels : List Level
 levels = Unique ∷ Complete ∷ Consistent ∷ All ∷ []
 
--- the level that a text declares, where it declares one
+-- the level that a text declares, if it declares one
 abbrev pub level_with : List ℕ → Option Level
 level_with t = find (λ l. bytes_eq (level_entry l).text t) levels
 
--- by place
+-- levels are ordered by rank
 abbrev pub level_cmp : Level → Level → Ordering
 level_cmp x y = nat_cmp (level_entry x).place (level_entry y).place
 
--- no two levels share a place
+-- no two levels share a rank
 abbrev pub LevelsStandApart : Type 0
 LevelsStandApart = (l : Level) → slice_get levels (level_entry l).place ≡ Some l

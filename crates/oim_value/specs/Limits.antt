@@ -10,14 +10,14 @@ pub record LimitsAre : Type 0 where
   pub places : UNIT_PLACES ≡ 19
   pub decimals : MOST_DECIMALS ≡ pos 18
 
--- at most 18 digits count,
+-- a text is short exactly if it has at most 18 significant digits
 abbrev pub DigitsAreFew : Type 0
 DigitsAreFew = (t : List ℕ) → IsTrue (is_short t) ↔ (counted t ≤ 18)
 
--- the number 1 is 10^19 units,
+-- the text of the number 1 denotes 10^19 units
 abbrev pub OneIsUnits : Type 0
 OneIsUnits = Denotes (codes "1") (pos (10 ^ 19))
 
--- and finite decimals go from -18 to 18
+-- finite decimals range from -18 to 18
 abbrev pub DecimalsAreInRange : Type 0
 DecimalsAreInRange = (d : ℤ) → IsTrue (is_finite_decimals d) ↔ ((neg_ℤ (pos 18) ≤ℤ d) × (d ≤ℤ pos 18))

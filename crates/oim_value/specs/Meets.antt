@@ -4,7 +4,7 @@ use Rattle.oim_value.specs.declared.value.Value.{Value}
 use Rattle.oim_value.specs.declared.value.Value.TheVariants.{Nil, Number, Text as AText, Name as AName}
 use Rattle.oim_value.specs.Interval.{interval, intervals_meet}
 
--- both nil, numbers whose intervals meet, equal texts, equal names; nothing else
+-- both are nil, or numbers whose intervals meet, or equal texts, or equal names
 abbrev pub Meets : Value → Value → Type 0
 Meets Nil Nil = Unit {0}
 Meets (Number m d) (Number n e) = IsTrue (intervals_meet (interval m d) (interval n e))
@@ -12,10 +12,10 @@ Meets (AText s) (AText t) = s ≡ t
 Meets (AName m) (AName n) = m ≡ n
 Meets x y = ⊥
 
--- each value meets itself,
+-- each value meets itself
 abbrev pub MeetsIsReflexive : Type 0
 MeetsIsReflexive = (x : Value) → Meets x x
 
--- and what meets it is met by it
+-- if x meets y, then y meets x
 abbrev pub MeetsIsSymmetric : Type 0
 MeetsIsSymmetric = (x y : Value) → Meets x y → Meets y x

@@ -1,4 +1,5 @@
--- Decimal numbers as texts (XML Schema Part 2, section 3.2.3, `decimal`). In bytes, `+` is 43, `-` 45, `.` 46, `0` 48.
+-- Decimal numbers as texts (XML Schema Part 2, section 3.2.3, `decimal`). The bytes are 43 for `+`, 45 for `-`, 46 for `.` and 48
+-- for `0`.
 use Rattle.std.specs.Prelude.{◌≡◌, ℕ, ◌+◌, ◌-◌, ◌*◌, ◌^◌, ◌<◌, ◌≤◌, nat_lt, nat_le, ℤ, pos, ◌*ℤ◌, unsigned_abs, Bool, true, false, ◌&&◌, ◌||◌, not, ◌==◌, if◌then◌else◌, IsTrue, List, [], ◌∷◌, ◌++◌, length, Option, Some, None}
 use Rattle.std.specs.List.{before_first, after_first, list_all}
 use Rattle.std.specs.Char.{is_ascii_digit}
@@ -8,12 +9,12 @@ use Rattle.oim_names.specs.declared.reason.Reason.TheVariants.{NumberForm, Numbe
 use Rattle.oim_value.specs.declared.limits.TheConstants.{MOST_DIGITS, UNIT_PLACES}
 use lib.IntN.{neg_ℤ}
 
--- whether a text begins with `-`
+-- the text begins with `-`
 abbrev pub is_negative : List ℕ → Bool
 is_negative [] = false
 is_negative (c ∷ cs) = c == 45
 
--- a text without its sign
+-- the text without its sign
 abbrev pub unsigned : List ℕ → List ℕ
 unsigned [] = []
 unsigned (c ∷ cs) = if c == 43 || c == 45 then cs else c ∷ cs
@@ -31,7 +32,7 @@ fraction_part t = after_first is_point (unsigned t)
 abbrev pub both_parts : List ℕ → List ℕ
 both_parts t = integer_part t ++ fraction_part t
 
--- digits, and at least one
+-- one or more digits
 abbrev pub is_numeral : List ℕ → Bool
 is_numeral ds = nat_lt 0 (length ds) && list_all is_ascii_digit ds
 
@@ -39,12 +40,13 @@ is_numeral ds = nat_lt 0 (length ds) && list_all is_ascii_digit ds
 abbrev pub is_number : List ℕ → Bool
 is_number t = is_numeral (both_parts t)
 
--- a number, or its negative
+-- a number, or its negative if the sign is set
 abbrev pub signed : Bool → ℕ → ℤ
 signed true n = neg_ℤ (pos n)
 signed false n = pos n
 
--- the text denotes so many units: units / 10^UNIT_PLACES is the number of all digits / 10^(how many are after the point)
+-- the text denotes this number of units: units / 10^UNIT_PLACES is the number of all digits / 10^(number of digits after the
+-- point)
 pub record Denotes (t : List ℕ) (units : ℤ) : Type 0 where
   pub form : IsTrue (is_number t)
   pub value : units *ℤ pos (10 ^ length (fraction_part t)) ≡ signed (is_negative t) (10 ^ UNIT_PLACES * digits_value 10 (both_parts t))
@@ -54,7 +56,7 @@ abbrev pub without_leading : List ℕ → List ℕ
 without_leading [] = []
 without_leading (c ∷ cs) = if c == 48 then without_leading cs else c ∷ cs
 
--- a digit before digits without trailing zeros: a lone zero goes too
+-- a digit before digits without trailing zeros; a zero before no digits is dropped
 abbrev pub onto_digit : ℕ → List ℕ → List ℕ
 onto_digit c [] = if c == 48 then [] else c ∷ []
 onto_digit c (d ∷ ds) = c ∷ d ∷ ds
@@ -64,20 +66,20 @@ abbrev pub without_trailing : List ℕ → List ℕ
 without_trailing [] = []
 without_trailing (c ∷ cs) = onto_digit c (without_trailing cs)
 
--- how many digits are significant
+-- the number of significant digits
 abbrev pub counted : List ℕ → ℕ
 counted t = length (without_leading (integer_part t)) + length (without_trailing (fraction_part t))
 
--- at most as many significant digits as are kept (own)
+-- at most MOST_DIGITS digits are significant (own)
 abbrev pub is_short : List ℕ → Bool
 is_short t = nat_le (counted t) MOST_DIGITS
 
--- why a text is refused as a number, if it is (own)
+-- why a text is refused as a number, or None (own)
 abbrev pub number_refusal : List ℕ → Option Reason
 number_refusal t =
     if not (is_number t) then Some NumberForm else (if not (is_short t) then Some NumberDigits else None)
 
--- units with no more significant digits than are kept (own): a number of so many digits, so many of them after the point
+-- a short number (own): some number of at most MOST_DIGITS digits, with the point moved by at most as many places
 pub record IsShort (units : ℤ) : Type 0 where
   pub number : ℕ
   pub places : ℕ
@@ -85,10 +87,10 @@ pub record IsShort (units : ℤ) : Type 0 where
   pub within : places ≤ MOST_DIGITS
   pub is : unsigned_abs units ≡ number * 10 ^ (UNIT_PLACES - places)
 
--- a text denotes one number at most
+-- a text denotes at most one number
 abbrev pub DenotesOne : Type 0
 DenotesOne = (t : List ℕ) (m n : ℤ) → Denotes t m → Denotes t n → m ≡ n
 
--- what a short text denotes is kept
+-- a short text denotes a short number
 abbrev pub ShortIsKept : Type 0
 ShortIsKept = (t : List ℕ) (units : ℤ) → Denotes t units → IsTrue (is_short t) → IsShort units

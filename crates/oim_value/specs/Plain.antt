@@ -1,4 +1,4 @@
--- The one text by which a number is written (own).
+-- The only text that a number is written as (own).
 use Rattle.std.specs.Prelude.{◌≡◌, ◌≢◌, ◌↔◌, ℕ, ◌-◌, ◌/◌, ◌%◌, ◌^◌, ◌<◌, ℤ, pos, negsuc, ◌<ℤ◌, unsigned_abs, FitsSigned, Bool, IsTrue, List, [], ◌∷◌, ◌++◌, length, replicate, slice_index, None}
 use Rattle.std.specs.List.{list_any}
 use Rattle.std.specs.Fmt.{decimal}
@@ -11,12 +11,12 @@ use Rattle.oim_value.specs.Number.{is_negative, is_point, integer_part, fraction
 abbrev pub with_leading_zeros : ℕ → List ℕ → List ℕ
 with_leading_zeros width ds = replicate (width - length ds) 48 ++ ds
 
--- a point before fraction digits, where there are any
+-- a point before fraction digits, if there are any
 abbrev pub with_point : List ℕ → List ℕ
 with_point [] = []
 with_point (d ∷ ds) = 46 ∷ d ∷ ds
 
--- the digits before the point, and those after it that count
+-- the digits before the point, and the significant digits after it
 abbrev pub integer_digits : ℕ → List ℕ
 integer_digits size = decimal (size / 10 ^ UNIT_PLACES)
 
@@ -27,16 +27,16 @@ abbrev pub sign_text : ℤ → List ℕ
 sign_text (pos n) = []
 sign_text (negsuc n) = 45 ∷ []
 
--- so many units as a text: a sign below zero, the digits before the point, and those after it that count
+-- a number of units as a text: a sign below zero, the digits before the point, and the significant digits after it
 abbrev pub plain : ℤ → List ℕ
 plain units = sign_text units ++ (integer_digits (unsigned_abs units) ++ with_point (fraction_digits (unsigned_abs units)))
 
--- whether a text has a point
+-- the text has a point
 abbrev pub has_point : List ℕ → Bool
 has_point t = list_any is_point t
 
--- the text denotes so many units and has no `+`, a `-` below zero alone, an integer digit, no leading zero but a lone one,
--- a point exactly if there are fraction digits, and no trailing zero among these
+-- the text denotes this number of units; it has no `+`, a `-` only below zero, at least one integer digit, no leading zero unless
+-- it is the only integer digit, a point exactly if there are fraction digits, and no trailing zero among these
 pub record IsPlain (t : List ℕ) (units : ℤ) : Type 0 where
   pub denotes : Denotes t units
   pub no_plus : slice_index t 0 ≢ 43
@@ -46,39 +46,39 @@ pub record IsPlain (t : List ℕ) (units : ℤ) : Type 0 where
   pub point : IsTrue (has_point t) ↔ (0 < length (fraction_part t))
   pub no_trailing_zero : without_trailing (fraction_part t) ≡ fraction_part t
 
--- so many units have 64 digits at most, as many as `decimal` writes; those of an i128 have 39
+-- the units have at most 64 digits, which is the limit of `decimal`; an i128 has at most 39
 abbrev pub IsWritable : ℤ → Type 0
 IsWritable units = unsigned_abs units < 10 ^ 64
 
--- every number that fits 128 bits is written in full,
+-- every number that fits 128 bits is written in full
 abbrev pub FittingIsWritable : Type 0
 FittingIsWritable = (units : ℤ) → FitsSigned w128 units → IsWritable units
 
--- and so is every number that is kept
+-- every short number is written in full
 abbrev pub ShortIsWritable : Type 0
 ShortIsWritable = (units : ℤ) → IsShort units → IsWritable units
 
--- a number has a plain text,
+-- `plain` of a number is a plain text of it
 abbrev pub PlainIsPlain : Type 0
 PlainIsPlain = (units : ℤ) → IsWritable units → IsPlain (plain units) units
 
--- has no second one,
+-- a number has no other plain text
 abbrev pub PlainIsOne : Type 0
 PlainIsOne = (units : ℤ) (t : List ℕ) → IsWritable units → IsPlain t units → t ≡ plain units
 
--- and that text is ASCII
+-- the plain text is ASCII
 abbrev pub PlainIsAscii : Type 0
 PlainIsAscii = (units : ℤ) → IsWritable units → IsAscii (plain units)
 
--- the text is read as so many units
+-- the text is read as this number of units
 pub record IsReadAs (t : List ℕ) (units : ℤ) : Type 0 where
   pub denotes : Denotes t units
   pub accepted : number_refusal t ≡ None
 
--- the plain text of a number that is kept is read as that number,
+-- the plain text of a short number is read as that number
 abbrev pub PlainReadsBack : Type 0
 PlainReadsBack = (units : ℤ) → IsShort units → IsReadAs (plain units) units
 
--- and the plain text of a number is no other number's
+-- numbers with the same plain text are equal
 abbrev pub PlainTellsApart : Type 0
 PlainTellsApart = (m n : ℤ) → IsWritable m → IsWritable n → plain m ≡ plain n → m ≡ n

@@ -1,4 +1,4 @@
--- Whether each two of several different values meet, by the ends of their intervals (own).
+-- Whether each two of several different values meet, in terms of the ends of their intervals (own).
 use Rattle.std.specs.Prelude.{◌≡◌, ◌≢◌, ◌↔◌, ◌⊎◌, ℕ, ◌≤◌, Bool, false, IsTrue, List, length, slice_get, Contains, Some, ℤ, ◌<ℤ◌}
 use Rattle.std.specs.List.{All, AllPairs, position_or_len}
 use Rattle.std.specs.Ordering.{int_eq}
@@ -10,7 +10,7 @@ use Rattle.oim_value.specs.declared.interval.Interval.{Interval}
 use Rattle.oim_value.specs.declared.value.Value.{Value}
 use Rattle.oim_value.specs.declared.value.Value.TheVariants.{Nil, Number}
 
--- each value is another than each later one
+-- each value differs from each later one
 abbrev pub AreDifferent : List Value → Type 0
 AreDifferent = AllPairs (λ x y. x ≢ y)
 
@@ -18,29 +18,29 @@ AreDifferent = AllPairs (λ x y. x ≢ y)
 abbrev pub EachTwoValuesMeet : List Value → Type 0
 EachTwoValuesMeet = AllPairs Meets
 
--- that is, any two among them meet, since each meets itself: repeats and order do not matter
+-- each two values meet exactly if any two members do; repeats and order do not matter, since each value meets itself
 abbrev pub EachTwoMeetByMembers : Type 0
 EachTwoMeetByMembers = (vs : List Value) → EachTwoValuesMeet vs ↔ ((x y : Value) → Contains vs x → Contains vs y → Meets x y)
 
--- each value is nil or of one kind: numbers, or texts, or names
+-- each value is nil or of one kind: number, text or name
 abbrev pub AreNilOrOfKind : ℕ → List Value → Type 0
 AreNilOrOfKind kind = All (λ v. (v ≡ Nil) ⊎ (kind_order v ≡ kind))
 
--- none of the values is nil, some are numbers, and their intervals end at e, which is not empty
+-- no value is nil, some are numbers, and the interval e between their ends is not empty
 pub record MeetBetween (vs : List Value) (e : Interval) : Type 0 where
   pub no_nil : Contains vs Nil → ⊥
   pub ends : AreEnds e (intervals_of vs)
   pub points : HasPoints e
 
--- different values meet as numbers alone,
+-- different values meet only if both are numbers
 abbrev pub DifferentMeetAsNumbers : Type 0
 DifferentMeetAsNumbers = (x y : Value) → x ≢ y → Meets x y → IsTrue (has_interval x) × IsTrue (has_interval y)
 
--- so of several that are nil or of one kind each two meet exactly if none is nil, there are ends, and low is at most high
+-- different values, each nil or of one kind, meet in twos exactly if none is nil and the interval between the ends is not empty
 abbrev pub DifferentMeetBetweenEnds : Type 0
 DifferentMeetBetweenEnds = (kind : ℕ) (vs : List Value) → 2 ≤ length vs → AreDifferent vs → AreNilOrOfKind kind vs → EachTwoValuesMeet vs ↔ ((e : Interval) × MeetBetween vs e)
 
--- whether a value is a number whose interval has this low end, or this high one
+-- the value is a number whose interval has this low end, or this high end
 abbrev pub has_low : ℤ → Value → Bool
 has_low z (Number units decimals) = int_eq (interval units decimals).low z
 has_low z other = false
@@ -49,14 +49,14 @@ abbrev pub has_high : ℤ → Value → Bool
 has_high z (Number units decimals) = int_eq (interval units decimals).high z
 has_high z other = false
 
--- the least place with the greatest low end, and with the least high end, of values whose intervals end at e
+-- the first index with the greatest low end, and the first with the least high end, if e is the interval between the ends
 abbrev pub place_of_greatest_low : Interval → List Value → ℕ
 place_of_greatest_low e = position_or_len (has_low e.low)
 
 abbrev pub place_of_least_high : Interval → List Value → ℕ
 place_of_least_high e = position_or_len (has_high e.high)
 
--- both places have values, and these do not meet
+-- the values at both indices do not meet
 pub record AreApart (vs : List Value) (i j : ℕ) : Type 0 where
   pub first : Value
   pub second : Value
@@ -64,6 +64,6 @@ pub record AreApart (vs : List Value) (i j : ℕ) : Type 0 where
   pub second_there : slice_get vs j ≡ Some second
   pub apart : Meets first second → ⊥
 
--- where low is above high, these two places show it
+-- if the low end is above the high end, the values at these two indices do not meet
 abbrev pub CrossedEndsAreApart : Type 0
 CrossedEndsAreApart = (vs : List Value) (e : Interval) → AreEnds e (intervals_of vs) → e.high <ℤ e.low → AreApart vs (place_of_least_high e vs) (place_of_greatest_low e vs)

@@ -4,7 +4,7 @@ use Rattle.std.specs.Str.Parse.{digits_value}
 use Rattle.oim_value.specs.declared.limits.TheConstants.{UNIT_PLACES}
 use Rattle.oim_value.specs.Number.{signed, is_negative, both_parts, fraction_part, number_refusal, Denotes}
 
--- the units that a number denotes; where it denotes no whole number of units, those nearer to zero
+-- the units that a text denotes, rounded toward zero
 abbrev pub units_of : List ℕ → ℤ
 units_of t = signed (is_negative t) (10 ^ UNIT_PLACES * digits_value 10 (both_parts t) / 10 ^ length (fraction_part t))
 

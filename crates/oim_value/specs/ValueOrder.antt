@@ -8,21 +8,21 @@ pub use Rattle.oim_names.specs.QName.{name_cmp}
 use Rattle.oim_value.specs.declared.value.Value.{Value}
 use Rattle.oim_value.specs.declared.value.Value.TheVariants.{Nil, Number, Text as AText, Name as AName}
 
--- finite decimals by number, then infinite
+-- finite decimals by number, then infinite ones
 abbrev pub decimals_cmp : Option ℤ → Option ℤ → Ordering
 decimals_cmp (Some d) (Some e) = int_cmp d e
 decimals_cmp (Some d) None = Less
 decimals_cmp None (Some e) = Greater
 decimals_cmp None None = Equal
 
--- nil, numbers, texts, names
+-- the kinds in order: nil, numbers, texts, names
 abbrev pub kind_order : Value → ℕ
 kind_order Nil = 0
 kind_order (Number m d) = 1
 kind_order (AText t) = 2
 kind_order (AName n) = 3
 
--- by kind; then numbers by units and decimals, texts by bytes, names by their parts
+-- values are ordered by kind; then numbers by units and decimals, texts by bytes, names by their parts
 abbrev pub value_cmp : Value → Value → Ordering
 value_cmp (Number m d) (Number n e) = ordering_then (int_cmp m n) (decimals_cmp d e)
 value_cmp (AText s) (AText t) = slice_cmp nat_cmp s t

@@ -7,17 +7,17 @@ use oim_names::{Copied, Key, Reason};
 use std::alloc::{AllocError, Global};
 use std::marker::Model;
 
-// The order of the variants is the order of decimals.
+// Decimals are ordered in the order of the variants.
 #[derive(Clone, Copy, Debug, PartialEq, Eq, PartialOrd, Ord)]
 enum Places {
     Finite(i8),
     Infinite,
 }
 
-/// How precisely a number is reported (Open Information Model, `decimals`): right to so many places after the
-/// point, or before it where the number is negative, or exactly. Contracts see the number of
-/// places, or None where the number is exact. Finite decimals are ordered by number, and infinite
-/// ones come last.
+/// How precisely a number is reported (Open Information Model, `decimals`): to so many places after
+/// the point, to a place before the point if the number is negative, or exactly. Contracts see the
+/// number of places, or None if the number is exact. Finite decimals are ordered by number, and
+/// infinite ones come last.
 #[derive(Clone, Copy, Debug, PartialEq, Eq, PartialOrd, Ord)]
 pub struct Decimals {
     places: Places,
@@ -44,9 +44,9 @@ impl Decimals {
         places: Places::Infinite,
     };
 
-    /// So many decimals.
+    /// Returns finite decimals.
     ///
-    /// Errors: `DecimalsRange` where the number is less than `-MOST_DECIMALS` or more than
+    /// Errors: `DecimalsRange` if the number is less than `-MOST_DECIMALS` or more than
     /// `MOST_DECIMALS`.
     pub fn finite(number: i64) -> Result<Decimals, Reason>
         ensures made { OkIff result (IsTrue (is_finite_decimals number)) (Some number) }
@@ -60,7 +60,7 @@ impl Decimals {
         }
     }
 
-    /// How many they are, or None where they are infinite.
+    /// Returns the number of places, or None if the decimals are infinite.
     pub fn get(&self) -> Option<i8>
         ensures value { result ≡ self.now }
         ensures range { AreDecimals self.now }

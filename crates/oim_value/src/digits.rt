@@ -4,7 +4,7 @@ ghost use Rattle.std.specs.Char.{is_ascii_digit};
 ghost use Rattle.std.specs.Str.Parse.{digits_value_after};
 ghost use Rattle.oim_value.specs.Number.{is_negative, is_numeral, is_point, unsigned, without_leading, without_trailing};
 
-/// Whether a text begins with `-`, and what follows its sign.
+/// Returns whether a text begins with `-`, and the text without its sign.
 pub(crate) fn split_sign(text: &[u8]) -> (bool, &[u8])
     ensures negative { result.0 ≡ is_negative text.now }
     ensures rest { result.1.now ≡ unsigned text.now }
@@ -40,7 +40,7 @@ fn point_place(body: &[u8]) -> usize
     body.len()
 }
 
-/// Whether both parts together are digits, and at least one.
+/// Returns whether both parts consist of digits and contain at least one.
 pub(crate) fn are_digits(integer: &[u8], fraction: &[u8]) -> bool
     ensures { result ≡ is_numeral (integer.now ++ fraction.now) }
 {
@@ -73,7 +73,7 @@ pub(crate) fn skip_trailing_zeros(digits: &[u8]) -> &[u8]
     &digits[..end]
 }
 
-/// The number that `digits` write after those of `start`.
+/// Returns the number whose digits are those of `start` followed by `digits`.
 pub(crate) fn append_digits(start: u64, digits: &[u8]) -> u64
     requires digits { list_all is_ascii_digit digits.now ≡ true }
     requires fits { digits_value_after 10 start digits.now < 2 ^ 64 }

@@ -15,8 +15,8 @@ use oim_names::{Reason, Text};
 use std::alloc::{AllocError, Global};
 use std::marker::Model;
 
-/// A decimal number with at most `MOST_DIGITS` significant digits. Contracts see it in units of 10 to
-/// the power of minus `UNIT_PLACES`.
+/// A decimal number with at most `MOST_DIGITS` significant digits. Contracts see it in units of 10
+/// to the power of minus `UNIT_PLACES`.
 #[derive(Clone, Copy, Debug, PartialEq, Eq, PartialOrd, Ord)]
 pub struct Fixed {
     units: i128,
@@ -36,7 +36,7 @@ impl Model for Fixed {
 }
 
 impl Fixed {
-    /// The number in units of 10 to the power of minus `UNIT_PLACES`.
+    /// Returns the number in units of 10 to the power of minus `UNIT_PLACES`.
     pub fn units(&self) -> i128
         ensures value { result ≡ self.now }
         ensures short { IsShort self.now }
@@ -48,10 +48,10 @@ impl Fixed {
 
 /// Reads a decimal number: an optional sign, digits, and optionally a point and digits (XML Schema
 /// Part 2, section 3.2.3). Leading zeros of the integer digits and trailing zeros of the fraction
-/// digits do not count.
+/// digits are not significant.
 ///
-/// Errors: `NumberForm` where the text is no number; `NumberDigits` where more than `MOST_DIGITS`
-/// of its digits count.
+/// Errors: `NumberForm` if the text is no number; `NumberDigits` if it has more than `MOST_DIGITS`
+/// significant digits.
 pub fn read_fixed(text: &str) -> Result<Fixed, Reason>
     ensures denoted { IfOk result (Denotes text.now) }
     ensures refused { result_err result ≡ number_refusal text.now }
@@ -70,7 +70,7 @@ pub fn read_fixed(text: &str) -> Result<Fixed, Reason>
     Ok(scaled(number, fraction.len() as u32, negative))
 }
 
-// The number that the digits of both parts write.
+// Returns the number whose digits are those of both parts.
 fn number_of(integer: &[u8], fraction: &[u8]) -> u64
     requires integer { list_all is_ascii_digit integer.now ≡ true }
     requires fraction { list_all is_ascii_digit fraction.now ≡ true }
@@ -81,7 +81,7 @@ fn number_of(integer: &[u8], fraction: &[u8]) -> u64
     append_digits(append_digits(0, integer), fraction)
 }
 
-// A number with `places` of its digits after the point.
+// Returns the number with the point moved `places` digits to the left.
 fn scaled(number: u64, places: u32, negative: bool) -> Fixed
     requires few { number < 10 ^ MOST_DIGITS }
     requires places { places ≤ MOST_DIGITS }
@@ -104,7 +104,7 @@ fn size_of(number: u64, zeros: u32) -> i128
     (u128::from(number) * 10u128.pow(zeros)) as i128
 }
 
-/// Writes a number as its one plain text, as `write_units` does.
+/// Writes a number as its only plain text, in the way of `write_units`.
 ///
 /// Errors: out of memory.
 pub fn write_fixed(alloc: Global, value: Fixed) -> Result<Text, AllocError>

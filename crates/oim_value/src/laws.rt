@@ -17,8 +17,8 @@ use crate::decimals::Decimals;
 use crate::level::Level;
 use crate::value::Value;
 
-/// At most 18 digits of a number count, the number 1 is 10^19 units, and finite decimals go from -18
-/// to 18.
+/// A number has at most 18 significant digits, the number 1 is 10^19 units, and finite decimals
+/// range from -18 to 18.
 pub fn limits_are()
     ensures constants { LimitsAre }
     ensures digits { DigitsAreFew }
@@ -26,7 +26,7 @@ pub fn limits_are()
     ensures decimals { DecimalsAreInRange }
 {}
 
-/// A text denotes one number at most.
+/// A text denotes at most one number.
 pub fn denotes_one()
     ensures { DenotesOne }
 {}
@@ -36,105 +36,107 @@ pub fn short_numbers_denote()
     ensures { ShortNumbersDenote }
 {}
 
-/// A short text denotes a number that is kept.
+/// A text of at most 18 significant digits denotes a number of at most 18.
 pub fn short_is_kept()
     ensures { ShortIsKept }
 {}
 
-/// Every number of units that fits 128 bits is written in full, and every number that is kept.
+/// Every number of units that fits 128 bits is written in full, and so is every number of at most
+/// 18 significant digits.
 pub fn units_are_writable()
     ensures fitting { FittingIsWritable }
     ensures short { ShortIsWritable }
 {}
 
-/// A number has one plain text, which `plain` gives. It is ASCII.
+/// `plain` returns the only plain text of a number. The text is ASCII.
 pub fn plain_is_the_text()
     ensures plain { PlainIsPlain }
     ensures one { PlainIsOne }
     ensures ascii { PlainIsAscii }
 {}
 
-/// Reading `plain` of a number that is kept gives the number back.
+/// Reading `plain` of a number of at most 18 significant digits returns the number.
 pub fn plain_reads_back()
     ensures { PlainReadsBack }
 {}
 
-/// Two numbers of one plain text are one.
+/// Numbers with the same plain text are equal.
 pub fn plain_tells_apart()
     ensures { PlainTellsApart }
 {}
 
-/// Values are in the order of their kinds, and each kind in its own.
+/// Values are ordered by kind, and the values of one kind in the order of the kind.
 pub fn values_are_ordered()
     ensures { (x y : Seen) → ⟦<Value as Ord>⟧.cmp x y ≡ value_cmp x y }
 {}
 
-/// Levels are in the order of their places, from the strictest on.
+/// Levels are ordered from the strictest on.
 pub fn levels_are_ordered()
     ensures order { (x y : SeenLevel) → ⟦<Level as Ord>⟧.cmp x y ≡ level_cmp x y }
     ensures places { LevelsStandApart }
 {}
 
-/// `INFINITE` is no finite number.
+/// Returns `INFINITE`, which is no finite number.
 pub fn infinite_is_no_number() -> Decimals
     ensures { result ≡ None }
 {
     Decimals::INFINITE
 }
 
-/// Twice half the width of an interval is 10 to the power of minus the decimals, so that it is a
-/// whole number of units.
+/// Twice the half width of an interval is 10 to the power of minus the decimals, which is a whole
+/// number of units.
 pub fn interval_is_half_a_place()
     ensures after_point { HalfAfterPoint }
     ensures before_point { HalfBeforePoint }
 {}
 
-/// The interval of a number has just what is near enough to it, and so the number itself.
+/// The interval of a number contains exactly the numbers within half of its last decimal place. So
+/// it contains the number.
 pub fn interval_has_what_is_near()
     ensures near { WithinIsNear }
     ensures number { IntervalHasNumber }
     ensures points { IntervalHasPoints }
 {}
 
-/// Both ends of the interval of a number that is kept are less in size than 10 to the power of
-/// `MOST_DIGITS` + `UNIT_PLACES` and the half width of `-MOST_DECIMALS` together: 15 * 10^36 units,
-/// which fits an `i128`.
+/// Both ends of a number's interval are smaller in size than 10 to the power of `MOST_DIGITS` +
+/// `UNIT_PLACES` plus the half width of `-MOST_DECIMALS`. This bound is 15 * 10^36 units, which
+/// fits an `i128`.
 pub fn interval_ends_are_bounded()
     ensures { IntervalEndsAreBounded }
 {}
 
-/// Common parts are one whatever the grouping, the order and the repetition.
+/// The common part of intervals does not depend on grouping, order or repetition.
 pub fn common_ignores_order()
     ensures associative { CommonIsAssociative }
     ensures commutative { CommonIsCommutative }
     ensures idempotent { CommonIsIdempotent }
 {}
 
-/// The common part has exactly the numbers that lie in both intervals.
+/// The common part contains exactly the numbers that lie in both intervals.
 pub fn common_has_both()
     ensures { CommonIsBoth }
 {}
 
-/// Intervals that are not empty meet exactly if some number lies in both, which is where their
+/// Intervals that are not empty meet exactly if some number lies in both, and exactly if their
 /// common part is not empty.
 pub fn meets_by_common_point()
     ensures point { MeetsByCommonPoint }
     ensures part { MeetsByCommonPart }
 {}
 
-/// Each value meets itself, and is met by what it meets.
+/// Each value meets itself, and two values meet in either order.
 pub fn values_meet_both_ways()
     ensures reflexive { MeetsIsReflexive }
     ensures symmetric { MeetsIsSymmetric }
 {}
 
-/// Each two of several values meet exactly if any two among them do.
+/// Each two of several values meet exactly if any two members of the list do.
 pub fn each_two_meet_by_members()
     ensures { EachTwoMeetByMembers }
 {}
 
-/// Several intervals have one greatest low end and one least high end. What lies between these is
-/// what lies in each of the intervals.
+/// Several intervals have one greatest low end and one least high end. A number lies between these
+/// ends exactly if it lies in every interval.
 pub fn ends_are_common_interval()
     ensures exist { EndsExist }
     ensures one { EndsAreOne }
@@ -142,16 +144,15 @@ pub fn ends_are_common_interval()
     ensures common { EndsAreCommonInterval }
 {}
 
-/// Of intervals that are not empty, each two meet exactly if the greatest low end is at most the
-/// least high end.
+/// If no interval is empty, each two meet exactly if the greatest low end is at most the least high
+/// end.
 pub fn all_meet_iff_ends_meet()
     ensures { AllMeetIffEndsMeet }
 {}
 
-/// Of several different values that are nil or of one kind, each two meet exactly if none is nil,
-/// there are numbers, and the greatest low end of their intervals is at most the least high end.
-/// Where it is above, the first number with this high end and the first with this low end do not
-/// meet.
+/// Several different values, each nil or of one kind, meet in twos exactly if all are numbers and
+/// the greatest low end of their intervals is at most the least high end. If it is above, the first
+/// number with the least high end and the first with the greatest low end do not meet.
 pub fn different_meet_between_ends()
     ensures numbers { DifferentMeetAsNumbers }
     ensures between { DifferentMeetBetweenEnds }

@@ -2,17 +2,17 @@ ghost use Rattle.std.specs.Prelude.{◌≡◌, ◌↔◌, Some};
 ghost use Rattle.oim_value.specs.declared.level.Level.{Level as Said};
 ghost use Rattle.oim_value.specs.Level.{level_entry, level_with};
 
-/// Which facts of one dimension set a report may have (`xbrl:allowedDuplicates` of the Open
-/// Information Model), from the strictest on.
+/// Which duplicate facts a report may have (`xbrl:allowedDuplicates` of the Open Information
+/// Model), from the strictest level on.
 #[derive(Clone, Copy, Debug, PartialEq, Eq, PartialOrd, Ord)]
 pub enum Level {
-    /// No two facts of one dimension set.
+    /// No two facts may have the same dimensions.
     Unique,
-    /// Equal facts.
+    /// Facts with the same dimensions must be equal.
     Complete,
-    /// Facts whose values meet.
+    /// Values of facts with the same dimensions must meet.
     Consistent,
-    /// Any facts.
+    /// Any facts are allowed.
     All,
 }
 
@@ -24,8 +24,8 @@ const LEVELS: [Level; 4] = [
 ];
 
 impl Level {
-    /// The level that a text declares: `none`, `complete`, `consistent` or `all`, by which `Unique`,
-    /// `Complete`, `Consistent` and `All` are written. No other text declares one.
+    /// Returns the level that a text declares. `none`, `complete`, `consistent` and `all` declare
+    /// `Unique`, `Complete`, `Consistent` and `All`. No other text declares a level.
     pub fn read(text: &str) -> Option<Level>
         ensures table { result ≡ level_with text.now }
         ensures exact { (level : Said) → result ≡ Some level ↔ (level_entry level).text ≡ text.now }
@@ -33,7 +33,7 @@ impl Level {
         LEVELS.iter().copied().find(|level| level.text() == text)
     }
 
-    /// The text that declares the level. No two levels share one.
+    /// Returns the text that declares the level. No two levels share one.
     pub fn text(self) -> &'static str
         ensures { result.now ≡ (level_entry self).text }
     {

@@ -11,8 +11,8 @@ pub(crate) const UNIT: i128 = 10_000_000_000_000_000_000;
 /// Eighteen nines.
 const GREATEST: i128 = 999_999_999_999_999_999 * UNIT;
 
-// Where a request for memory is refused, the next one is not, so the call is made again. The line
-// on standard error tells `tests/refused_memory` of it.
+// If a request for memory is refused, the call is repeated, and the next request succeeds.
+// `tests/refused_memory` counts the lines on standard error.
 
 fn tell_refused(rt: &HostRuntime) {
     let _ = eprintln!(rt; "refused");

@@ -7,15 +7,15 @@ use crate::interval::{interval_of, meets};
 use oim_names::{Copied, Key, Name, Text};
 use std::alloc::{AllocError, Global};
 
-/// A fact's value. Values are ordered by kind, in the order of the variants; numbers by units and
-/// then decimals, texts by bytes, names by URI and then local part.
+/// A fact's value. Values are ordered by kind, in the order of the variants. Numbers are ordered by
+/// units and then decimals, texts by bytes, and names by URI and then local part.
 #[derive(Debug, Drop, PartialEq, Eq, PartialOrd, Ord)]
 pub enum Value {
-    /// Nothing is reported.
+    /// The value is null.
     Nil,
-    /// A number, and to how many places it is known.
+    /// A number and its decimals.
     Number(Fixed, Decimals),
-    /// A text as it was spelled.
+    /// A text as the report spells it.
     Text(Text),
     /// An expanded name.
     Name(Name),
@@ -49,8 +49,8 @@ impl Key for Value {
     ] };
 }
 
-/// Whether two values may be one value, differently rounded: both nil, numbers whose rounding
-/// intervals meet, equal texts or equal names.
+/// Returns whether two values may be roundings of one value: both are nil, their rounding intervals
+/// meet, or they are equal texts or equal names.
 pub fn value_meets(a: &Value, b: &Value) -> bool
     ensures { IsTrue result ↔ Meets a.now b.now }
 {
