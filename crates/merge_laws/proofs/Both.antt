@@ -1,4 +1,4 @@
--- Unions by what they have.
+-- The members of a union.
 use Rattle.std.proofs.Common.{◌≡◌, Bool, true, false, cond, List, [], ◌∷◌, Option, Some, None, refl, sym, ap, ◌∙◌, inl, inr, ⊎_elim, ℕ, zero, suc, ◌<◌, length, get_or, subst, arith}
 use mathlib.Core.Bool.{◌||◌, true≢false}
 use Rattle.std.specs.Prelude.{◌⊎◌, Contains, is_some, unwrap_or}
@@ -94,7 +94,7 @@ module _ {K V : Type 0} {R : K → K → Ordering} (o : IsTotalOrder R) (merged 
   }
 
 module _ {K V : Type 0} {R : K → K → Ordering} (o : IsTotalOrder R) (exact : (x y : K) → R x y ≡ Equal → x ≡ y) (merged : V → V → V) where
-  -- the entry that is found is there, and has the key
+  -- an entry that was found is in the map and has the key
   found_entry : (k : K) (es : List (K × V)) (e : K × V) → item_at R entry_key k es ≡ Some e → Contains es e × (k ≡ e.0)
   found_entry k [] e is = absurd (true≢false (sym (ap is_some is)))
   found_entry k (f ∷ es) e is = elim (is_eq (R k f.0)) as (λ b. is_eq (R k f.0) ≡ b → cond b (Some f) (item_at R entry_key k es) ≡ Some e → Contains (f ∷ es) e × (k ≡ e.0)) [

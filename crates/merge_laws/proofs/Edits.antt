@@ -1,4 +1,4 @@
--- What an edit at the place that a search found makes.
+-- Edits at the index that a search found.
 use Rattle.std.proofs.Common.{◌≡◌, ℕ, suc, ◌+◌, Bool, true, false, not, cond, List, [], ◌∷◌, ◌++◌, get_or, set, take, drop, Option, Some, None, Result, Ok, Err, refl, sym, ap, ◌∙◌, arith}
 use Rattle.std.specs.Prelude.{is_some}
 use Rattle.std.specs.declared.cmp.Ordering.{Ordering}
@@ -13,7 +13,7 @@ use Rattle.merge_laws.specs.Sorted.{IsRising, item_at, has_key, place_of, entry_
 use Rattle.merge_laws.specs.Union.{with_item}
 use Rattle.merge_laws.specs.Items.{Below, none_below, turned_less, turned_greater}
 
--- what a search's result means
+-- the meaning of a search's result
 pub tells_ok : (b : Bool) (p i : ℕ) → ◌≡◌ {A = Result ℕ ℕ} (Ok i) (cond b (Ok p) (Err p)) → (b ≡ true) × (p ≡ i)
 tells_ok true p i is = (refl, ap (λ r. elim r [ Ok n ↦ n | Err n ↦ p ]) (sym is))
 tells_ok false p i is = absurd (true≢false (ap (λ r. elim r [ Ok n ↦ true | Err n ↦ false ]) is))
@@ -32,7 +32,7 @@ module _ {K E : Type 0} {R : K → K → Ordering} (key : E → K) (o : IsTotalO
   pub not_here : (k : K) (e : E) (es : List E) → R k (key e) ≡ Greater → has_key R key k (e ∷ es) ≡ has_key R key k es
   not_here k e es p = ap (λ r. is_some (cond (is_eq r) (Some e) (item_at R key k es))) p
 
-  -- below all of a list, a key is not there
+  -- a key below all keys is not in the list
   not_below : {A : Type 0} (k : K) (es : List E) → Below key o k es → has_key R key k es ≡ true → A
   not_below k es h has = absurd (true≢false (sym has ∙ ap is_some (none_below key o k es h)))
 
@@ -48,7 +48,7 @@ module _ {K E : Type 0} {R : K → K → Ordering} (key : E → K) (o : IsTotalO
   unfolding IsStrictlySortedBy
   rest_rises e es h = h.1
 
-  -- the item that is there is the one at the place
+  -- the item with the key is the item at its index
   pub item_there : (k : K) (es : List E) (d : E) → IsRising R key es → has_key R key k es ≡ true → item_at R key k es ≡ Some (get_or es (place_of R key k es) d)
   item_there k [] d h has = absurd (true≢false (sym has))
   item_there k (e ∷ es) d h has =
@@ -62,7 +62,7 @@ module _ {K E : Type 0} {R : K → K → Ordering} (key : E → K) (o : IsTotalO
       ] refl
 
   module _ (join : E → E → E) where
-    -- at its gap an item goes in
+    -- an item without its key in the list is inserted at the index of the gap
     pub placed : (x : E) (es : List E) → has_key R key (key x) es ≡ false → take (place_of R key (key x) es) es ++ x ∷ drop (place_of R key (key x) es) es ≡ with_item R key join x es
     placed x [] has = refl
     placed x (e ∷ es) has =
@@ -74,7 +74,7 @@ module _ {K E : Type 0} {R : K → K → Ordering} (key : E → K) (o : IsTotalO
               ∙ ap (λ s. e ∷ s) (placed x es (sym (not_here (key x) e es p) ∙ has))
         ] refl
 
-    -- at the place of its key an item is joined
+    -- an item with its key in the list is joined at the index of the key
     pub replaced : (x : E) (es : List E) (d : E) → IsRising R key es → has_key R key (key x) es ≡ true → set es (place_of R key (key x) es) (join (get_or es (place_of R key (key x) es) d) x) ≡ with_item R key join x es
     replaced x [] d h has = absurd (true≢false (sym has))
     replaced x (e ∷ es) d h has =
@@ -86,7 +86,7 @@ module _ {K E : Type 0} {R : K → K → Ordering} (key : E → K) (o : IsTotalO
               ∙ ap (λ s. e ∷ s) (replaced x es d (rest_rises e es h) (sym (not_here (key x) e es p) ∙ has))
         ] refl
 
-    -- where the older item stays, an item whose key is there changes nothing
+    -- if the older item is kept, adding an item whose key is there changes nothing
     pub unchanged : ((e y : E) → join e y ≡ e) → (x : E) (es : List E) → IsRising R key es → has_key R key (key x) es ≡ true → with_item R key join x es ≡ es
     unchanged older x [] h has = absurd (true≢false (sym has))
     unchanged older x (e ∷ es) h has =
@@ -111,7 +111,7 @@ module _ {K E : Type 0} {R : K → K → Ordering} (key : E → K) (o : IsTotalO
       let told = tells_ok (has_key R key k es) (place_of R key k es) i at in
       item_there k es d h told.0 ∙ ap (λ n. Some (get_or es n d)) told.1
 
-  -- an item that is there is not new, and one that is not goes to its gap
+  -- an item that is in the list is not new; another item is inserted at its gap
   pub not_new : (f : E) (es : List E) (i : ℕ) → Ok i ≡ found_at R key (key f) es → new_item R key es f ≡ []
   not_new f es i at = ap (λ b. cond b [] ((place_of R key (key f) es, f) ∷ [])) (tells_ok _ _ i at).0
 

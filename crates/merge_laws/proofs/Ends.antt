@@ -1,4 +1,4 @@
--- What a summary says about its values.
+-- What a summary records about its values.
 use Rattle.std.proofs.Common.{◌≡◌, ℕ, zero, suc, ◌<◌, Bool, true, false, List, [], ◌∷◌, length, get_or, Option, Some, None, refl, sym, ap, subst, ◌∙◌, arith}
 use mathlib.Core.Bool.{◌||◌, true≢false}
 use Rattle.std.specs.Prelude.{Contains, IfSome, is_some}
@@ -12,7 +12,7 @@ use Rattle.oim_value.proofs.Ends.{ends_of_one, ends_of_more}
 use Rattle.merge_laws.specs.Ends.{summary_of_all, SummaryTellsAll}
 use Rattle.merge_laws.specs.Union.{either_or_both}
 
--- the ends that are kept are the ends, and if none is kept there is no interval
+-- the recorded ends are the ends of the intervals; none are recorded if there is no interval
 abbrev Kept : Option Interval → List Interval → Type 0
 Kept None is = is ≡ []
 Kept (Some e) is = AreEnds e is

@@ -1,4 +1,4 @@
--- Lists from their end, and parts of lists that rise.
+-- Lists taken apart at their end, and parts of ascending lists.
 use Rattle.std.proofs.Common.{◌≡◌, ℕ, zero, suc, ◌+◌, ◌<◌, ◌≤◌, get_or, List, [], ◌∷◌, ◌++◌, append-nil, take, length, Option, Some, None, refl, sym, ap, subst, ◌∙◌, arith}
 use Rattle.std.specs.Prelude.{reverse}
 use Rattle.std.specs.Option.{option_or}
@@ -11,7 +11,7 @@ use Rattle.std.proofs.lemmas.List.{reverse-append, reverse-reverse, take_more}
 use Rattle.std.proofs.lemmas.Grind.{flat_map-append}
 use Rattle.merge_laws.specs.Sorted.{IsRising}
 
--- induction from the end: what holds for the empty list, and for one item more at the end, holds for each list
+-- induction from the end: a property of the empty list that one more item at the end keeps holds for each list
 pub from_end : {A : Type 0} (P : List A → Type 0) → P [] → ((xs : List A) (x : A) → P xs → P (xs ++ x ∷ [])) → (xs : List A) → P xs
 from_end {A} P none more xs = subst P (reverse-reverse xs) (turned (reverse xs))
   where
@@ -35,7 +35,7 @@ pub all_weaker : {A : Type 0} (P Q : A → Type 0) (xs : List A) → ((x : A) �
 all_weaker P Q [] f h = tt
 all_weaker P Q (x ∷ xs) f h = (f x h.0, all_weaker P Q xs f h.1)
 
--- a walk over a list, step by step and at its end
+-- a property of the first items of a list, extended by one more item
 pub all_more : {A : Type 0} (P : A → Type 0) (xs : List A) (i : ℕ) (x : A) → i < length xs → x ≡ get_or xs i x → AllByRecursion P (take i xs) → P x → AllByRecursion P (take (i + 1) xs)
 all_more P xs i x within is all p = subst (AllByRecursion P) (sym (take_more xs i x within ∙ ap (λ y. take i xs ++ y ∷ []) (sym is))) (all_both P (take i xs) (x ∷ []) all (p, tt))
 
@@ -59,7 +59,7 @@ or_none None = refl
 or_none (Some x) = refl
 
 module _ {K E : Type 0} {R : K → K → Ordering} (key : E → K) (o : IsTotalOrder R) where
-  -- whether the keys of all items are below one
+  -- the keys of all items are below a key
   abbrev pub AllBelow : K → List E → Type 0
   AllBelow k = AllByRecursion (λ e. R (key e) k ≡ Less)
 
@@ -73,13 +73,13 @@ module _ {K E : Type 0} {R : K → K → Ordering} (key : E → K) (o : IsTotalO
   rises_back [] ys h = h
   rises_back (x ∷ xs) ys h = rises_back xs ys h.1
 
-  -- those before the last are below it
+  -- the items before the last one are below it
   pub below_last : (xs : List E) (y : E) (zs : List E) → IsRising R key (xs ++ y ∷ zs) → AllBelow (key y) xs
   unfolding IsStrictlySortedBy
   below_last [] y zs h = tt
   below_last (x ∷ xs) y zs h = ((all_back (λ f. R (key x) (key f) ≡ Less) xs (y ∷ zs) h.0).0, below_last xs y zs h.1)
 
-  -- items below y come before y and what follows it
+  -- a list ascends if items below y are followed by y and then items above y
   pub rises_around : (xs : List E) (y : E) (zs : List E) → IsRising R key xs → AllBelow (key y) xs → AllByRecursion (λ f. R (key y) (key f) ≡ Less) zs → IsRising R key zs → IsRising R key (xs ++ y ∷ zs)
   unfolding IsStrictlySortedBy
   rises_around [] y zs h below above g = (above, g)

@@ -1,4 +1,4 @@
--- What a search in a list that rises finds.
+-- What a search in an ascending list finds.
 use Rattle.std.proofs.Common.{◌≡◌, ℕ, zero, suc, ◌+◌, ◌<◌, ◌≤◌, ◌-◌, true, false, not, cond, List, [], ◌∷◌, length, get_or, Some, Ok, Err, refl, sym, ap, subst, ◌∙◌, arith, inl, inr}
 use Rattle.std.specs.Prelude.{is_some}
 use mathlib.Core.Bool.{true≢false}
@@ -23,7 +23,7 @@ less Equal t = absurd (true≢false t)
 less Greater t = absurd (true≢false t)
 
 module _ {K E : Type 0} {R : K → K → Ordering} (key : E → K) (o : IsTotalOrder R) where
-  -- of two places, the first has the lower key
+  -- the item at the lower index has the lower key
   pub rising_at : (es : List E) → IsRising R key es → (i j : ℕ) (d : E) → i < j → j < length es → R (key (get_or es i d)) (key (get_or es j d)) ≡ Less
   rising_at es h i j d below within = Less-from_sorted (λ e f. R (key e) (key f)) es i j d h below within
 
@@ -39,13 +39,13 @@ module _ {K E : Type 0} {R : K → K → Ordering} (key : E → K) (o : IsTotalO
   first_place : (es : List E) (k : K) (i : ℕ) (d : E) → i ≤ length es → ((j : ℕ) → j < i → R (key (get_or es j d)) k ≡ Less) → (i < length es → is_lt (R (key (get_or es i d)) k) ≡ false) → place_of R key k es ≡ i
   first_place es k i d le below at = position_or_len_is (λ e. not (is_lt (R (key e) k))) es i d le (λ j lt. ap (λ r. not (is_lt r)) (below j lt)) (λ lt. ap not (at lt))
 
-  -- the place of an item with the key,
+  -- the search returns the index of an item with the key
   pub found_here : (es : List E) (k : K) (i : ℕ) (d : E) → IsRising R key es → i < length es → R (key (get_or es i d)) k ≡ Equal → Ok i ≡ found_at R key k es
   found_here es k i d h lt p =
       let place = first_place es k i d (omega (arith, lt)) (λ j below. sym (alike_right o _ k _ p) ∙ rising_at es h j i d below lt) (λ _. ap is_lt p) in
       sym (λ n. cond (has_tied es k i d lt p n) (Ok (place n)) (Err (place n)))
 
-  -- and the place between those below the key and those above it
+  -- the search returns the index between the items below the key and those above it
   pub found_gap : (es : List E) (k : K) (i : ℕ) → i ≤ length es → ((j : ℕ) (d : E) → j < i → R (key (get_or es j d)) k ≡ Less) → ((j : ℕ) (d : E) → i ≤ j → j < length es → R (key (get_or es j d)) k ≡ Greater) → Err i ≡ found_at R key k es
   found_gap [] k i le below above = ap Err (omega (arith, le))
   found_gap (e ∷ es) k i le below above =
@@ -56,19 +56,19 @@ module _ {K E : Type 0} {R : K → K → Ordering} (key : E → K) (o : IsTotalO
       ]) in
       sym (λ n. cond (absent n) (Ok (place n)) (Err (place n)))
 
-  -- a key above the last is above all
+  -- a key above the last key is above all
   pub found_behind : (es : List E) (k : K) (last : E) → IsRising R key es → 0 < length es → ((d : E) → last ≡ get_or es (length es - 1) d) → R (key last) k ≡ Less → Err (length es) ≡ found_at R key k es
   found_behind es k last h some is p = found_gap es k (length es) (omega arith) (λ j d lt. elim (cases_lt (j + 1) (length es)) [
     | inl under ↦ o.trans _ _ _ (rising_at es h j (length es - 1) d (omega (arith, under)) (omega (arith, some))) (sym (ap (λ e. R (key e) k) (is d)) ∙ p)
     | inr over ↦ (let same : j ≡ length es - 1 = omega (arith, over, lt) in ap (λ n. R (key (get_or es n d)) k) same ∙ sym (ap (λ e. R (key e) k) (is d)) ∙ p)
   ]) (λ j d ge lt. absurd (omega (arith, ge, lt)))
 
-  -- where a search says so only of a list in order
+  -- the partition point that a search finds in an ascending list
   pub parted : (es : List E) (k : K) (i : ℕ) → IsRising R key es → (IsNonDecreasingBy (λ e. ordering_index (R (key e) k)) es → IsPartitionPoint (λ e. R (key e) k ≡ Less) (λ e. R (key e) k ≡ Greater) es i) → IsPartitionPoint (λ e. R (key e) k ≡ Less) (λ e. R (key e) k ≡ Greater) es i
   parted es k i h found = found (searchable_from_sorted o key es k (λ j d _ lt.
       ap is_lt (turned_less key o _ _ (rising_at es h j (j + 1) d (omega arith) lt))))
 
-  -- what is below a key at one place is so at each before, and what is above it at each after
+  -- if the item at an index is below a key, so are all before it; if it is above, so are all after it
   pub less_before : (es : List E) (k : K) (i : ℕ) (x : E) → IsRising R key es → i < length es → R (key (get_or es i x)) k ≡ Less → (j : ℕ) (d : E) → j < i + 1 → R (key (get_or es j d)) k ≡ Less
   less_before es k i x h within p j d lt =
       let read : R (key (get_or es i d)) k ≡ Less = ap (λ e. R (key e) k) (get_or_default es i d x within) ∙ p in
@@ -85,12 +85,12 @@ module _ {K E : Type 0} {R : K → K → Ordering} (key : E → K) (o : IsTotalO
         | inr over ↦ let same : j ≡ i = omega (arith, over, ge) in ap (λ n. R (key (get_or es n d)) k) same ∙ read
       ]
 
-  -- a place is one of an item, or the end
+  -- the index of a key is at most the length
   pub place_bound : (k : K) (es : List E) → place_of R key k es ≤ length es
   place_bound k [] = omega arith
   place_bound k (e ∷ es) = let rest = place_bound k es in elim (is_lt (R (key e) k)) as (λ b. cond (not (not b)) (1 + place_of R key k es) 0 ≤ length (e ∷ es)) [ true ↦ omega (arith, rest) | false ↦ omega arith ]
 
-  -- the items before a key's place are below the key
+  -- the items before the index of a key are below the key
   pub before_place : (k : K) (es : List E) (j : ℕ) (d : E) → j < place_of R key k es → R (key (get_or es j d)) k ≡ Less
   before_place k [] j d lt = absurd (omega (arith, lt))
   before_place k (e ∷ es) zero d lt = elim (is_lt (R (key e) k)) as (λ b. is_lt (R (key e) k) ≡ b → R (key e) k ≡ Less) [
@@ -102,7 +102,7 @@ module _ {K E : Type 0} {R : K → K → Ordering} (key : E → K) (o : IsTotalO
     | false ↦ λ t. let count : place_of R key k (e ∷ es) ≡ 0 = ap (λ b. cond (not (not b)) (1 + place_of R key k es) 0) t in absurd (omega (arith, lt, count))
   ] refl)
 
-  -- so that the next of the others is above all that was passed
+  -- the next of the other items is above all items that were passed
   pub passed_next : (es fs : List E) (i : ℕ) (x d : E) → IsRising R key fs → i + 1 < length fs → x ≡ get_or fs i x → (j : ℕ) (e : E) → j < place_of R key (key x) es → R (key (get_or es j e)) (key (get_or fs (i + 1) d)) ≡ Less
   passed_next es fs i x d h within is j e lt =
       o.trans _ _ _ (before_place (key x) es j e lt)

@@ -1,4 +1,4 @@
--- What `put` makes of a map.
+-- What `put` changes in a map.
 use Rattle.std.proofs.Common.{◌≡◌, ℕ, ◌<◌, List, length, get_or, set, Result, Ok, Err, OnOk, OnErr, refl, sym, ap, subst, ◌∙◌}
 use Rattle.std.specs.declared.cmp.Ordering.{Ordering}
 use Rattle.std.specs.Cmp.{IsTotalOrder}
@@ -11,7 +11,7 @@ use Rattle.merge_laws.specs.UnionLaws.{all_with}
 use Rattle.merge_laws.proofs.Edits.{replaced, tells_ok}
 
 module _ {K V : Type 0} {R : K → K → Ordering} (o : IsTotalOrder R) (P : V → Type 0) (merged : V → V → V) where
-  -- a value merged into the one at the key,
+  -- `put` merges the value into the one at the key
   pub put_there : (es : List (K × V)) (k : K) (v m : V) (i : ℕ) (x : K × V) → IsRising R entry_key es → Ok i ≡ found_at R entry_key k es → x ≡ get_or es i x → m ≡ merged x.1 v → set es i (x.0, m) ≡ map_with R merged k v es
   put_there es k v m i x h at read made =
       let told = tells_ok (has_key R entry_key k es) (place_of R entry_key k es) i at in
@@ -19,14 +19,14 @@ module _ {K V : Type 0} {R : K → K → Ordering} (o : IsTotalOrder R) (P : V �
       ∙ (λ n. set es (sym told.1 n) ((get_or es (sym told.1 n) x).0, merged (get_or es (sym told.1 n) x).1 v))
       ∙ replaced entry_key o (merged_entries merged) (k, v) es x h told.0
 
-  -- and what `put` makes is a map
+  -- the result of `put` is a map
   pub put_map : ((v w : V) → P v → P w → P (merged v w)) → (es : List (K × V)) (k : K) (v : V) → IsMap R P es → P v → IsMap R P (map_with R merged k v es)
   put_map closed es k v m p = record {
     rises = rises_with entry_key o (merged_entries merged) (λ _ _. refl) (k, v) es m.rises;
     values = all_with entry_key o (merged_entries merged) (λ _ _. refl) (λ e. P e.1) (λ e f. closed e.1 f.1) (k, v) es p m.values;
   }
 
-  -- where a merge was refused, nothing has changed
+  -- if memory for a merge is refused, nothing changes
   pub put_back : (es : List (K × V)) (m : V) (i : ℕ) (x : K × V) → i < length es → x ≡ get_or es i x → m ≡ x.1 → set es i (x.0, m) ≡ es
   put_back es m i x within read same = (λ n. set es i (x.0, same n)) ∙ ap (set es i) read ∙ set-get_or es i x
 

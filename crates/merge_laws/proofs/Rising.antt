@@ -1,4 +1,4 @@
--- Lists that rise, built from their start: what `of_rising` asks.
+-- Ascending lists that are built from their start, as `of_rising` requires.
 use Rattle.std.proofs.Common.{◌≡◌, List, [], ◌∷◌, ◌++◌}
 use Rattle.std.specs.declared.cmp.Ordering.{Ordering}
 use Rattle.std.specs.declared.cmp.Ordering.TheVariants.{Less}
@@ -16,7 +16,7 @@ module _ {K E : Type 0} (R : K → K → Ordering) (key : E → K) where
   unfolding IsStrictlySortedBy
   one_rises x = (tt, tt)
 
-  -- an item above all goes behind them
+  -- an item above all others is added at the end
   pub rises_behind : (es : List E) (x : E) → IsRising R key es → AllByRecursion (λ e. R (key e) (key x) ≡ Less) es → IsRising R key (es ++ x ∷ [])
   unfolding IsStrictlySortedBy
   rises_behind [] x h below = (tt, tt)

@@ -1,4 +1,4 @@
--- Items that are put in where a search found their place, from the last on, make the union.
+-- Items that are inserted at the indices that searches found, from the last on, make the union.
 use Rattle.std.proofs.Common.{◌≡◌, suc, ◌+◌, ◌≤◌, arith, true, false, not, cond, List, [], ◌∷◌, ◌++◌, append-nil, take, drop, take-append-drop, Option, Some, None, refl, sym, ap, subst, ◌∙◌, ℕ}
 use Rattle.std.specs.Prelude.{reverse, is_some}
 use Rattle.std.specs.Option.{option_or}
@@ -38,7 +38,7 @@ there_first None b has = absurd (true≢false (sym has))
 there_first (Some x) b has = refl
 
 module _ {K E : Type 0} {R : K → K → Ordering} (key : E → K) (o : IsTotalOrder R) where
-  -- a key parts a list that has it not into what is below it and what is above
+  -- a key that is not in a list splits it into the items below it and those above it
   pub record IsParted (k : K) (es : List E) : Type 0 where
     pub below : AllBelow key o k (take (place_of R key k es) es)
     pub above : Below key o k (drop (place_of R key k es) es)
@@ -58,7 +58,7 @@ module _ {K E : Type 0} {R : K → K → Ordering} (key : E → K) (o : IsTotalO
             record { below = subst (λ i. AllBelow key o k (take i (e ∷ es))) behind (lower, rest.below); above = subst (λ i. Below key o k (drop i (e ∷ es))) behind rest.above }
       ] refl
 
-  -- for a lower key, the items below decide
+  -- for a lower key, only the items below matter
   below_finds : (w k : K) (es : List E) → IsRising R key es → R w k ≡ Less → item_at R key w (take (place_of R key k es) es) ≡ item_at R key w es
   below_finds w k [] h p = refl
   below_finds w k (e ∷ es) h p =
@@ -95,7 +95,7 @@ module _ {K E : Type 0} {R : K → K → Ordering} (key : E → K) (o : IsTotalO
       above : is_lt (R (key e) k) ≡ false → R (key e) w ≡ Greater → place_of R key w (take (place_of R key k (e ∷ es)) (e ∷ es)) ≡ place_of R key w (e ∷ es)
       above t q = ap (λ i. place_of R key w (take i (e ∷ es))) (place_here key o k e es t) ∙ sym (place_here key o w e es (ap is_lt q))
 
-  -- so that items below a key go to the same places
+  -- items below a key are inserted at the same indices
   below_news : (k : K) (es fs : List E) → IsRising R key es → AllBelow key o k fs → new_items R key es fs ≡ new_items R key (take (place_of R key k es) es) fs
   below_news k es [] h b = refl
   below_news k es (f ∷ fs) h b =
@@ -103,7 +103,7 @@ module _ {K E : Type 0} {R : K → K → Ordering} (key : E → K) (o : IsTotalO
       let place = sym (below_places (key f) k es h b.0) in
       λ i. cond (is_some (found i)) [] ((place i, f) ∷ []) ++ below_news k es fs h b.1 i
 
-  -- what has come of items and others
+  -- the result of adding the other items to the items
   pub record IsTaken (es fs out : List E) : Type 0 where
     pub rises : IsRising R key out
     pub at : (q : K) → item_at R key q out ≡ option_or (item_at R key q es) (item_at R key q fs)
@@ -121,7 +121,7 @@ module _ {K E : Type 0} {R : K → K → Ordering} (key : E → K) (o : IsTotalO
       ap reverse (flat_map-append (new_item R key es) fs (f ∷ []) ∙ ap (λ ns. new_items R key es fs ++ ns) (append-nil (new_item R key es f)))
       ∙ reverse-append (new_items R key es fs) (new_item R key es f)
 
-  -- an item that is there already
+  -- an item that is already in the list adds nothing
   taken_there : (es fs out : List E) (f : E) → has_key R key (key f) es ≡ true → AllBelow key o (key f) fs → IsTaken es fs out → IsTaken es (fs ++ f ∷ []) out
   taken_there es fs out f has low taken = record {
     rises = taken.rises;
@@ -134,7 +134,7 @@ module _ {K E : Type 0} {R : K → K → Ordering} (key : E → K) (o : IsTotalO
     below = λ k low_es low_fs. taken.below k low_es (all_front (λ e. R (key e) k ≡ Less) fs (f ∷ []) low_fs);
   }
 
-  -- a new one
+  -- a new item is inserted
   taken_new : (es fs out : List E) (f : E) → IsRising R key es → has_key R key (key f) es ≡ false → AllBelow key o (key f) fs → IsTaken (take (place_of R key (key f) es) es) fs out → IsTaken es (fs ++ f ∷ []) (out ++ f ∷ drop (place_of R key (key f) es) es)
   taken_new es fs out f h has low taken =
       let i = place_of R key (key f) es in
@@ -181,7 +181,7 @@ module _ {K E : Type 0} {R : K → K → Ordering} (key : E → K) (o : IsTotalO
   pub takes_all : (es fs : List E) → IsRising R key es → IsRising R key fs → IsTaken es fs (inserted es (reverse (new_items R key es fs)))
   takes_all es fs = from_end Takes (λ es h g. record { rises = h; at = λ q. sym (or_none (item_at R key q es)); below = λ k low_es low_fs. low_es }) takes_more fs es
 
-  -- a greater key goes no further to the front
+  -- a greater key does not have a lower index
   places_rise : (j k : K) (es : List E) → R j k ≡ Less → place_of R key j es ≤ place_of R key k es
   places_rise j k [] p = omega arith
   places_rise j k (e ∷ es) p =
@@ -202,7 +202,7 @@ module _ {K E : Type 0} {R : K → K → Ordering} (key : E → K) (o : IsTotalO
     | false ↦ (places_rise k (key f) es h.0, none_before k es fs h.1)
   ]
 
-  -- new items come with the first one's place first
+  -- new items are listed in ascending order of their indices
   pub first_least : (end : ℕ) (es fs : List E) → IsRising R key fs → IsFirstLeast end (new_items R key es fs)
   unfolding IsStrictlySortedBy
   first_least end es [] h = tt

@@ -1,4 +1,4 @@
--- What a merge makes is the union.
+-- The result of a merge is the union.
 use Rattle.std.proofs.Common.{◌≡◌, cond, List, [], ◌∷◌, ◌++◌, length, arith, Option, Some, None, Result, Ok, Err, OnOk, OnErr, refl, sym, ap, subst, ◌∙◌}
 use Rattle.std.specs.Prelude.{reverse}
 use Rattle.std.specs.Option.{option_or}
@@ -26,12 +26,12 @@ module _ {K : Type 0} {R : K → K → Ordering} (o : IsTotalOrder R) where
       same_items itself o _ _ taken.rises (rises_union itself o older (λ _ _. refl) xs ys g) (λ q.
       taken.at q ∙ older_or (item_at R itself q xs) (item_at R itself q ys) ∙ sym (item_at-union itself o older (λ _ _. refl) q xs ys g h))
 
-  -- with nothing it is the other
+  -- the union of the empty set and another is the other
   pub set_of_other : ((x y : K) → R x y ≡ Equal → x ≡ y) → (xs ys : List K) → length xs ≡ 0 → IsSet R ys → set_union R xs ys ≡ ys
   set_of_other exact [] ys none h = set_commutes o exact [] ys (nothing_rises itself o) h
   set_of_other exact (x ∷ xs) ys none h = absurd (omega (arith, none))
 
-  -- and whether or not a merge was refused, there is a set
+  -- the result is a set whether or not memory was refused
   pub set_stays : {A B : Type 0} (r : Result A B) (xs ys zs : List K) → IsSet R xs → IsSet R ys → OnOk r (zs ≡ set_union R xs ys) → OnErr r (zs ≡ xs) → IsSet R zs
   set_stays (Ok a) xs ys zs g h made kept = subst (IsSet R) (sym made) (set_closed o xs ys g h)
   set_stays (Err e) xs ys zs g h made kept = subst (IsSet R) (sym kept) g
@@ -42,7 +42,7 @@ module _ {K V : Type 0} {R : K → K → Ordering} (o : IsTotalOrder R) (merged 
   revalued_or (Some x) None = refl
   revalued_or (Some x) (Some y) = refl
 
-  -- the same entries are new, whatever values the others have
+  -- the same entries are new, whatever the values of the others
   same_news : (es out fs : List (K × V)) → IsRevalued o merged es fs out → (gs : List (K × V)) → new_items R entry_key es gs ≡ new_items R entry_key out gs
   same_news es out fs is [] = refl
   same_news es out fs is (g ∷ gs) = λ n. cond (sym (is.has g.0) n) [] ((sym (is.place g.0) n, g) ∷ []) ++ same_news es out fs is gs n

@@ -1,4 +1,4 @@
--- Values that are put in the places of others, for keys of both.
+-- Values that replace others at keys that both maps have.
 use Rattle.std.proofs.Common.{◌≡◌, ℕ, zero, suc, ◌+◌, ◌<◌, true, false, not, cond, List, [], ◌∷◌, ◌++◌, append-nil, length, get_or, set, Option, Some, None, refl, sym, ap, subst, ◌∙◌, arith}
 use Rattle.std.specs.Prelude.{is_some}
 use Rattle.std.specs.Option.{option_or}
@@ -28,7 +28,7 @@ module _ {K V : Type 0} where
   set_is_value (e ∷ es) (suc i) v x is = ap (λ s. e ∷ s) (set_is_value es i v x is)
 
 module _ {K V : Type 0} {R : K → K → Ordering} (o : IsTotalOrder R) where
-  -- a value in another's place leaves the keys as they are
+  -- replacing a value does not change the keys
   below_kept : (k : K) (i : ℕ) (v : V) (es : List (K × V)) → Below entry_key o k es → Below entry_key o k (with_value i v es)
   below_kept k i v [] h = tt
   below_kept k zero v (e ∷ es) h = h
@@ -50,7 +50,7 @@ module _ {K V : Type 0} {R : K → K → Ordering} (o : IsTotalOrder R) where
   place_kept k zero v (e ∷ es) = refl
   place_kept k (suc i) v (e ∷ es) = ap (λ n. cond (not (not (is_lt (R e.0 k)))) (1 + n) 0) (place_kept k i v es)
 
-  -- the value at each key after one is put
+  -- the value at each key after one is replaced
   value_come : (q k : K) (v : V) (es : List (K × V)) (e : K × V) → IsRising R entry_key es → item_at R entry_key k es ≡ Some e → item_at R entry_key q (with_value (place_of R entry_key k es) v es) ≡ cond (is_eq (R q k)) (Some (e.0, v)) (item_at R entry_key q es)
   value_come q k v [] e h is = absurd (true≢false (sym (ap is_some is)))
   value_come q k v (f ∷ es) e h is =
@@ -73,7 +73,7 @@ module _ {K V : Type 0} {R : K → K → Ordering} (o : IsTotalOrder R) where
       ] refl
 
   module _ (merged : V → V → V) where
-    -- what an entry becomes, by the value at its key in the others
+    -- an entry after its value was merged with the value at its key in the others
     abbrev pub revalued : Option (K × V) → Option (K × V) → Option (K × V)
     revalued None b = None
     revalued (Some e) None = Some e
@@ -96,7 +96,7 @@ module _ {K V : Type 0} {R : K → K → Ordering} (o : IsTotalOrder R) where
     none_above q [] h = refl
     none_above q (f ∷ fs) h = ap (λ r. cond (is_eq r) (Some f) (item_at R entry_key q fs)) (o.antisymm q f.0 ∙ ap ordering_reverse h.0) ∙ none_above q fs h.1
 
-    -- a key that the entries do not have
+    -- a key that only the others have
     other_alone : (es fs out : List (K × V)) (f : K × V) → item_at R entry_key f.0 es ≡ None → IsRevalued es fs out → IsRevalued es (fs ++ f ∷ []) out
     other_alone es fs out f none before = record {
       rises = before.rises;
@@ -109,7 +109,7 @@ module _ {K V : Type 0} {R : K → K → Ordering} (o : IsTotalOrder R) where
       ] refl;
     }
 
-    -- a key that they have
+    -- a key that both have
     other_shared : (es fs out : List (K × V)) (f e : K × V) → item_at R entry_key f.0 es ≡ Some e → AllBelow entry_key o f.0 fs → IsRevalued es fs out → IsRevalued es (fs ++ f ∷ []) (with_value (place_of R entry_key f.0 es) (merged e.1 f.1) out)
     other_shared es fs out f e here low before =
         let v = merged e.1 f.1 in
@@ -147,7 +147,7 @@ module _ {K V : Type 0} {R : K → K → Ordering} (o : IsTotalOrder R) where
     pub revalues_all : (es fs : List (K × V)) → IsRising R entry_key es → IsRising R entry_key fs → IsRevalued es fs (with_values es (new_values R merged es fs))
     revalues_all es fs h = from_end (Revalues es) (λ g. record { rises = h; has = λ k. refl; place = λ k. refl; at = λ q. sym (no_others (item_at R entry_key q es)) }) (revalues_more es) fs
 
-    -- each place has an entry
+    -- a key of the map has an index below the length
     place_within : (k : K) (es : List (K × V)) → IsRising R entry_key es → has_key R entry_key k es ≡ true → place_of R entry_key k es < length es
     place_within k [] h has = absurd (true≢false (sym has))
     place_within k (e ∷ es) h has =

@@ -1,4 +1,4 @@
--- What is kept of several values (own).
+-- What a summary records of several values (own).
 use Rattle.std.specs.Prelude.{◌≡◌, ◌↔◌, Bool, true, false, ◌||◌, is_some, IsTrue, List, [], ◌∷◌, Contains, Option, Some, None, IfSome}
 use Rattle.std.specs.List.{list_any}
 use Rattle.oim_value.specs.Ends.{AreEnds, intervals_of, has_interval}
@@ -8,22 +8,22 @@ use Rattle.oim_value.specs.declared.value.Value.{Value}
 use Rattle.oim_value.specs.declared.value.Value.TheVariants.{Nil, Number}
 use Rattle.merge_laws.specs.Union.{either_or_both}
 
--- whether there was a nil among some values, and the ends of the intervals of their numbers, where there was one
+-- whether one of the values is nil, and the ends of the intervals of their numbers, if there is a number
 pub record Summarised : Type 0 where
   pub nil : Bool
   pub ends : Option Interval
 
--- of one value
+-- the summary of one value
 abbrev pub summary_of : Value → Summarised
 summary_of Nil = record { nil = true; ends = None }
 summary_of (Number units decimals) = record { nil = false; ends = Some (interval units decimals) }
 summary_of other = record { nil = false; ends = None }
 
--- of two summaries
+-- the merge of two summaries
 abbrev pub both_summaries : Summarised → Summarised → Summarised
 both_summaries a b = record { nil = a.nil || b.nil; ends = either_or_both common_part a.ends b.ends }
 
--- of several values
+-- the summary of several values
 abbrev pub summary_of_all : List Value → Summarised
 summary_of_all [] = record { nil = false; ends = None }
 summary_of_all (v ∷ vs) = both_summaries (summary_of v) (summary_of_all vs)

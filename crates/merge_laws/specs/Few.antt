@@ -1,4 +1,4 @@
--- How items are kept, one alone or many (own). No public clause cites this module.
+-- The private representation of a list (own). No public clause cites this module.
 use Rattle.std.specs.Prelude.{List}
 use Rattle.merge_laws.specs.declared.few.Room.{Room}
 use Rattle.merge_laws.specs.declared.few.Room.TheVariants.{One, Many}

@@ -1,30 +1,30 @@
--- What one list takes from another: new items, each with the place before which it goes, and merged values (own). Private functions
--- ensure these on the way to a union, which Union defines.
+-- What one list takes from another (own): new items, each with the index before which it is inserted, and merged values. Private
+-- functions ensure these as steps towards a union, which Union defines.
 use Rattle.std.specs.Prelude.{ℕ, zero, suc, ◌≤◌, if◌then◌else◌, List, [], ◌∷◌, ◌++◌, take, drop, Option, Some, None, Result, Ok, Err}
 use Rattle.std.specs.List.{AllByRecursion, flat_map}
 use Rattle.std.specs.declared.cmp.Ordering.{Ordering}
 use Rattle.merge_laws.specs.Sorted.{item_at, has_key, place_of, entry_key}
 
--- the items with new ones among them, the last one first
+-- the items after the new ones were inserted, the last one first
 abbrev pub inserted : {E : Type 0} → List E → List (ℕ × E) → List E
 inserted es [] = es
 inserted es (n ∷ ns) = inserted (take n.0 es) ns ++ n.1 ∷ drop n.0 es
 
--- the place of the first new item; where there is none, the end of the items
+-- the index of the first new item, or the end of the items if there is none
 abbrev pub first_place : {E : Type 0} → ℕ → List (ℕ × E) → ℕ
 first_place end [] = end
 first_place end (n ∷ ns) = n.0
 
--- no new item goes before the first one's place
+-- no new item is inserted before the index of the first one
 abbrev pub IsFirstLeast : {E : Type 0} → ℕ → List (ℕ × E) → Type 0
 IsFirstLeast end ns = AllByRecursion (λ n. first_place end ns ≤ n.0) ns
 
 module _ {K E : Type 0} (R : K → K → Ordering) (key : E → K) where
-  -- where a key is, or where it would go
+  -- the index of a key, or the index at which to insert it
   abbrev pub found_at : K → List E → Result ℕ ℕ
   found_at k es = if has_key R key k es then Ok (place_of R key k es) else Err (place_of R key k es)
 
-  -- an item that others do not have
+  -- an item that the others do not have
   abbrev pub new_item : List E → E → List (ℕ × E)
   new_item es f = if has_key R key (key f) es then [] else (place_of R key (key f) es, f) ∷ []
 
@@ -32,7 +32,7 @@ module _ {K E : Type 0} (R : K → K → Ordering) (key : E → K) where
   new_items es fs = flat_map (new_item es) fs
 
 module _ {K V : Type 0} (R : K → K → Ordering) (merged : V → V → V) where
-  -- the value that a key of both gets
+  -- the merged value of a key that both have
   abbrev pub shared_value : ℕ → V → Option (K × V) → List (ℕ × V)
   shared_value i w None = []
   shared_value i w (Some e) = (i, merged e.1 w) ∷ []
@@ -43,13 +43,13 @@ module _ {K V : Type 0} (R : K → K → Ordering) (merged : V → V → V) wher
   abbrev pub new_values : List (K × V) → List (K × V) → List (ℕ × V)
   new_values es fs = flat_map (new_value es) fs
 
--- the entries with another value at a place
+-- the entries after one value is replaced
 abbrev pub with_value : {K V : Type 0} → ℕ → V → List (K × V) → List (K × V)
 with_value i v [] = []
 with_value zero v (e ∷ es) = (e.0, v) ∷ es
 with_value (suc i) v (e ∷ es) = e ∷ with_value i v es
 
--- and with others at several, one after another
+-- the entries after several values are replaced, one after another
 abbrev pub with_values : {K V : Type 0} → List (K × V) → List (ℕ × V) → List (K × V)
 with_values es [] = es
 with_values es (c ∷ cs) = with_values (with_value c.0 c.1 es) cs

@@ -1,4 +1,4 @@
--- Rising lists are equal if they have the same item at each key (own).
+-- Ascending lists are equal if they have the same item at each key (own).
 use Rattle.std.specs.Prelude.{◌≡◌, ◌≢◌, true, false, cond, List, [], ◌∷◌, Option, Some, None, is_some, unwrap_or, refl}
 use Rattle.std.proofs.Common.{sym, ap, ◌∙◌}
 use Rattle.std.specs.declared.cmp.Ordering.{Ordering}
@@ -22,7 +22,7 @@ alone join None = refl
 alone join (Some x) = refl
 
 module _ {K E : Type 0} {R : K → K → Ordering} (key : E → K) (o : IsTotalOrder R) where
-  -- whether a key is below those of all items
+  -- a key is below the keys of all items
   abbrev pub Below : K → List E → Type 0
   Below k = AllByRecursion (λ e. R k (key e) ≡ Less)
 
@@ -40,7 +40,7 @@ module _ {K E : Type 0} {R : K → K → Ordering} (key : E → K) (o : IsTotalO
   pub turned_greater : (x y : K) → R x y ≡ Greater → R y x ≡ Less
   turned_greater x y p = o.antisymm y x ∙ ap ordering_reverse p
 
-  -- a key below all has no item
+  -- a key below all keys has no item
   pub none_below : (q : K) (es : List E) → Below q es → item_at R key q es ≡ None
   none_below q [] h = refl
   none_below q (e ∷ es) h = ap (λ r. cond (is_eq r) (Some e) (item_at R key q es)) h.0 ∙ none_below q es h.1
@@ -51,12 +51,12 @@ module _ {K E : Type 0} {R : K → K → Ordering} (key : E → K) (o : IsTotalO
   at_first : (e : E) (es : List E) → item_at R key (key e) (e ∷ es) ≡ Some e
   at_first e es = ap (λ r. cond (is_eq r) (Some e) (item_at R key (key e) es)) (tied_itself o (key e))
 
-  -- keys that tie find the same
+  -- keys that compare as equal find the same item
   pub same_found : (p q : K) (es : List E) → R p q ≡ Equal → item_at R key p es ≡ item_at R key q es
   same_found p q [] t = refl
   same_found p q (e ∷ es) t = λ i. cond (is_eq (o.congr p q (key e) t i)) (Some e) (same_found p q es t i)
 
-  -- the first item of one list is not missed in another
+  -- the first item of one list is in another list with the same item at each key
   missed : (e f : E) (es fs : List E) → R (key e) (key f) ≡ Less → Below (key f) fs → item_at R key (key e) (e ∷ es) ≢ item_at R key (key e) (f ∷ fs)
   missed e f es fs p h is = not_None e (sym (at_first e es) ∙ is ∙ none_below (key e) (f ∷ fs) (p, below_less (key e) (key f) fs p h))
 

@@ -1,4 +1,4 @@
--- What is so of sets, maps and summaries by their members alone (own).
+-- Sets, maps and summaries depend only on their members (own).
 use Rattle.std.specs.Prelude.{◌≡◌, ◌↔◌, Bool, IsTrue, List, [], ◌∷◌, ◌++◌, Contains}
 use Rattle.std.specs.List.{AllPass}
 use Rattle.std.specs.declared.cmp.Ordering.{Ordering}
@@ -12,39 +12,39 @@ use Rattle.merge_laws.specs.Union.{map_with, map_union, set_union}
 abbrev pub SameMembers : {A : Type 0} → List A → List A → Type 0
 SameMembers {A} xs ys = (x : A) → Contains xs x ↔ Contains ys x
 
--- sets with the same members are one set
+-- sets with the same members are equal
 abbrev pub SetIsItsMembers : {K : Type 0} → (K → K → Ordering) → Type 0
 SetIsItsMembers {K} R = (xs ys : List K) → IsSet R xs → IsSet R ys → SameMembers xs ys → xs ≡ ys
 
--- maps with the same value, or none, at each key are one map
+-- maps with the same value, or none, at each key are equal
 abbrev pub MapIsItsValues : {K : Type 0} → (K → K → Ordering) → Type 0 → Type 0
 MapIsItsValues {K} R V = (es fs : List (K × V)) → IsRising R entry_key es → IsRising R entry_key fs → ((k : K) → value_at R k es ≡ value_at R k fs) → es ≡ fs
 
 module _ {K V : Type 0} (R : K → K → Ordering) (merged : V → V → V) where
-  -- where two values at one key pass a test, what they make together passes it there
+  -- the merge of two values at one key passes a test if both values pass it
   abbrev pub MergesKeep : (K × V → Bool) → Type 0
   MergesKeep test = (k : K) (v w : V) → IsTrue (test (k, v)) → IsTrue (test (k, w)) → IsTrue (test (k, merged v w))
 
-  -- such a test is passed by all entries of a union where all entries of both pass it
+  -- all entries of a union pass such a test if all entries of both maps do
   abbrev pub MapUnionKeeps : Type 0
   MapUnionKeeps = (test : K × V → Bool) → MergesKeep test → (es fs : List (K × V)) → AllPass test es → AllPass test fs → AllPass test (map_union R merged es fs)
 
-  -- and where a value is put
+  -- all entries of a map after `put` pass such a test if its entries and the new one do
   abbrev pub MapWithKeeps : Type 0
   MapWithKeeps = (test : K × V → Bool) → MergesKeep test → (es : List (K × V)) (k : K) (v : V) → AllPass test es → IsTrue (test (k, v)) → AllPass test (map_with R merged k v es)
 
--- the summary of one value
+-- the summary of a list with one value is the summary of that value
 abbrev pub SummaryOfOne : Type 0
 SummaryOfOne = (v : Value) → summary_of_all (v ∷ []) ≡ summary_of v
 
--- of two lists, one after the other
+-- the summary of two lists, one after the other, is the merge of their summaries
 abbrev pub SummaryOfBoth : Type 0
 SummaryOfBoth = (vs ws : List Value) → summary_of_all (vs ++ ws) ≡ both_summaries (summary_of_all vs) (summary_of_all ws)
 
--- of the union of two sets, in whatever order, where values that tie are one
+-- the summary of the union of two sets, in any order in which only equal values compare as equal, is the merge of their summaries
 abbrev pub SummaryOfUnion : Type 0
 SummaryOfUnion = (R : Value → Value → Ordering) → ((v w : Value) → R v w ≡ Equal → v ≡ w) → (vs ws : List Value) → summary_of_all (set_union R vs ws) ≡ both_summaries (summary_of_all vs) (summary_of_all ws)
 
--- order and repetition do not matter
+-- lists with the same members have the same summary
 abbrev pub SummaryOfMembers : Type 0
 SummaryOfMembers = (vs ws : List Value) → SameMembers vs ws → summary_of_all vs ≡ summary_of_all ws

@@ -1,4 +1,5 @@
--- Lists of items in the strict order of their keys (own). The items of a set are keys themselves; those of a map have a value beside the key.
+-- Lists of items in the strict order of their keys (own). The items of a set are their own keys. The items of a map have a key
+-- and a value.
 use Rattle.std.specs.Prelude.{Bool, not, ℕ, List, Option, is_some}
 use Rattle.std.specs.List.{AllByRecursion, find, position_or_len}
 use Rattle.std.specs.List.Sorted.{IsStrictlySortedBy}
@@ -7,19 +8,19 @@ use Rattle.std.specs.declared.cmp.Ordering.{Ordering}
 use Rattle.std.specs.Ordering.{is_eq, is_lt}
 
 module _ {K E : Type 0} (R : K → K → Ordering) (key : E → K) where
-  -- each key is below those after it
+  -- each key is below all keys after it
   abbrev pub IsRising : List E → Type 0
   IsRising = IsStrictlySortedBy (λ e f. R (key e) (key f))
 
-  -- the item with a key, where there is one
+  -- the item with a key, if there is one
   abbrev pub item_at : K → List E → Option E
   item_at k es = find (λ e. is_eq (R k (key e))) es
 
-  -- whether there is one
+  -- there is an item with the key
   abbrev pub has_key : K → List E → Bool
   has_key k es = is_some (item_at k es)
 
-  -- the place of the first item whose key is not below k, or how many there are where none is
+  -- the index of the first item whose key is not below k, or the length if there is none
   abbrev pub place_of : K → List E → ℕ
   place_of k es = position_or_len (λ e. not (is_lt (R (key e) k))) es
 
@@ -31,15 +32,15 @@ itself k = k
 abbrev pub entry_key : {K V : Type 0} → K × V → K
 entry_key e = e.0
 
--- a set: a list that rises
+-- a set is an ascending list
 abbrev pub IsSet : {K : Type 0} → (K → K → Ordering) → List K → Type 0
 IsSet R ks = IsRising R itself ks
 
--- a map: entries whose keys rise, and whose values all have P
+-- a map has ascending keys, and P holds for each value
 pub record IsMap {K V : Type 0} (R : K → K → Ordering) (P : V → Type 0) (es : List (K × V)) : Type 0 where
   pub rises : IsRising R entry_key es
   pub values : AllByRecursion (λ e. P e.1) es
 
--- the value at a key of a map, where there is one
+-- the value at a key of a map, if there is one
 abbrev pub value_at : {K V : Type 0} → (K → K → Ordering) → K → List (K × V) → Option V
 value_at R k es = option_map (λ e. e.1) (item_at R entry_key k es)

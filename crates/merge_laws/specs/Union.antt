@@ -1,42 +1,42 @@
--- What two sets, or two maps, make together (own).
+-- The union of two sets, or of two maps (own).
 use Rattle.std.specs.Prelude.{◌≡◌, ◌↔◌, ◌⊎◌, IsTrue, List, [], ◌∷◌, Contains, Option, Some, None}
 use Rattle.std.specs.declared.cmp.Ordering.{Ordering}
 use Rattle.std.specs.Ordering.{match_ordering}
 use Rattle.merge_laws.specs.Sorted.{IsRising, IsSet, has_key, itself, entry_key, value_at}
 
 module _ {K E : Type 0} (R : K → K → Ordering) (key : E → K) (join : E → E → E) where
-  -- the items with x among them; where one has its key already, that one and x are joined
+  -- the items with x inserted; an item with the same key is joined with x
   abbrev pub with_item : E → List E → List E
   with_item x [] = x ∷ []
   with_item x (e ∷ es) = match_ordering (R (key x) (key e)) (x ∷ e ∷ es) (join e x ∷ es) (e ∷ with_item x es)
 
-  -- the items of the first, and into them those of the second, the last one first
+  -- the items of the second list are added to the first, the last one first
   abbrev pub union_of : List E → List E → List E
   union_of es [] = es
   union_of es (f ∷ fs) = with_item f (union_of es fs)
 
--- the value at a key of both, or of one
+-- the joined value if both have one, otherwise the value of the one that has it
 abbrev pub either_or_both : {A : Type 0} → (A → A → A) → Option A → Option A → Option A
 either_or_both join None b = b
 either_or_both join (Some x) None = Some x
 either_or_both join (Some x) (Some y) = Some (join x y)
 
--- of two items of one key a set keeps the first
+-- a set keeps the first of two items with the same key
 abbrev pub older : {K : Type 0} → K → K → K
 older x y = x
 
--- and a map merges their values
+-- a map merges the values of two entries with the same key
 abbrev pub merged_entries : {K V : Type 0} → (V → V → V) → K × V → K × V → K × V
 merged_entries merged e f = (e.0, merged e.1 f.1)
 
--- a set with an item in it, and the union of two sets
+-- a set with an item inserted, and the union of two sets
 abbrev pub set_with : {K : Type 0} → (K → K → Ordering) → K → List K → List K
 set_with R = with_item R itself older
 
 abbrev pub set_union : {K : Type 0} → (K → K → Ordering) → List K → List K → List K
 set_union R = union_of R itself older
 
--- a map with a value put at a key, and the union of two maps
+-- a map after a value is put at a key, and the union of two maps
 abbrev pub map_with : {K V : Type 0} → (K → K → Ordering) → (V → V → V) → K → V → List (K × V) → List (K × V)
 map_with R merged k v = with_item R entry_key (merged_entries merged) (k, v)
 
@@ -44,12 +44,12 @@ abbrev pub map_union : {K V : Type 0} → (K → K → Ordering) → (V → V �
 map_union R merged = union_of R entry_key (merged_entries merged)
 
 module _ {K : Type 0} (R : K → K → Ordering) where
-  -- a set that has exactly the items of two lists
+  -- a set has exactly the items of two lists
   pub record IsSetOfBoth (xs ys set : List K) : Type 0 where
     pub rises : IsSet R set
     pub members : (x : K) → Contains set x ↔ (Contains xs x ⊎ Contains ys x)
 
-  -- a set reports a key exactly if it has it
+  -- a set reports a key exactly if it contains it
   abbrev pub SetTellsItem : Type 0
   SetTellsItem = (xs : List K) (x : K) → IsTrue (has_key R itself x xs) ↔ Contains xs x
 
@@ -60,12 +60,12 @@ module _ {K : Type 0} (R : K → K → Ordering) where
   SetWithHasItem = (xs : List K) (x : K) → IsSet R xs → IsSetOfBoth xs (x ∷ []) (set_with R x xs)
 
 module _ {K V : Type 0} (R : K → K → Ordering) (merged : V → V → V) where
-  -- a map that has the keys of two, with the merge of their values where both have one
+  -- a map has exactly the keys of two maps, with the merge of their values if both have one
   pub record IsMapOfBoth (es fs map : List (K × V)) : Type 0 where
     pub rises : IsRising R entry_key map
     pub values : (k : K) → value_at R k map ≡ either_or_both merged (value_at R k es) (value_at R k fs)
 
-  -- a map reports a value at a key exactly if it has both as an entry
+  -- a map reports a value at a key exactly if it has this entry
   abbrev pub MapTellsEntry : Type 0
   MapTellsEntry = (es : List (K × V)) (k : K) (v : V) → IsRising R entry_key es → (value_at R k es ≡ Some v) ↔ Contains es (k, v)
 

@@ -11,7 +11,7 @@ use Rattle.merge_laws.specs.Union.{with_item, union_of, either_or_both, older, m
 use Rattle.merge_laws.specs.Items.{same_items, rises_union, item_at-union}
 
 module _ {K E : Type 0} {R : K → K → Ordering} (key : E → K) (o : IsTotalOrder R) (join : E → E → E) (keeps : (x y : E) → key (join x y) ≡ key x) (P : E → Type 0) where
-  -- what is found is an item, and has the key
+  -- an item that was found has the key
   abbrev IsFound : K → Option E → Type 0
   IsFound q a = IfSome a (λ e. P e × (R q (key e) ≡ Equal))
 
@@ -22,7 +22,7 @@ module _ {K E : Type 0} {R : K → K → Ordering} (key : E → K) (o : IsTotalO
     | false ↦ λ t. found q es a.1
   ] refl
 
-  -- what holds of the items of both, and of joined ones, holds of the union's
+  -- a property of all items of both lists holds for the items of the union, if joining keeps it
   pub all_with : (closed : (x y : E) → P x → P y → P (join x y)) → (x : E) (es : List E) → P x → AllByRecursion P es → AllByRecursion P (with_item R key join x es)
   all_with closed x [] p a = (p, tt)
   all_with closed x (e ∷ es) p a =
@@ -74,7 +74,7 @@ any : {K : Type 0} (ks : List K) → AllByRecursion (λ _. Unit {0}) ks
 any [] = tt
 any (k ∷ ks) = (tt, any ks)
 
--- sets
+-- the laws of sets
 module _ {K : Type 0} {R : K → K → Ordering} (o : IsTotalOrder R) where
   pub set_closed : (xs ys : List K) → IsSet R xs → IsSet R ys → IsSet R (set_union R xs ys)
   set_closed xs ys g h = rises_union itself o older (λ _ _. refl) xs ys g
@@ -88,7 +88,7 @@ module _ {K : Type 0} {R : K → K → Ordering} (o : IsTotalOrder R) where
   pub set_commutes : ((x y : K) → R x y ≡ Equal → x ≡ y) → (xs ys : List K) → IsSet R xs → IsSet R ys → set_union R xs ys ≡ set_union R ys xs
   set_commutes exact xs ys g h = union_commutes itself o older (λ _ _. refl) (λ _. Unit {0}) (λ x y _ _ e. exact x y e) xs ys g h (any xs) (any ys)
 
--- maps, for every kind of value that has the laws
+-- the laws of maps whose values have the laws
 module _ {K V : Type 0} {R : K → K → Ordering} (o : IsTotalOrder R) (P : V → Type 0) (merged : V → V → V) where
   abbrev Has : K × V → Type 0
   Has e = P e.1

@@ -10,16 +10,16 @@ use crate::search::find_from;
 use oim_names::{Copied, Key};
 use std::alloc::{AllocError, Global};
 
-/// What a map takes from another.
+/// What merging another map into a map changes.
 #[derive(Drop)]
 pub(crate) struct Changes<K: Drop, V: Drop> {
-    /// The merged values of the keys that both have, each with the place of its key.
+    /// The merged values of the keys that both maps have, each with the index of its key.
     pub(crate) values: Vec<(usize, V)>,
-    /// The entries whose keys are new, each with the place before which it goes.
+    /// The entries with new keys, each with the index before which it is inserted.
     pub(crate) new_entries: Vec<(usize, (K, V))>,
 }
 
-/// What the entries of a map are to take from others, in copies.
+/// Returns what merging the other entries changes. It copies what the map takes from them.
 pub(crate) fn changes_by<K: Key, V: Merge>(
     alloc: Global,
     entries: &[(K, V)],
@@ -41,8 +41,8 @@ pub(crate) fn changes_by<K: Key, V: Merge>(
     Ok(changes)
 }
 
-/// The same where the others are given up, so that nothing is copied: new entries are moved, and at a
-/// key of both the entries' value is merged into the one that comes.
+/// Returns what merging the other entries changes. It consumes them, so nothing is copied: new
+/// entries are moved, and a value of a shared key is merged into the other entry.
 pub(crate) fn changes_of<K: Key, V: Merge>(
     alloc: Global,
     entries: &[(K, V)],
@@ -53,7 +53,7 @@ pub(crate) fn changes_of<K: Key, V: Merge>(
     ensures values { IfOk result (λ changes. changes.values.items ≡ new_values K.cmp V.merged entries.now others.items) }
     ensures new_entries { IfOk result (λ changes. changes.new_entries.items ≡ new_items K.cmp entry_key entries.now others.items) }
 {
-    // Where most keys are new, as in reports of different dimension sets, this is what is wanted.
+    // Most keys are new, as in reports with different dimensions, so this much capacity is needed.
     let mut changes = Changes {
         values: Vec::new(alloc),
         new_entries: Vec::with_capacity(alloc, others.len())?,
@@ -66,8 +66,8 @@ pub(crate) fn changes_of<K: Key, V: Merge>(
 }
 
 impl<K: Key, V: Merge> Changes<K, V> {
-    // What the entries are to take from one more, and its key's place. The key is above those before
-    // the place `from`.
+    // Adds what one more entry changes, and returns the index of its key. The key is above all keys
+    // before index `from`.
     fn add(
         &mut self,
         alloc: Global,
@@ -96,7 +96,7 @@ impl<K: Key, V: Merge> Changes<K, V> {
         }
     }
 
-    // The same where the other is given up.
+    // Does the same as `add`, but consumes the other entry.
     fn take(
         &mut self,
         alloc: Global,
@@ -128,7 +128,7 @@ impl<K: Key, V: Merge> Changes<K, V> {
         }
     }
 
-    /// Makes the changes.
+    /// Applies the changes to the entries.
     ///
     /// Errors: out of memory; the entries are then unchanged.
     pub(crate) fn make(self, entries: &mut Vec<(K, V)>) -> Result<(), AllocError>
@@ -144,7 +144,7 @@ impl<K: Key, V: Merge> Changes<K, V> {
     }
 }
 
-// Puts each value in the place of the one that stands there.
+// Replaces the value at each index.
 fn set_values<K: Drop, V: Drop>(entries: &mut Vec<(K, V)>, values: Vec<(usize, V)>)
     requires { AllByRecursion (λ c. c.0 < vec_len entries.old) values.items }
     ensures items { entries.new.items ≡ with_values entries.old.items values.items }

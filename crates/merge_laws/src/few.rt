@@ -7,8 +7,8 @@ use oim_names::{Copied, Key};
 use std::alloc::{AllocError, Global};
 use std::marker::Model;
 
-/// A list; contracts see its items. A single item is kept inside the list itself and takes no memory
-/// besides.
+/// A list of items. Contracts see the items. A single item is stored in the list itself and takes
+/// no memory on the heap.
 #[derive(Drop)]
 pub(crate) struct Few<T: Key> {
     room: Room<T>,
@@ -62,7 +62,7 @@ impl<T: Key> Few<T> {
         }
     }
 
-    /// The items as a list of their own.
+    /// Returns the items as a `Vec`.
     ///
     /// Errors: out of memory; the items are then lost.
     pub(crate) fn into_list(self) -> Result<Vec<T>, AllocError>
@@ -75,7 +75,7 @@ impl<T: Key> Few<T> {
         }
     }
 
-    /// Puts an item before the one at `place`, or at the end.
+    /// Inserts an item before the index `place`, or at the end.
     ///
     /// Errors: out of memory; the items are then unchanged.
     pub(crate) fn insert(&mut self, place: usize, item: T) -> Result<(), AllocError>
@@ -93,8 +93,8 @@ impl<T: Key> Few<T> {
         Ok(())
     }
 
-    /// Inserts new items. Each comes with the place of the item that it goes before, the least place
-    /// first.
+    /// Inserts new items. Each has the index of the item before which it is inserted, and indices
+    /// ascend.
     ///
     /// Errors: out of memory; the items are then unchanged.
     pub(crate) fn insert_new(&mut self, news: Vec<(usize, T)>) -> Result<(), AllocError>
@@ -124,7 +124,7 @@ impl<T: Key> Copied for Few<T> {
     }
 }
 
-// Copies of items, with room for more.
+// Returns copies of the items, with capacity for more.
 fn copies_of<T: Copied>(alloc: Global, items: &[T], more: usize) -> Result<Vec<T>, AllocError>
     ensures { IfOk result (λ copies. copies.items ≡ items.now) }
 {

@@ -3,7 +3,7 @@ ghost use Rattle.merge_laws.specs.Insertions.{IsFirstLeast, first_place, inserte
 
 use std::alloc::AllocError;
 
-// Each new item comes with the place of the item that it goes before, the least place first.
+// Each new item has the index of the item before which it is inserted, and indices ascend.
 
 /// Inserts the new items.
 ///
@@ -21,8 +21,8 @@ pub(crate) fn insert_new<E: Drop>(
     Ok(())
 }
 
-/// Asks for all the memory that `insert_all` wants: room among the items, and room for those that
-/// are moved.
+/// Reserves all the memory that `insert_all` needs: capacity in the list, and a list for the items
+/// that are moved.
 pub(crate) fn room_for<E: Drop>(
     items: &mut Vec<E>,
     news: &[(usize, E)],
@@ -41,7 +41,7 @@ pub(crate) fn room_for<E: Drop>(
     Vec::with_capacity(*items.allocator(), moved + news.len())
 }
 
-/// Inserts the new items. The items behind the first of them are moved, and no others.
+/// Inserts the new items. Only items after the first insertion are moved.
 pub(crate) fn insert_all<E: Drop>(items: &mut Vec<E>, mut news: Vec<(usize, E)>, mut above: Vec<E>)
     requires order { IsFirstLeast (vec_len items.old) news.items }
     requires empty { above.items ≡ [] }
@@ -56,7 +56,7 @@ pub(crate) fn insert_all<E: Drop>(items: &mut Vec<E>, mut news: Vec<(usize, E)>,
     lower(items, above);
 }
 
-// Moves the items from a place on to the end of `above`, the last one first.
+// Moves the items from an index on to the end of `above`, the last item first.
 fn lift<E: Drop>(items: &mut Vec<E>, place: usize, above: &mut Vec<E>)
     requires { vec_len above.old + (vec_len items.old - place) ≤ vec_capacity above.old }
     ensures items { items.new.items ≡ take place items.old.items }
@@ -71,7 +71,7 @@ fn lift<E: Drop>(items: &mut Vec<E>, place: usize, above: &mut Vec<E>)
     }
 }
 
-// Moves them back, the last that came first.
+// Moves the items back, in reverse order.
 fn lower<E: Drop>(items: &mut Vec<E>, mut above: Vec<E>)
     requires { vec_len items.old + vec_len above ≤ vec_capacity items.old }
     ensures { items.new.items ≡ items.old.items ++ reverse above.items }

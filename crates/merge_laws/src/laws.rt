@@ -6,25 +6,25 @@ ghost use Rattle.oim_value.specs.Ends.{AllMeetIffEndsMeet};
 use crate::merge::Merge;
 use oim_names::Key;
 
-/// The union of two sets has exactly the items of both; a set with an item added has exactly its items
-/// and that item. A set reports an item exactly if it has it.
+/// The union of two sets has exactly the items of both. A set with an item inserted has exactly its
+/// items and that item. A set reports an item exactly if it contains it.
 pub fn set_has_both<T: Key>()
     ensures told { SetTellsItem T.cmp }
     ensures union { SetUnionHasBoth T.cmp }
     ensures item { SetWithHasItem T.cmp }
 {}
 
-/// The union of two maps has the keys of both; where both have a key, its value is the merge of their
-/// values. A map with a value put at a key has that key besides, with the merge if it had one. A map
-/// reports a value at a key exactly if it has the two as an entry.
+/// The union of two maps has the keys of both. If both have a key, its value is the merge of their
+/// values. After `put`, a map also has the key, with the merged value if it had one before. A map
+/// reports a value at a key exactly if it has this entry.
 pub fn map_has_both<K: Key, V: Merge>()
     ensures told { MapTellsEntry K.cmp V.merged }
     ensures union { MapUnionHasBoth K.cmp V.merged }
     ensures put { MapWithMerges K.cmp V.merged }
 {}
 
-/// Intervals that are not empty meet in pairs exactly if the greatest low end is at most the least
-/// high end.
+/// If no interval is empty, each two meet exactly if the greatest low end is at most the least high
+/// end.
 pub fn all_meet_iff_ends_meet()
     ensures { AllMeetIffEndsMeet }
 {}
@@ -45,17 +45,17 @@ pub fn map_is_its_values<K: Key, V: Merge>()
     ensures { MapIsItsValues K.cmp V }
 {}
 
-/// Take a test of key and value that the merge of two values passes if both pass it. All entries of a
-/// union pass it if the entries of both maps do; all entries of a map with a value put at a key pass
-/// it if the map's entries and the new entry do.
+/// Suppose that the merge of two values passes a test of key and value if both values pass it. Then
+/// all entries of a union pass it if the entries of both maps do, and all entries of a map after
+/// `put` pass it if its entries and the new one do.
 pub fn map_keeps_what_merging_keeps<K: Key, V: Merge>()
     ensures union { MapUnionKeeps K.cmp V.merged }
     ensures put { MapWithKeeps K.cmp V.merged }
 {}
 
-/// The summary of one value is that value's. The summary of two lists in sequence, and of the union of
-/// two sets in any order, is the merge of both summaries. It does not depend on the order or the
-/// repetition of values.
+/// The summary of two lists, one after the other, is the merge of their summaries. So is the
+/// summary of the union of two sets. A summary does not depend on the order or repetition of
+/// values.
 pub fn summary_is_of_members()
     ensures one { SummaryOfOne }
     ensures both { SummaryOfBoth }

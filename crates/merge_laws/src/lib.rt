@@ -1,4 +1,4 @@
-//! Merges with laws: whatever is merged, order, grouping and repetition do not matter.
+//! Merges with laws: order, grouping and repetition of what is merged do not matter.
 #![tactic(auto)]
 
 mod changes;

@@ -19,7 +19,7 @@ pub trait Merge: Copied {
         ensures ok { OnOk result (self.new ≡ merged self.old other.now) }
         ensures err { OnErr result (self.new ≡ self.old) };
 
-    /// Does nothing. Its contract: what holds for each value of the type.
+    /// Does nothing. Its contract states what holds for each value of the type.
     fn known(&self)
         ensures { is_known self.now };
 

@@ -8,9 +8,9 @@ ghost use Rattle.merge_laws.specs.Sorted.{IsRising};
 use oim_names::Key;
 use std::cmp::Ordering;
 
-/// Search in a list that is in the order of its keys.
+/// An item of a list that is sorted by keys and can be searched.
 pub(crate) trait Keyed<K: Key> {
-    /// Its key.
+    /// The key of the item.
     ghost key_of: { Self → K };
 
     fn key(&self) -> &K
@@ -38,8 +38,8 @@ impl<K: Key, V> Keyed<K> for (K, V) {
     }
 }
 
-/// Where a key is, or where it would go. What goes behind the last item costs one comparison, so
-/// that adding in order costs no search.
+/// Returns the index of the key, or the index at which to insert it. A key above the last one takes
+/// a single comparison, so adding keys in order needs no search.
 pub(crate) fn find<K: Key, E: Keyed<K>>(items: &[E], key: &K) -> Result<usize, usize>
     requires { IsRising K.cmp E.key_of items.now }
     ensures place { result ≡ found_at K.cmp E.key_of key.now items.now }
@@ -51,8 +51,8 @@ pub(crate) fn find<K: Key, E: Keyed<K>>(items: &[E], key: &K) -> Result<usize, u
     }
 }
 
-/// The same where the key is above those before a place: the search goes on from there in steps
-/// that double, so that what is near is found soon.
+/// Does the same as `find` for a key above all keys before index `from`. It searches from there in
+/// steps that double, so a near key is found soon.
 pub(crate) fn find_from<K: Key, E: Keyed<K>>(
     items: &[E],
     key: &K,
@@ -78,8 +78,8 @@ pub(crate) fn find_from<K: Key, E: Keyed<K>>(
     halve(items, key, low, items.len())
 }
 
-// The same by halving, where the key is above those before one place and below those from another
-// on.
+// Does the same as `find` by halving, for a key above all keys before `from` and below all keys at
+// `to` and after it.
 fn halve<K: Key, E: Keyed<K>>(items: &[E], key: &K, from: usize, to: usize) -> Result<usize, usize>
     requires rises { IsRising K.cmp E.key_of items.now }
     requires order { from ≤ to }

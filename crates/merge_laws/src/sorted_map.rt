@@ -29,7 +29,7 @@ impl<K: Key, V: Merge> Model for SortedMap<K, V> {
 }
 
 impl<K: Key, V: Merge> SortedMap<K, V> {
-    /// No entries. Later calls take their memory from `alloc`.
+    /// Returns an empty map. Later calls take their memory from `alloc`.
     pub fn new(alloc: Global) -> Self
         ensures { result ≡ [] }
     {
@@ -38,7 +38,7 @@ impl<K: Key, V: Merge> SortedMap<K, V> {
         }
     }
 
-    /// A map of entries that are already in the order of their keys, each key once.
+    /// Returns a map of entries that are already in the order of their keys, each key once.
     pub fn of_rising(entries: Vec<(K, V)>) -> Self
         requires { IsRising K.cmp entry_key entries.items }
         ensures { result ≡ entries.items }
@@ -66,8 +66,8 @@ impl<K: Key, V: Merge> SortedMap<K, V> {
         }
     }
 
-    /// Merges the other map in, as `merge` does, where it is given up: its new entries are moved, and
-    /// of a value at a key of both no copy is made.
+    /// Merges the other map in, as `merge` does, but consumes it. New entries are moved, and values
+    /// of shared keys are not copied.
     ///
     /// Errors: out of memory; the map is then unchanged, and the other is lost.
     pub fn absorb(&mut self, other: Self) -> Result<(), AllocError>
@@ -83,7 +83,7 @@ impl<K: Key, V: Merge> SortedMap<K, V> {
         moved.make(&mut self.entries)
     }
 
-    /// The value at a key.
+    /// Returns the value at a key.
     pub fn get(&self, key: &K) -> Option<&V>
         ensures { option_copied result ≡ value_at K.cmp key.now self.now }
     {
@@ -93,7 +93,8 @@ impl<K: Key, V: Merge> SortedMap<K, V> {
         }
     }
 
-    /// The entry at a place, from 0, in the order of the keys.
+    /// Returns the entry at an index. Entries are in the order of their keys, and indices begin
+    /// with 0.
     pub fn at(&self, place: usize) -> Option<(&K, &V)>
         ensures { option_map (λ e. (e.0.now, e.1.now)) result ≡ slice_get self.now place }
     {
@@ -103,7 +104,8 @@ impl<K: Key, V: Merge> SortedMap<K, V> {
         }
     }
 
-    /// How many keys there are. They rise, and each value is one of its type.
+    /// Returns the number of keys. Its contract also states that the keys ascend and that each
+    /// value is known.
     pub fn len(&self) -> usize
         ensures count { result ≡ length self.now }
         ensures map { IsMap K.cmp V.is_known self.now }
@@ -120,7 +122,7 @@ impl<K: Key, V: Merge> Copied for SortedMap<K, V> {
     }
 }
 
-// Does nothing. Its contract: what holds for each value.
+// Does nothing. Its contract states what holds for each value.
 fn know_values<K, V: Merge>(entries: &[(K, V)])
     ensures { AllByRecursion (λ e. V.is_known e.1) entries.now }
 {
@@ -142,8 +144,8 @@ fn copies_of<K: Copied, V: Copied>(
     Ok(copies)
 }
 
-/// The keys of both. A key of both gets what its two values make together, in a copy of the map's own,
-/// so that a refusal changes nothing; all other entries of the map stay, and new ones are copied.
+/// Merging gives the keys of both maps. At a shared key, the values are merged in a copy, so that
+/// nothing changes if memory is refused. Other entries of the map stay, and new ones are copied.
 impl<K: Key, V: Merge> Merge for SortedMap<K, V> {
     ghost use Rattle.merge_laws.specs.Sorted.{IsMap};
     ghost use Rattle.merge_laws.specs.Union.{map_union};

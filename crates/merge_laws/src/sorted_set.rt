@@ -28,7 +28,7 @@ impl<T: Key> Model for SortedSet<T> {
 }
 
 impl<T: Key> SortedSet<T> {
-    /// No items. Later calls take their memory from `alloc`.
+    /// Returns an empty set. Later calls take their memory from `alloc`.
     pub fn new(alloc: Global) -> Self
         ensures { result ≡ [] }
     {
@@ -37,7 +37,7 @@ impl<T: Key> SortedSet<T> {
         }
     }
 
-    /// The set of one item, which takes no memory beside its own place.
+    /// Returns the set of one item, which takes no memory on the heap.
     pub fn of_one(alloc: Global, item: T) -> Self
         ensures { result ≡ item ∷ [] }
     {
@@ -46,7 +46,7 @@ impl<T: Key> SortedSet<T> {
         }
     }
 
-    /// The set of items that stand in order already, each once.
+    /// Returns the set of items that are already in order, each once.
     pub fn of_rising(items: Vec<T>) -> Self
         requires { IsSet T.cmp items.items }
         ensures { result ≡ items.items }
@@ -56,7 +56,7 @@ impl<T: Key> SortedSet<T> {
         }
     }
 
-    /// Adds a copy of the item, and returns whether it is new.
+    /// Inserts a copy of the item, and returns whether it is new.
     ///
     /// Errors: out of memory; the set is then unchanged.
     pub fn insert(&mut self, item: &T) -> Result<bool, AllocError>
@@ -74,7 +74,7 @@ impl<T: Key> SortedSet<T> {
         }
     }
 
-    /// Merges the other set in, as `merge` does, where it is given up: its new items are moved.
+    /// Merges the other set in, as `merge` does, but consumes it. New items are moved.
     ///
     /// Errors: out of memory; the set is then unchanged, and the other is lost.
     pub fn absorb(&mut self, other: Self) -> Result<(), AllocError>
@@ -90,7 +90,7 @@ impl<T: Key> SortedSet<T> {
         self.items.insert_new(moved)
     }
 
-    /// The items in order, each once.
+    /// Returns the items in order, each once.
     pub fn as_slice(&self) -> &[T]
         ensures items { result.now ≡ self.now }
         ensures set { IsSet T.cmp self.now }
@@ -107,7 +107,8 @@ impl<T: Key> Copied for SortedSet<T> {
     }
 }
 
-// Copies of the others that are not among the items, each with the place before which it goes.
+// Returns copies of the others that are not among the items, each with the index before which it is
+// inserted.
 fn new_among<T: Key>(
     alloc: Global,
     items: &[T],
@@ -131,7 +132,7 @@ fn new_among<T: Key>(
     Ok(news)
 }
 
-// The same where the others are given up: those that are new are moved.
+// Does the same as `new_among`, but consumes the others. New items are moved.
 fn new_of<T: Key>(alloc: Global, items: &[T], others: Vec<T>) -> Result<Vec<(usize, T)>, AllocError>
     requires items { IsSet T.cmp items.now }
     requires others { IsSet T.cmp others.items }
@@ -151,7 +152,7 @@ fn new_of<T: Key>(alloc: Global, items: &[T], others: Vec<T>) -> Result<Vec<(usi
     Ok(news)
 }
 
-/// The union: the items of both. Those of the set stay, and those that are new to it are copied.
+/// Merging gives the union. Items of the set stay, and new ones are copied.
 impl<T: Key> Merge for SortedSet<T> {
     ghost use Rattle.merge_laws.specs.Sorted.{IsSet};
     ghost use Rattle.merge_laws.specs.Union.{set_union};

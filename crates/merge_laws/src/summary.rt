@@ -9,9 +9,9 @@ use oim_value::{Interval, Value, common, interval_of};
 use std::alloc::{AllocError, Global};
 use std::marker::Model;
 
-/// A summary of several values: whether one is nil, and if some are numbers, the greatest low end and
-/// the least high end of their rounding intervals. These decide whether each two numbers meet. Texts
-/// and names leave no trace.
+/// A summary of several values. It records whether one is nil and, if some are numbers, the
+/// greatest low end and the least high end of their rounding intervals. The ends decide whether
+/// each two numbers meet. Texts and names are not recorded.
 #[derive(Clone, Copy, Debug, PartialEq, Eq)]
 pub struct Summary {
     nil: bool,
@@ -29,7 +29,7 @@ impl Model for Summary {
 }
 
 impl Summary {
-    /// The summary of one value.
+    /// Returns the summary of one value.
     pub fn of(value: &Value) -> Self
         ensures { result ≡ summary_of value.now }
     {
@@ -42,15 +42,16 @@ impl Summary {
         }
     }
 
-    /// From the greatest low end to the least high end, in units of 10 to the power of minus
-    /// `UNIT_PLACES`, where there was a number. Low is above high where not each two numbers meet.
+    /// Returns the interval from the greatest low end to the least high end, in units of 10 to the
+    /// power of minus `UNIT_PLACES`, or None if there is no number. Low is above high if some two
+    /// numbers do not meet.
     pub fn ends(&self) -> Option<Interval>
         ensures { result ≡ self.now.ends }
     {
         self.ends
     }
 
-    /// Whether there was a nil.
+    /// Returns whether one of the values is nil.
     pub fn nil(&self) -> bool
         ensures { result ≡ self.now.nil }
     {
@@ -64,7 +65,7 @@ impl Copied for Summary {
     }
 }
 
-/// Merges two summaries. It always succeeds.
+/// Merging summaries always succeeds.
 impl Merge for Summary {
     ghost use Rattle.std.specs.Prelude.{◌≡◌, IsOk};
     ghost use Rattle.merge_laws.specs.Ends.{both_summaries};

@@ -14,7 +14,7 @@ use std::test::Fail;
 
 const UNIT: i128 = 10_000_000_000_000_000_000;
 
-// Merges the set of some items; returns whether there are then exactly these.
+// Merges the set of some items, and returns whether the set then has exactly the items of `all`.
 fn merges_to(rt: &HostRuntime, first: &mut Items, items: &[&str], all: &[&str]) -> bool {
     match set(rt, items) {
         Ok(second) => merge(rt, first, &second).is_ok() && has_just(first, all),
@@ -24,7 +24,7 @@ fn merges_to(rt: &HostRuntime, first: &mut Items, items: &[&str], all: &[&str]) 
 
 const ALL: [&str; 3] = ["a", "b", "c"];
 
-// Whether a set that merges another, and then all items, has all items.
+// Returns whether a set that merges another and then all items has all items.
 fn is_union(rt: &HostRuntime, items: &[&str], others: &[&str]) -> bool {
     match set(rt, items) {
         Ok(mut first) => {
@@ -44,7 +44,7 @@ fn a_union_has_the_items_in_either_order(rt: HostRuntime) {
     assert!(rt; is_union(&rt, &["b", "c"], &["c", "a"]));
 }
 
-// Whether a copy has just some items still where its original has merged others.
+// Returns whether a copy still has only its items after its original has merged others.
 fn copy_stays(rt: &HostRuntime, original: &mut Items, items: &[&str]) -> bool {
     match copied(rt, original) {
         Ok(copy) => merges_to(rt, original, &["b", "c"], &ALL) && has_just(&copy, items),
@@ -59,12 +59,12 @@ fn a_copy_stays_as_it_is(rt: HostRuntime) -> Result<(), Fail> {
     Ok(())
 }
 
-// Whether an item was new where it is inserted.
+// Returns whether an item is new to the set.
 fn is_new(rt: &HostRuntime, set: &mut Items, item: &str) -> bool {
     insert(rt, set, item) == Ok(true)
 }
 
-// Whether an item was there where it is inserted.
+// Returns whether an item was in the set before it is inserted.
 fn is_there(rt: &HostRuntime, set: &mut Items, item: &str) -> bool {
     insert(rt, set, item) == Ok(false)
 }
@@ -88,7 +88,7 @@ fn finite(number: i64) -> Decimals {
     }
 }
 
-// A number that is known to so many places.
+// Returns the summary of a number with decimals.
 fn rounded_to(spelled: &str, places: i64) -> Summary {
     match read_fixed(spelled) {
         Ok(number) => Summary::of(&Value::Number(number, finite(places))),
@@ -104,14 +104,15 @@ fn has_ends(summary: &Summary, low: i128, high: i128) -> bool {
     summary.ends() == Some(Interval { low, high }) && !summary.nil()
 }
 
-// What two summaries make together.
+// Returns the merge of two summaries.
 fn both(rt: &HostRuntime, first: &Summary, second: &Summary) -> Result<Summary, AllocError> {
     let mut both = *first;
     merge(rt, &mut both, second)?;
     Ok(both)
 }
 
-// Whether the ends of two numbers cross, in either order, and stay where another is between.
+// Returns whether the ends of two numbers cross in either order, and stay the same after a number
+// between them is merged.
 fn do_ends_cross(rt: &HostRuntime) -> Result<bool, AllocError> {
     let (low, high) = (1015 * (UNIT / 10), 1005 * (UNIT / 10));
     let first = both(rt, &rounded("100"), &rounded("102"))?;
@@ -169,7 +170,7 @@ fn put_at(
     put(rt, map, &key, value)
 }
 
-// Whether a map has a value at a key, or where none is wanted, no value.
+// Returns whether a map has the value at a key, or no value if none is expected.
 fn has_value(rt: &HostRuntime, map: &SummaryAt, key: &str, value: Option<&Summary>) -> bool {
     match text(rt, key) {
         Ok(key) => map.get(&key) == value,
@@ -177,7 +178,7 @@ fn has_value(rt: &HostRuntime, map: &SummaryAt, key: &str, value: Option<&Summar
     }
 }
 
-// Whether there is a value at the key `k`, and none before and after it.
+// Returns whether the map has the value at the key `k`, and none at keys before and after it.
 fn has_value_alone(rt: &HostRuntime, map: &SummaryAt, value: &Summary) -> bool {
     map.len() == 1
         && has_value(rt, map, "k", Some(value))
@@ -185,7 +186,7 @@ fn has_value_alone(rt: &HostRuntime, map: &SummaryAt, value: &Summary) -> bool {
         && has_value(rt, map, "l", None)
 }
 
-// The same for a copy.
+// Returns whether a copy has the value at the key `k`, and none at keys before and after it.
 fn copy_has_value(rt: &HostRuntime, map: &SummaryAt, value: &Summary) -> bool {
     match copied(rt, map) {
         Ok(copy) => has_value(rt, &copy, "k", Some(value)),
@@ -231,7 +232,7 @@ fn copy_is_merged(rt: &HostRuntime, map: &ItemsAt) -> bool {
     }
 }
 
-// Whether a map is merged where it has merged that of some rows.
+// Returns whether a map has the merged items after it has merged a map of these rows.
 fn merges_rows(rt: &HostRuntime, map: &mut ItemsAt, rows: &[(&str, &str)]) -> bool {
     match items_at(rt, rows) {
         Ok(other) => merge(rt, map, &other).is_ok() && copy_is_merged(rt, map),
@@ -281,7 +282,7 @@ fn has_both_parts(pair: &Pair) -> bool {
     has_just(&pair.0, &["a", "b"]) && has_just(&pair.1, &["w", "x"])
 }
 
-// Whether the copy of a pair has exactly these items.
+// Returns whether the copy of a pair has exactly these items.
 fn copy_has_both_parts(rt: &HostRuntime, pair: &Pair) -> bool {
     match copied(rt, pair) {
         Ok(copy) => has_both_parts(&copy),
@@ -298,7 +299,7 @@ fn pairs_merge_part_by_part(rt: HostRuntime) -> Result<(), Fail> {
     Ok(())
 }
 
-// The value with a copy of it merged in.
+// Returns the value after a copy of it was merged in.
 fn doubled<M: Same>(rt: &HostRuntime, value: &M) -> Result<M, AllocError> {
     let mut copy = copied(rt, value)?;
     merge(rt, &mut copy, value)?;
@@ -335,28 +336,30 @@ fn entries_that_are_there_already_change_nothing(rt: HostRuntime) -> Result<(), 
     Ok(())
 }
 
-// Whether sets of the same items are one, in whatever order and however often these were inserted.
+// Returns whether sets of the same items are equal, whatever the order and repetition of the
+// insertions.
 fn is_set_its_members(rt: &HostRuntime) -> Result<bool, AllocError> {
     let first = set(rt, &["a", "b", "c"])?;
     let second = set(rt, &["c", "a", "b", "a"])?;
     Ok(first.is_same(&second))
 }
 
-// The same for maps with the same items at each key.
+// Returns whether maps with the same items at each key are equal.
 fn is_map_its_values(rt: &HostRuntime) -> Result<bool, AllocError> {
     let first = items_at(rt, &[("j", "c"), ("k", "a"), ("k", "b")])?;
     let second = items_at(rt, &[("k", "b"), ("j", "c"), ("k", "a"), ("k", "b")])?;
     Ok(first.is_same(&second))
 }
 
-// The same for summaries of the same numbers.
+// Returns whether summaries of the same numbers are equal.
 fn is_summary_of_members(rt: &HostRuntime) -> Result<bool, AllocError> {
     let first = both(rt, &both_rounded(rt)?, &rounded("101"))?;
     let second = both(rt, &rounded("101"), &both_rounded(rt)?)?;
     Ok(both(rt, &second, &rounded("102"))? == first)
 }
 
-// A law's own function does nothing. Each is called once, so that it is tried at a type of values.
+// The function of a law does nothing. Each is called once, so that it is compiled for a type of
+// values.
 #[test]
 fn laws_hold(rt: HostRuntime) {
     laws::set_has_both::<Text>();

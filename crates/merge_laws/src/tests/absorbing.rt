@@ -13,7 +13,7 @@ use std::test::Fail;
 
 type PairsAt = SortedMap<Text, Pair>;
 
-// Absorbs the set of some items; returns whether there are then exactly these.
+// Absorbs the set of some items, and returns whether the set then has exactly the items of `all`.
 fn absorbs_to(rt: &HostRuntime, first: &mut Items, items: &[&str], all: &[&str]) -> bool {
     match set(rt, items) {
         Ok(second) => absorb_set(rt, first, second).is_ok() && has_just(first, all),
@@ -37,7 +37,7 @@ fn absorbs_copy_to(rt: &HostRuntime, second: &mut Items, first: &Items, all: &[&
     }
 }
 
-// Whether a set stays as it is where its copy is absorbed.
+// Returns whether a set does not change when it absorbs its copy.
 fn copy_is_absorbed(rt: &HostRuntime, first: &Items) -> bool {
     match set(rt, &["b", "c"]) {
         Ok(mut second) => {
@@ -61,7 +61,7 @@ fn an_empty_set_absorbs_all(rt: HostRuntime) {
     assert!(rt; absorbs_to(&rt, &mut items, &[], &["a", "c"]));
 }
 
-// Whether a set of one item takes in others, and is taken in.
+// Returns whether a set of one item absorbs others, and is absorbed by others.
 fn one_is_a_set(rt: &HostRuntime, mut one: Items) -> bool {
     has_just(&one, &["b"])
         && absorbs_copy_to(rt, &mut SortedSet::new(rt.alloc()), &one, &["b"])
@@ -86,7 +86,7 @@ fn absorb_rows(
     absorb(rt, map, other)
 }
 
-// Whether an empty map has one row where it has absorbed it and an empty map.
+// Returns whether an empty map has one row after it has absorbed the row and an empty map.
 fn absorbs_row(rt: &HostRuntime, map: &mut ItemsAt) -> bool {
     absorb_rows(rt, map, &[("k", "a")]).is_ok()
         && absorb_rows(rt, map, &[]).is_ok()
@@ -105,7 +105,7 @@ fn absorb_copy(rt: &HostRuntime, map: &mut ItemsAt, other: &ItemsAt) -> Result<(
     absorb(rt, map, copy)
 }
 
-// Whether a map is merged where it has absorbed a copy of that of some rows.
+// Returns whether a map has the merged items after it has absorbed a copy of the map of these rows.
 fn absorbs_copy(rt: &HostRuntime, map: &mut ItemsAt, rows: &[(&str, &str)]) -> bool {
     match items_at(rt, rows) {
         Ok(other) => absorb_copy(rt, map, &other).is_ok() && is_merged(map),
@@ -148,7 +148,7 @@ fn absorb_keys(rt: &HostRuntime, map: &mut SummaryAt) -> Result<Summary, AllocEr
     both_rounded(rt)
 }
 
-// Whether there are two keys, the value of both numbers at the one and the new number at the other.
+// Returns whether there are two keys, one with the merged value and one with the new value.
 fn absorbs_keys(rt: &HostRuntime, map: &mut SummaryAt) -> bool {
     match absorb_keys(rt, map) {
         Ok(both) => {
@@ -176,7 +176,7 @@ fn keyed_pair(
     Ok((key, pair(rt, items.0, items.1)?))
 }
 
-// The map of one key and a pair of sets, each of one item.
+// Returns the map of one key and a pair of sets, each with one item.
 fn pair_at(rt: &HostRuntime, key: &str, items: (&str, &str)) -> Result<PairsAt, AllocError> {
     let mut entries = room(rt)?;
     entries.push_reserved(keyed_pair(rt, key, items)?);
@@ -202,7 +202,7 @@ fn pairs_at_a_key_of_both_are_merged(rt: HostRuntime) -> Result<(), Fail> {
     Ok(())
 }
 
-// The set of two items if the first is the lesser; else the empty set.
+// Returns the set of two items if the first is less than the second, and otherwise the empty set.
 fn set_of_two(rt: &HostRuntime, first: Text, second: Text) -> Result<Items, AllocError> {
     let mut items = room(rt)?;
     if first.cmp(&second).is_ge() {

@@ -1,4 +1,4 @@
-// Calls that are made again where their request for memory was refused.
+// Calls that are repeated if their request for memory is refused.
 
 ghost use Rattle.std.specs.Prelude.{◌≡◌, ◌≤◌, [], vec_capacity, IfOk};
 
@@ -12,9 +12,9 @@ pub(super) type ItemsAt = SortedMap<Text, Items>;
 
 pub(super) type Pair = (Items, Items);
 
-// When a request for memory is refused, the next one succeeds: the call is repeated, unless it has
-// changed something; then the test fails. `tests/refused_memory` counts the lines on standard error,
-// and reads from them whether the request was the test's own.
+// If a request for memory is refused, the call is repeated, and the next request succeeds. The test
+// fails if the refused call changed something. `tests/refused_memory` counts the lines on standard
+// error, and reads from them whether the request was the test's own.
 
 pub(super) fn tell_refused(rt: &HostRuntime) {
     let _ = eprintln!(rt; "refused");
@@ -44,7 +44,7 @@ pub(super) fn copied<T: Copied>(rt: &HostRuntime, value: &T) -> Result<T, AllocE
     }
 }
 
-// What a value shows, compared with what another one does.
+// A value whose contents a test compares.
 pub(super) trait Same: Merge {
     fn is_same(&self, other: &Self) -> bool;
 }
@@ -146,7 +146,7 @@ fn put_items(
     put(rt, map, &key, items)
 }
 
-// The map with an item put at a key, row by row.
+// Returns the map in which each row's item was added at its key.
 pub(super) fn items_at(rt: &HostRuntime, rows: &[(&str, &str)]) -> Result<ItemsAt, AllocError> {
     let mut map = SortedMap::new(rt.alloc());
     for (key, item) in rows {
@@ -155,7 +155,7 @@ pub(super) fn items_at(rt: &HostRuntime, rows: &[(&str, &str)]) -> Result<ItemsA
     Ok(map)
 }
 
-// Two sets of one item each.
+// Returns two sets of one item each.
 pub(super) fn pair(rt: &HostRuntime, left: &str, right: &str) -> Result<Pair, AllocError> {
     let first = set(rt, &[left])?;
     Ok((first, set(rt, &[right])?))
@@ -182,7 +182,7 @@ pub(super) fn has_just(set: &Items, items: &[&str]) -> bool {
     true
 }
 
-// The items at a key, where there is the key.
+// Returns whether the map has the key, with exactly these items.
 pub(super) fn has_at(map: &ItemsAt, key: &Text, items: &[&str]) -> bool {
     match map.get(key) {
         Some(set) => has_just(set, items),
@@ -247,7 +247,7 @@ fn absorb_from<K: Key, V: Same>(
     }
 }
 
-// Room for two.
+// Returns a list with capacity for two.
 pub(super) fn room<T: Drop>(rt: &HostRuntime) -> Result<Vec<T>, AllocError>
     ensures items { IfOk result (λ room. room.items ≡ []) }
     ensures room { IfOk result (λ room. 2 ≤ vec_capacity room) }

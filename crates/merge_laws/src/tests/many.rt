@@ -9,7 +9,7 @@ type Many = SortedMap<Place, Summary>;
 
 type Place = ((Decimals, Decimals), (Decimals, Decimals));
 
-// A key that wants no memory; a greater number gives a greater key.
+// Returns a key that needs no memory. A greater number gives a greater key.
 fn place(number: i64) -> Place {
     (digits(number / 625), digits(number))
 }
@@ -25,7 +25,7 @@ fn has_value(map: &Many, at: usize, number: i64) -> bool {
     }
 }
 
-// Whether there is the value at each multiple of a step below another number, and no other key.
+// Returns whether the map has the value at exactly each multiple of `step` below `end`.
 fn has_multiples(map: &Many, step: i64, end: i64) -> bool {
     let mut seen = 0usize;
     for number in 0..end {
@@ -39,8 +39,8 @@ fn has_multiples(map: &Many, step: i64, end: i64) -> bool {
     map.len() == seen
 }
 
-// Puts a value at the next multiple of a step. The number decides what the map had there: copying the
-// map each time would take too long.
+// Puts a value at the next multiple of a step. The expected earlier value is computed from the
+// number, since copying the map each time would take too long.
 fn put_next(rt: &HostRuntime, map: &mut Many, step: i64, number: i64) -> Result<(), AllocError> {
     let value = rounded("1");
     match map.put(&place(number), &value) {
@@ -67,7 +67,8 @@ fn is_key_right(map: &Many, number: i64) -> bool {
     map.get(&place(number)).is_some() == there
 }
 
-// Whether the keys are those of each third and each second number, by a sample of the numbers.
+// Returns whether the keys are the multiples of two and of three, tested on a sample of the
+// numbers.
 fn are_keys_right(map: &Many) -> bool {
     for number in 0..200_000i64 {
         if number % 997 == 0 && !is_key_right(map, number) {
@@ -84,12 +85,12 @@ fn has_last(map: &Many) -> bool {
     }
 }
 
-// Whether the keys are exactly those of each third and each second number.
+// Returns whether the keys are exactly the multiples of two and of three.
 fn has_all_keys(map: &Many) -> bool {
     map.len() == 133_333 && are_keys_right(map) && has_last(map)
 }
 
-// Merges the keys of each second number; returns whether they were all there, and all are now.
+// Merges the multiples of two, and returns whether all keys are then in the map.
 fn merges_halves(rt: &HostRuntime, map: &mut Many) -> bool {
     match put_all(rt, 2) {
         Ok(halves) => {
