@@ -21,7 +21,7 @@ first_day = day_count-early (pos 1) 10000 1 1 refl (omega arith) (omega arith) (
 zero_day : day_count (pos 0) 1 1 ≡ 3_652_425
 zero_day = day_count-early (pos 0) 9999 1 1 refl (omega arith) (omega arith) (omega arith)
 
--- 0001-01-01 is the first, and 9999-12-31 the last
+-- 0001-01-01 is the first day, and 9999-12-31 the last
 pub day_range : (y m d : ℕ) → 1 ≤ y → IsCivilDate (pos y) m d → IsBetween (neg_ℤ (pos 719_162)) (pos 2_932_896) (days_from_civil (pos y) m d)
 day_range y m d low h =
     let year_zero : IsCivilDate (pos 0) 12 31 = search rules in
@@ -29,7 +29,7 @@ day_range y m d low h =
     let number = days_from_civil-day_count (pos y) m d in
     (omega (arith, signed_arith, before, number, zero_day, day_count-last_of_year (pos 0), days_in_year_bounds (pos 0)), omega (arith, signed_arith, number, day_count_bounds (pos y) m d h))
 
--- a date that jiff makes of three numbers
+-- the date that jiff makes of three numbers
 pub date_is : (date : Date) (y m d : ℕ) → IsYmd (to_z w16 y) (to_z w8 m) (to_z w8 d) date → y < 10000 → m < 100 → d < 100 → IsCivilDate (pos y) m d × (epoch_day date ≡ days_from_civil (pos y) m d)
 date_is date y m d h few_y few_m few_d =
     let ey : date.year ≡ pos y = omega (arith, ints, h.0) in
@@ -37,11 +37,11 @@ date_is date y m d h few_y few_m few_d =
     let ed : date.day ≡ d = omega (arith, ints, h.2) in
     (rw (ey, em, ed) at (civil date), rw (ey, em, ed) refl)
 
--- the calendar has it, by tests
+-- the tests that the calendar has a date
 pub is_real : (y m d : ℕ) → 1 ≤ y → IsCivilDate (pos y) m d → (nat_le 1 y && is_in_range 1 12 m && is_in_range 1 (days_in_month (pos y) m) d) ≡ true
 is_real y m d low h = grind (arith, nat_tests)
 
--- tests of an order
+-- a comparison of numbers and its test
 pub le_true : (a b : ℤ) → a ≤ℤ b → int_le a b ≡ true
 le_true a b h = grind (arith, ints)
 
@@ -57,14 +57,14 @@ greatest_is p (suc n) k h low here above =
       | inr le ↦ let e : k ≡ suc n = omega arith in let passes = rw e at here in rw passes (sym e)
     ]
 
--- counts of days, and their order, as day numbers
+-- counts of days have the same order as day numbers
 earlier : (a b : ℤ) (m d n e : ℕ) → day_count a m d < day_count b n e → days_from_civil a m d <ℤ days_from_civil b n e
 earlier a b m d n e h = omega (arith, signed_arith, days_from_civil-day_count a m d, days_from_civil-day_count b n e)
 
 no_later : (a b : ℤ) (m d n e : ℕ) → day_count a m d ≤ day_count b n e → days_from_civil a m d ≤ℤ days_from_civil b n e
 no_later a b m d n e h = omega (arith, signed_arith, days_from_civil-day_count a m d, days_from_civil-day_count b n e)
 
--- the year, month and day of a day's number
+-- the year, month and day of a day number
 pub year_is : (y m d : ℕ) → 1 ≤ y → IsCivilDate (pos y) m d → year_of (days_from_civil (pos y) m d) ≡ y
 unfolding year_of
 year_is y m d low h =
@@ -116,7 +116,7 @@ epoch_is_zero date h =
     let ed : date.day ≡ 1 = omega (arith, signed_arith, h.2) in
     rw (ey, em, ed) (omega (arith, signed_arith, days_from_civil-day_count (pos 1970) 1 1, day_count-epoch))
 
--- jiff writes a date as its day is written
+-- jiff writes a date as `date_text` does
 pub text_of_date : (date : Date) (z : ℤ) → epoch_day date ≡ z → neg_ℤ (pos 719_162) ≤ℤ z → jiff_date_text date ≡ date_text z
 unfolding date_text
 text_of_date date z is low = let p = date_parts date z is low in rw (p.0, p.1, p.2) refl

@@ -4,7 +4,7 @@ use mathlib.Core.Bool.{◌||◌}
 use Rattle.std.specs.List.{position_or_len, before_first, after_first, list_any}
 use Rattle.std.proofs.Math.Seq.{take-append_seam}
 
--- nothing passes where the first place is the length
+-- nothing passes the test if the first index that passes is the length
 pub none_passes : (p : ℕ → Bool) (xs : List ℕ) → position_or_len p xs ≡ length xs → list_any p xs ≡ false
 none_passes p [] h = refl
 none_passes p (x ∷ xs) h =
@@ -21,7 +21,7 @@ no_place p (x ∷ xs) h =
       | false ↦ λ e. let rest = no_place p xs (rw e at h) in rw (e, rest) (omega arith)
     ] refl
 
--- the first place is where xs ends, if nothing in it passes
+-- the first index that passes is the end of xs if nothing in xs passes
 place_after : (p : ℕ → Bool) (xs ys : List ℕ) (c : ℕ) → list_any p xs ≡ false → p c ≡ true → position_or_len p (xs ++ c ∷ ys) ≡ length xs
 place_after p [] ys c none here = rw here refl
 place_after p (x ∷ xs) ys c none here =
@@ -38,7 +38,7 @@ drop_past : (xs ys : List ℕ) (c : ℕ) → drop (length xs + 1) (xs ++ c ∷ y
 drop_past [] ys c = refl
 drop_past (x ∷ xs) ys c = let next : suc (length xs) + 1 ≡ suc (length xs + 1) = omega arith in rw next (drop_past xs ys c)
 
--- a text of two parts
+-- a text that consists of two parts with a separator between them
 pub record IsCut (p : ℕ → Bool) (t xs ys : List ℕ) : Type 0 where
   pub some : list_any p t ≡ true
   pub before : before_first p t ≡ xs

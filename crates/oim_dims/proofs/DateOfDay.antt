@@ -1,4 +1,4 @@
--- Each day of the years 0001 to 9999 has its date.
+-- Each day of the years 0001 to 9999 has a date.
 use Rattle.std.proofs.Common.{◌≡◌, ℕ, zero, suc, ◌+◌, ◌<◌, ◌≤◌, Bool, true, false, refl, sym, ◌∙◌, inl, inr, arith, ℤ, pos, neg_ℤ, ◌+ℤ◌, ◌≤ℤ◌, ◌<ℤ◌}
 use Rattle.std.specs.Prelude.{int_le}
 use Rattle.std.proofs.lemmas.Bool.{cases_lt, false≢true}
@@ -9,7 +9,7 @@ use Rattle.jiff_core.proofs.SignedLemmas.{signed_arith}
 use Rattle.oim_dims.specs.DateTime.{greatest, year_of, month_of, day_of}
 use Rattle.oim_dims.proofs.Calendar.{first_day, le_true}
 
--- the greatest number that passes passes, and none above it does
+-- the greatest number that passes the test, and nothing above it passes
 record IsGreatest (p : ℕ → Bool) (n k g : ℕ) : Type 0 where
   low : k ≤ g
   high : g ≤ n
@@ -39,14 +39,14 @@ greatest_passes p (suc n) k low high here =
       ]
     ] refl
 
--- tests of an order, read back
+-- a comparison of numbers, from its test
 le_is : (a b : ℤ) → int_le a b ≡ true → a ≤ℤ b
 le_is a b h = grind (arith, ints)
 
 lt_is : (a b : ℤ) → int_le a b ≡ false → b <ℤ a
 lt_is a b h = grind (arith, ints)
 
--- the days of the year hold the day
+-- the day lies in its year
 year_holds : (z : ℤ) → IsBetween (neg_ℤ (pos 719_162)) (pos 2_932_896) z → (y : ℕ) → IsGreatest (λ n. int_le (days_from_civil (pos n) 1 1) z) 9999 1 y → (days_from_civil (pos y) 1 1 ≤ℤ z) × (z <ℤ (days_from_civil (pos y) 1 1 +ℤ pos (days_in_year (pos y))))
 year_holds z h y g =
     let here : days_from_civil (pos y) 1 1 ≤ℤ z = le_is _ _ g.here in
@@ -58,7 +58,7 @@ year_holds z h y g =
       | inr le ↦ let e : y + 1 ≡ 10000 = omega (arith, g.high) in let end = rw e at next in (here, omega (arith, signed_arith, number, end, day_count-end, h.1))
     ]
 
--- the days of the month hold it
+-- the day lies in its month
 month_holds : (y : ℕ) (z : ℤ) → z <ℤ (days_from_civil (pos y) 1 1 +ℤ pos (days_in_year (pos y))) → (m : ℕ) → IsGreatest (λ n. int_le (days_from_civil (pos y) n 1) z) 12 1 m → (days_from_civil (pos y) m 1 ≤ℤ z) × (z <ℤ (days_from_civil (pos y) m 1 +ℤ pos (days_in_month (pos y) m)))
 month_holds y z within m g =
     let here : days_from_civil (pos y) m 1 ≤ℤ z = le_is _ _ g.here in
@@ -68,7 +68,7 @@ month_holds y z within m g =
       | inr le ↦ let e : m ≡ 12 = omega (arith, g.high) in let here' = rw e at here in (here, rw e (omega (arith, signed_arith, within, days_from_civil-day_count (pos y) 1 1, days_from_civil-day_count (pos y) 12 1, day_count-last_of_year (pos y), day_count-day (pos y) 12 31 1 (omega arith) (omega arith))))
     ]
 
--- and the day of the month is that day
+-- the day of the month is that day
 day_holds : (y m : ℕ) (z : ℤ) → z <ℤ (days_from_civil (pos y) m 1 +ℤ pos (days_in_month (pos y) m)) → (n : ℕ) → IsGreatest (λ j. int_le (days_from_civil (pos y) m j) z) 31 1 n → (n ≤ days_in_month (pos y) m) × (days_from_civil (pos y) m n ≡ z)
 day_holds y m z within n g =
     let here : days_from_civil (pos y) m n ≤ℤ z = le_is _ _ g.here in

@@ -1,4 +1,4 @@
--- A language in lower case is kept as it is.
+-- A language in lower case is read without a change.
 use Rattle.std.proofs.Common.{◌≡◌, ℕ, zero, suc, Bool, true, false, cond, List, [], ◌∷◌, map, take, refl, sym, ap, ◌∙◌, arith}
 use Rattle.std.specs.List.{list_all, slice_split, onto_first, position_or_len}
 use Rattle.std.specs.Char.{is_ascii_alphabetic, is_ascii_alphanumeric, to_ascii_lowercase}
@@ -19,7 +19,7 @@ lower_letter_or_digit c = grind (arith, nat_tests)
 lower_twice : (c : ℕ) → to_ascii_lowercase (to_ascii_lowercase c) ≡ to_ascii_lowercase c
 lower_twice c = grind (arith, nat_tests)
 
--- a test that lower case does not change
+-- a test that does not depend on case
 lower_all : (p : ℕ → Bool) → ((c : ℕ) → p (to_ascii_lowercase c) ≡ p c) → (xs : List ℕ) → list_all p (str_to_ascii_lowercase xs) ≡ list_all p xs
 lower_all p same [] = refl
 lower_all p same (x ∷ xs) = rw (same x, lower_all p same xs) refl

@@ -41,7 +41,7 @@ year_back y m d h n s hy =
 pair_back : (n : ℕ) → n < 100 → (0 * 10 + digit_value (48 + n / 10)) * 10 + digit_value (48 + n % 10) ≡ n
 pair_back n h = rw (digit_of (n / 10) (tens n h), digit_of (n % 10) (ones n)) (omega arith)
 
--- a day and the time since it began
+-- a moment is a day and the time since its start
 euclid : (z : ℤ) → int_div_euclid z (pos DAY_SECONDS) *ℤ pos DAY_SECONDS +ℤ pos (unsigned_abs (int_rem_euclid z (pos DAY_SECONDS))) ≡ z
 euclid (pos a) = omega (arith, signed_arith)
 euclid (negsuc a) = omega (arith, signed_arith)
@@ -85,7 +85,7 @@ parts z h =
 clock_shows : (h n s : ℕ) → h < 24 → n < 60 → s < 60 → (nat_le n 59 && nat_le s 59 && nat_le (3600 * h + 60 * n + s) DAY_SECONDS) ≡ true
 clock_shows h n s hh hn hs = grind (arith, nat_tests)
 
--- what the text says
+-- the numbers that the text of a moment has
 spelled_back : (z : ℤ) (y m d h n s : ℕ) → IsMoment z → AreParts z y m d h n s → moment_of (spelled y m d h n s) ≡ Some z
 unfolding has_date has_time day_number second_of_day
 spelled_back z y m d h n s moment p =
@@ -106,7 +106,7 @@ pub moment_back : (z : ℤ) → IsMoment z → moment_of (moment_text z) ≡ Som
 unfolding moment_text date_text time_text
 moment_back z h = spelled_back z _ _ _ _ _ _ h (parts z h)
 
--- a text with digits for its numbers holds no other byte than those of the picture
+-- a text with digits for its numbers contains no other bytes than the form of a date-time
 not_slash : (k : ℕ) → is_slash (48 + k) ≡ false
 not_slash k = grind (arith, nat_tests)
 

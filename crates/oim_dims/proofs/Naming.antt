@@ -17,7 +17,7 @@ use Rattle.oim_names.specs.declared.reason.Reason.TheVariants.{OutOfMemory, Name
 use Rattle.oim_dims.specs.Separators.{is_star}
 use Rattle.oim_dims.specs.Unit.{is_mark, is_piece, is_unit_text, refuses, some_piece, unit_refusal, numerator_pieces, denominator_pieces, IsMeasure}
 
--- the refusal of a name, by its three tests
+-- the refusal of a name in terms of its three tests
 abbrev first_of_three : Bool → Bool → Bool → Option Reason
 first_of_three form unbound reserved =
     if form then (if unbound then Some UnboundPrefix else (if reserved then Some ReservedNamespace else None))
@@ -29,7 +29,7 @@ none_of_three true true c h k l = cc
 none_of_three true false true h k l = cc
 none_of_three true false false h k l = refl
 
--- a piece with none of the three is named
+-- a piece that passes the three tests names a measure
 piece_named : (bs : List Binding) (p : List ℕ) → lacks_form is_name p ≡ false → lacks_binding is_name bs p ≡ false → lies_in_reserved is_name bs p ≡ false → name_refusal bs p ≡ None
 piece_named bs p h k l = none_of_three (is_name p) (is_unbound bs p) (is_reserved bs p) h k l
 
@@ -41,7 +41,7 @@ all_named bs (p ∷ ps) h k l =
     let c = or_parts (lies_in_reserved is_name bs p) (list_any (lies_in_reserved is_name bs) ps) l in
     All-cons (λ q. name_refusal bs q ≡ None) p ps (piece_named bs p a.0 b.0 c.0) (all_named bs ps a.1 b.1 c.1)
 
--- the same tests, of whether a piece is a name and of what its prefix is bound to
+-- the same tests in terms of a piece's form and the URI of its prefix
 abbrev refuses_so : Reason → Bool → Option (List ℕ) → Bool
 refuses_so NameForm named uri = not named
 refuses_so UnboundPrefix named uri = named && is_none uri
@@ -69,13 +69,13 @@ told UnboundPrefix bs p = told_so UnboundPrefix (is_name p) (uri_of bs (prefix_p
 told ReservedNamespace bs p = told_so ReservedNamespace (is_name p) (uri_of bs (prefix_part p))
 told r bs p = told_so r (is_name p) (uri_of bs (prefix_part p))
 
--- what a text that is not refused has
+-- the measures of a text that is not refused
 pub record IsNamed (bs : List Binding) (t : List ℕ) : Type 0 where
   pub form : is_unit_text t ≡ true
   pub numerators : All (λ p. name_refusal bs p ≡ None) (numerator_pieces t)
   pub denominators : All (λ p. name_refusal bs p ≡ None) (denominator_pieces t)
 
--- four tests, and the first holds
+-- the refusal in terms of four tests
 abbrev first_of_four : Bool → Bool → Bool → Bool → Option Reason
 first_of_four form named unbound reserved =
     if not form then Some UnitForm else (if named then Some NameForm else (if unbound then Some UnboundPrefix else (if reserved then Some ReservedNamespace else None)))
@@ -95,11 +95,11 @@ unit_named bs t h =
     let c = or_parts _ _ e.3 in
     record { form = e.0; numerators = all_named bs (numerator_pieces t) a.0 b.0 c.0; denominators = all_named bs (denominator_pieces t) a.1 b.1 c.1 }
 
--- the only error of a name that is not refused
+-- out of memory is the only error for a name that is not refused
 pub only_memory : (bs : List Binding) (p : List ℕ) (e : Reason) → name_refusal bs p ≡ None → (e ≡ OutOfMemory) ⊎ (name_refusal bs p ≡ Some e) → e ≡ OutOfMemory
 only_memory bs p e none h = elim h [ inl memory ↦ memory | inr refused ↦ absurd (cc (sym none ∙ refused)) ]
 
--- a part of a text with no mark has none
+-- a part of a text without marks has no marks
 no_mark_after : (n : ℕ) (p : List ℕ) → list_any is_mark p ≡ false → list_any is_mark (drop n p) ≡ false
 no_mark_after zero p h = h
 no_mark_after (suc n) [] h = refl
@@ -126,7 +126,7 @@ measures_of_pieces bs (p ∷ ps) (n ∷ ns) were z h =
     let b = and_parts (is_piece p) (list_all is_piece ps) h in
     All-cons IsMeasure n ns (measure_of_piece bs p n were z.0 b.0) (measures_of_pieces bs ps ns were z.1 b.1)
 
--- a side has a piece
+-- a side has at least one piece
 onto_some : (c : ℕ) (ps : List (List ℕ)) → 0 < length (onto_first c ps)
 onto_some c [] = omega arith
 onto_some c (p ∷ ps) = omega arith

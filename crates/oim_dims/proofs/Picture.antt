@@ -1,4 +1,4 @@
--- What the picture of a date-time says of its parts.
+-- What a text's form shows of its parts.
 use Rattle.std.proofs.Common.{◌≡◌, ℕ, zero, suc, ◌+◌, ◌-◌, ◌<◌, Bool, true, false, List, [], ◌∷◌, length, get_or, take, drop, refl, sym, ◌∙◌, add-one, arith}
 use Rattle.std.specs.Prelude.{◌==◌, slice_range}
 use Rattle.std.proofs.lemmas.Bool.{and_parts}
@@ -9,11 +9,11 @@ use Rattle.std.specs.List.{list_all, zip}
 use Rattle.std.proofs.Math.Seq.{drop-cons}
 use Rattle.oim_dims.specs.DateTime.{matches_picture, picture, has_picture}
 
--- where the picture has a 0, the text has a digit
+-- the text has a digit wherever the form has a 0
 digit_there : (sign c : ℕ) → matches_picture (sign, c) ≡ true → (sign == 48) ≡ true → is_ascii_digit c ≡ true
 digit_there sign c h zero_sign = rw zero_sign at h
 
--- the first n characters
+-- the first n characters are digits if the form has zeros there
 front_digits : (n : ℕ) (ps cs : List ℕ) → length ps ≡ length cs → list_all matches_picture (zip ps cs) ≡ true → list_all (λ sign. sign == 48) (take n ps) ≡ true → list_all is_ascii_digit (take n cs) ≡ true
 front_digits zero ps cs same h zeros = refl
 front_digits (suc n) [] [] same h zeros = refl
@@ -24,7 +24,7 @@ front_digits (suc n) (p ∷ ps) (c ∷ cs) same h zeros =
     let zero_signs = and_parts (p == 48) (list_all (λ sign. sign == 48) (take n ps)) zeros in
     rw (digit_there p c fit.0 zero_signs.0) (front_digits n ps cs (omega arith) fit.1 zero_signs.1)
 
--- n characters after the first i
+-- n characters after the first i are digits if the form has zeros there
 part_digits : (i n : ℕ) (ps cs : List ℕ) → length ps ≡ length cs → list_all matches_picture (zip ps cs) ≡ true → list_all (λ sign. sign == 48) (take n (drop i ps)) ≡ true → list_all is_ascii_digit (take n (drop i cs)) ≡ true
 part_digits zero n ps cs same h zeros = front_digits n ps cs same h zeros
 part_digits (suc i) zero [] [] same h zeros = refl
@@ -44,7 +44,7 @@ pictured_digits t i j h zeros =
     let same : 19 ≡ length t = omega (arith, pictured_length t h) in
     part_digits i (j - i) picture t same e.1 zeros
 
--- one place of the picture and the text, and then the places after it
+-- the form and the text match at one index, and at the indices after it
 picture_at : (i : ℕ) (ps cs : List ℕ) → i < length ps → i < length cs → list_all matches_picture (zip (drop i ps) (drop i cs)) ≡ (matches_picture (get_or ps i 0, get_or cs i 0) && list_all matches_picture (zip (drop (i + 1) ps) (drop (i + 1) cs)))
 picture_at i ps cs h k = rw (drop-cons ps i 0 h, drop-cons cs i 0 k, add-one) refl
 

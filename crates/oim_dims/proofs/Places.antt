@@ -1,4 +1,4 @@
--- Where a member goes among members in the order of names.
+-- The index at which a member is inserted among members in the order of names.
 use Rattle.std.proofs.Common.{◌≡◌, ◌⊎◌, inl, inr, ℕ, zero, suc, ◌<◌, Bool, true, false, List, [], ◌∷◌, ◌++◌, length, get_or, take, drop, refl, subst, sym, ap, ◌∙◌, arith}
 use Rattle.std.specs.Prelude.{◌||◌, if◌then◌else◌, Result, Ok, Err, OnOk, OnErr, Contains, IsTrue}
 use Rattle.std.proofs.lemmas.Bool.{and_parts}
@@ -14,7 +14,7 @@ use Rattle.oim_dims.specs.declared.member.Member.{Member}
 use Rattle.oim_value.specs.ValueOrder.{name_cmp}
 use Rattle.oim_dims.specs.DimensionSet.{is_below, rises, has_name, with_member, MembersGrow, NamesAreThere}
 
--- the place is not before i
+-- the index is not before i
 pub record IsPast (n : QName) (es : List (QName × Member)) (i : ℕ) : Type 0 where
   pub split : (m : Member) → with_member n m es ≡ take i es ++ with_member n m (drop i es)
   pub none : has_name n es ≡ has_name n (drop i es)
@@ -25,7 +25,7 @@ less_is Less h = refl
 less_is Equal h = cc
 less_is Greater h = cc
 
--- a name below one that is below all is none of them
+-- a name below a name that is below all names is not in the list
 below_none : (n k : QName) (es : List (QName × Member)) → name_cmp n k ≡ Less → is_below k es ≡ true → has_name n es ≡ false
 below_none n k [] less h = refl
 below_none n k (e ∷ es) less h =
@@ -33,7 +33,7 @@ below_none n k (e ∷ es) less h =
     let here : name_cmp n e.0 ≡ Less = name_total.trans n k e.0 less (less_is _ b.0) in
     rw here (below_none n k es less b.1)
 
--- a name below the one at its place is not there
+-- a name below the name at its index is not in the list
 pub below_here : (n : QName) (es : List (QName × Member)) (i : ℕ) (e : QName × Member) → i < length es → e ≡ get_or es i e → name_cmp n e.0 ≡ Less → IsPast n es i → has_name n es ≡ false
 below_here n es i e within is less h =
     let here : drop i es ≡ e ∷ drop (suc i) es = drop-cons es i e within ∙ ap (λ x. x ∷ drop (suc i) es) (sym is) in
@@ -47,7 +47,7 @@ below_all n k (e ∷ es) less h =
     let here : name_cmp n e.0 ≡ Less = name_total.trans n k e.0 less (less_is _ b.0) in
     rw here (below_all n k es less b.1)
 
--- a name stays below all with one more above it
+-- a name that is below all names stays so after a greater one is added
 below_with : (k n : QName) (m : Member) (es : List (QName × Member)) → name_cmp k n ≡ Less → is_below k es ≡ true → is_below k (with_member n m es) ≡ true
 below_with k n m [] less h = rw less refl
 below_with k n m (e ∷ es) less h =
@@ -56,7 +56,7 @@ below_with k n m (e ∷ es) less h =
       | false ↦ let b = and_parts (is_lt (name_cmp k e.0)) (is_below k es) h in rw (b.0, below_with k n m es less b.1) refl
     ]
 
--- names still rise with one more
+-- names still ascend after one is added
 pub rises_with : (n : QName) (m : Member) (es : List (QName × Member)) → rises es ≡ true → has_name n es ≡ false → rises (with_member n m es) ≡ true
 rises_with n m [] h none = refl
 rises_with n m (e ∷ es) h none =
@@ -73,12 +73,12 @@ not_there : (b : Bool) → (b ≡ true → ⊥) → b ≡ false
 not_there true h = absurd (h refl)
 not_there false h = refl
 
--- after an insertion, which may be refused
+-- names still ascend after an insertion, whether or not memory was refused
 pub still_rises : {T E : Type 0} (r : Result T E) (new es : List (QName × Member)) (place : ℕ) (n : QName) (m : Member) → rises es ≡ true → (has_name n es ≡ true → ⊥) → insert es place (n, m) ≡ with_member n m es → OnOk r (new ≡ insert es place (n, m)) → OnErr r (new ≡ es) → rises new ≡ true
 still_rises (Ok x) new es place n m h none is ok err = rw (ok, is) (rises_with n m es h (not_there (has_name n es) none))
 still_rises (Err e) new es place n m h none is ok err = rw err h
 
--- each dimension that is there has its member
+-- each dimension of the list has a member
 there : (n : QName) (es : List (QName × Member)) → IsTrue (has_name n es) → (m : Member) × Contains es (n, m)
 there n [] h = absurd (cc)
 there n (e ∷ es) h =
@@ -103,7 +103,7 @@ here_at n (e ∷ es) m (suc k) within is = rw (here_at n es m k (omega arith) is
 pub names_are_there : NamesAreThere
 names_are_there n es = (there n es, λ found. here_at n es found.0 found.1.0 found.1.1 found.1.2)
 
--- the items of a list with one more before it
+-- each item of a list is its first item, or in the rest
 head_or_tail : (e f : QName × Member) (es : List (QName × Member)) → Contains (e ∷ es) f → (e ≡ f) ⊎ Contains es f
 head_or_tail e f es c = at c.0 c.1 c.2
   where

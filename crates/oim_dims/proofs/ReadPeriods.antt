@@ -1,4 +1,4 @@
--- A period that was read is one of moments, and ends after its start.
+-- The moments of a period that was read are in range, and a duration ends after its start.
 use Rattle.std.proofs.Common.{◌≡◌, ℕ, ◌<◌, ◌≤◌, Bool, true, false, List, length, refl, subst, arith, ℤ, pos, neg_ℤ, ◌<ℤ◌, ◌≤ℤ◌}
 use Rattle.std.specs.Prelude.{Option, Some, None, Result, Ok, Err, nat_le, int_le, int_lt, ◌&&◌, if◌then◌else◌, slice_range}
 use Rattle.std.proofs.lemmas.Bool.{and_parts}
@@ -20,7 +20,7 @@ use Rattle.oim_dims.proofs.Calendar.{day_range}
 use Rattle.oim_value.proofs.Numerals.{after_lt}
 use Rattle.oim_dims.proofs.Picture.{pictured_length, pictured_digits}
 
--- the tests of a date, read back
+-- the date that passes the tests is a date of the calendar
 real_is : (y m d : ℕ) → y < 10_000 → (nat_le 1 y && is_in_range 1 12 m && is_in_range 1 (days_in_month (pos y) m) d) ≡ true → (1 ≤ y) × IsCivilDate (pos y) m d
 real_is y m d few h =
     let a = and_parts (nat_le 1 y && is_in_range 1 12 m) (is_in_range 1 (days_in_month (pos y) m) d) h in

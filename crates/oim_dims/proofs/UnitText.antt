@@ -20,7 +20,7 @@ use Rattle.oim_dims.proofs.Prefixes.{bound_back}
 use Rattle.oim_dims.proofs.Sides.{unopened, closed, one_side}
 use Rattle.oim_dims.proofs.Cuts.{cut, no_place}
 
--- a piece has none of the characters that a unit is built with
+-- a piece has none of the characters that units are built with
 plain_piece : (t : List ℕ) → is_piece t ≡ true → list_any is_mark t ≡ false
 plain_piece t h = not-true (list_any is_mark t) (and_parts (not (length t == 0)) (not (list_any is_mark t)) h).1
 
@@ -33,7 +33,7 @@ some_after xs ys c = some_long (length (xs ++ c ∷ ys)) (omega (arith, length-a
     some_long : (n : ℕ) → 0 < n → not (n == 0) ≡ true
     some_long n h = grind (arith, nat_tests)
 
--- the text of a measure by bindings spells it
+-- the text of a measure by bindings spells the measure
 spelled : (bs : List Binding) (n : QName) → AreBindings bs → IsMeasure n → is_writable bs n ≡ true → Spells bs (measure_text bs n) n
 spelled bs n were h w =
     elim (prefix_of bs n.uri) as (λ o. prefix_of bs n.uri ≡ o → option_map_or (λ p. not (list_any is_mark p)) o false ≡ true → Spells bs (unwrap_or o [] ++ 58 ∷ n.local_part) n) [
@@ -55,12 +55,12 @@ bindings_spell bs m were h w =
     let b = and_parts (list_all (is_writable bs) m.numerators) (list_all (is_writable bs) m.denominators) w in
     record { numerators = all_spelled bs m.numerators were h.multiplied b.0; denominators = all_spelled bs m.denominators were h.divided b.1 }
 
--- each text of a list spells the name at its place
+-- each text of a list spells the name at its index
 each_spelled : (bs : List Binding) (f : QName → List ℕ) (ns : List QName) → All (λ n. Spells bs (f n) n) ns → AllZip (Spells bs) (map f ns) ns
 each_spelled bs f [] h = tt
 each_spelled bs f (n ∷ ns) h = (h 0 n (omega arith), each_spelled bs f ns (All-tail (λ m. Spells bs (f m) m) n ns h))
 
--- texts without a mark have none of its characters
+-- texts without marks pass no test for one of the marks
 without : (p : ℕ → Bool) → ((c : ℕ) → is_mark c ≡ false → p c ≡ false) → (xs : List ℕ) → list_any is_mark xs ≡ false → list_any p xs ≡ false
 without p under [] h = refl
 without p under (x ∷ xs) h =
@@ -107,11 +107,11 @@ split_joined bs (t ∷ u ∷ ts) (n ∷ m ∷ ns) z h =
     slice_split_at is_star t 42 (join_with_byte 42 (u ∷ ts)) (none_all is_star t (without is_star under_star t (plain_piece t z.0.piece))) refl
     ∙ ap (λ x. t ∷ x) (split_joined bs (u ∷ ts) (m ∷ ns) z.1 (omega arith))
 
--- a text with no opening parenthesis is its own inner text
+-- a text without an opening parenthesis is its own inner text
 no_opening : (s : List ℕ) → list_any is_opening s ≡ false → s ≡ inner s
 no_opening s h = unopened s (λ rest is. absurd (cc (rw is at h)))
 
--- sides of measures that can be written
+-- a side whose measures can be written
 record IsSide (bs : List Binding) (f : QName → List ℕ) (ns : List QName) : Type 0 where
   some : 0 < length ns
   texts : AllZip (Spells bs) (map f ns) ns
@@ -141,7 +141,7 @@ side_slash bs f ns h =
       | false ↦ neither_in is_slash (product_text f ns) 41 [] (product_slash bs f ns h) refl refl
     ]
 
--- each piece is one, and names its measure
+-- each piece has the form of a piece and names its measure
 pieces_are : (bs : List Binding) (ts : List (List ℕ)) (ns : List QName) → AllZip (Spells bs) ts ns → list_all is_piece ts ≡ true
 pieces_are bs [] ns z = refl
 pieces_are bs (t ∷ ts) [] z = absurd z
@@ -156,7 +156,7 @@ expand_each bs (t ∷ ts) (n ∷ ns) z = (z.0.expands, expand_each bs ts ns z.1)
 names_each : (bs : List Binding) (f : QName → List ℕ) (ns : List QName) → AllZip (Spells bs) (map f ns) ns → NamesEach bs (map f ns) ns
 names_each bs f ns z = record { spelled = ns; expands = expand_each bs _ ns z; same = IsPermutation-refl ns }
 
--- a text with the unit's pieces has its measures
+-- a text with the pieces of a unit has its measures
 has_measures : (bs : List Binding) (f : QName → List ℕ) (t : List ℕ) (m : Measures) → numerator_pieces t ≡ map f m.numerators → denominator_pieces t ≡ map f m.denominators → AllZip (Spells bs) (map f m.numerators) m.numerators → AllZip (Spells bs) (map f m.denominators) m.denominators → HasMeasures bs t m
 has_measures bs f t m np dp nz dz = record {
   form = rw (np, dp) (rw (pieces_are bs (map f m.numerators) m.numerators nz, pieces_are bs (map f m.denominators) m.denominators dz) refl);
@@ -178,7 +178,7 @@ some_names (n ∷ ns) h = omega arith
 some_names_by : (ns : List QName) → (length ns == 0) ≡ false → 0 < length ns
 some_names_by ns h = grind (arith, nat_tests)
 
--- the pieces of the text of a unit without denominators, and with some
+-- the pieces of the text of a unit, with and without denominators
 module _ (bs : List Binding) (f : QName → List ℕ) (m : Measures) (nz : AllZip (Spells bs) (map f m.numerators) m.numerators) (some : 0 < length m.numerators) where
   numerators_alone : m.denominators ≡ [] → (numerator_pieces (product_text f m.numerators) ≡ map f m.numerators) × (denominator_pieces (product_text f m.numerators) ≡ map f m.denominators)
   numerators_alone none =
@@ -205,7 +205,7 @@ denotes bs f m h spells =
       | false ↦ λ e. let p = both_sides bs f m nz some dz (some_names_by m.denominators e) in (has_measures bs f _ m p.0 p.1 nz dz, h.unit)
     ] refl
 
--- the text of a unit denotes it alone
+-- the text of a unit denotes only that unit
 pub unit_back : UnitsReadBack
 unit_back bs f m h spells =
     let unit = denotes bs f m h spells in

@@ -8,7 +8,7 @@ use Rattle.oim_dims.specs.declared.limits.TheConstants.{DAY_SECONDS, FIRST_MOMEN
 use Rattle.jiff.specs.Words.{IsBetween, days_in_month}
 use Rattle.jiff_core.specs.Calendar.{days_from_civil}
 
--- how a date-time is written (own: with no zone and no fraction of a second); 0 means any digit
+-- the form of a date-time (own: without a time zone and a fraction of a second); 0 means any digit
 abbrev pub picture : List ℕ
 picture = codes "0000-00-00T00:00:00"
 
@@ -18,7 +18,7 @@ matches_picture e = if e.0 == 48 then is_ascii_digit e.1 else e.1 == e.0
 unfoldable pub has_picture : List ℕ → Bool
 has_picture t = length t == 19 && list_all matches_picture (zip picture t)
 
--- its numbers
+-- the numbers of a date-time
 abbrev pub number : List ℕ → ℕ → ℕ → ℕ
 number t i j = digits_value 10 (slice_range t i j)
 
@@ -31,7 +31,7 @@ month t = number t 5 7
 abbrev pub day : List ℕ → ℕ
 day t = number t 8 10
 
--- the calendar has its date, from the year 0001 on
+-- the calendar has the date, which is in the year 0001 or later
 unfoldable pub has_date : List ℕ → Bool
 has_date t =
     nat_le 1 (year t) && is_in_range 1 12 (month t) && is_in_range 1 (days_in_month (pos (year t)) (month t)) (day t)
@@ -39,19 +39,19 @@ has_date t =
 unfoldable pub second_of_day : List ℕ → ℕ
 second_of_day t = 3600 * number t 11 13 + 60 * number t 14 16 + number t 17 19
 
--- a clock shows its time, or the time is 24:00:00, the end of the day
+-- a clock shows the time, or the time is 24:00:00, the end of the day
 unfoldable pub has_time : List ℕ → Bool
 has_time t = nat_le (number t 14 16) 59 && nat_le (number t 17 19) 59 && nat_le (second_of_day t) DAY_SECONDS
 
--- the number of its day, counted from 1970-01-01
+-- the day number of the date, counted from 1970-01-01
 unfoldable pub day_number : List ℕ → ℤ
 day_number t = days_from_civil (pos (year t)) (month t) (day t)
 
--- a second of the years 0001 to 9999, from 1970-01-01T00:00:00
+-- a second of the years 0001 to 9999, counted from 1970-01-01T00:00:00
 abbrev pub IsMoment : ℤ → Type 0
 IsMoment = IsBetween FIRST_MOMENT LAST_MOMENT
 
--- the second that a date-time denotes: whole days of the calendar, and the time since midnight
+-- the second that a date-time denotes: the seconds of whole days, and the seconds since midnight
 abbrev pub second_at : List ℕ → ℤ
 second_at t = day_number t *ℤ pos DAY_SECONDS +ℤ pos (second_of_day t)
 
@@ -63,12 +63,12 @@ is_date_time t = has_picture t && has_date t && has_time t && int_le (second_at 
 abbrev pub moment_of : List ℕ → Option ℤ
 moment_of t = if is_date_time t then Some (second_at t) else None
 
--- the greatest number up to a limit that passes, or 0
+-- the greatest number up to a limit that passes the test, or 0
 unfoldable pub greatest : (ℕ → Bool) → ℕ → ℕ
 greatest p zero = 0
 greatest p (suc n) = if p (suc n) then suc n else greatest p n
 
--- the date of a day: the last year, the last month of it and the last day of that which do not begin later
+-- the date of a day: the last year, month and day that do not begin later than it
 unfoldable pub year_of : ℤ → ℕ
 year_of d = greatest (λ y. int_le (days_from_civil (pos y) 1 1) d) 9999
 
@@ -78,7 +78,7 @@ month_of d = greatest (λ m. int_le (days_from_civil (pos (year_of d)) m 1) d) 1
 unfoldable pub day_of : ℤ → ℕ
 day_of d = greatest (λ n. int_le (days_from_civil (pos (year_of d)) (month_of d) n) d) 31
 
--- a number below 100 in two digits, and one below 10000 in four
+-- a number below 100 in two digits, and a number below 10000 in four
 abbrev pub two_digits : ℕ → List ℕ
 two_digits n = (48 + n / 10) ∷ (48 + n % 10) ∷ []
 
@@ -91,6 +91,6 @@ date_text d = four_digits (year_of d) ++ 45 ∷ two_digits (month_of d) ++ 45 �
 unfoldable pub time_text : ℕ → List ℕ
 time_text s = two_digits (s / 3600) ++ 58 ∷ two_digits (s / 60 % 60) ++ 58 ∷ two_digits (s % 60)
 
--- how a moment is written, with hours from 00 to 23 (own)
+-- the text of a moment, with hours from 00 to 23 (own)
 unfoldable pub moment_text : ℤ → List ℕ
 moment_text z = date_text (int_div_euclid z (pos DAY_SECONDS)) ++ 84 ∷ time_text (unsigned_abs (int_rem_euclid z (pos DAY_SECONDS)))

@@ -9,31 +9,31 @@ use Rattle.oim_value.specs.ValueOrder.{name_cmp}
 use Rattle.oim_dims.specs.Period.{HasMoments}
 use Rattle.oim_dims.specs.Unit.{Measures, IsUnit}
 
--- whether the name is below those of all
+-- the name is below all names of the members
 abbrev pub is_below : QName → List (QName × Member) → Bool
 is_below n [] = true
 is_below n (e ∷ es) = is_lt (name_cmp n e.0) && is_below n es
 
--- whether names strictly rise, so that each is there once
+-- the names strictly ascend, so that each occurs once
 abbrev pub rises : List (QName × Member) → Bool
 rises [] = true
 rises (e ∷ es) = is_below e.0 es && rises es
 
--- whether one of them has the name
+-- a member has the name
 abbrev pub has_name : QName → List (QName × Member) → Bool
 has_name n es = list_any (λ e. is_eq (name_cmp n e.0)) es
 
--- whether one of the names is repeated
+-- a name is repeated
 abbrev pub repeats : List (QName × Member) → Bool
 repeats [] = false
 repeats (e ∷ es) = has_name e.0 es || repeats es
 
--- with one more, in the order of names
+-- the members with one more, in the order of names
 abbrev pub with_member : QName → Member → List (QName × Member) → List (QName × Member)
 with_member n m [] = (n, m) ∷ []
 with_member n m (e ∷ es) = if is_lt (name_cmp n e.0) then (n, m) ∷ e ∷ es else e ∷ with_member n m es
 
--- a dimension set: its core dimensions, and the finite map of those that a taxonomy defines, in the order of names
+-- a dimension set: its core dimensions, and its taxonomy-defined dimensions in the order of names
 pub record DimensionSet : Type 0 where
   pub concept : QName
   pub entity : Option QName
@@ -42,21 +42,21 @@ pub record DimensionSet : Type 0 where
   pub language : Option (List ℕ)
   pub members : List (QName × Member)
 
--- what each dimension set is: each dimension once, a unit that is one, and moments within their years
+-- each dimension set has each dimension once, a unit that satisfies IsUnit, and moments in range
 pub record IsDimensionSet (d : DimensionSet) : Type 0 where
   pub members : IsTrue (rises d.members)
   pub unit : IfSome d.unit IsUnit
   pub period : HasMoments d.period
 
--- a dimension has a name exactly if it is there with some member
+-- a list has a name exactly if it has the name with some member
 abbrev pub NamesAreThere : Type 0
 NamesAreThere = (n : QName) (es : List (QName × Member)) → IsTrue (has_name n es) ↔ ((m : Member) × Contains es (n, m))
 
--- one member more, and no other change
+-- the list has one more member, and all other members are the same
 pub record IsOneMore (old new : List (QName × Member)) (e : QName × Member) : Type 0 where
   pub rises : IsTrue (rises new)
   pub members : (f : QName × Member) → Contains new f ↔ (Contains old f ⊎ (f ≡ e))
 
--- with a member of a new name there is one more
+-- adding a member of a new name adds exactly one
 abbrev pub MembersGrow : Type 0
 MembersGrow = (n : QName) (m : Member) (es : List (QName × Member)) → IsTrue (rises es) → ¬ (IsTrue (has_name n es)) → IsOneMore es (with_member n m es) (n, m)

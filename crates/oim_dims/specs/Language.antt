@@ -12,11 +12,11 @@ is_hyphen c = c == 45
 abbrev pub is_group : List ℕ → Bool
 is_group g = is_in_range 1 8 (length g) && list_all is_ascii_alphanumeric g
 
--- groups with a hyphen between each two, the first of them of letters
+-- groups with hyphens between them; the first group has only letters
 abbrev pub is_language : List ℕ → Bool
 is_language t = list_all is_group (slice_split is_hyphen t) && list_all is_ascii_alphabetic (before_first is_hyphen t)
 
--- the text in lower case is a language, and is kept as it is
+-- the text in lower case is a language, and is read without a change
 pub record IsKeptInLowerCase (t : List ℕ) : Type 0 where
   pub language : IsTrue (is_language (str_to_ascii_lowercase t))
   pub same : str_to_ascii_lowercase (str_to_ascii_lowercase t) ≡ str_to_ascii_lowercase t

@@ -1,9 +1,10 @@
--- The limits of moments (own): the constants of the code, by the date-times that they are.
+-- The limits of moments (own): the constants of the code and the date-times that denote them.
 use Rattle.std.specs.Prelude.{◌≡◌, Some, None, codes}
 use Rattle.oim_dims.specs.declared.limits.TheConstants.{DAY_SECONDS, FIRST_MOMENT, LAST_MOMENT}
 use Rattle.oim_dims.specs.DateTime.{moment_of}
 
--- a day has 86,400 seconds, the first moment begins the year 0001, and the last is the last second of the year 9999, whose end is none
+-- a day has 86,400 seconds, the first moment begins the year 0001, and the last moment is the last second of the year 9999; the
+-- end of that year is no moment
 pub record LimitsAre : Type 0 where
   pub day : DAY_SECONDS ≡ 86_400
   pub first : moment_of (codes "0001-01-01T00:00:00") ≡ Some FIRST_MOMENT

@@ -9,31 +9,31 @@ use Rattle.oim_dims.specs.declared.period.Period.TheVariants.{Forever, Instant, 
 use Rattle.oim_dims.specs.Separators.{is_slash}
 use Rattle.oim_dims.specs.DateTime.{moment_of, moment_text, IsMoment}
 
--- the parts round the first `/`, each of them the whole text where there is none
+-- the parts before and after the first `/`; each is the whole text if there is none
 abbrev pub start_part : List ℕ → List ℕ
 start_part t = before_first is_slash t
 
 abbrev pub end_part : List ℕ → List ℕ
 end_part t = if list_any is_slash t then after_first is_slash t else t
 
--- the period from one moment to another, which does not lie before it (own: the instant where both are one)
+-- the period from one moment to another that is not before it (own: the period is an instant if both are equal)
 abbrev pub from_to : Option ℤ → Option ℤ → Result Period Reason
 from_to None end = Err PeriodForm
 from_to (Some start) None = Err PeriodForm
 from_to (Some start) (Some end) =
     if int_lt end start then Err PeriodOrder else (if int_eq start end then Ok (Instant start) else Ok (Duration start end))
 
--- the period of a text: one date-time, or two with one `/`
+-- the period that a text denotes: one date-time, or two with one `/`
 abbrev pub period_of : List ℕ → Result Period Reason
 period_of t = from_to (moment_of (start_part t)) (moment_of (end_part t))
 
--- how a period is written; a fact that holds forever writes none (own)
+-- the text of a period; forever has none (own)
 abbrev pub period_text : Period → Option (List ℕ)
 period_text Forever = None
 period_text (Instant m) = Some (moment_text m)
 period_text (Duration start end) = Some (moment_text start ++ 47 ∷ moment_text end)
 
--- the moments of a period are within their years
+-- the moments of a period are in range
 abbrev pub HasMoments : Period → Type 0
 HasMoments Forever = ⊤
 HasMoments (Instant m) = IsMoment m
@@ -45,7 +45,7 @@ EndsAfterStart Forever = ⊤
 EndsAfterStart (Instant m) = ⊤
 EndsAfterStart (Duration start end) = start <ℤ end
 
--- what each period is that a text denotes
+-- what holds for each period that a text denotes
 pub record IsPeriod (p : Period) : Type 0 where
   pub moments : HasMoments p
   pub forward : EndsAfterStart p
@@ -54,6 +54,6 @@ pub record IsPeriod (p : Period) : Type 0 where
 abbrev pub PeriodsReadBack : Type 0
 PeriodsReadBack = (p : Period) → IsPeriod p → IfSome (period_text p) (λ t. period_of t ≡ Ok p)
 
--- a period that is read is one of moments, and a duration ends after its start
+-- a period that was read has moments in range, and a duration ends after its start
 abbrev pub ReadPeriodsArePeriods : Type 0
 ReadPeriodsArePeriods = (t : List ℕ) (p : Period) → period_of t ≡ Ok p → IsPeriod p

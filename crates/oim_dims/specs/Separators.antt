@@ -1,10 +1,10 @@
--- The characters between the parts of a text (xBRL-JSON 1.0, periods and units).
+-- The separators of a text's parts (xBRL-JSON 1.0, periods and units).
 use Rattle.std.specs.Prelude.{ℕ, Bool, ◌==◌}
 
--- between the two moments of a period, and between the two sides of a unit
+-- `/` separates the two moments of a period, and the two sides of a unit
 abbrev pub is_slash : ℕ → Bool
 is_slash c = c == 47
 
--- between the measures of a side
+-- `*` separates the measures of a side
 abbrev pub is_star : ℕ → Bool
 is_star c = c == 42

@@ -1,4 +1,4 @@
--- Comparisons that tie tie one value alone.
+-- Only equal values compare as equal.
 use Rattle.std.specs.Prelude.{◌≡◌}
 use Rattle.std.specs.Ordering.{ordering_then}
 use Rattle.std.specs.declared.cmp.Ordering.TheVariants.{Equal}
@@ -9,7 +9,7 @@ use Rattle.oim_value.specs.Ties.{both_tie}
 use Rattle.oim_value.specs.ValueOrder.{name_cmp}
 use Rattle.oim_dims.specs.Unit.{Measures}
 
--- units whose lists of measures tie are one unit
+-- units whose lists of measures compare as equal are equal
 pub exact_measures : (x y : Measures) → ordering_then (slice_cmp name_cmp x.numerators y.numerators) (slice_cmp name_cmp x.denominators y.denominators) ≡ Equal → x ≡ y
 exact_measures x y h =
     let e = both_tie _ _ h in

@@ -11,46 +11,47 @@ use Rattle.oim_names.specs.declared.reason.Reason.{Reason}
 use Rattle.oim_value.specs.ValueOrder.{name_cmp}
 use Rattle.oim_names.specs.declared.reason.Reason.TheVariants.{UnitForm, NameForm, UnboundPrefix, ReservedNamespace}
 
--- the characters that a unit is built with: ( ) * /
+-- the characters that units are built with: ( ) * /
 abbrev pub is_mark : ℕ → Bool
 is_mark c = c == 40 || c == 41 || c == 42 || c == 47
 
--- a side without the parentheses round the whole of it
+-- a side without the parentheses around the whole side
 abbrev pub inner : List ℕ → List ℕ
 inner s = if slice_index s 0 == 40 && slice_index s (length s - 1) == 41 then slice_range s 1 (length s - 1) else s
 
--- the pieces between the `*` of a side
+-- the pieces of a side, which `*` separates
 abbrev pub side_pieces : List ℕ → List (List ℕ)
 side_pieces s = slice_split is_star (inner s)
 
--- the pieces of both sides: before the first `/`, and after it, where there is one
+-- the pieces of both sides, before and after the first `/`; without `/` there are no denominator pieces
 unfoldable pub numerator_pieces : List ℕ → List (List ℕ)
 numerator_pieces t = side_pieces (before_first is_slash t)
 
 unfoldable pub denominator_pieces : List ℕ → List (List ℕ)
 denominator_pieces t = if list_any is_slash t then side_pieces (after_first is_slash t) else []
 
--- a test that each piece of both sides passes, and one that some piece passes
+-- each piece of both sides passes a test; some piece passes it
 abbrev pub each_piece : (List ℕ → Bool) → List ℕ → Bool
 each_piece p t = list_all p (numerator_pieces t) && list_all p (denominator_pieces t)
 
 abbrev pub some_piece : (List ℕ → Bool) → List ℕ → Bool
 some_piece p t = list_any p (numerator_pieces t) || list_any p (denominator_pieces t)
 
--- one or more characters, and none that builds units
+-- one or more characters, none of which units are built with
 abbrev pub is_piece : List ℕ → Bool
 is_piece p = not (length p == 0) && not (list_any is_mark p)
 
--- the form of a unit: a side, or two with one `/`, and sides of pieces with `*` between them (own: with or without parentheses)
+-- the form of a unit: one side, or two with one `/`, and each side of pieces with `*` between them (own: parentheses are
+-- optional)
 abbrev pub is_unit_text : List ℕ → Bool
 is_unit_text t = each_piece is_piece t
 
--- the measures of a unit, as multisets: each list has them in any order
+-- the measures of a unit; each list is a multiset, whose order does not matter
 pub record Measures : Type 0 where
   pub numerators : List QName
   pub denominators : List QName
 
--- the pieces name these measures, each as often
+-- the pieces name these measures, each as often as it occurs
 pub record NamesEach (bs : List Binding) (ps : List (List ℕ)) (names : List QName) : Type 0 where
   pub spelled : List QName
   pub expands : AllZip (Expands bs) ps spelled
@@ -68,19 +69,20 @@ pure_name = record { uri = codes "http://www.xbrl.org/2003/instance"; local_part
 abbrev pub pure_alone : Measures
 pure_alone = record { numerators = pure_name ∷ []; denominators = [] }
 
--- the unit of a text under these bindings; `pure` alone is none (own)
+-- the unit that a text denotes under these bindings; `pure` alone denotes none (own)
 abbrev pub UnitOf : List Binding → List ℕ → Option Measures → Type 0
 UnitOf bs t None = HasMeasures bs t pure_alone
 UnitOf bs t (Some m) = HasMeasures bs t m × (m ≢ pure_alone)
 
--- the test for each refusal of a name
+-- the test of each refusal of a name
 abbrev pub refuses : Reason → List Binding → List ℕ → Bool
 refuses NameForm bs p = lacks_form is_name p
 refuses UnboundPrefix bs p = lacks_binding is_name bs p
 refuses ReservedNamespace bs p = lies_in_reserved is_name bs p
 refuses r bs p = false
 
--- why a text is refused as a unit, the first that holds: its form, then for any piece its form, its prefix, its namespace
+-- why a text is refused as a unit: the form of the unit is tested first, then for all pieces the form of a name, the prefix and
+-- the namespace
 abbrev pub unit_refusal : List Binding → List ℕ → Option Reason
 unit_refusal bs t =
     if not (is_unit_text t) then Some UnitForm else (
@@ -95,7 +97,7 @@ pub record IsMeasure (n : QName) : Type 0 where
   pub form : IsTrue (is_part n.local_part)
   pub plain : list_any is_mark n.local_part ≡ false
 
--- what each unit is: sorted measures, a numerator among them, and not `pure` alone
+-- each unit has sorted measures with at least one numerator, and is not `pure` alone
 pub record IsUnit (m : Measures) : Type 0 where
   pub numerators : IsSorted name_cmp m.numerators
   pub denominators : IsSorted name_cmp m.denominators
@@ -104,14 +106,14 @@ pub record IsUnit (m : Measures) : Type 0 where
   pub some : m.numerators ≢ []
   pub unit : m ≢ pure_alone
 
--- whether a measure can be written: its URI has a prefix, and the first of them has no character that a unit is built with
+-- a measure can be written if its URI has a prefix and the first such prefix has no character that units are built with
 abbrev pub is_writable : List Binding → QName → Bool
 is_writable bs n = option_map_or (λ p. not (list_any is_mark p)) (prefix_of bs n.uri) false
 
 abbrev pub can_write : List Binding → Measures → Bool
 can_write bs m = list_all (is_writable bs) m.numerators && list_all (is_writable bs) m.denominators
 
--- the text of a measure, by the first prefix of its URI
+-- the text of a measure, with the first prefix of its URI
 abbrev pub measure_text : List Binding → QName → List ℕ
 measure_text bs n = unwrap_or (prefix_of bs n.uri) [] ++ 58 ∷ n.local_part
 
@@ -119,48 +121,48 @@ measure_text bs n = unwrap_or (prefix_of bs n.uri) [] ++ 58 ∷ n.local_part
 abbrev pub product_text : (QName → List ℕ) → List QName → List ℕ
 product_text f ns = join_with_byte 42 (map f ns)
 
--- a side beside another, in parentheses where it has several measures
+-- a side of a quotient, in parentheses if it has several measures
 abbrev pub side_text : (QName → List ℕ) → List QName → List ℕ
 side_text f ns = if length ns == 1 then product_text f ns else 40 ∷ product_text f ns ++ 41 ∷ []
 
--- how a unit is written (xBRL-JSON 1.0)
+-- the text of a unit (xBRL-JSON 1.0)
 unfoldable pub unit_text : (QName → List ℕ) → Measures → List ℕ
 unit_text f m =
     if length m.denominators == 0 then product_text f m.numerators
     else side_text f m.numerators ++ 47 ∷ side_text f m.denominators
 
--- a text that spells a measure in a unit's text
+-- a text spells a measure in a unit's text
 pub record Spells (bs : List Binding) (t : List ℕ) (n : QName) : Type 0 where
   pub piece : IsTrue (is_piece t)
   pub expands : Expands bs t n
 
--- a function that spells each measure of a unit
+-- a function spells each measure of a unit
 pub record SpellsEach (bs : List Binding) (f : QName → List ℕ) (m : Measures) : Type 0 where
   pub numerators : All (λ n. Spells bs (f n) n) m.numerators
   pub denominators : All (λ n. Spells bs (f n) n) m.denominators
 
--- a text denotes this unit alone: it is not refused, and what units it denotes are this one
+-- a text denotes only this unit: it is not refused, and each unit that it denotes is this one
 pub record DenotesUnit (bs : List Binding) (t : List ℕ) (m : Measures) : Type 0 where
   pub unit : UnitOf bs t (Some m)
   pub accepted : unit_refusal bs t ≡ None
   pub alone : (u : Option Measures) → UnitOf bs t u → IfSome u IsUnit → u ≡ Some m
 
--- the text of a unit denotes it, where the function spells each of its measures
+-- the text of a unit denotes it if the function spells each of its measures
 abbrev pub UnitsReadBack : Type 0
 UnitsReadBack = (bs : List Binding) (f : QName → List ℕ) (m : Measures) → IsUnit m → SpellsEach bs f m → DenotesUnit bs (unit_text f m) m
 
--- the spelling by bindings does so where it can write the unit
+-- bindings that can write a unit spell each of its measures
 abbrev pub BindingsSpell : Type 0
 BindingsSpell = (bs : List Binding) (m : Measures) → AreBindings bs → IsUnit m → IsTrue (can_write bs m) → SpellsEach bs (measure_text bs) m
 
--- a text that denotes a unit, or `pure` alone, is not refused
+-- a text that denotes a unit, or is `pure` alone, is not refused
 abbrev pub UnitsAreNotRefused : Type 0
 UnitsAreNotRefused = (bs : List Binding) (t : List ℕ) (u : Option Measures) → UnitOf bs t u → unit_refusal bs t ≡ None
 
--- and a text that is not refused denotes one of them
+-- a text that is not refused denotes a unit, or is `pure` alone
 abbrev pub OthersAreRefused : Type 0
 OthersAreRefused = (bs : List Binding) (t : List ℕ) → unit_refusal bs t ≡ None → (u : Option Measures) × UnitOf bs t u
 
--- a text denotes at most one
+-- a text denotes at most one unit
 abbrev pub TextsDenoteOneUnit : Type 0
 TextsDenoteOneUnit = (bs : List Binding) (t : List ℕ) (u v : Option Measures) → UnitOf bs t u → UnitOf bs t v → IfSome u IsUnit → IfSome v IsUnit → u ≡ v

@@ -14,9 +14,9 @@ use std::alloc::{AllocError, Global};
 use std::cmp::Ordering;
 use std::marker::Model;
 
-/// A dimension set (OIM Common 1.0): the core dimensions, and the members of taxonomy-defined
-/// dimensions in the order of names, each name once. Fields are compared in this order, absent
-/// before present.
+/// A dimension set (OIM Common 1.0): the core dimensions, and the taxonomy-defined dimensions in
+/// the order of names, each name once. Fields are compared in this order, and an absent value is
+/// less than a present one.
 #[derive(Debug, Drop, PartialEq, Eq, PartialOrd, Ord)]
 pub struct Dimensions {
     concept: Name,
@@ -41,8 +41,8 @@ impl Model for Dimensions {
 }
 
 impl Dimensions {
-    /// The dimensions of a fact that names its concept alone: it holds forever. Later calls take
-    /// their memory from `alloc`.
+    /// Returns the dimensions of a fact that has only a concept: its period is forever. Later calls
+    /// take their memory from `alloc`.
     pub fn new(alloc: Global, concept: Name) -> Dimensions
         ensures { result ≡ record { concept = concept; entity = None; period = Forever; unit = None; language = None; members = [] } }
     {
@@ -56,7 +56,7 @@ impl Dimensions {
         }
     }
 
-    /// Does nothing. Its contract: what holds for each dimension set.
+    /// Does nothing. Its contract states what holds for each dimension set.
     pub fn known(&self)
         ensures { IsDimensionSet self.now }
     {
@@ -67,42 +67,44 @@ impl Dimensions {
         }
     }
 
-    /// What is reported on.
+    /// Returns the concept: what the fact reports.
     pub fn concept(&self) -> &Name
         ensures { result.now ≡ self.now.concept }
     {
         &self.concept
     }
 
-    /// Who reports, or is reported on: the URI of a scheme, and an identifier.
+    /// Returns the entity that reports, or that the report is about: the URI of a scheme, and an
+    /// identifier.
     pub fn entity(&self) -> Option<&Name>
         ensures { option_copied result ≡ self.now.entity }
     {
         self.entity.as_ref()
     }
 
-    /// When the fact holds.
+    /// Returns the period in which the fact holds.
     pub fn period(&self) -> Period
         ensures { result ≡ self.now.period }
     {
         self.period
     }
 
-    /// What a number is counted in.
+    /// Returns the unit of a number.
     pub fn unit(&self) -> Option<&Unit>
         ensures { option_copied result ≡ self.now.unit }
     {
         self.unit.as_ref()
     }
 
-    /// The language of a text, as it was set; `read_language` gives it in lower case.
+    /// Returns the language of a text, as it was set. `read_language` returns languages in lower
+    /// case.
     pub fn language(&self) -> Option<&Text>
         ensures { option_copied result ≡ self.now.language }
     {
         self.language.as_ref()
     }
 
-    /// The taxonomy-defined dimensions with their members, in the order of names.
+    /// Returns the taxonomy-defined dimensions with their members, in the order of names.
     pub fn members(&self) -> &[(Name, Member)]
         ensures members { result.now ≡ self.now.members }
         ensures sorted { IsTrue (rises self.now.members) }
@@ -124,7 +126,7 @@ impl Dimensions {
         self.period = period;
     }
 
-    /// Sets the unit, or none.
+    /// Sets or removes the unit.
     pub fn set_unit(&mut self, unit: Option<Unit>)
         ensures { self.new ≡ record self.old { unit = unit } }
     {
@@ -138,9 +140,9 @@ impl Dimensions {
         self.language = Some(language);
     }
 
-    /// Adds the member of a taxonomy-defined dimension. After an error nothing has changed.
+    /// Adds a taxonomy-defined dimension with its member. After an error nothing has changed.
     ///
-    /// Errors: `DimensionValue` exactly if the dimension is there; `OutOfMemory`.
+    /// Errors: `DimensionValue` exactly if the set has the dimension; `OutOfMemory`.
     pub fn add(&mut self, name: Name, member: Member) -> Result<(), Reason>
         ensures ok { OnOk result (self.new ≡ record self.old { members = with_member name member self.old.members }) }
         ensures refused { (result ≡ Err Reason.DimensionValue) ↔ IsTrue (has_name name self.old.members) }
@@ -156,8 +158,8 @@ impl Dimensions {
         }
     }
 
-    /// Replaces the taxonomy-defined dimensions and their members with these, which may be in any order.
-    /// After an error nothing has changed. It takes no memory.
+    /// Replaces the taxonomy-defined dimensions and their members. The new ones may be in any
+    /// order. After an error nothing has changed. It takes no memory.
     ///
     /// Errors: `DimensionValue` exactly if a dimension is repeated.
     pub fn set_members(&mut self, mut members: Vec<(Name, Member)>) -> Result<(), Reason>
@@ -177,7 +179,7 @@ impl Dimensions {
     }
 }
 
-// Whether each name is below the next one.
+// Returns whether each name is below the next one.
 fn do_names_rise(members: &[(Name, Member)]) -> bool
     ensures { result ≡ rises members.now }
 {
@@ -194,7 +196,7 @@ fn do_names_rise(members: &[(Name, Member)]) -> bool
     true
 }
 
-// Where the name goes, or `None` where it is there.
+// Returns the index at which to insert the name, or `None` if it is in the list.
 fn place_of(members: &[(Name, Member)], name: &Name) -> Option<usize>
     requires { rises members.now ≡ true }
     ensures there { (result ≡ None) ↔ IsTrue (has_name name.now members.now) }

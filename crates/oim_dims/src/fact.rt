@@ -5,12 +5,12 @@ use oim_names::{Copied, Key};
 use oim_value::Value;
 use std::alloc::{AllocError, Global};
 
-/// A fact: what it is about, and its value. Facts are ordered by dimensions, then by value.
+/// A fact: its dimensions and its value. Facts are ordered by dimensions, then by value.
 #[derive(Debug, Drop, PartialEq, Eq, PartialOrd, Ord)]
 pub struct Fact {
     /// What the fact is about.
     pub dimensions: Dimensions,
-    /// What is reported.
+    /// What the fact reports.
     pub value: Value,
 }
 

@@ -7,10 +7,11 @@ ghost use Rattle.oim_dims.specs.Language.{is_language, is_group, is_hyphen};
 use oim_names::{Reason, Text};
 use std::alloc::Global;
 
-/// The language of a text, in ASCII lower case: groups of one to eight ASCII letters or digits with
-/// `-` between them, the first of letters (XML Schema Part 2, section 3.3.3).
+/// Returns the language of a text, in ASCII lower case. A language consists of groups of one to
+/// eight ASCII letters or digits with `-` between them, and the first group has only letters (XML
+/// Schema Part 2, section 3.3.3).
 ///
-/// Errors: `LanguageForm` exactly if the text has not the form; `OutOfMemory`.
+/// Errors: `LanguageForm` exactly if the text does not have this form; `OutOfMemory`.
 pub fn read_language(alloc: Global, text: &str) -> Result<Text, Reason>
     ensures language { IfOk result (λ language. language ≡ str_to_ascii_lowercase text.now) }
     ensures form { (result ≡ Err Reason.LanguageForm) ↔ ¬ (IsTrue (is_language text.now)) }
@@ -24,7 +25,7 @@ pub fn read_language(alloc: Global, text: &str) -> Result<Text, Reason>
     Ok(Text::new(alloc, lower.as_str())?)
 }
 
-/// Whether a text has the form of a language. It takes no memory.
+/// Returns whether a text has the form of a language. It takes no memory.
 pub fn is_language(text: &str) -> bool
     ensures { result ≡ is_language text.now }
 {

@@ -12,8 +12,8 @@ ghost use Rattle.oim_dims.specs.FactOrder.{dimensions_cmp, fact_cmp};
 use crate::dimensions::Dimensions;
 use crate::fact::Fact;
 
-/// A day has 86,400 seconds. Moments go from the second that begins the year 0001 to the last second of
-/// the year 9999.
+/// A day has 86,400 seconds. Moments range from the first second of the year 0001 to the last
+/// second of the year 9999.
 pub fn limits_are()
     ensures { LimitsAre }
 {}
@@ -23,46 +23,48 @@ pub fn periods_read_back()
     ensures { PeriodsReadBack }
 {}
 
-/// A period that is read is one of moments, and a duration ends after its start.
+/// The moments of a period that was read are in range, and a duration ends after its start.
 pub fn read_periods_are_periods()
     ensures { ReadPeriodsArePeriods }
 {}
 
-/// A language in lower case is a language, and is kept as it is.
+/// A language in lower case is a language, and is read without a change.
 pub fn languages_are_kept()
     ensures { LanguagesAreKept }
 {}
 
-/// The text of a unit denotes that unit and no other, where each measure is spelled; bindings that
-/// can write the unit spell each.
+/// The text of a unit denotes that unit and no other, if each measure is spelled. Bindings that can
+/// write the unit spell each measure.
 pub fn units_read_back()
     ensures back { UnitsReadBack }
     ensures spelled { BindingsSpell }
 {}
 
-/// A text denotes one unit at most, or none for `pure` alone, and does so exactly if it is not
-/// refused.
+/// A text denotes at most one unit, and `pure` alone denotes none. A text is refused exactly if it
+/// denotes no unit and is not `pure` alone.
 pub fn texts_denote_one_unit()
     ensures one { TextsDenoteOneUnit }
     ensures accepted { UnitsAreNotRefused }
     ensures refused { OthersAreRefused }
 {}
 
-/// A dimension is there exactly if it has a member, and with a member of a new name there is one
-/// member more.
+/// A set has a dimension exactly if the dimension has a member. Adding a member of a new name adds
+/// exactly one.
 pub fn members_grow()
     ensures there { NamesAreThere }
     ensures more { MembersGrow }
 {}
 
-/// Dimension sets compare part by part. It is a total order, which ties no two of them.
+/// Dimension sets are ordered part by part. The order is total, and only equal sets compare as
+/// equal.
 pub fn dimensions_are_ordered()
     ensures derived { (x y : DimensionSet) → ⟦<Dimensions as Ord>⟧.cmp x y ≡ dimensions_cmp x y }
     ensures total { IsTotalOrder dimensions_cmp }
     ensures exact { (x y : DimensionSet) → dimensions_cmp x y ≡ Equal → x ≡ y }
 {}
 
-/// Facts compare by dimensions, then by value. It is a total order, which ties no two of them.
+/// Facts are ordered by dimensions, then by value. The order is total, and only equal facts compare
+/// as equal.
 pub fn facts_are_ordered()
     ensures derived { (x y : AFact) → ⟦<Fact as Ord>⟧.cmp x y ≡ fact_cmp x y }
     ensures total { IsTotalOrder fact_cmp }

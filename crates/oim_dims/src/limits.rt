@@ -1,10 +1,10 @@
-// The moments that this project keeps.
+// The range of moments in this project's profile.
 
-/// The seconds of a day. Every day has as many.
+/// The number of seconds of every day.
 pub const DAY_SECONDS: u32 = 86_400;
 
-/// The second that begins the year 0001, counted from 1970-01-01T00:00:00.
+/// The first second of the year 0001, counted from 1970-01-01T00:00:00.
 pub const FIRST_MOMENT: i64 = -62_135_596_800;
 
-/// The last second of the year 9999, counted from there.
+/// The last second of the year 9999, counted from 1970-01-01T00:00:00.
 pub const LAST_MOMENT: i64 = 253_402_300_799;

@@ -4,12 +4,12 @@ use oim_names::{Copied, Key, Name, Text};
 use std::alloc::{AllocError, Global};
 
 /// The member of a taxonomy-defined dimension. Members are ordered by kind, in the order of the
-/// variants; texts by bytes.
+/// variants. Texts are ordered by bytes.
 #[derive(Debug, Drop, PartialEq, Eq, PartialOrd, Ord)]
 pub enum Member {
-    /// A typed dimension whose value is nil.
+    /// The value null of a typed dimension.
     Nil,
-    /// The value of a typed dimension, as it was spelled.
+    /// The value of a typed dimension, as the report spells it.
     Text(Text),
     /// The member of an explicit dimension.
     Name(Name),

@@ -12,10 +12,10 @@ use jiff::civil::{Date, DateTime, Time, date};
 use std::fmt;
 use std::marker::Model;
 
-/// How a date-time is written; `0` means any digit.
+/// The form of a date-time; `0` means any digit.
 const PICTURE: [u8; 19] = *b"0000-00-00T00:00:00";
 
-/// A whole second of the years 0001 to 9999, on a calendar and a clock with no zone.
+/// A whole second of the years 0001 to 9999, on a calendar and a clock without a time zone.
 #[derive(Clone, Copy, Debug, PartialEq, Eq, PartialOrd, Ord)]
 pub struct Moment {
     seconds: i64,
@@ -36,7 +36,7 @@ impl Model for Moment {
 }
 
 impl Moment {
-    /// The seconds from 1970-01-01T00:00:00, of days with 86,400 seconds.
+    /// Returns the seconds since 1970-01-01T00:00:00. Each day has 86,400 seconds.
     pub fn seconds(&self) -> i64
         ensures value { result ≡ self.now }
         ensures range { IsMoment self.now }
@@ -62,7 +62,7 @@ impl fmt::Display for Moment {
     }
 }
 
-// The date with that day number.
+// Returns the date with this day number.
 fn date_of(day: i64) -> Date
     requires { IsBetween (neg_ℤ (pos 719_162)) (pos 2_932_896) day }
     ensures { jiff_date_text result ≡ date_text day }
@@ -70,7 +70,7 @@ fn date_of(day: i64) -> Date
     date(1970, 1, 1).checked_add(day.days()).unwrap()
 }
 
-// The time with that second of the day.
+// Returns the time of this second of the day.
 #[tactic(auto, unfolding(crate::specs::DateTime::time_text))]
 fn time_of(second: u32) -> Time
     requires { second < DAY_SECONDS }
@@ -81,7 +81,8 @@ fn time_of(second: u32) -> Time
     Time::new(hour, minute, (second % 60) as i8, 0).unwrap()
 }
 
-/// The moment of a date-time (XML Schema Part 2, section 3.2.7), or `None` where the text is none.
+/// Returns the moment of a date-time (XML Schema Part 2, section 3.2.7), or `None` if the text is
+/// no date-time.
 pub(crate) fn read_moment(text: &[u8]) -> Option<Moment>
     ensures { result ≡ moment_of text.now }
 {
@@ -122,7 +123,7 @@ fn matches_picture(sign: u8, c: u8) -> bool
     }
 }
 
-// The day number of the date, counted from 1970-01-01, where the calendar has it.
+// Returns the day number of the date, counted from 1970-01-01, if the calendar has the date.
 #[tactic(auto, unfolding(crate::specs::DateTime::has_date, crate::specs::DateTime::day_number))]
 fn read_day(text: &[u8]) -> Option<i64>
     requires { has_picture text.now ≡ true }
@@ -141,7 +142,7 @@ fn read_day(text: &[u8]) -> Option<i64>
     }
 }
 
-// The second of the day, where a clock shows the time or it ends the day.
+// Returns the second of the day if a clock shows the time, or if the time is 24:00:00.
 #[tactic(auto, unfolding(crate::specs::DateTime::has_time, crate::specs::DateTime::second_of_day))]
 fn read_second_of_day(text: &[u8]) -> Option<i64>
     requires { has_picture text.now ≡ true }
@@ -158,7 +159,7 @@ fn read_second_of_day(text: &[u8]) -> Option<i64>
     }
 }
 
-// The number that the digits from one place to another write.
+// Returns the number whose digits lie between two indices.
 fn number(text: &[u8], from: usize, to: usize) -> u32
     requires picture { has_picture text.now ≡ true }
     requires places { IsTrue (nat_le from to && nat_le to 19 && nat_le (to - from) 4) }
@@ -169,7 +170,7 @@ fn number(text: &[u8], from: usize, to: usize) -> u32
     number_of(&text[from..to])
 }
 
-// The number that up to four digits write.
+// Returns the number with these digits, at most four.
 fn number_of(digits: &[u8]) -> u32
     requires digits { list_all is_ascii_digit digits.now ≡ true }
     requires few { length digits.now ≤ 4 }

@@ -7,11 +7,11 @@ use oim_names::{Copied, Key, Reason, Text};
 use std::alloc::{AllocError, Global};
 use std::cmp::Ordering;
 
-/// When a fact holds (OIM Common 1.0, the core dimension period), in the order that compares
-/// periods. A duration that was read ends after its start.
+/// When a fact holds (OIM Common 1.0, the core dimension period). Periods are ordered by the order
+/// of the variants. A duration that was read ends after its start.
 #[derive(Clone, Copy, Debug, PartialEq, Eq, PartialOrd, Ord)]
 pub enum Period {
-    /// Always: the fact names no period.
+    /// The fact has no period: it always holds.
     Forever,
     /// At one moment.
     Instant(Moment),
@@ -20,7 +20,7 @@ pub enum Period {
 }
 
 impl Period {
-    /// Does nothing. Its contract: the moments are within their years.
+    /// Does nothing. Its contract states that the moments are in range.
     pub fn known(&self)
         ensures { HasMoments self.now }
     {
@@ -36,11 +36,11 @@ impl Period {
     }
 }
 
-/// The period of a text: one date-time, or two with `/` between them.
+/// Reads a period: one date-time, or two with `/` between them.
 ///
-/// Errors: `PeriodForm` exactly if the text has not the form, `PeriodOrder` exactly if it has
-/// the form and the end lies before the start. It asks for no memory so far, though callers hand it
-/// an allocator.
+/// Errors: `PeriodForm` exactly if the text does not have this form, `PeriodOrder` exactly if it
+/// has the form and the end lies before the start. It takes no memory, though callers pass an
+/// allocator.
 pub fn read_period(_alloc: Global, text: &str) -> Result<Period, Reason>
     ensures { result ≡ period_of text.now }
 {
@@ -65,8 +65,8 @@ fn from_to(start: Option<Moment>, end: Option<Moment>) -> Result<Period, Reason>
     }
 }
 
-/// The text of a period, or `None` for one that always holds. Hours go from 00 to 23. The text
-/// reads back, that of a duration where it ends after its start.
+/// Writes a period, or returns `None` for forever. Hours range from 00 to 23. The text of an
+/// instant reads back, and that of a duration does if the duration ends after its start.
 ///
 /// Errors: out of memory.
 pub fn write_period(alloc: Global, period: &Period) -> Result<Option<Text>, AllocError>

@@ -6,7 +6,7 @@ use std::alloc::{AllocError, Global};
 use std::cmp::Ordering;
 use std::marker::Model;
 
-/// A list, which contracts see as its items alone.
+/// A list whose contracts see only its items.
 #[derive(Debug, Drop)]
 pub struct Sequence<T: Key> {
     items: Vec<T>,
@@ -21,21 +21,21 @@ impl<T: Key> Model for Sequence<T> {
 }
 
 impl<T: Key> Sequence<T> {
-    /// The items, in their order.
+    /// Returns the list of these items, in their order.
     pub fn new(items: Vec<T>) -> Self
         ensures { result ≡ items.items }
     {
         Sequence { items }
     }
 
-    /// The items as a slice.
+    /// Returns the items as a slice.
     pub fn as_slice(&self) -> &[T]
         ensures { result.now ≡ self.now }
     {
         self.items.as_slice()
     }
 
-    /// Puts an item before the one at `place`, or at the end.
+    /// Inserts an item before the index `place`, or at the end.
     pub(crate) fn insert(&mut self, place: usize, item: T) -> Result<(), AllocError>
         requires { place ≤ length self.old }
         ensures ok { OnOk result (self.new ≡ insert self.old place item) }

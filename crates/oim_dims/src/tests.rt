@@ -9,8 +9,9 @@ use crate::{
 use oim_names::{Aliases, Copied, Name, Reason, Text};
 use std::alloc::AllocError;
 
-// When a request for memory is refused, the next one succeeds: the call is repeated, and must not
-// have changed anything. `tests/refused_memory` counts the lines on standard error.
+// If a request for memory is refused, the call is repeated, and the next request succeeds. A
+// refused call must not have changed anything. `tests/refused_memory` counts the lines on standard
+// error.
 
 fn tell_refused(rt: &HostRuntime) {
     let _ = eprintln!(rt; "refused");
@@ -57,7 +58,7 @@ fn bind_all(
     Ok(())
 }
 
-// Aliases of these prefixes and URIs.
+// Returns aliases with these prefixes and URIs.
 fn aliases_of(rt: &HostRuntime, bindings: &[(&str, &str)]) -> Result<Aliases, Reason> {
     let mut aliases = Aliases::new(rt.alloc());
     bind_all(rt, &mut aliases, bindings)?;
@@ -145,7 +146,7 @@ fn rises<T: PartialOrd>(low: &T, high: &T) -> bool {
     low < high && high > low && low != high
 }
 
-// Whether two values were made that rise.
+// Returns whether both calls succeeded and the first value is less than the second.
 fn do_rise<T: PartialOrd + Drop>(low: Result<T, Reason>, high: Result<T, Reason>) -> bool {
     match (low, high) {
         (Ok(low), Ok(high)) => rises(&low, &high),

@@ -8,9 +8,10 @@ use oim_names::{Copied, Key, Name};
 use std::alloc::{AllocError, Global};
 use std::marker::Model;
 
-/// What a number is counted in: measures that are multiplied, and measures that they are divided by
-/// (OIM Common 1.0, the core dimension unit). Both lists are in the order of names, repeats kept.
-/// There is a numerator, no local part has `*`, `/`, `(` or `)`, and `pure` alone is no unit.
+/// The unit of a number: measures that are multiplied, and measures that the product is divided by
+/// (OIM Common 1.0, the core dimension unit). Both lists are in the order of names and may have
+/// repeats. There is at least one numerator, no local part has `*`, `/`, `(` or `)`, and `pure`
+/// alone is no unit.
 #[derive(Debug, Drop, PartialEq, Eq, PartialOrd, Ord)]
 pub struct Unit {
     numerators: Sequence<Name>,
@@ -45,21 +46,21 @@ impl Unit {
         }
     }
 
-    /// Does nothing. Its contract: what holds for each unit.
+    /// Does nothing. Its contract states what holds for each unit.
     pub fn known(&self)
         ensures { IsUnit self.now }
     {
         let _numerators = &self.numerators;
     }
 
-    /// The measures that are multiplied, sorted.
+    /// Returns the measures that are multiplied, sorted.
     pub fn numerators(&self) -> &[Name]
         ensures { result.now ≡ self.now.numerators }
     {
         self.numerators.as_slice()
     }
 
-    /// The measures that are divided by, sorted.
+    /// Returns the measures of the denominator, sorted.
     pub fn denominators(&self) -> &[Name]
         ensures { result.now ≡ self.now.denominators }
     {

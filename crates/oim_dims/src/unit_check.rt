@@ -5,8 +5,8 @@ ghost use Rattle.oim_dims.specs.Unit.{inner, is_piece, is_mark, is_unit_text, re
 
 use oim_names::{Aliases, Reason};
 
-/// Both sides of a unit's text, each without the parentheses round the whole of it. There is no
-/// second side where the text has no `/`.
+/// Returns both sides of a unit's text, without the parentheses around a whole side. There is no
+/// second side if the text has no `/`.
 pub(crate) fn sides(text: &str) -> (&str, Option<&str>)
     ensures numerators { slice_split is_star result.0.now ≡ numerator_pieces text.now }
     ensures denominators { MatchOption result.1 (denominator_pieces text.now ≡ []) (λ side. slice_split is_star side.now ≡ denominator_pieces text.now) }
@@ -29,8 +29,9 @@ fn inner(side: &str) -> &str
     }
 }
 
-/// Why a text is no unit under these aliases, the first that holds: `UnitForm`, and then of any
-/// piece `NameForm`, `UnboundPrefix`, `ReservedNamespace`. It takes no memory.
+/// Returns why a text is refused as a unit under these aliases, or None. It tests the form of the
+/// unit first (`UnitForm`). Then it tests all pieces, in this order: `NameForm`, `UnboundPrefix`,
+/// `ReservedNamespace`. It takes no memory.
 pub fn unit_refusal(aliases: &Aliases, text: &str) -> Option<Reason>
     ensures { result ≡ unit_refusal aliases.now text.now }
 {
@@ -49,7 +50,7 @@ pub fn unit_refusal(aliases: &Aliases, text: &str) -> Option<Reason>
     None
 }
 
-/// Whether a text has the form of a unit.
+/// Returns whether a text has the form of a unit.
 pub fn is_unit_text(text: &str) -> bool
     ensures { result ≡ is_unit_text text.now }
 {
@@ -72,7 +73,7 @@ fn is_piece(piece: &str) -> bool
     !piece.is_empty() && !has_mark(piece.as_bytes())
 }
 
-/// Whether a text has one of the characters that a unit is built with.
+/// Returns whether a text has a character that units are built with.
 pub(crate) fn has_mark(text: &[u8]) -> bool
     ensures { result ≡ list_any is_mark text.now }
 {
@@ -80,7 +81,7 @@ pub(crate) fn has_mark(text: &[u8]) -> bool
         .any(|c| *c == b'(' || *c == b')' || *c == b'*' || *c == b'/')
 }
 
-/// Whether this is why some piece of a unit's text is no name. It takes no memory.
+/// Returns whether some piece of a unit's text is refused for this reason. It takes no memory.
 pub fn refuses_some_piece(aliases: &Aliases, reason: Reason, text: &str) -> bool
     ensures { result ≡ some_piece (refuses reason aliases.now) text.now }
 {
@@ -100,7 +101,7 @@ fn refuses_one_of(aliases: &Aliases, reason: Reason, side: &str) -> bool
     side.split('*').any(|piece| refuses(aliases, reason, piece))
 }
 
-// Whether this is why the piece is no name.
+// Returns whether the piece is refused for this reason.
 fn refuses(aliases: &Aliases, reason: Reason, piece: &str) -> bool
     ensures { result ≡ refuses reason aliases.now piece.now }
 {

@@ -12,12 +12,12 @@ use crate::unit_check::{is_unit_text, sides, unit_refusal};
 use oim_names::{Aliases, Name, Reason};
 use std::alloc::Global;
 
-/// The unit of a text: numerator measures with `*` between them, and where there are denominators
-/// `/` and the same of them, each side with or without parentheses round it (xBRL-JSON 1.0). `None`
-/// for `pure` alone, which is no unit.
+/// Reads a unit: measures with `*` between them and, if there are denominators, `/` and measures
+/// with `*` between them. Each side may be in parentheses (xBRL-JSON 1.0). It returns `None` for
+/// `pure` alone, which is no unit.
 ///
-/// Errors: `UnitForm` exactly if the text has not the form; else the first that holds of any piece
-/// of `NameForm`, `UnboundPrefix`, `ReservedNamespace`; `OutOfMemory`.
+/// Errors: `UnitForm` exactly if the text does not have this form; otherwise the first of
+/// `NameForm`, `UnboundPrefix` and `ReservedNamespace` that holds for any piece; `OutOfMemory`.
 pub fn read_unit(alloc: Global, aliases: &Aliases, text: &str) -> Result<Option<Unit>, Reason>
     ensures unit { IfOk result (UnitOf aliases.now text.now) }
     ensures sorted { IfOk result (λ unit. IfSome unit IsUnit) }
@@ -33,8 +33,8 @@ pub fn read_unit(alloc: Global, aliases: &Aliases, text: &str) -> Result<Option<
     }
 }
 
-// The same; where the text is not refused, an error is out of memory. Most units are not refused, so
-// they are read first, and what refuses one is looked for where that fails.
+// Reads the measures of both sides. If the text is not refused, every error is out of memory. Most
+// units are not refused, so `read_unit` reads first and looks for the refusal only after an error.
 fn read_sides(alloc: Global, aliases: &Aliases, text: &str) -> Result<Option<Unit>, Reason>
     ensures unit { IfOk result (UnitOf aliases.now text.now) }
     ensures sorted { IfOk result (λ unit. IfSome unit IsUnit) }
@@ -57,7 +57,7 @@ fn read_sides(alloc: Global, aliases: &Aliases, text: &str) -> Result<Option<Uni
     Ok(Some(unit))
 }
 
-// The measures of a side, sorted.
+// Returns the measures of a side, sorted.
 fn measures(alloc: Global, aliases: &Aliases, side: &str) -> Result<Sequence<Name>, Reason>
     requires pieces { list_all is_piece (slice_split is_star side.now) ≡ true }
     ensures names { IfOk result (NamesEach aliases.now (slice_split is_star side.now)) }
@@ -73,7 +73,7 @@ fn measures(alloc: Global, aliases: &Aliases, side: &str) -> Result<Sequence<Nam
     Ok(Sequence::new(names))
 }
 
-// The names of a side's pieces, in their order.
+// Returns the names of a side's pieces, in their order.
 fn names_of(alloc: Global, aliases: &Aliases, side: &str) -> Result<Vec<Name>, Reason>
     ensures names { IfOk result (λ names. AllZip (Expands aliases.now) (slice_split is_star side.now) names.items) }
     ensures errors { All (λ p. name_refusal aliases.now p ≡ None) (slice_split is_star side.now) →

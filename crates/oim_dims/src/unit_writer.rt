@@ -7,8 +7,8 @@ use crate::unit_check::has_mark;
 use oim_names::{Aliases, Name, Text};
 use std::alloc::{AllocError, Global};
 
-/// The text of a unit under these aliases, each side in the order of names (xBRL-JSON 1.0). It
-/// reads back. `can_write_unit` is the test for its condition.
+/// Writes a unit under these aliases, each side in the order of names (xBRL-JSON 1.0). The text
+/// reads back. `can_write_unit` tests the condition of this call.
 ///
 /// Errors: out of memory.
 pub fn write_unit(alloc: Global, aliases: &Aliases, unit: &Unit) -> Result<Text, AllocError>
@@ -23,7 +23,8 @@ pub fn write_unit(alloc: Global, aliases: &Aliases, unit: &Unit) -> Result<Text,
     Text::new(alloc, text.as_str())
 }
 
-/// Whether each measure's URI has a prefix, and the first of them none of `*`, `/`, `(`, `)`.
+/// Returns whether the URI of each measure has a prefix, and its first prefix has none of `*`, `/`,
+/// `(` and `)`.
 pub fn can_write_unit(aliases: &Aliases, unit: &Unit) -> bool
     ensures { result ≡ can_write aliases.now unit.now }
 {

@@ -3,7 +3,7 @@ use crate::Period;
 use oim_names::Reason;
 use std::test::Fail;
 
-// The second of an instant.
+// Returns the seconds of an instant.
 fn second(period: &Period) -> Option<i64> {
     match period {
         Period::Instant(moment) => Some(moment.seconds()),
@@ -11,7 +11,7 @@ fn second(period: &Period) -> Option<i64> {
     }
 }
 
-// Whether a text is read as the instant of a second.
+// Returns whether a text is read as the instant at this second.
 fn is_instant(rt: &HostRuntime, spelled: &str, seconds: i64) -> bool {
     match period(rt, spelled) {
         Ok(period) => second(&period) == Some(seconds),
@@ -104,7 +104,7 @@ fn other_texts_are_no_periods(rt: HostRuntime) {
     }
 }
 
-// The first second of a duration, and the one after it.
+// Returns the first second of a duration, and the first second after it.
 fn bounds(period: &Period) -> Option<(i64, i64)> {
     match period {
         Period::Duration(start, end) => Some((start.seconds(), end.seconds())),
@@ -112,7 +112,7 @@ fn bounds(period: &Period) -> Option<(i64, i64)> {
     }
 }
 
-// Whether a period is written as a text.
+// Returns whether a period is written as this text.
 fn has_text(rt: &HostRuntime, period: &Period, plain: &str) -> bool {
     match period_text(rt, period) {
         Ok(Some(written)) => written.as_str() == plain,
@@ -120,7 +120,7 @@ fn has_text(rt: &HostRuntime, period: &Period, plain: &str) -> bool {
     }
 }
 
-// Whether a period is written as a text, and read back from it.
+// Returns whether a period is written as this text and read back from it.
 fn is_written(rt: &HostRuntime, period: &Period, plain: &str) -> bool {
     has_text(rt, period, plain) && super::period(rt, plain) == Ok(*period)
 }
@@ -133,12 +133,12 @@ fn durations_are_read_and_written(rt: HostRuntime) -> Result<(), Fail> {
     Ok(())
 }
 
-// Whether a text is of a duration that ends before it starts.
+// Returns whether a text is refused because its duration ends before it starts.
 fn is_backward(rt: &HostRuntime, spelled: &str) -> bool {
     period(rt, spelled) == Err(Reason::PeriodOrder)
 }
 
-// Whether two texts are of one period.
+// Returns whether two texts denote the same period.
 fn are_one(rt: &HostRuntime, spelled: &str, other: &str) -> bool {
     match period(rt, spelled) {
         Ok(found) => period(rt, other) == Ok(found),
@@ -180,7 +180,7 @@ fn instants_are_written_with_hours_to_23(rt: HostRuntime) {
     assert!(rt; period_text(&rt, &Period::Forever) == Ok(None));
 }
 
-// Periods that rise, all of them above forever.
+// Periods in ascending order, all above forever.
 const RISING: [&str; 5] = [
     "2020-01-01T00:00:00",
     "2021-01-01T00:00:00",

@@ -1,5 +1,5 @@
-// Calls whose request for memory may be refused, on dimension sets with every part. What such a call
-// changes is left as it was.
+// Calls on dimension sets with every part, whose request for memory may be refused. A refused call
+// must not change anything.
 
 use super::sets::{Kind, Part, equals_its_copy, fact, is_copied, member, with};
 use super::{example, name};
@@ -8,7 +8,7 @@ use oim_names::{Aliases, Reason};
 use oim_value::Value;
 use std::test::Fail;
 
-// Every part, and more members than a list has room for at first, of every kind.
+// Parts of every kind, with more members than a list has space for at first.
 const EVERY: [Part; 10] = [
     Part::Entity("x:529900"),
     Part::Period("2020-01-01T00:00:00/2020-12-31T24:00:00"),
@@ -41,7 +41,7 @@ fn is_unit_copied(rt: &HostRuntime, set: &Dimensions) -> bool {
     }
 }
 
-// Whether a set has every part, and its copies have them too.
+// Returns whether a set and its copies have every part.
 fn are_parts_copied(rt: &HostRuntime, aliases: &Aliases) -> bool {
     match with(rt, aliases, "eg:A", &EVERY) {
         Ok(set) => has_every_part(&set) && equals_its_copy(rt, &set) && is_unit_copied(rt, &set),
@@ -83,7 +83,7 @@ fn is_fact_copied(rt: &HostRuntime, aliases: &Aliases) -> bool {
     is_copied(rt, full_fact(rt, aliases))
 }
 
-// Whether the copy of a fact of nil is the same.
+// Returns whether a fact with the value nil equals its copy.
 fn is_nil_copied(rt: &HostRuntime, aliases: &Aliases) -> bool {
     is_copied(rt, fact(rt, aliases, "eg:B", Value::Nil))
 }

@@ -12,7 +12,8 @@ pub(super) enum Kind {
     Nil,
 }
 
-// What a set has beside its concept, as it is spelled; of a member the dimension.
+// A part of a dimension set other than its concept, as it is spelled. A member is given by its
+// dimension.
 pub(super) enum Part {
     Entity(&'static str),
     Period(&'static str),
@@ -29,7 +30,7 @@ pub(super) fn member(rt: &HostRuntime, aliases: &Aliases, kind: &Kind) -> Result
     })
 }
 
-// Adds a member; both are given up, so they are made anew where the call is made again.
+// Adds a member. The call consumes name and member, so they are made again when it is repeated.
 fn add_made(
     rt: &HostRuntime,
     set: &mut Dimensions,
@@ -41,7 +42,7 @@ fn add_made(
     set.add(name, member(rt, aliases, kind)?)
 }
 
-// Adds a member; a call that wants memory leaves the dimensions as they were.
+// Adds a member. A call that is refused memory must not change the dimensions.
 fn add(
     rt: &HostRuntime,
     set: &mut Dimensions,
@@ -87,7 +88,7 @@ fn put_all(
     Ok(())
 }
 
-// The dimensions of a concept with other parts.
+// Returns the dimensions of a concept with other parts.
 pub(super) fn with(
     rt: &HostRuntime,
     aliases: &Aliases,
@@ -124,7 +125,7 @@ fn a_concept_alone_holds_forever(rt: HostRuntime) -> Result<(), Fail> {
     Ok(())
 }
 
-// Whether a set has an entity, a unit and a language just where one is wanted.
+// Returns whether a set has an entity, a unit and a language exactly if they are expected.
 fn has_just(set: &Dimensions, entity: bool, unit: bool, language: bool) -> bool {
     set.entity().is_some() == entity
         && set.unit().is_some() == unit
@@ -139,7 +140,7 @@ const UNIT: [Part; 1] = [Part::Unit("x:a")];
 
 const PURE: [Part; 1] = [Part::Unit("xbrli:pure")];
 
-// The same for the set of eg:A with one other part.
+// Returns whether the set of eg:A with one other part has exactly the expected parts.
 fn is_set(rt: &HostRuntime, aliases: &Aliases, part: &[Part], wanted: (bool, bool, bool)) -> bool {
     match with(rt, aliases, "eg:A", part) {
         Ok(set) => has_just(&set, wanted.0, wanted.1, wanted.2),
@@ -163,7 +164,7 @@ fn a_unit_may_be_none(rt: HostRuntime) -> Result<(), Fail> {
     Ok(())
 }
 
-// Whether the members are named a, b, a and b, and their URI rises after the first two.
+// Returns whether the members are named a, b, a and b, and the last two have a greater URI.
 fn are_in_order(set: &Dimensions) -> bool {
     let members = set.members();
     members.len() == 4
@@ -202,7 +203,7 @@ const TWICE: [Part; 2] = [
 
 const NIL: [Part; 1] = [Part::Member("eg:b", Kind::Nil)];
 
-// Whether a dimension that is there is refused, and the members stay as they were.
+// Returns whether a dimension that the set has is refused, and the members do not change.
 fn is_kept_once(rt: &HostRuntime, aliases: &Aliases) -> bool {
     match with(rt, aliases, "eg:A", &TWICE) {
         Ok(mut set) => {
@@ -220,7 +221,7 @@ fn a_dimension_stands_once(rt: HostRuntime) -> Result<(), Fail> {
     Ok(())
 }
 
-// Nil members of these names, as they come.
+// Returns nil members with these names, in the given order.
 fn listed(
     rt: &HostRuntime,
     aliases: &Aliases,
@@ -240,7 +241,7 @@ fn listed(
     Ok(members)
 }
 
-// Whether the set takes these names, as they come, for the members that it has.
+// Returns whether the set accepts nil members with these names as its members.
 fn takes(rt: &HostRuntime, aliases: &Aliases, set: &mut Dimensions, names: &[&str]) -> bool {
     match listed(rt, aliases, names) {
         Ok(members) => set.set_members(members).is_ok(),
@@ -250,8 +251,8 @@ fn takes(rt: &HostRuntime, aliases: &Aliases, set: &mut Dimensions, names: &[&st
 
 const LAST: [Part; 1] = [Part::Member("eg:c", Kind::Nil)];
 
-// Whether members are kept in the order of names, in whatever order they are given, and stay when
-// others are refused.
+// Returns whether members are stored in the order of names, whatever their order before, and do not
+// change when others are refused.
 fn are_put_in_order(rt: &HostRuntime, aliases: &Aliases) -> bool {
     match with(rt, aliases, "eg:A", &LAST) {
         Ok(mut set) => {
@@ -277,7 +278,7 @@ pub(super) fn equals_its_copy<T: Copied + PartialEq>(rt: &HostRuntime, value: &T
     }
 }
 
-// Whether a value was made, and equals its copy.
+// Returns whether the call succeeded and its value equals its copy.
 pub(super) fn is_copied<T: Copied + PartialEq>(rt: &HostRuntime, made: Result<T, Reason>) -> bool {
     match made {
         Ok(value) => equals_its_copy(rt, &value),
@@ -321,11 +322,11 @@ fn kinds_of_members_are_ordered(rt: HostRuntime) -> Result<(), Fail> {
     Ok(())
 }
 
-// A concept, and what a set of it has beside it.
+// A concept, and the other parts of a dimension set.
 type Row = (&'static str, &'static [Part]);
 
-// Sets that rise: absent parts come first, so a part that is there outweighs those after it, and a
-// list comes before one that it begins.
+// Dimension sets in ascending order. Absent parts are less than present ones, earlier parts count
+// before later ones, and a list is less than one that it begins.
 const RISING: [Row; 10] = [
     ("eg:A", &[]),
     ("eg:A", &[Part::Member("eg:a", Kind::Nil)]),
@@ -360,7 +361,7 @@ fn sets_are_ordered_part_by_part(rt: HostRuntime) -> Result<(), Fail> {
     Ok(())
 }
 
-// The fact of a concept with a value.
+// Returns the fact of a concept with a value.
 pub(super) fn fact(
     rt: &HostRuntime,
     aliases: &Aliases,
@@ -378,7 +379,7 @@ fn text_fact(rt: &HostRuntime, aliases: &Aliases) -> Result<Fact, Reason> {
     fact(rt, aliases, "eg:A", value)
 }
 
-// Whether a fact is below that of another concept with nil.
+// Returns whether a fact is less than a fact of another concept with the value nil.
 fn is_below_nil(rt: &HostRuntime, aliases: &Aliases) -> bool {
     let low = text_fact(rt, aliases);
     do_rise(low, fact(rt, aliases, "eg:B", Value::Nil))

@@ -4,7 +4,7 @@ use oim_names::{Aliases, Name, Reason, Text};
 use std::alloc::AllocError;
 use std::test::Fail;
 
-// The text of a unit that can be written.
+// Returns the text of a unit that can be written.
 fn unit_text(rt: &HostRuntime, aliases: &Aliases, unit: &Unit) -> Result<Option<Text>, AllocError> {
     if !can_write_unit(aliases, unit) {
         return Ok(None);
@@ -25,7 +25,7 @@ fn is_same(rt: &HostRuntime, aliases: &Aliases, spelled: &str, first: &Option<Un
     }
 }
 
-// Whether two texts are of one unit.
+// Returns whether two texts denote the same unit.
 fn are_one(rt: &HostRuntime, aliases: &Aliases, spelled: &str, other: &str) -> bool {
     match unit(rt, aliases, spelled) {
         Ok(first) => is_same(rt, aliases, other, &first),
@@ -40,7 +40,7 @@ fn is_measure(rt: &HostRuntime, aliases: &Aliases, found: &Name, spelled: &str) 
     }
 }
 
-// Whether the names are the expansions of the texts.
+// Returns whether the names are the expansions of the texts.
 fn are_measures(rt: &HostRuntime, aliases: &Aliases, found: &[Name], spelled: &[&str]) -> bool {
     for (name, spelled) in found.iter().zip(spelled) {
         if !is_measure(rt, aliases, name, spelled) {
@@ -50,7 +50,7 @@ fn are_measures(rt: &HostRuntime, aliases: &Aliases, found: &[Name], spelled: &[
     found.len() == spelled.len()
 }
 
-// Whether a text is of a unit with exactly these numerators and denominators.
+// Returns whether a text denotes a unit with exactly these numerators and denominators.
 fn has_measures(
     rt: &HostRuntime,
     aliases: &Aliases,
@@ -94,7 +94,7 @@ fn measures_are_sorted_and_repeats_kept(rt: HostRuntime) -> Result<(), Fail> {
     Ok(())
 }
 
-// Whether a text is of a unit, or where none is wanted, of none.
+// Returns whether a text denotes the expected unit, or none if none is expected.
 fn is_unit(rt: &HostRuntime, aliases: &Aliases, spelled: &str, wanted: bool) -> bool {
     match unit(rt, aliases, spelled) {
         Ok(found) => found.is_some() == wanted,
@@ -148,7 +148,7 @@ const NO_UNITS: [&str; 22] = [
     "(x:a)(x:b)",
 ];
 
-// Whether the reader refuses a text for a reason.
+// Returns whether the text is refused for this reason.
 fn is_refused(rt: &HostRuntime, aliases: &Aliases, spelled: &str, reason: Reason) -> bool {
     unit(rt, aliases, spelled) == Err(reason)
 }
@@ -233,10 +233,10 @@ fn units_are_written_and_read_back(rt: HostRuntime) -> Result<(), Fail> {
     Ok(())
 }
 
-// A prefix for one of the measures alone.
+// A prefix for only one of the measures.
 const FEW: [(&str, &str); 1] = [("x", "http://example.org/u")];
 
-// Two for the other; the first is not plain.
+// Two prefixes for the other measure. The first has a character that units are built with.
 const HIDDEN: [(&str, &str); 3] = [
     ("x", "http://example.org/u"),
     ("e*g", "http://example.org/t"),
