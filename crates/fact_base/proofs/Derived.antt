@@ -1,4 +1,4 @@
--- The orders and merges that the code's types have, in the words of the definitions.
+-- The orders and merges of the code's types are those of the definitions.
 use Rattle.std.proofs.Common.{◌≡◌, List, Result, Ok, Err, sym, subst}
 use Rattle.std.specs.Prelude.{OnOk}
 use Rattle.merge_laws.specs.Ends.{both_summaries}

@@ -1,4 +1,4 @@
--- What fits a sheet is of one kind, and is summarised.
+-- Facts that fit a sheet have values of one kind, and a summary.
 use Rattle.std.proofs.Common.{◌≡◌, ℕ, List, Option, Some, None, refl, sym, subst, inl, inr}
 use Rattle.std.specs.Prelude.{◌⊎◌}
 use Rattle.std.specs.FinMap as map
@@ -18,7 +18,7 @@ use Rattle.fact_base.specs.Judged.{AreSummarised}
 use Rattle.fact_base.proofs.EntryFacts.{in_facts_with}
 use Rattle.fact_base.proofs.Members.{each_by_there, each_there}
 
--- the place of the values of a concept of a kind among the kinds of values
+-- the rank among the kinds of values that a concept's kind has
 abbrev kind_number : Option ConceptKind → ℕ
 kind_number None = 0
 kind_number (Some Numeric) = 1

@@ -30,10 +30,10 @@ use Rattle.fact_base.proofs.Sets.{is_set_of, same_sets, set_of-both, set_of_is_s
 use Rattle.fact_base.proofs.TextOrder.{text_cmp_exact, text_cmp_total}
 use Rattle.fact_base.proofs.Unions.{rises}
 
--- ---- items that are put in order, each once
+-- -- sorting without repeats
 
 module _ {K : Type 0} {R : K → K → Ordering} (o : IsTotalOrder R) (exact : (x y : K) → R x y ≡ Equal → x ≡ y) where
-  -- the set of a set is that
+  -- the set of the items of a set is that set
   pub set_of_set : (xs : List K) → set_of R (set_of R xs) ≡ set_of R xs
   set_of_set xs =
       let all = set_of_is_set o exact xs in
@@ -46,7 +46,7 @@ module _ {K : Type 0} {R : K → K → Ordering} (o : IsTotalOrder R) (exact : (
         λ h. subst (λ ys. Contains ys x) (sym is) (Contains-dedup e (λ y z alike. exact y z ((Equal-is (R y z)).0 (sym (ties y z) ∙ alike))) sorted x (Contains-permutation xs sorted x moved h)),
       ))
 
-  -- ---- sets of what several lists have
+  -- -- sets of the items of several lists
 
   in_set_of_both : (xs ys : List K) (x : K) → Contains (set_of R (xs ++ ys)) x ↔ (Contains xs x ⊎ Contains ys x)
   in_set_of_both xs ys x =
@@ -75,7 +75,7 @@ module _ {K : Type 0} {R : K → K → Ordering} (o : IsTotalOrder R) (exact : (
   pub sets_swap : (xs ys zs : List K) → set_of R (set_of R (xs ++ ys) ++ zs) ≡ set_of R (set_of R (xs ++ zs) ++ ys)
   sets_swap xs ys zs = sym (sets_associate xs ys zs) ∙ ap (λ s. set_of R (xs ++ s)) (sets_commute ys zs) ∙ sets_associate xs zs ys
 
--- ---- orders of the code's types, in the words of the definitions
+-- -- the orders of the code's types are those of the definitions
 
 pub derived_set : (facts : List Fact) → set_of derived_fact.it facts ≡ set_of fact_cmp facts
 derived_set facts = λ i. set_of (λ (x y : Fact). facts_agree x y i) facts
@@ -87,9 +87,9 @@ pub always_ok : {A E P : Type 0} (r : Result A E) → P → OnOk r P
 always_ok (Ok a) p = p
 always_ok (Err e) p = tt
 
--- ---- a report more
+-- -- one more report
 
--- a document whose facts fit, and whose references are kept ones
+-- the body of a document fits if its facts fit and its references are kept as they are
 pub document_fits : (sheet : Sheet) (d : Document) → All (FactFits sheet) d.facts → All IsKeptReference d.references → Fits sheet (body (d ∷ []))
 document_fits sheet d facts references =
     let all = set_of_is_set fact_cmp_total fact_cmp_exact (d.facts ++ []) in
@@ -113,18 +113,18 @@ nothing_fits sheet =
 pub same_gathered : (facts more : List Fact) (references others : List (List ℕ)) → set_of fact_cmp facts ≡ set_of fact_cmp more → set_of text_cmp references ≡ set_of text_cmp others → gathered facts references ≡ gathered more others
 same_gathered facts more references others p q = λ i. record { facts = p i; references = q i }
 
--- a document's facts, in whatever order, and its references
+-- the body of a document's facts, in any order, and its references
 pub gathered_document : (facts : List Fact) (references : List (List ℕ)) (d : Document) → SameMembers facts d.facts → references ≡ d.references → gathered facts references ≡ body (d ∷ [])
 gathered_document facts references d same is = same_gathered facts (d.facts ++ []) references (d.references ++ [])
     (same_sets fact_cmp_total fact_cmp_exact facts d.facts same ∙ ap (set_of fact_cmp) (sym (append-nil d.facts)))
     (ap (set_of text_cmp) (is ∙ sym (append-nil d.references)))
 
--- facts and references behind others
+-- the body of facts and references after others is a union
 pub gathered_both : (facts more : List Fact) (references others : List (List ℕ)) → gathered (facts ++ more) (references ++ others) ≡ union (gathered facts references) (gathered more others)
 gathered_both facts more references others =
     λ i. record { facts = set_of-both fact_cmp_total fact_cmp_exact facts more i; references = set_of-both text_cmp_total text_cmp_exact references others i }
 
--- nothing more
+-- the union with the empty body changes nothing
 pub with_nothing : (b : Body) → IsBody b → b ≡ union b (body [])
 unfolding set_of
 with_nothing b rises = λ i. record {
@@ -132,7 +132,7 @@ with_nothing b rises = λ i. record {
   references = is_set_of text_cmp_total text_cmp_exact b.references (b.references ++ []) rises.references (λ r. (subst (λ rs. Contains rs r) (sym (append-nil b.references)), subst (λ rs. Contains rs r) (append-nil b.references))) i;
 }
 
--- ---- bodies of which one comes before the other
+-- -- unions when one body comes first
 
 pub union_commutes : (a b : Body) → union a b ≡ union b a
 union_commutes a b = λ i. record {

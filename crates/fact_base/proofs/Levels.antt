@@ -1,4 +1,4 @@
--- The level of facts that stand by dimension sets, each once.
+-- The level of distinct facts, grouped by dimension sets.
 use Rattle.std.proofs.Common.{◌≡◌, Bool, true, false, cond, not, ◌&&◌, ◌||◌, List, [], ◌∷◌, ◌++◌, Some, refl, sym, ap, ◌∙◌}
 use mathlib.Core.Bool.{true≢false}
 use Rattle.std.specs.Prelude.{is_some}
@@ -146,7 +146,7 @@ level_of_more e es rises below =
 
 -- ---- the walk
 
--- the highest of a level and those of entries
+-- the highest of a level and the levels of the entries
 abbrev pub highest : Level → List Entry → Level
 highest level [] = level
 highest level (e ∷ es) = highest (ord_max level_cmp level (level_of_values e.1.0)) es

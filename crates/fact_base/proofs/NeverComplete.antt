@@ -1,4 +1,4 @@
--- The level of facts that stand once each is not `complete`.
+-- The level of distinct facts is not `complete`.
 use Rattle.std.proofs.Common.{◌≡◌, ◌≢◌, Bool, true, false, not, ◌||◌, List, [], ◌∷◌, refl, sym, ◌∙◌}
 use Rattle.std.specs.List.{AllByRecursion, list_all}
 use Rattle.std.specs.List.Sorted.{IsStrictlySortedBy}
@@ -22,7 +22,7 @@ by_dimensions Equal Less less allowed = allowed
 by_dimensions Equal Equal less allowed = absurd (cc)
 by_dimensions Equal Greater less allowed = allowed
 
--- of two facts in order, `complete` allows exactly those that `none` allows
+-- `complete` allows two different facts exactly if `none` does
 apart : (f g : Fact) → fact_cmp f g ≡ Less → allows Complete f g ≡ true → allows Unique f g ≡ true
 apart f g less allowed = by_dimensions (dimensions_cmp f.dimensions g.dimensions) (value_cmp f.value g.value) less allowed
 

@@ -1,4 +1,4 @@
--- Entries that are built from their front to their end.
+-- Entries that are built from front to end.
 use Rattle.std.proofs.Common.{◌≡◌, ℕ, zero, suc, ◌<◌, ◌+◌, length, get_or, set, false, List, [], ◌∷◌, ◌++◌, refl, sym, ap, subst, ◌∙◌, arith, Some, slice_get}
 use mathlib.Core.Bool.{true≢false}
 use Rattle.std.specs.List.{All, AllByRecursion}
@@ -46,7 +46,7 @@ up_then_up r s t first second =
 turned : (r s : DimensionSet) → dimensions_cmp r s ≡ Less → dimensions_cmp s r ≡ Greater
 turned r s less = dimensions_cmp_total.antisymm s r ∙ ap ordering_reverse less
 
--- ---- a fact of other dimensions goes behind all entries
+-- -- a fact with other dimensions is added after all entries
 
 abbrev pub AllBelow : DimensionSet → List Entry → Type 0
 AllBelow s = AllByRecursion (λ e. dimensions_cmp e.0 s ≡ Less)
@@ -74,7 +74,7 @@ put_behind (e ∷ es) f below =
     ap (λ ds. e ∷ ds) (put_behind es f below.1)
     ∙ sym (ap (λ r. match_ordering r (entry_of f ∷ e ∷ es) (merged_entries summed_of_both e (entry_of f) ∷ es) (e ∷ with_fact f es)) (turned e.0 f.dimensions below.0))
 
--- ---- one of the last entry's dimensions goes to that
+-- -- a fact with the dimensions of the last entry is added to it
 
 pub put_last : (es : List Entry) (f : Fact) (n : ℕ) (x : Entry) (kept : Summed) → IsRising dimensions_cmp entry_key es → suc n ≡ length es → x ≡ get_or es n x → x.0 ≡ f.dimensions → kept ≡ with_value f.value x.1 → set es n (x.0, kept) ≡ with_fact f es
 unfolding IsStrictlySortedBy
@@ -92,9 +92,9 @@ put_last (e ∷ d ∷ es) f (suc n) x kept rise count is same made =
     ap (λ ds. e ∷ ds) (put_last (d ∷ es) f n x kept rise.1 (omega (arith, count)) is same made)
     ∙ sym (ap (λ r. match_ordering r (entry_of f ∷ e ∷ d ∷ es) (merged_entries summed_of_both e (entry_of f) ∷ d ∷ es) (e ∷ with_fact f (d ∷ es))) (turned e.0 f.dimensions less))
 
--- ---- facts that do not fall
+-- -- facts that do not descend
 
--- where no entry is above a fact, none is above the next one once that fact is put
+-- if no entry is above a fact, none is above the next fact after it was added
 pub none_above_next : (es : List Entry) (f g : Fact) → NoneAbove f.dimensions es → is_gt (dimensions_cmp f.dimensions g.dimensions) ≡ false → NoneAbove g.dimensions (with_fact f es)
 none_above_next es f g up next =
     all_of_union dimensions_cmp_exact summed_of_both (λ s _. is_gt (dimensions_cmp s g.dimensions) ≡ false) (λ s _ _ h _. h) es (entry_of f ∷ [])
@@ -115,7 +115,7 @@ turned_up Less up = absurd (true≢false up)
 turned_up Equal up = refl
 turned_up Greater up = refl
 
--- the facts at two places one after the other
+-- the facts at two neighbouring indices of an order
 dimensions_rise : (facts : List Fact) (places : List ℕ) (i : ℕ) (f g : Fact) → IsOrderOf facts places → i + 1 < length places → f ≡ get_or facts (get_or places i 0) f → g ≡ get_or facts (get_or places (i + 1) 0) g → is_gt (dimensions_cmp f.dimensions g.dimensions) ≡ false
 dimensions_rise facts places i f g order within here there =
     let p : ℕ = get_or places i 0 in
@@ -126,7 +126,7 @@ dimensions_rise facts places i f g order within here there =
     let ordered : is_lt (fact_cmp g f) ≡ false = sym (λ k. is_lt (option_cmp fact_cmp (second k) (first k))) ∙ falls in
     first_up (dimensions_cmp f.dimensions g.dimensions) (value_cmp f.value g.value) (ap is_gt (fact_cmp_total.antisymm f g) ∙ turned_up (fact_cmp g f) ordered)
 
--- no entry is above the fact at a place of an order, where there is such a place
+-- no entry is above the next fact of an order, if there is one
 abbrev pub Reached : List Fact → List ℕ → ℕ → List Entry → Type 0
 Reached facts places i es = (f : Fact) → i < length places → f ≡ get_or facts (get_or places i 0) f → NoneAbove f.dimensions es
 
@@ -137,7 +137,7 @@ pub next_reached : (facts : List Fact) (places : List ℕ) (i : ℕ) (f : Fact) 
 next_reached facts places i f es order within is reached g further there =
     none_above_next es f g (reached f within is) (dimensions_rise facts places i f g order further is there)
 
--- ---- and in a list of facts that do not fall
+-- -- a list of facts that do not descend
 
 rise_in : (facts : List Fact) (i : ℕ) (f g : Fact) → IsSorted fact_cmp facts → i + 1 < length facts → f ≡ get_or facts i f → g ≡ get_or facts (i + 1) g → is_gt (dimensions_cmp f.dimensions g.dimensions) ≡ false
 rise_in facts i f g sorted within here there =
@@ -145,7 +145,7 @@ rise_in facts i f g sorted within here there =
     let ordered : is_lt (fact_cmp g f) ≡ false = (λ k. is_lt (fact_cmp (sym next k) (here k))) ∙ sorted i f (omega arith) within in
     first_up (dimensions_cmp f.dimensions g.dimensions) (value_cmp f.value g.value) (ap is_gt (fact_cmp_total.antisymm f g) ∙ turned_up (fact_cmp g f) ordered)
 
--- no entry is above the i-th fact, where there is one
+-- no entry is above the i-th fact, if there is one
 abbrev pub ReachedIn : List Fact → ℕ → List Entry → Type 0
 ReachedIn facts i es = (f : Fact) → i < length facts → f ≡ get_or facts i f → NoneAbove f.dimensions es
 

@@ -1,4 +1,4 @@
--- Rows tell of the facts that they are of.
+-- The rows of facts have exactly these facts.
 use Rattle.std.proofs.Common.{◌≡◌, ◌≢◌, true, false, cond, List, [], ◌∷◌, map, length, Some, refl, sym, ap, subst, ◌∙◌, arith}
 use mathlib.Core.Bool.{true≢false}
 use Rattle.std.specs.Prelude.{Contains}
@@ -24,7 +24,7 @@ use Rattle.fact_base.proofs.EntryFacts.{from_facts_with, in_facts_with}
 use Rattle.fact_base.proofs.Members.{each_by_there, each_in_turn, first_there, from_map, in_flat_map, in_map, some_there, turn_there}
 use Rattle.fact_base.proofs.RowLists.{values_at_entries, values_in}
 
--- rows are entries whose summaries are those of their values
+-- a row is an entry with the summary of its values
 abbrev entry_of : Row → Entry
 entry_of r = (r.0, (r.1, summary_of_all r.1))
 
@@ -34,7 +34,7 @@ entries_of rs = map entry_of rs
 abbrev facts_of_rows : List Row → List Fact
 facts_of_rows rs = facts_of_entries (entries_of rs)
 
--- what rows that begin with a fact have is that fact and theirs
+-- the facts of rows with one fact added before them
 facts_before : (f : Fact) (rs : List Row) → facts_of_rows (before_rows f rs) ≡ f ∷ facts_of_rows rs
 facts_before f [] = refl
 facts_before f (r ∷ rs) = elim (is_eq (dimensions_cmp f.dimensions r.0)) as (λ b. is_eq (dimensions_cmp f.dimensions r.0) ≡ b → facts_of_rows (cond b ((r.0, f.value ∷ r.1) ∷ rs) ((f.dimensions, f.value ∷ []) ∷ r ∷ rs)) ≡ f ∷ facts_of_rows (r ∷ rs)) [
@@ -49,12 +49,12 @@ facts_are (f ∷ fs) = facts_before f (rows_of fs) ∙ ap (λ gs. f ∷ gs) (fac
 
 -- ---- order
 
--- what a row holds of the facts
+-- a row has at least one value, and its values are distinct and in order
 record IsRow (r : Row) : Type 0 where
   some : r.1 ≢ []
   in_order : IsSet value_cmp r.1
 
--- facts above one have no lesser dimensions, and of the same dimensions greater values
+-- facts above a fact do not have lesser dimensions, and have greater values if their dimensions are the same
 lesser_dimensions : (f g : Fact) → fact_cmp f g ≡ Less → is_eq (dimensions_cmp f.dimensions g.dimensions) ≡ false → dimensions_cmp f.dimensions g.dimensions ≡ Less
 lesser_dimensions f g less other = by_order (dimensions_cmp f.dimensions g.dimensions) refl
   where
@@ -69,7 +69,7 @@ lesser_dimensions f g less other = by_order (dimensions_cmp f.dimensions g.dimen
 lesser_values : (f g : Fact) → fact_cmp f g ≡ Less → dimensions_cmp f.dimensions g.dimensions ≡ Equal → value_cmp f.value g.value ≡ Less
 lesser_values f g less same = sym (ap (λ o. ordering_then o (value_cmp f.value g.value)) same) ∙ less
 
--- a fact of a row is one of all
+-- a fact of a row is a fact of the rows
 in_row : (rs : List Row) (r : Row) (v : Value) → Contains rs r → Contains r.1 v → Contains (facts_of_rows rs) (record { dimensions = r.0; value = v })
 in_row rs r v at held =
     (in_flat_map facts_of_entry (entries_of rs) (record { dimensions = r.0; value = v })).1
@@ -82,7 +82,7 @@ some_of (v ∷ vs) h = (v, first_there v vs)
 abbrev Rising : List Row → Type 0
 Rising rs = IsRising dimensions_cmp entry_key rs
 
--- with a fact below all facts of the rows
+-- the fact is below all facts of the rows
 module _ (f : Fact) where
   abbrev IsBelow : List Row → Type 0
   IsBelow rs = (g : Fact) → Contains (facts_of_rows rs) g → fact_cmp f g ≡ Less
@@ -90,7 +90,7 @@ module _ (f : Fact) where
   later_below : (r : Row) (rs : List Row) → IsBelow (r ∷ rs) → IsBelow rs
   later_below r rs below g at = below g (Contains-append_right (facts_with r.0 r.1) (facts_of_rows rs) g at)
 
-  -- dimensions of rows that rise, from a row of other dimensions on
+  -- a row of greater dimensions is followed by rows of greater dimensions
   below_rows : (r : Row) (rs : List Row) → dimensions_cmp f.dimensions r.0 ≡ Less → AllByRecursion (λ q. dimensions_cmp r.0 q.0 ≡ Less) rs → AllByRecursion (λ q. dimensions_cmp f.dimensions q.0 ≡ Less) (r ∷ rs)
   below_rows r rs less rest = (less, chained rs rest)
     where

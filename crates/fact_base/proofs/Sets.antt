@@ -1,4 +1,4 @@
--- Sets by what they have.
+-- The members of sets.
 use Rattle.std.proofs.Common.{◌≡◌, List, [], ◌∷◌, ◌++◌, subst, inl, inr, ⊎_elim}
 use Rattle.std.specs.Prelude.{Contains}
 use Rattle.std.specs.Cmp.{IsTotalOrder}
@@ -27,19 +27,19 @@ module _ {K : Type 0} {R : K → K → Ordering} (o : IsTotalOrder R) (exact : (
         );
       }
 
-  -- a list that rises with exactly these members is the set
+  -- an ascending list with exactly these members is the set
   pub is_set_of : (set xs : List K) → IsSet R set → SameMembers set xs → set ≡ set_of R xs
   is_set_of set xs rises same =
       let all = set_of_is_set xs in
       set_is_its_members o exact set (set_of R xs) rises all.rises (λ x. (λ h. (all.members x).1 ((same x).0 h), λ h. (same x).1 ((all.members x).0 h)))
 
-  -- lists that have the same make the same set
+  -- lists with the same members make the same set
   pub same_sets : (xs ys : List K) → SameMembers xs ys → set_of R xs ≡ set_of R ys
   same_sets xs ys same =
       let all = set_of_is_set xs in
       is_set_of (set_of R xs) ys all.rises (λ x. (λ h. (same x).0 ((all.members x).0 h), λ h. (all.members x).1 ((same x).1 h)))
 
-  -- sets of two lists make the set of both
+  -- the union of the sets of two lists is the set of both lists
   pub set_of-both : (xs ys : List K) → set_of R (xs ++ ys) ≡ set_of R (set_of R xs ++ set_of R ys)
   set_of-both xs ys =
       let first = set_of_is_set xs in

@@ -1,4 +1,4 @@
--- What is stored once more is taken.
+-- Storing merged entries again makes the union.
 use Rattle.std.proofs.Common.{◌≡◌, ℕ, List, [], ◌∷◌, ◌++◌, append-nil, length, get_or, false, Result, Ok, Err, sym, ap, subst, ◌∙◌, inl, inr, ⊎_elim, arith}
 use Rattle.std.specs.Prelude.{Contains, IsPermutation}
 use mathlib.Core.Bool.{true≢false}
@@ -35,7 +35,7 @@ use Rattle.fact_base.proofs.Sets.{is_set_of, same_sets, set_of_is_set}
 use Rattle.fact_base.proofs.TextOrder.{text_cmp_exact, text_cmp_total}
 use Rattle.fact_base.proofs.Unions.{Fit, all_fit_together, fit_in_order, rises, union_facts}
 
--- what is stored fits
+-- stored entries and references fit the sheet
 pub stored_fits : (sheet : Sheet) (es : List Entry) (references : List (List ℕ)) → AreStored sheet es references → Fits sheet (record { facts = facts_of_entries es; references = references })
 stored_fits sheet es references stored = record {
   rises = record { facts = rises es stored.rise (fit_in_order sheet es stored.entries); references = stored.in_order };
@@ -48,7 +48,7 @@ stored_fits sheet es references stored = record {
         let some = (in_flat_map facts_of_entry ds f).0 at in
         each_there (FactFits sheet) (facts_of_entry some.1) f (each_there (λ e. EntryFits sheet e.0 e.1) ds some.1 fit (some.0, some.2, some.3)).facts some.4
 
--- stored entries and further ones, with references of both
+-- stored entries with other entries, and the references of both
 pub stored_together : (sheet : Sheet) (es ds : List Entry) (references others wider : List (List ℕ)) → AreStored sheet es references → IsRising dimensions_cmp entry_key ds → Fit sheet ds → All IsKeptReference others → wider ≡ set_of text_cmp (references ++ others) → AreStored sheet (map_union dimensions_cmp summed_of_both es ds) wider
 stored_together sheet es ds references others wider stored rise fit kept is =
     let set = set_of_is_set text_cmp_total text_cmp_exact (references ++ others) in
@@ -63,18 +63,18 @@ stored_together sheet es ds references others wider stored rise fit kept is =
 same_bodies : {facts more : List Fact} {references others : List (List ℕ)} → facts ≡ more → references ≡ others → ◌≡◌ {A = Body} (record { facts = facts; references = references }) (record { facts = more; references = others })
 same_bodies p q = λ i. record { facts = p i; references = q i }
 
--- another base that is joined
+-- the base after another one is joined
 pub joined : (sheet : Sheet) (es ds : List Entry) (references others wider : List (List ℕ)) → AreStored sheet es references → AreStored sheet ds others → wider ≡ set_of text_cmp (references ++ others) → ◌≡◌ {A = Body} (record { facts = facts_of_entries (map_union dimensions_cmp summed_of_both es ds); references = wider }) (union (record { facts = facts_of_entries es; references = references }) (record { facts = facts_of_entries ds; references = others }))
 joined sheet es ds references others wider stored more is = same_bodies (union_facts sheet es ds stored.rise more.rise stored.entries more.entries) is
 
--- the same with a set in place of what it is of
+-- a list may be replaced by one with the same members
 with_set : {A : Type 0} (xs ys zs : List A) → SameMembers ys zs → SameMembers (xs ++ ys) (xs ++ zs)
 with_set xs ys zs same x = (
   λ h. (in_one_of_both xs zs x).1 (⊎_elim inl (λ r. inr ((same x).0 r)) ((in_one_of_both xs ys x).0 h)),
   λ h. (in_one_of_both xs ys x).1 (⊎_elim inl (λ r. inr ((same x).1 r)) ((in_one_of_both xs zs x).0 h)),
 )
 
--- a report that is taken
+-- the base after a report is taken
 pub taken : (sheet : Sheet) (es ds : List Entry) (references wider : List (List ℕ)) (d : Document) → AreStored sheet es references → AreEntriesOf d.facts ds → Fit sheet ds → wider ≡ set_of text_cmp (references ++ d.references) → ◌≡◌ {A = Body} (record { facts = facts_of_entries (map_union dimensions_cmp summed_of_both es ds); references = wider }) (union (record { facts = facts_of_entries es; references = references }) (body (d ∷ [])))
 taken sheet es ds references wider d stored are fit is =
     let facts = set_of_is_set fact_cmp_total fact_cmp_exact (d.facts ++ []) in
@@ -92,7 +92,7 @@ taken sheet es ds references wider d stored are fit is =
       λ h. subst (λ rs. Contains rs r) (append-nil d.references) ((kept.members r).0 h),
     ))))
 
--- ---- references among which others go
+-- -- references that are added to others
 
 pub all_there : (references others : List (List ℕ)) → IsSet text_cmp references → All (Contains references) others → references ≡ set_of text_cmp (references ++ others)
 all_there references others rise all = is_set_of text_cmp_total text_cmp_exact references (references ++ others) rise (λ r. (
@@ -100,7 +100,7 @@ all_there references others rise all = is_set_of text_cmp_total text_cmp_exact r
   λ h. ⊎_elim (λ l. l) (each_there (Contains references) others r all) ((in_one_of_both references others r).0 h),
 ))
 
--- the set of others among references in order
+-- the set of other references, added to sorted references
 pub set_among : (references others : List (List ℕ)) → IsSet text_cmp references → set_union text_cmp references (set_of text_cmp others) ≡ set_of text_cmp (references ++ others)
 set_among references others rise =
     let set = set_of_is_set text_cmp_total text_cmp_exact others in
@@ -110,7 +110,7 @@ set_among references others rise =
       λ h. (both.members r).1 (⊎_elim inl (λ o. inr ((set.members r).1 o)) ((in_one_of_both references others r).0 h)),
     ))
 
--- texts that were put in order, each once, are the set of them
+-- sorting texts without repeats makes the set of them
 same_bytes_tie : (x y : List ℕ) → bytes_eq x y ≡ eq_by_cmp text_cmp x y
 same_bytes_tie x y = sym (is_eq-slice_cmp x y)
 
@@ -124,13 +124,13 @@ sorted_set texts sorted once moved in_order is =
       λ h. subst (λ ts. Contains ts t) (sym is) (Contains-dedup nat_list_eq_equiv (λ x y same. same_bytes x y same) sorted t (Contains-permutation texts sorted t moved h)),
     ))
 
--- ---- a text that is found
+-- -- a text that is found
 
 pub found_there : (texts : List (List ℕ)) (text : List ℕ) (r : Result ℕ ℕ) → is_err r ≡ false → IsSearchInRange r (length texts) → IfOk r (HoldsAt (λ y. text_cmp y text ≡ Equal) texts) → Contains texts text
 found_there texts text (Ok i) found within holds = (i, within, text_cmp_exact (get_or texts i text) text (holds text))
 found_there texts text (Err i) found within holds = absurd (true≢false found)
 
--- ---- what a call leaves
+-- -- the state after a call
 
 pub record Leaves (sheet : Sheet) (es : List Entry) (texts : List (List ℕ)) (b : Body) : Type 0 where
   pub stored : AreStored sheet es texts

@@ -1,4 +1,4 @@
--- What a summary tells of several different values that are nil or of one kind.
+-- What a summary shows of several different values, each nil or of one kind.
 use Rattle.std.proofs.Common.{◌≡◌, ◌≢◌, ℕ, zero, suc, ◌≤◌, length, Bool, true, false, cond, ◌||◌, ◌&&◌, List, [], ◌∷◌, Option, Some, None, refl, sym, ap, subst, ◌∙◌, ⊎_elim, arith}
 use mathlib.Core.Bool.{true≢false}
 use Rattle.std.specs.Prelude.{◌↔◌, ◌⊎◌, IsTrue, Contains, is_some, int_lt, ℤ, ◌≤ℤ◌, ◌<ℤ◌, IfSome}
@@ -50,7 +50,7 @@ each_meet_is (v ∷ vs) =
           ((each_meet_is vs).1 (λ i j d under within. h (suc i) (suc j) d (omega (arith, under)) (omega (arith, within)))),
     )
 
--- ---- what a summary tells
+-- -- the contents of a summary
 
 no_intervals : (vs : List Value) → list_any has_interval vs ≡ false → intervals_of vs ≡ []
 no_intervals [] h = refl
@@ -59,7 +59,7 @@ no_intervals (Number m d ∷ vs) h = absurd (true≢false h)
 no_intervals (AText t ∷ vs) h = no_intervals vs h
 no_intervals (AName n ∷ vs) h = no_intervals vs h
 
--- the ends that a summary has are those of its values, where there are some
+-- the ends in a summary are the ends of its values, if there are any
 ends_told : (vs : List Value) (ends : Interval) → AreEnds ends (intervals_of vs) → (summary_of_all vs).ends ≡ Some ends
 ends_told vs ends are = by_ends (summary_of_all vs).ends refl
   where
@@ -76,7 +76,7 @@ ends_told vs ends are = by_ends (summary_of_all vs).ends refl
 told_ends : (vs : List Value) (ends : Interval) → (summary_of_all vs).ends ≡ Some ends → AreEnds ends (intervals_of vs)
 told_ends vs ends is = subst (λ a. IfSome a (λ e. AreEnds e (intervals_of vs))) is (summary_tells_all vs).ends
 
--- what is shared shows that each two meet
+-- the common part, unless there is a nil
 abbrev unless : Bool → Interval → Option Interval
 unless b ends = cond b None (Some ends)
 
@@ -123,7 +123,7 @@ shows_shared vs ends between =
     ap (option_and_then (λ e. unless ((summary_of_all vs).nil || int_lt e.high e.low) e)) (ends_told vs ends between.ends)
     ∙ (λ i. unless (not_nil vs between.no_nil i || not_above ends.high ends.low between.points i) ends)
 
--- something is shared exactly if each two of several meet
+-- there is a common part exactly if each two of several values meet
 pub shared_where_meet : (vs : List Value) (s : Summarised) → AreSummarised vs s → 2 ≤ length vs → (ends : Interval) → shared_by s ≡ Some ends → EachTwoValuesMeet vs × MeetBetween vs ends
 shared_where_meet vs s summed several ends is =
     let between = shared_shows vs ends (ap shared_by (sym summed.summary) ∙ is) in
@@ -195,7 +195,7 @@ some_number (v ∷ vs) h = by_test (λ later. some_number vs later) (has_interva
         let found = rest (sym (ap (λ (b : Bool). b || list_any has_interval vs) is) ∙ h) in
         (found.0, (later_there v vs found.0 found.1.0, found.1.1))
 
--- where there is a number and no nil, all are numbers
+-- if there is a number and no nil, all are numbers
 all_numbers : (kind : ℕ) (vs : List Value) → AreNilOrOfKind kind vs → (Contains vs Nil → ⊥) → list_any has_interval vs ≡ true → (v : Value) → Contains vs v → has_interval v ≡ true
 all_numbers kind vs alike none some v at =
     let found = some_number vs some in
@@ -292,7 +292,7 @@ pub no_number_is_apart : (vs : List Value) (s : Summarised) → AreSummarised vs
 no_number_is_apart vs s summed several none =
     first_are_apart vs several summed.different (begins_with_none vs (sym (summary_tells_all vs).number ∙ ap is_some (ap (λ (t : Summarised). t.ends) (sym summed.summary) ∙ none)))
 
--- ---- by what is shared
+-- -- by the common part
 
 pub are_several : (vs : List Value) → vs ≢ [] → (length vs ≡ 1 → ⊥) → 2 ≤ length vs
 are_several [] some more = absurd (some refl)

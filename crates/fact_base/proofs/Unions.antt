@@ -1,4 +1,4 @@
--- What entries make together.
+-- Entries that are merged.
 use Rattle.std.proofs.Common.{◌≡◌, List, [], ◌∷◌, ◌++◌, Option, Some, None, refl, sym, subst, ◌∙◌, inl, inr, ⊎_elim}
 use Rattle.std.specs.Prelude.{◌↔◌, ◌⊎◌, ◌≢◌, Contains}
 use Rattle.std.specs.List.{All}
@@ -22,7 +22,7 @@ use Rattle.fact_base.proofs.EntryFacts.{Holds, facts_rise, from_facts_with, in_f
 use Rattle.fact_base.proofs.Members.{each_by_there, each_there, first_there, in_one_of_both, none_there}
 use Rattle.fact_base.proofs.Sets.{is_set_of}
 
--- values of two that stand in order, together
+-- the values of two sorted lists, merged
 pub in_values_of_both : (vs ws : List Value) → IsSet value_cmp vs → IsSet value_cmp ws → (v : Value) → Contains (set_union value_cmp vs ws) v ↔ (Contains vs v ⊎ Contains ws v)
 in_values_of_both vs ws h g v = (set_union_has_both value_cmp_total value_cmp_exact vs ws h g).members v
 
@@ -30,7 +30,7 @@ some_there : (vs : List Value) → vs ≢ [] → (v : Value) × Contains vs v
 some_there [] h = absurd (h refl)
 some_there (v ∷ vs) h = (v, first_there v vs)
 
--- ---- entries that fit make one that does
+-- -- merged entries fit if both fit
 
 pub fits_together : (sheet : Sheet) (s : DimensionSet) (p q : Summed) → EntryFits sheet s p → EntryFits sheet s q → EntryFits sheet s (summed_of_both p q)
 fits_together sheet s p q h g =
@@ -55,7 +55,7 @@ Fit sheet = All (λ e. EntryFits sheet e.0 e.1)
 pub all_fit_together : (sheet : Sheet) (es fs : List Entry) → Fit sheet es → Fit sheet fs → Fit sheet (map_union dimensions_cmp summed_of_both es fs)
 all_fit_together sheet = all_of_union dimensions_cmp_exact summed_of_both (EntryFits sheet) (fits_together sheet)
 
--- ---- and their facts are those of both
+-- -- merged entries have the facts of both
 
 abbrev pub InOrder : List Entry → Type 0
 InOrder = All (λ e. IsSet value_cmp e.1.0)
@@ -94,7 +94,7 @@ facts_of_both es fs rise more sets others f =
       λ h. told.1 (subst (λ a. Holds a f.value) (sym (both.values f.dimensions)) (held.1 (⊎_elim (λ l. inl (first.0 l)) (λ r. inr (second.0 r)) h))),
     )
 
--- the facts of a union are the set of those of both
+-- the facts of merged entries are the union of both sets of facts
 pub union_facts : (sheet : Sheet) (es fs : List Entry) → IsRising dimensions_cmp entry_key es → IsRising dimensions_cmp entry_key fs → Fit sheet es → Fit sheet fs → facts_of_entries (map_union dimensions_cmp summed_of_both es fs) ≡ set_of fact_cmp (facts_of_entries es ++ facts_of_entries fs)
 union_facts sheet es fs rise more fit others =
     let both = map_union_has_both dimensions_cmp_total summed_of_both es fs rise more in

@@ -13,7 +13,7 @@ use Rattle.fact_base.specs.Sets.{set_of}
 abbrev pub text_cmp : List ℕ → List ℕ → Ordering
 text_cmp = slice_cmp nat_cmp
 
--- a finite set of facts, and one of kept references
+-- a finite set of facts, and a finite set of references
 pub record Body : Type 0 where
   pub facts : List Fact
   pub references : List (List ℕ)

@@ -1,4 +1,4 @@
--- What bodies have, by membership, and that neither order nor repetition matters (own).
+-- The members of bodies; neither order nor repetition matters (own).
 use Rattle.std.specs.Prelude.{◌≡◌, ◌↔◌, ◌⊎◌, ℕ, List, ◌++◌, Contains}
 use Rattle.std.specs.List.{Any}
 use Rattle.merge_laws.specs.Members.{SameMembers}
@@ -8,12 +8,12 @@ use Rattle.oim_dims.specs.declared.fact.Fact.{Fact}
 use Rattle.oim_report.specs.Document.{Document}
 use Rattle.fact_base.specs.Body.{Body, body, text_cmp, union}
 
--- facts and references rise, so they are distinct
+-- facts and references ascend, so they are distinct
 pub record IsBody (b : Body) : Type 0 where
   pub facts : IsSet fact_cmp b.facts
   pub references : IsSet text_cmp b.references
 
--- a body has exactly what the documents of a list have
+-- a body has exactly the facts and references of the documents in a list
 pub record HasWhatDocumentsHave (docs : List Document) (b : Body) : Type 0 where
   pub rises : IsBody b
   pub facts : (f : Fact) → Contains b.facts f ↔ Any (λ d. Contains d.facts f) docs
@@ -22,7 +22,7 @@ pub record HasWhatDocumentsHave (docs : List Document) (b : Body) : Type 0 where
 abbrev pub BodyHasWhatDocumentsHave : Type 0
 BodyHasWhatDocumentsHave = (docs : List Document) → HasWhatDocumentsHave docs (body docs)
 
--- exactly what one body or the other has
+-- exactly the facts and references of one body or the other
 pub record HasBoth (a b both : Body) : Type 0 where
   pub rises : IsBody both
   pub facts : (f : Fact) → Contains both.facts f ↔ (Contains a.facts f ⊎ Contains b.facts f)
@@ -31,10 +31,10 @@ pub record HasBoth (a b both : Body) : Type 0 where
 abbrev pub UnionHasBoth : Type 0
 UnionHasBoth = (a b : Body) → HasBoth a b (union a b)
 
--- neither the order of documents nor repeats matter
+-- the body depends neither on the order of documents nor on repeats
 abbrev pub BodyIgnoresOrder : Type 0
 BodyIgnoresOrder = (ds es : List Document) → SameMembers ds es → body ds ≡ body es
 
--- further documents add their body
+-- the body of more documents is the union with their body
 abbrev pub BodyOfBoth : Type 0
 BodyOfBoth = (ds es : List Document) → body (ds ++ es) ≡ union (body ds) (body es)

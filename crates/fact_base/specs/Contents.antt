@@ -1,8 +1,8 @@
--- What contracts see of a base (own).
+-- The view of a base that contracts see (own).
 use Rattle.oim_report.specs.Sheet.{Sheet}
 use Rattle.fact_base.specs.Body.{Body}
 
--- the sheet that it borrows, and its body
+-- the sheet that the base borrows, and its body
 pub record Contents : Type 0 where
   pub sheet : Sheet
   pub body : Body

@@ -9,20 +9,20 @@ use Rattle.oim_report.specs.Sheet.{Sheet}
 use Rattle.fact_base.specs.Body.{Body, body, union}
 use Rattle.fact_base.specs.BodyLaws.{IsBody}
 
--- each fact fits the sheet, each reference is its own kept text of at most 65,536 bytes, and both rise
+-- each fact fits the sheet, each reference is kept as it is and has at most 65,536 bytes, and both lists ascend
 pub record Fits (sheet : Sheet) (b : Body) : Type 0 where
   pub rises : IsBody b
   pub facts : All (FactFits sheet) b.facts
   pub references : All IsKeptReference b.references
 
--- a document that some bytes say under a sheet
+-- some bytes say this document under the sheet
 abbrev pub IsAccepted : Sheet → Document → Type 0
 IsAccepted sheet d = (bytes : List ℕ) × (outcome sheet bytes ≡ Ok d)
 
--- the body of accepted documents fits their sheet,
+-- the body of accepted documents fits their sheet
 abbrev pub AcceptedFits : Type 0
 AcceptedFits = (sheet : Sheet) (docs : List Document) → All (IsAccepted sheet) docs → Fits sheet (body docs)
 
--- and so does the union of two bodies that fit
+-- the union of two bodies that fit a sheet fits it
 abbrev pub UnionFits : Type 0
 UnionFits = (sheet : Sheet) (a b : Body) → Fits sheet a → Fits sheet b → Fits sheet (union a b)

@@ -1,4 +1,4 @@
--- Values of one dimension set with their summary, as a base keeps them (own).
+-- Values of one dimension set with their summary, as a base stores them (own).
 use Rattle.std.specs.Prelude.{◌≡◌, ◌≢◌, ℕ, ◌||◌, List, [], Option, Some, None, if◌then◌else◌, int_lt}
 use Rattle.std.specs.Option.{option_and_then}
 use Rattle.merge_laws.specs.Ends.{Summarised, summary_of_all}
@@ -12,7 +12,7 @@ use Rattle.oim_value.specs.declared.value.Value.{Value}
 use Rattle.fact_base.specs.declared.verdict.Verdict.{Verdict}
 use Rattle.fact_base.specs.declared.verdict.Verdict.TheVariants.{Complete, Consistent, Inconsistent}
 
--- different values in order that are nil or of one kind, with the summary of them all
+-- different values in order, each nil or of one kind, and the summary of all
 pub record AreSummarised (vs : List Value) (told : Summarised) : Type 0 where
   pub some : vs ≢ []
   pub in_order : IsSet value_cmp vs
@@ -21,11 +21,12 @@ pub record AreSummarised (vs : List Value) (told : Summarised) : Type 0 where
   pub alike : AreNilOrOfKind kind vs
   pub summary : told ≡ summary_of_all vs
 
--- the common part of the intervals of several values that meet: their ends, if there is no nil and low is at most high
+-- the common part of the intervals of several values that meet: the interval between their ends, if there is no nil and low is at
+-- most high
 abbrev pub shared_by : Summarised → Option Interval
 shared_by s = option_and_then (λ ends. if s.nil || int_lt ends.high ends.low then None else Some ends) s.ends
 
--- the strictest level that allows distinct facts, by their verdict
+-- the strictest level that allows distinct facts with this verdict
 abbrev pub level_at : Verdict → Level
 level_at Complete = Unique
 level_at Consistent = ConsistentLevel

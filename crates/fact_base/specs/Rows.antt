@@ -1,4 +1,4 @@
--- Facts by their dimension sets (own).
+-- Facts grouped by their dimension sets (own).
 use Rattle.std.specs.Prelude.{map, ◌≡◌, ◌≢◌, List, [], ◌∷◌, if◌then◌else◌, Contains}
 use Rattle.std.specs.List.{All}
 use Rattle.std.specs.Ordering.{is_eq}
@@ -18,17 +18,17 @@ abbrev pub values_at : DimensionSet → List Fact → List Value
 values_at s [] = []
 values_at s (f ∷ fs) = if is_eq (dimensions_cmp s f.dimensions) then f.value ∷ values_at s fs else values_at s fs
 
--- a fact put before rows: into the first row, if that has its dimensions
+-- a fact added before rows: to the first row if it has the same dimensions, otherwise as a new row
 abbrev pub before_rows : Fact → List Row → List Row
 before_rows f [] = (f.dimensions, f.value ∷ []) ∷ []
 before_rows f (r ∷ rs) = if is_eq (dimensions_cmp f.dimensions r.0) then (r.0, f.value ∷ r.1) ∷ rs else (f.dimensions, f.value ∷ []) ∷ r ∷ rs
 
--- the rows of facts that rise: neighbours with one dimension set share a row
+-- the rows of ascending facts: neighbours with the same dimensions share a row
 unfoldable pub rows_of : List Fact → List Row
 rows_of [] = []
 rows_of (f ∷ fs) = before_rows f (rows_of fs)
 
--- distinct dimension sets in order, each with exactly its values, at least one, distinct and in order
+-- the rows have distinct dimension sets in order, each with exactly its values, which are distinct and in order
 pub record AreRowsOf (facts : List Fact) (rows : List Row) : Type 0 where
   pub rise : IsRising dimensions_cmp entry_key rows
   pub values : All (λ r. r.1 ≡ values_at r.0 facts) rows

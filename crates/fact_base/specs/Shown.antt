@@ -1,4 +1,4 @@
--- What rows lend.
+-- What contracts see of rows.
 use Rattle.std.specs.Prelude.{map, List, drop}
 use Rattle.fact_base.specs.Entries.{Entry}
 use Rattle.fact_base.specs.Rows.{Row}
@@ -9,10 +9,10 @@ use Rattle.fact_base.specs.declared.rows.Rows.{Rows}
 abbrev pub row_of : Entry → Row
 row_of e = (e.0, e.1.0)
 
--- what a row lends
+-- what contracts see of a row
 abbrev pub shown : Lent → Row
 shown r = (r.dimensions.now, r.values.now)
 
--- the rows that are left
+-- the remaining rows
 abbrev pub rows_left : Rows → List Row
 rows_left r = map row_of (drop r.next r.entries.now)

@@ -18,18 +18,18 @@ use Rattle.fact_base.specs.declared.verdict.Verdict.TheVariants.{Complete, Consi
 
 -- ---- verdicts
 
--- whether each value meets each later one
+-- each value meets each later one
 abbrev pub each_meet : List Value → Bool
 each_meet [] = true
 each_meet (v ∷ vs) = list_all (values_meet v) vs && each_meet vs
 
--- one value is complete; several are consistent if each two of them meet
+-- one value is complete; several are consistent if each two of them meet, and inconsistent otherwise
 abbrev pub verdict_of : List Value → Option Verdict
 verdict_of [] = None
 verdict_of (v ∷ []) = Some Complete
 verdict_of (v ∷ w ∷ vs) = Some (if each_meet (v ∷ w ∷ vs) then Consistent else Inconsistent)
 
--- the verdict on the facts with these dimensions; none if there are no such facts
+-- the verdict on the facts with these dimensions, or None if there are none
 abbrev pub verdict : List Fact → DimensionSet → Option Verdict
 verdict facts s = verdict_of (values_at s facts)
 
@@ -41,20 +41,20 @@ InconsistentIsApart =
 
 -- ---- evidence
 
--- several values that meet, and the interval of exactly the numbers that are in all their intervals
+-- several values that meet, and the interval of exactly the numbers that lie in all their intervals
 pub record IsCommonOf (vs : List Value) (common : Interval) : Type 0 where
   pub several : 2 ≤ length vs
   pub each : EachTwoValuesMeet vs
   pub points : HasPoints common
   pub within : (units : ℤ) → IsWithin units common ↔ All (IsWithin units) (intervals_of vs)
 
--- whether the first two values are numbers
+-- the first two values are numbers
 abbrev pub begin_with_numbers : List Value → Bool
 begin_with_numbers (v ∷ w ∷ vs) = has_interval v && has_interval w
 begin_with_numbers other = false
 
--- the pair that is shown for several values: the first two, unless both are numbers; else the least place with the least high end and
--- the least place with the greatest low end
+-- the pair that is shown for several values: the first two, unless both are numbers; otherwise the first index with the least
+-- high end and the first with the greatest low end
 abbrev pub IsPairOf : Bool → List Value → ℕ → ℕ → Type 0
 IsPairOf true vs i j = (ends : Interval) → AreEnds ends (intervals_of vs) → (i ≡ place_of_least_high ends vs) × (j ≡ place_of_greatest_low ends vs)
 IsPairOf false vs i j = (i ≡ 0) × (j ≡ 1)
@@ -62,12 +62,12 @@ IsPairOf false vs i j = (i ≡ 0) × (j ≡ 1)
 abbrev pub IsShownPair : List Value → ℕ → ℕ → Type 0
 IsShownPair vs = IsPairOf (begin_with_numbers vs) vs
 
--- this pair, whose values do not meet
+-- the values of the shown pair do not meet
 pub record IsApartPair (vs : List Value) (i j : ℕ) : Type 0 where
   pub shown : IsShownPair vs i j
   pub apart : AreApart vs i j
 
--- what a reader can check by hand
+-- the evidence for a verdict, which a reader can check by hand
 abbrev pub IsEvidence : List Value → Evidence → Type 0
 IsEvidence vs Alike = length vs ≡ 1
 IsEvidence vs (Common common) = IsCommonOf vs common

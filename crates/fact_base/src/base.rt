@@ -21,8 +21,8 @@ use oim_value::{Level, Value};
 use std::alloc::{AllocError, Global};
 use std::marker::Model;
 
-/// The distinct facts and the distinct taxonomy references of several reports. It borrows the sheet
-/// under which they are read.
+/// The distinct facts and taxonomy references of several reports. It borrows the sheet under which
+/// they are read.
 #[derive(Drop)]
 pub struct Base<'s> {
     alloc: Global,
@@ -48,7 +48,7 @@ impl<'s> Model for Base<'s> {
 }
 
 impl<'s> Base<'s> {
-    /// No facts and no references. Later calls take their memory from `alloc`.
+    /// Returns a base without facts and references. Later calls take their memory from `alloc`.
     pub fn new(alloc: Global, sheet: &'s Sheet) -> Base<'s>
         ensures { result ≡ record { sheet = sheet.now; body = body [] } }
     {
@@ -60,7 +60,8 @@ impl<'s> Base<'s> {
         }
     }
 
-    /// A base of these entries and references, which come from reports read under the sheet.
+    /// Returns a base of these entries and references, which come from reports that were read under
+    /// the sheet.
     pub(crate) fn of(
         alloc: Global,
         sheet: &'s Sheet,
@@ -78,14 +79,15 @@ impl<'s> Base<'s> {
         }
     }
 
-    /// The sheet under which the reports are read.
+    /// Returns the sheet under which the reports are read.
     pub fn sheet(&self) -> &'s Sheet
         ensures { result.now ≡ self.now.sheet }
     {
         self.sheet
     }
 
-    /// Whether the sheet lists the same as the base's, so that reports read under it can be taken.
+    /// Returns whether the sheet is equal to the base's sheet, so that reports read under it can be
+    /// taken.
     pub fn same_sheet(&self, sheet: &Sheet) -> bool
         ensures { IsTrue result ↔ (self.now.sheet ≡ sheet.now) }
     {
@@ -148,15 +150,15 @@ impl<'s> Base<'s> {
         ensures err { OnErr result (self.new ≡ self.old) }
     {
         let references = with_all(self.alloc, &self.references, other.taxonomy())?;
-        // Values at a dimension set of both are copied into the other base, so that a refused request
-        // leaves this one as it was. Bases with many values of one dimension set, absorbed one by one,
-        // therefore cost the square of their number.
+        // Values of a shared dimension set are copied into the other base, so that a refused
+        // request leaves this base unchanged. Absorbing one by one many bases whose values share
+        // dimensions therefore takes time that is quadratic in their number.
         self.entries.absorb(other.entries)?;
         replace(&mut self.references, references);
         Ok(())
     }
 
-    /// The dimension sets in order, each once, with their values.
+    /// Returns the dimension sets in order, each once, with their values.
     pub fn rows(&self) -> Rows<'_>
         ensures { rows_left result ≡ rows_of self.now.body.facts }
     {
@@ -166,35 +168,36 @@ impl<'s> Base<'s> {
         }
     }
 
-    /// How many dimension sets there are.
+    /// Returns the number of dimension sets.
     pub fn row_count(&self) -> u64
         ensures { result ≡ length (rows_of self.now.body.facts) }
     {
         self.entries.len() as u64
     }
 
-    /// How many facts there are.
+    /// Returns the number of facts.
     pub fn fact_count(&self) -> u128
         ensures { result ≡ length self.now.body.facts }
     {
         count_of(&self.entries)
     }
 
-    /// The references of all taxonomies in byte order, each once.
+    /// Returns the references of all taxonomies in byte order, each once.
     pub fn taxonomy(&self) -> &[Text]
         ensures { result.now ≡ self.now.body.references }
     {
         self.references.as_slice()
     }
 
-    /// Whether both have the same facts and the same references.
+    /// Returns whether both bases have the same facts and the same references.
     pub fn same_as(&self, other: &Base<'_>) -> bool
         ensures { IsTrue result ↔ (self.now.body ≡ other.now.body) }
     {
         same_rows(&self.entries, &other.entries) && self.taxonomy() == other.taxonomy()
     }
 
-    /// Whether the facts with these dimensions contradict each other, or None if there are none.
+    /// Returns whether the facts with these dimensions contradict each other, or None if there are
+    /// none.
     pub fn verdict(&self, dimensions: &Dimensions) -> Option<Verdict>
         ensures { result ≡ verdict self.now.body.facts dimensions.now }
     {
@@ -202,7 +205,7 @@ impl<'s> Base<'s> {
         Some(verdict_of(values.as_slice(), summary))
     }
 
-    /// The evidence for that verdict, or None if there are no facts with these dimensions.
+    /// Returns the evidence for that verdict, or None if there are no facts with these dimensions.
     pub fn evidence(&self, dimensions: &Dimensions) -> Option<Evidence>
         ensures there { is_some result ≡ is_some (verdict self.now.body.facts dimensions.now) }
         ensures evidence { IfSome result (IsEvidence (values_at dimensions.now self.now.body.facts)) }
@@ -211,8 +214,8 @@ impl<'s> Base<'s> {
         Some(evidence_of(values.as_slice(), summary))
     }
 
-    /// The strictest level of duplicates that allows the facts. It is never `Complete`, since the
-    /// facts are distinct.
+    /// Returns the strictest level of duplicates that allows the facts. It is never `Complete`,
+    /// since the facts are distinct.
     pub fn level(&self) -> Level
         ensures level { result ≡ level_of self.now.body.facts }
         ensures never_complete { result ≢ Level.Complete }
@@ -220,8 +223,8 @@ impl<'s> Base<'s> {
         level_of(&self.entries)
     }
 
-    /// Does nothing. Its contract says that each fact fits the sheet, each reference is its own
-    /// kept text, and both rise.
+    /// Does nothing. Its contract states that each fact fits the sheet, that each reference is kept
+    /// as it is, and that both lists ascend.
     pub fn known(&self)
         ensures { Fits self.now.sheet self.now.body }
     {

@@ -25,8 +25,8 @@ pub(crate) type Entries = SortedMap<Dimensions, (SortedSet<Value>, Summary)>;
 /// A dimension set with its values and their summary.
 type Entry = (Dimensions, (SortedSet<Value>, Summary));
 
-/// The entries of facts, of which each stands at one place of `order`. In that order each fact goes
-/// to the last entry or behind it, so that it is copied once and nothing is looked up.
+/// Returns the entries of facts, which `order` visits once each in ascending order. So each fact is
+/// added to the last entry or after it: it is copied once, without a look-up.
 pub(crate) fn entries_of(
     alloc: Global,
     facts: &[Fact],
@@ -42,7 +42,7 @@ pub(crate) fn entries_of(
     Ok(SortedMap::of_rising(entries))
 }
 
-/// The same where the facts are given up: each is moved.
+/// Does the same as `entries_of`, but consumes the facts and moves them.
 pub(crate) fn entries_from(
     alloc: Global,
     facts: Vec<Fact>,
@@ -55,7 +55,7 @@ pub(crate) fn entries_from(
     entries_in_order(alloc, sorted)
 }
 
-/// The same for facts that do not fall.
+/// Does the same as `entries_from` for facts that are already sorted.
 pub(crate) fn entries_in_order(alloc: Global, facts: Vec<Fact>) -> Result<Entries, AllocError>
     requires { IsSorted fact_cmp facts.items }
     ensures { IfOk result (AreEntriesOf facts.items) }
@@ -67,7 +67,7 @@ pub(crate) fn entries_in_order(alloc: Global, facts: Vec<Fact>) -> Result<Entrie
     Ok(SortedMap::of_rising(entries))
 }
 
-// The same as `push` where the fact is given up.
+// Does the same as `push`, but consumes the fact.
 fn push_given(alloc: Global, entries: &mut Vec<Entry>, fact: Fact) -> Result<(), AllocError>
     requires rise { IsRising dimensions_cmp entry_key entries.old.items }
     requires below { NoneAbove fact.dimensions entries.old.items }
@@ -100,7 +100,7 @@ fn push(alloc: Global, entries: &mut Vec<Entry>, fact: &Fact) -> Result<(), Allo
     }
 }
 
-// Adds a value to those of an entry.
+// Adds a value to the values of an entry.
 fn add(
     alloc: Global,
     kept: &mut (SortedSet<Value>, Summary),
@@ -112,7 +112,7 @@ fn add(
     kept.1.merge(alloc, &Summary::of(value))
 }
 
-// The entry of a dimension set with one value. Most have no more.
+// Returns the entry of a dimension set with one value. Most entries have no more.
 fn entry_of(alloc: Global, fact: &Fact) -> Result<Entry, AllocError>
     ensures { IfOk result (λ entry. entry ≡ entry_of fact.now) }
 {
@@ -127,7 +127,7 @@ fn entry_given(alloc: Global, fact: Fact) -> Entry
     (dimensions, (SortedSet::of_one(alloc, value), summary))
 }
 
-/// How many facts the entries have.
+/// Returns the number of facts in the entries.
 pub(crate) fn count_of(entries: &Entries) -> u128
     ensures { result ≡ length (facts_of_entries entries.now) }
 {
@@ -140,7 +140,7 @@ pub(crate) fn count_of(entries: &Entries) -> u128
     count
 }
 
-/// Whether both have the same dimension sets, each with the same values.
+/// Returns whether both have the same dimension sets with the same values.
 pub(crate) fn same_rows(one: &Entries, other: &Entries) -> bool
     ensures { IsTrue result ↔ (map row_of one.now ≡ map row_of other.now) }
 {
@@ -167,8 +167,8 @@ fn same_at(one: &Entries, other: &Entries, place: usize) -> bool
     }
 }
 
-/// The strictest level of duplicates that allows the facts. It looks at the number of values of each
-/// dimension set and at their summary.
+/// Returns the strictest level of duplicates that allows the facts. It reads only the number of
+/// values of each dimension set and their summary.
 pub(crate) fn level_of(entries: &Entries) -> Level
     requires rise { IsRising dimensions_cmp entry_key entries.now }
     requires summed { All (λ e. AreSummarised e.1.0 e.1.1) entries.now }

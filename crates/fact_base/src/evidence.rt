@@ -1,12 +1,12 @@
 use oim_value::Interval;
 
-/// What shows that a verdict is right, so that a reader can check it by hand (own).
+/// Evidence for a verdict, which a reader can check by hand (own).
 #[derive(Clone, Copy, Debug, PartialEq, Eq)]
 pub enum Evidence {
-    /// There is one fact.
+    /// There is only one distinct fact.
     Alike,
     /// The common part of the rounding intervals of several values.
     Common(Interval),
-    /// The places of two values, from 0, that do not meet.
+    /// The indices, from 0, of two values that do not meet.
     Apart(usize, usize),
 }

@@ -14,20 +14,22 @@ use oim_report::{Report, Sheet};
 use std::alloc::{AllocError, Global};
 use std::marker::Model;
 
-/// Collects reports on their way into one base. A report with at least half as many facts and
-/// references as the base is absorbed, so that providers of the same figures cost a look-up a fact.
-/// A smaller one would cost a walk over the base: it goes into two lists instead, which are sorted
-/// and freed of repeats whenever they have doubled. References count as facts do, since reports of
-/// the same facts with a reference each would otherwise be absorbed one by one. It borrows the
-/// sheet under which the reports are read.
+/// Collects reports that become one base. It borrows the sheet under which they are read.
+///
+/// A report with at least half as many facts and references as the base is absorbed, so that
+/// providers of the same figures cost one look-up a fact. A smaller report would cost a walk over
+/// the whole base. Its facts and references go to two lists instead, which are sorted without
+/// repeats whenever they have doubled. References count as facts do, because reports of the same
+/// facts with different references would otherwise be absorbed one by one.
 #[derive(Drop)]
 pub struct Gathering<'s> {
     alloc: Global,
-    // the reports that were not much smaller than it
+    // the base that absorbed the reports of at least half its size
     base: Base<'s>,
-    // how many facts and references it has
+    // the number of facts and references in the base
     size: u128,
-    // the facts and references of the others, in lists that are sorted whenever they have doubled
+    // the facts and references of smaller reports, in lists that are sorted whenever they have
+    // doubled
     facts: Vec<Fact>,
     settled_facts: usize,
     references: Vec<Text>,
@@ -52,7 +54,7 @@ impl<'s> Model for Gathering<'s> {
 }
 
 impl<'s> Gathering<'s> {
-    /// Nothing yet. Later calls take their memory from `alloc`.
+    /// Returns a gathering without reports. Later calls take their memory from `alloc`.
     pub fn new(alloc: Global, sheet: &'s Sheet) -> Gathering<'s>
         ensures { result ≡ record { sheet = sheet.now; body = body [] } }
     {
@@ -67,7 +69,7 @@ impl<'s> Gathering<'s> {
         }
     }
 
-    /// The sheet under which the reports are read.
+    /// Returns the sheet under which the reports are read.
     pub fn sheet(&self) -> &'s Sheet
         ensures { result.now ≡ self.now.sheet }
     {
@@ -77,7 +79,7 @@ impl<'s> Gathering<'s> {
     /// Adds the facts and references of a report that was read under an equal sheet. The facts are
     /// moved.
     ///
-    /// Errors: out of memory; all is then unchanged, and the report is lost.
+    /// Errors: out of memory; the gathering is then unchanged, and the report is lost.
     pub fn add(&mut self, report: Report<'_>) -> Result<(), AllocError>
         requires { report.sheet ≡ self.old.sheet }
         ensures ok { OnOk result (self.new ≡ record self.old { body = union self.old.body (body (report.entry.document ∷ [])) }) }
@@ -89,7 +91,7 @@ impl<'s> Gathering<'s> {
         self.absorb(report)
     }
 
-    // Has the base absorb a report.
+    // Absorbs a report into the base.
     fn absorb(&mut self, report: Report<'_>) -> Result<(), AllocError>
         requires { report.sheet ≡ self.old.sheet }
         ensures ok { OnOk result (self.new ≡ record self.old { body = union self.old.body (body (report.entry.document ∷ [])) }) }
@@ -100,7 +102,7 @@ impl<'s> Gathering<'s> {
         Ok(())
     }
 
-    // Puts what a report says behind the lists.
+    // Appends the facts and references of a report to the lists.
     fn gather(&mut self, report: Report<'_>) -> Result<(), AllocError>
         requires { report.sheet ≡ self.old.sheet }
         ensures ok { OnOk result (self.new ≡ record self.old { body = union self.old.body (body (report.entry.document ∷ [])) }) }
@@ -114,7 +116,7 @@ impl<'s> Gathering<'s> {
         self.append(facts, references)
     }
 
-    // Sorts what has doubled, which changes nothing that contracts see.
+    // Sorts the lists that have doubled. Contracts do not see the difference.
     fn settle(&mut self) -> Result<(), AllocError>
         ensures { self.new ≡ self.old }
     {
@@ -122,7 +124,7 @@ impl<'s> Gathering<'s> {
         settle(&mut self.references, &mut self.settled_references)
     }
 
-    // Moves all of them behind the lists.
+    // Moves all facts and references to the end of the lists.
     fn append(&mut self, mut facts: Vec<Fact>, mut references: Vec<Text>) -> Result<(), AllocError>
         requires { Fits self.old.sheet (gathered facts.items references.items) }
         ensures ok { OnOk result (self.new ≡ record self.old { body = union self.old.body (gathered facts.items references.items) }) }
@@ -130,13 +132,13 @@ impl<'s> Gathering<'s> {
     {
         self.facts.reserve(facts.len())?;
         self.references.append(&mut references)?;
-        // there is room, so this cannot be refused
+        // capacity was reserved, so this cannot be refused
         self.facts.append(&mut facts)
     }
 
-    /// The base of all reports that were added.
+    /// Returns the base of all reports that were added.
     ///
-    /// Errors: out of memory; all is then lost.
+    /// Errors: out of memory; everything is then lost.
     pub fn into_base(self) -> Result<Base<'s>, AllocError>
         ensures { IfOk result (λ base. base ≡ self.entry) }
     {
@@ -155,8 +157,8 @@ impl<'s> Gathering<'s> {
         joined(base, others)
     }
 
-    /// Does nothing. Its contract says that each fact fits the sheet, each reference is its own
-    /// kept text, and both rise.
+    /// Does nothing. Its contract states that each fact fits the sheet, that each reference is kept
+    /// as it is, and that both lists ascend.
     pub fn known(&self)
         ensures { Fits self.now.sheet self.now.body }
     {
@@ -164,7 +166,7 @@ impl<'s> Gathering<'s> {
     }
 }
 
-// The number of facts and references, or the greatest number that fits.
+// Returns the number of facts and references, or the greatest number that fits.
 fn size_of(base: &Base<'_>) -> u128
     ensures { result ≡ min (length base.now.body.facts + length base.now.body.references) (2 ^ 128 - 1) }
 {
@@ -172,7 +174,7 @@ fn size_of(base: &Base<'_>) -> u128
     base.fact_count().saturating_add(references)
 }
 
-// The same for a report.
+// Returns the number of facts and references of a report, or the greatest number that fits.
 fn size_of_report(report: &Report<'_>) -> u128
     ensures { result ≡ min (length report.now.document.facts + length report.now.document.references) (2 ^ 128 - 1) }
 {
@@ -180,7 +182,7 @@ fn size_of_report(report: &Report<'_>) -> u128
     (report.facts().len() as u128).saturating_add(references)
 }
 
-// The base of these facts and references, in any order and with repeats.
+// Returns the base of these facts and references, which may be in any order and have repeats.
 fn base_of<'s>(
     alloc: Global,
     sheet: &'s Sheet,

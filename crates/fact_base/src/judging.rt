@@ -8,9 +8,9 @@ use crate::verdict::Verdict;
 use merge_laws::Summary;
 use oim_value::{Interval, Value, interval_of};
 
-/// The verdict on the values of one dimension set, by their number and their summary alone. That is
-/// enough because the values fit a sheet: they are nil or of one kind, and different values agree
-/// only as numbers.
+/// Returns the verdict on the values of one dimension set, from their number and their summary.
+/// That is enough because the values fit a sheet: each is nil or of one kind, and different values
+/// meet only if both are numbers.
 pub(crate) fn verdict_of(values: &[Value], summary: &Summary) -> Verdict
     requires { AreSummarised values.now summary.now }
     ensures { verdict_of values.now ≡ Some result }
@@ -24,7 +24,7 @@ pub(crate) fn verdict_of(values: &[Value], summary: &Summary) -> Verdict
     }
 }
 
-/// The evidence for the verdict. It walks the values only to find two that do not meet.
+/// Returns the evidence for the verdict. It walks the values only to find two that do not meet.
 pub(crate) fn evidence_of(values: &[Value], summary: &Summary) -> Evidence
     requires { AreSummarised values.now summary.now }
     ensures { IsEvidence values.now result }
@@ -38,8 +38,9 @@ pub(crate) fn evidence_of(values: &[Value], summary: &Summary) -> Evidence
     }
 }
 
-// The places of two values that do not meet: the first two if one of them is not a number, since
-// nil comes before numbers; else the numbers whose intervals end first and begin last.
+// Returns the indices of two values that do not meet. If one of the first two is not a number,
+// these are the first two, since nil comes before numbers. Otherwise they are the numbers whose
+// intervals end first and begin last.
 fn apart(values: &[Value], summary: &Summary) -> Evidence
     requires summed { AreSummarised values.now summary.now }
     requires apart { shared_by summary.now ≡ None }
@@ -54,7 +55,7 @@ fn apart(values: &[Value], summary: &Summary) -> Evidence
     }
 }
 
-// The common part of the intervals of several values that meet.
+// Returns the common part of the intervals of several values that meet.
 fn shared_by(summary: &Summary) -> Option<Interval>
     ensures { result ≡ shared_by summary.now }
 {
@@ -65,7 +66,7 @@ fn shared_by(summary: &Summary) -> Option<Interval>
     Some(ends)
 }
 
-// The place of the first number whose interval has the high end of these.
+// Returns the index of the first number whose interval has this high end.
 fn first_high(values: &[Value], ends: &Interval) -> usize
     ensures { result ≡ place_of_least_high ends.now values.now }
 {
@@ -77,7 +78,7 @@ fn first_high(values: &[Value], ends: &Interval) -> usize
     values.len()
 }
 
-// The place of the first number whose interval has the low end of these.
+// Returns the index of the first number whose interval has this low end.
 fn first_low(values: &[Value], ends: &Interval) -> usize
     ensures { result ≡ place_of_greatest_low ends.now values.now }
 {

@@ -1,4 +1,4 @@
-//! Laws of the definitions, each the contract of a function that does nothing.
+//! Laws of the definitions. Each is the contract of a function that does nothing.
 ghost use Rattle.fact_base.specs.BodyLaws.{BodyHasWhatDocumentsHave, BodyIgnoresOrder, BodyOfBoth, UnionHasBoth};
 ghost use Rattle.fact_base.specs.Contradiction.{NumericInconsistentIsApart};
 ghost use Rattle.fact_base.specs.Fits.{AcceptedFits, UnionFits};
@@ -16,7 +16,7 @@ pub fn union_has_both()
     ensures { UnionHasBoth }
 {}
 
-/// The same documents have one body, in any order and however often each is repeated.
+/// The body of documents does not depend on their order or repetition.
 pub fn body_ignores_order()
     ensures { BodyIgnoresOrder }
 {}
@@ -39,7 +39,7 @@ pub fn rows_tell_facts()
     ensures { RowsTellFacts }
 {}
 
-/// The level of distinct facts is never `complete`, since equal facts are one.
+/// The level of distinct facts is never `complete`, because equal facts are one fact.
 pub fn sets_are_never_complete()
     ensures { SetsAreNeverComplete }
 {}
@@ -49,7 +49,7 @@ pub fn inconsistent_is_apart()
     ensures { InconsistentIsApart }
 {}
 
-/// In a body that fits a sheet, a numeric dimension set is called inconsistent exactly if two of
+/// Take a body that fits a sheet. A numeric dimension set is called inconsistent exactly if two of
 /// its values are numbers whose intervals have no number of units in common, or one is nil and the
 /// other is not.
 pub fn numeric_inconsistent_is_apart()

@@ -9,8 +9,8 @@ use oim_dims::Fact;
 use oim_names::Key;
 use std::alloc::AllocError;
 
-/// The facts of a report in order, each moved and none copied. They are swapped along the places of
-/// their order; the sort after that compares each with the next one alone.
+/// Returns the facts of a report in order. Facts are moved by swaps and never copied. The sort
+/// afterwards compares each fact only with the next one.
 ///
 /// Errors: out of memory.
 pub(crate) fn in_order(mut facts: Vec<Fact>, order: Vec<usize>) -> Result<Vec<Fact>, AllocError>
@@ -28,8 +28,8 @@ pub(crate) fn in_order(mut facts: Vec<Fact>, order: Vec<usize>) -> Result<Vec<Fa
     Ok(facts)
 }
 
-// Where the fact for a place is now. The fact that was at an earlier place has been swapped to the
-// place noted there, which is a later one.
+// Returns the current index of the fact that belongs at index `i`. A fact at an earlier index was
+// swapped to the index noted there, which is later.
 fn place_now(places: &[usize], i: usize) -> usize
     requires here { i < length places.now }
     requires within { All (λ place. place < length places.now) places.now }
@@ -42,8 +42,8 @@ fn place_now(places: &[usize], i: usize) -> usize
     place
 }
 
-/// Puts the items in order, and leaves each once, where they have doubled since that was done last.
-/// The set of them stays.
+/// Sorts the items and removes repeats if their number has doubled since the last time. The set of
+/// items does not change.
 ///
 /// Errors: out of memory.
 pub(crate) fn settle<T: Key>(items: &mut Vec<T>, settled: &mut usize) -> Result<(), AllocError>
@@ -56,7 +56,7 @@ pub(crate) fn settle<T: Key>(items: &mut Vec<T>, settled: &mut usize) -> Result<
     Ok(())
 }
 
-/// Puts the items in order, and leaves each once.
+/// Sorts the items and removes repeats.
 ///
 /// Errors: out of memory; nothing has changed.
 pub(crate) fn put_in_order<T: Key>(items: &mut Vec<T>) -> Result<(), AllocError>

@@ -7,8 +7,9 @@ use merge_laws::{Merge, SortedSet};
 use oim_names::{Copied, Text};
 use std::alloc::{AllocError, Global};
 
-/// The union of the references and others, or None if none of the others is new. The references are
-/// copied only if one is; the others may come in any order and are added all at once.
+/// Returns the union of the references and others, or None if none of the others is new. The
+/// references are copied only if one is new. The others may be in any order and are added all at
+/// once.
 pub(crate) fn with_all(
     alloc: Global,
     references: &SortedSet<Text>,
@@ -25,7 +26,7 @@ pub(crate) fn with_all(
     Ok(Some(wider))
 }
 
-// The distinct texts in order.
+// Returns the distinct texts in order.
 fn set_of(alloc: Global, texts: &[Text]) -> Result<SortedSet<Text>, AllocError>
     ensures { IfOk result (λ set. set ≡ set_of text_cmp texts.now) }
 {
@@ -35,7 +36,7 @@ fn set_of(alloc: Global, texts: &[Text]) -> Result<SortedSet<Text>, AllocError>
     Ok(SortedSet::of_rising(items))
 }
 
-/// A copy of the texts.
+/// Returns a copy of the texts.
 pub(crate) fn copies_of(alloc: Global, texts: &[Text]) -> Result<Vec<Text>, AllocError>
     ensures { IfOk result (λ copies. copies.items ≡ texts.now) }
 {
@@ -46,7 +47,7 @@ pub(crate) fn copies_of(alloc: Global, texts: &[Text]) -> Result<Vec<Text>, Allo
     Ok(copies)
 }
 
-// Whether sorted references have all the others.
+// Returns whether sorted references include all the others.
 fn has_all(references: &[Text], others: &[Text]) -> bool
     ensures { IsTrue result → All (Contains references.now) others.now }
 {
@@ -58,7 +59,7 @@ fn has_all(references: &[Text], others: &[Text]) -> bool
     true
 }
 
-/// Replaces these references by others, if there are others.
+/// Replaces these references with others, if there are any.
 pub(crate) fn replace(references: &mut SortedSet<Text>, wider: Option<SortedSet<Text>>)
     ensures { references.new ≡ unwrap_or wider references.old }
 {

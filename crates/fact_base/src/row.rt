@@ -6,6 +6,6 @@ use oim_value::Value;
 pub struct Row<'b> {
     /// What the facts are about.
     pub dimensions: &'b Dimensions,
-    /// Their distinct values in order.
+    /// The distinct values in order.
     pub values: &'b [Value],
 }

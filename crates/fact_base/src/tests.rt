@@ -12,17 +12,17 @@ use oim_names::Reason;
 use oim_report::{Report, Sheet, read_report};
 use std::alloc::AllocError;
 
-// After a refused request for memory the call is made once more. The line on standard error reports
-// it to `tests/refused_memory`, with whether the request was the test's own.
+// If a request for memory is refused, the call is repeated once. A line on standard error reports
+// it to `tests/refused_memory`, and whether the request was the test's own.
 
 const SHEET: &str =
     r#"{"namespaces":{"eg":"http://example.org/t"},"concepts":{"eg:A":"numeric","eg:B":"numeric","eg:T":"text","eg:Q":"name"}}"#;
 
-// A report of one fact, up to its value.
+// The text of a report of one fact, up to the value.
 const FACT: &str =
     r#"{"documentInfo":{"documentType":"https://xbrl.org/2021/xbrl-json","namespaces":{"eg":"http://example.org/t"}},"facts":{"a":{"#;
 
-// What follows the value: a number's, a text's and a name's dimension set.
+// The text after the value: the dimensions of a number, of a text and of a name.
 const OF_A: &str = r#","dimensions":{"concept":"eg:A"}}}}"#;
 
 const OF_T: &str = r#","dimensions":{"concept":"eg:T"}}}}"#;
@@ -78,7 +78,7 @@ fn take(rt: &HostRuntime, base: &mut Base<'_>, report: &Report<'_>) -> bool {
     base.take(report).is_ok()
 }
 
-// Takes a report of this text; false if it is not read.
+// Takes a report with this text, or returns false if it is refused.
 fn take_text(rt: &HostRuntime, base: &mut Base<'_>, text: &str) -> bool {
     match read(rt, base.sheet(), text) {
         Some(report) => take(rt, base, &report),
@@ -86,7 +86,8 @@ fn take_text(rt: &HostRuntime, base: &mut Base<'_>, text: &str) -> bool {
     }
 }
 
-// Adds a report of three texts, whose second one makes it different; false if it is not read.
+// Adds a report of three texts, which differs from others by the second one. It returns false if
+// the report is refused.
 fn add(rt: &HostRuntime, base: &mut Base<'_>, start: &str, text: &str, end: &str) -> bool {
     match joined(rt, start, text, end) {
         Ok(report) => take_text(rt, base, report.as_str()),
@@ -94,7 +95,7 @@ fn add(rt: &HostRuntime, base: &mut Base<'_>, start: &str, text: &str, end: &str
     }
 }
 
-// A base of one report for each text, all with the same start and end.
+// Returns a base of one report for each text. All reports have the same start and end.
 fn base_between<'s>(
     rt: &HostRuntime,
     sheet: &'s Sheet,
@@ -111,12 +112,12 @@ fn base_between<'s>(
     Some(base)
 }
 
-// A base of one report for each value and its decimals.
+// Returns a base of one report for each value with its decimals.
 fn base_of<'s>(rt: &HostRuntime, sheet: &'s Sheet, values: &[&str]) -> Option<Base<'s>> {
     base_between(rt, sheet, FACT, values, OF_A)
 }
 
-// Verdict and evidence on the first dimension set of a base.
+// Returns verdict and evidence on the first dimension set of a base.
 fn judged(base: &Base<'_>) -> Option<(Verdict, Evidence)> {
     let row = base.rows().next()?;
     match (base.verdict(row.dimensions), base.evidence(row.dimensions)) {

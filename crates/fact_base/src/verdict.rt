@@ -2,10 +2,10 @@
 /// facts).
 #[derive(Clone, Copy, Debug, PartialEq, Eq)]
 pub enum Verdict {
-    /// There is one fact: all that was reported is equal.
+    /// All facts are equal, so there is only one distinct fact.
     Complete,
-    /// There are several, and each two of them meet.
+    /// There are several distinct facts, and each two of them meet.
     Consistent,
-    /// Two of them do not meet.
+    /// Two of the facts do not meet.
     Inconsistent,
 }

@@ -40,12 +40,12 @@ fn join(rt: &HostRuntime, base: &mut Base<'_>, other: &Base<'_>) -> bool {
     base.join(other).is_ok()
 }
 
-// The values of a base, those of one that it joins and those of both.
+// The values of a base, of a base that it joins, and of both.
 struct Joined<'t> {
     values: &'t [&'t str],
     others: &'t [&'t str],
     all: &'t [&'t str],
-    // whether the base has all of them before
+    // whether the base has all values before it joins the other
     has_all: bool,
 }
 
@@ -119,7 +119,7 @@ fn an_equal_or_empty_base_adds_nothing(rt: HostRuntime) {
     }
 }
 
-// Has a base absorb one of two facts, and returns whether it did; where a request is refused, the other
+// Absorbs a base of two facts, and returns whether it did. If a request is refused, the other base
 // is lost.
 fn absorb_two(rt: &HostRuntime, base: &mut Base<'_>) -> Option<bool> {
     let other = base_of(rt, base.sheet(), &[TWO, ONE])?;
@@ -129,7 +129,7 @@ fn absorb_two(rt: &HostRuntime, base: &mut Base<'_>) -> Option<bool> {
     Some(base.absorb(other).is_ok())
 }
 
-// The same again where a request is refused and the base is then unchanged.
+// Does the same again if a request was refused and the base is unchanged.
 fn absorbs(rt: &HostRuntime, base: &mut Base<'_>, before: &Base<'_>) -> bool {
     match absorb_two(rt, base) {
         Some(false) if base.same_as(before) => {
@@ -163,7 +163,7 @@ fn what_is_absorbed_is_counted_once(rt: HostRuntime) -> Result<(), Fail> {
     Ok(())
 }
 
-// Has a base absorb a report of one value, and returns whether it did; where a request is refused, the
+// Absorbs a report of one value, and returns whether the base did. If a request is refused, the
 // report is lost.
 fn absorb_value(rt: &HostRuntime, base: &mut Base<'_>, value: &str) -> Option<bool> {
     let text = joined(rt, FACT, value, OF_A).ok()?;
@@ -174,7 +174,7 @@ fn absorb_value(rt: &HostRuntime, base: &mut Base<'_>, value: &str) -> Option<bo
     Some(base.absorb_report(report).is_ok())
 }
 
-// The same again where a request is refused and the base is then unchanged.
+// Does the same again if a request was refused and the base is unchanged.
 fn absorbs_value(rt: &HostRuntime, base: &mut Base<'_>, value: &str, before: &Base<'_>) -> bool {
     match absorb_value(rt, base, value) {
         Some(false) if base.same_as(before) => {
@@ -185,7 +185,8 @@ fn absorbs_value(rt: &HostRuntime, base: &mut Base<'_>, value: &str, before: &Ba
     }
 }
 
-// Whether a base of two values that absorbs one has all, and has all where that is repeated.
+// Returns whether a base of two values has all values after it absorbs one, and after it absorbs
+// the value again.
 fn has_what_is_given_up(rt: &HostRuntime, before: &Base<'_>, all: &Base<'_>) -> bool {
     match base_of(rt, all.sheet(), &[NINE, ONE]) {
         Some(mut base) => {
@@ -219,11 +220,11 @@ fn a_report_that_is_given_up_is_taken(rt: HostRuntime) -> Result<(), Fail> {
     Ok(())
 }
 
-// A report of one reference and no fact, up to the reference.
+// The text of a report of one reference and no fact, up to the reference.
 const TAXONOMY: &str =
     r#"{"documentInfo":{"documentType":"https://xbrl.org/2021/xbrl-json","taxonomy":[""#;
 
-// A base of one report for each reference.
+// Returns a base of one report for each reference.
 fn base_of_references<'s>(
     rt: &HostRuntime,
     sheet: &'s Sheet,
@@ -253,7 +254,7 @@ fn references_are_kept_once(rt: HostRuntime) -> Result<(), Fail> {
     Ok(())
 }
 
-// Whether a base has exactly these references.
+// Returns whether a base has exactly these references.
 fn are_spelled(base: &Base<'_>, references: &[&str]) -> bool {
     for (place, reference) in references.iter().enumerate() {
         match base.taxonomy().get(place) {

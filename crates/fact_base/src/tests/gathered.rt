@@ -10,7 +10,8 @@ const TWO: &str = r#""value":"2","decimals":0"#;
 
 const NINE: &str = r#""value":"9","decimals":0"#;
 
-// Adds a report of one value, and returns whether it did; where a request is refused, it is lost.
+// Adds a report of one value, and returns whether it was added. If a request is refused, the report
+// is lost.
 fn add(rt: &HostRuntime, gathered: &mut Gathering<'_>, value: &str) -> Option<bool> {
     let text = joined(rt, FACT, value, OF_A).ok()?;
     let report = read(rt, gathered.sheet(), text.as_str())?;
@@ -20,7 +21,7 @@ fn add(rt: &HostRuntime, gathered: &mut Gathering<'_>, value: &str) -> Option<bo
     Some(gathered.add(report).is_ok())
 }
 
-// The same again where a request is refused.
+// Adds the report again if a request was refused.
 fn adds(rt: &HostRuntime, gathered: &mut Gathering<'_>, value: &str) -> bool {
     match add(rt, gathered, value) {
         Some(false) => {
@@ -31,7 +32,7 @@ fn adds(rt: &HostRuntime, gathered: &mut Gathering<'_>, value: &str) -> bool {
     }
 }
 
-// The base of one report for each value, which come one after another.
+// Returns the base of one report for each value, added one after another.
 fn gather<'s>(
     rt: &HostRuntime,
     sheet: &'s Sheet,
@@ -47,7 +48,7 @@ fn gather<'s>(
     Some(gathered.into_base())
 }
 
-// The same from the first value on again, where a request is refused for the base.
+// Starts again from the first value if a request for the base is refused.
 fn gathered_of<'s>(rt: &HostRuntime, sheet: &'s Sheet, values: &[&str]) -> Option<Base<'s>> {
     match gather(rt, sheet, values)? {
         Ok(base) => Some(base),

@@ -5,10 +5,10 @@ use oim_report::{Report, Sheet, read_report};
 use std::alloc::AllocError;
 use std::test::Fail;
 
-// These bases make many requests for memory, so no call is made again by itself: where one is refused,
-// all of it is.
+// These bases make many requests for memory, so single calls are not repeated. If one is refused,
+// the whole test is repeated.
 
-// A report of no fact, up to its facts.
+// The text of a report up to its facts.
 const FACTS: &str =
     r#"{"documentInfo":{"documentType":"https://xbrl.org/2021/xbrl-json","namespaces":{"eg":"http://example.org/t"}},"facts":{"#;
 
@@ -21,7 +21,7 @@ fn take(base: &mut Base<'_>, report: &Report<'_>) -> Result<(), AllocError> {
     Ok(())
 }
 
-// Takes a report of this text, where it is read.
+// Takes a report with this text, if it is accepted.
 fn take_text(rt: &HostRuntime, base: &mut Base<'_>, text: &str) -> Result<(), Reason> {
     match read_report(rt.alloc(), base.sheet(), text.as_bytes()) {
         Ok(report) => Ok(take(base, &report)?),
@@ -29,7 +29,7 @@ fn take_text(rt: &HostRuntime, base: &mut Base<'_>, text: &str) -> Result<(), Re
     }
 }
 
-// Adds the fact of a number, with a comma before it where it is not the first.
+// Adds the fact of a number, with a comma before it unless it is the first.
 fn push_fact(rt: &HostRuntime, text: &mut String, number: u32) -> Result<(), AllocError> {
     let mark = if number > 1 { "," } else { "" };
     let fact = format!(in rt.alloc();
@@ -46,14 +46,14 @@ fn push_facts(rt: &HostRuntime, text: &mut String) -> Result<(), AllocError> {
     text.push_str("}}")
 }
 
-// Takes one report of a fact for each number from 1 to `COUNT`.
+// Takes one report with a fact for each number from 1 to `COUNT`.
 fn take_all(rt: &HostRuntime, base: &mut Base<'_>) -> Result<(), Reason> {
     let mut text = String::new(rt.alloc());
     push_facts(rt, &mut text)?;
     take_text(rt, base, text.as_str())
 }
 
-// Takes a report of a fact of one number.
+// Takes a report with a fact of one number.
 fn take_one(rt: &HostRuntime, base: &mut Base<'_>, number: u32) -> Result<(), Reason> {
     let text = format!(in rt.alloc(); "{FACT}\"value\":\"{number}\",\"decimals\":0{OF_A}")?;
     take_text(rt, base, text.as_str())
@@ -97,7 +97,7 @@ fn join(base: &mut Base<'_>, other: &Base<'_>) -> Result<(), AllocError> {
     Ok(())
 }
 
-// Joins the last base to the one at a place.
+// Joins the last base to the base at an index.
 fn join_last(bases: &mut Vec<Base<'_>>, place: usize) -> Result<(), AllocError> {
     let Some(last) = bases.pop() else {
         return Ok(());
@@ -108,7 +108,7 @@ fn join_last(bases: &mut Vec<Base<'_>>, place: usize) -> Result<(), AllocError> 
     }
 }
 
-// Joins the bases two by two, the first to the last.
+// Joins the bases in pairs, the last to the first.
 fn join_halves(bases: &mut Vec<Base<'_>>) -> Result<(), AllocError> {
     for place in 0..bases.len() / 2 {
         join_last(bases, place)?;
@@ -116,7 +116,7 @@ fn join_halves(bases: &mut Vec<Base<'_>>) -> Result<(), AllocError> {
     Ok(())
 }
 
-// Joins the bases until there is one.
+// Joins the bases until only one is left.
 fn join_all(bases: &mut Vec<Base<'_>>) -> Result<(), AllocError> {
     for _ in 0..9 {
         join_halves(bases)?;
@@ -126,7 +126,7 @@ fn join_all(bases: &mut Vec<Base<'_>>) -> Result<(), AllocError> {
 
 type Said = (Verdict, Evidence);
 
-// Verdict and evidence on the only row of a base with `COUNT` facts.
+// Returns verdict and evidence on the only row of a base with `COUNT` facts.
 fn said_of(base: &Base<'_>) -> Option<Said> {
     if base.row_count() != 1 || base.fact_count() != u128::from(COUNT) {
         return None;
@@ -134,7 +134,7 @@ fn said_of(base: &Base<'_>) -> Option<Said> {
     judged(base)
 }
 
-// Whether three bases are equal, and verdict and evidence on them.
+// Returns verdict and evidence on three bases, if these are equal.
 fn said_of_each(one: &Base<'_>, other: &Base<'_>, third: &Base<'_>) -> Option<Said> {
     if !one.same_as(other) || !other.same_as(third) || !third.same_as(one) {
         return None;
@@ -162,7 +162,8 @@ fn said_with_each(rt: &HostRuntime, one: &Base<'_>) -> Result<Option<Said>, Reas
     said_with_joined(rt, one, &other)
 }
 
-// Verdict and evidence on a base of one report, of one report a number, and of joined bases.
+// Returns verdict and evidence on three equal bases: of one report, of one report for each number,
+// and of joined bases.
 fn said_of_all(rt: &HostRuntime, sheet: &Sheet) -> Result<Option<Said>, Reason> {
     let mut base = Base::new(rt.alloc(), sheet);
     take_all(rt, &mut base)?;

@@ -1,4 +1,4 @@
-// A report of many facts that comes into a base of two of them, with each request for memory refused
+// A report of many facts is added to a base of two of them, and each request for memory is refused
 // in turn.
 
 use super::refused::{base_of, join, take};
@@ -7,7 +7,7 @@ use crate::Base;
 use oim_report::{Report, Sheet};
 use std::alloc::AllocError;
 
-// A report of no fact, up to its facts.
+// The text of a report up to its facts.
 const FACTS: &str =
     r#"{"documentInfo":{"documentType":"https://xbrl.org/2021/xbrl-json","namespaces":{"eg":"http://example.org/t"}},"facts":{"#;
 
@@ -15,12 +15,12 @@ const FACTS: &str =
 const TWO: &str =
     r#"{"documentInfo":{"documentType":"https://xbrl.org/2021/xbrl-json","namespaces":{"eg":"http://example.org/t"}},"facts":{"a":{"value":"100","decimals":0,"dimensions":{"concept":"eg:A"}},"b":{"value":"101","decimals":0,"dimensions":{"concept":"eg:A"}}}}"#;
 
-// The facts have the numbers from 100 to 499.
+// The facts have the numbers from 100 to 499, and these are the first digits.
 const HUNDREDS: [&str; 4] = ["1", "2", "3", "4"];
 
 const DIGITS: [&str; 10] = ["0", "1", "2", "3", "4", "5", "6", "7", "8", "9"];
 
-// More than the report has.
+// More bytes than the report has.
 const ROOM: usize = 40_000;
 
 fn room(rt: &HostRuntime) -> Result<String, AllocError> {
@@ -33,7 +33,7 @@ fn room(rt: &HostRuntime) -> Result<String, AllocError> {
     }
 }
 
-// Adds the fact of a number of three digits.
+// Adds the fact of a number with three digits.
 fn push_fact(text: &mut String, digits: [&str; 3]) -> Result<(), AllocError> {
     let [hundreds, tens, ones] = digits;
     for part in [
@@ -52,7 +52,7 @@ fn push_fact(text: &mut String, digits: [&str; 3]) -> Result<(), AllocError> {
     Ok(())
 }
 
-// Adds the facts of ten numbers; the first comes after the mark.
+// Adds the facts of ten numbers. The first follows the given mark.
 fn push_ten(text: &mut String, mark: &str, hundreds: &str, tens: &str) -> Result<(), AllocError> {
     for (place, ones) in DIGITS.iter().enumerate() {
         text.push_str(if place == 0 { mark } else { "," })?;
@@ -73,14 +73,14 @@ fn push_facts(text: &mut String) -> Result<(), AllocError> {
     text.push_str("}}")
 }
 
-// The text of a report of 400 facts.
+// Returns the text of a report of 400 facts.
 fn many(rt: &HostRuntime) -> Result<String, AllocError> {
     let mut text = room(rt)?;
     push_facts(&mut text)?;
     Ok(text)
 }
 
-// Whether a base has 400 facts of one dimension set.
+// Returns whether a base has 400 facts of one dimension set.
 fn has_many(base: &Base<'_>) -> bool {
     base.row_count() == 1 && base.fact_count() == 400
 }
@@ -106,7 +106,8 @@ fn joins(rt: &HostRuntime, before: &Base<'_>, two: &Report<'_>, many: &Report<'_
     }
 }
 
-// Whether the base of two facts gets the others from the report, or from the base of it.
+// Returns whether a base of two facts gets the others from the report, or from the base of the
+// report.
 fn gets_report(rt: &HostRuntime, takes_it: bool, two: &Report<'_>, many: &Report<'_>) -> bool {
     match base_of(rt, two) {
         Some(before) if takes_it => takes(rt, &before, two, many),

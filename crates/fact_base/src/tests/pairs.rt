@@ -4,7 +4,7 @@ use oim_report::Sheet;
 use oim_value::{Interval, Value, interval_of, value_meets};
 use std::test::Fail;
 
-// The verdict and its evidence by a loop over all pairs, from their definitions.
+// Verdict and evidence, computed from their definitions by a loop over all pairs.
 
 fn each_two_meet(values: &[Value]) -> bool {
     for first in values {
@@ -34,7 +34,7 @@ fn interval(value: &Value) -> Option<Interval> {
     }
 }
 
-// Whether no value's interval ends before this one's.
+// Returns whether no value's interval ends before this one.
 fn ends_first(here: Interval, values: &[Value]) -> bool {
     for value in values {
         if let Some(other) = interval(value)
@@ -46,7 +46,7 @@ fn ends_first(here: Interval, values: &[Value]) -> bool {
     true
 }
 
-// Whether no value's interval begins behind this one's.
+// Returns whether no value's interval begins after this one.
 fn begins_last(here: Interval, values: &[Value]) -> bool {
     for value in values {
         if let Some(other) = interval(value)
@@ -58,7 +58,7 @@ fn begins_last(here: Interval, values: &[Value]) -> bool {
     true
 }
 
-// The first place of an interval that ends first, and the interval.
+// Returns the interval that ends first, with the first index of such an interval.
 fn first_end(values: &[Value]) -> Option<(usize, Interval)> {
     for (place, value) in values.iter().enumerate() {
         if let Some(here) = interval(value)
@@ -70,7 +70,7 @@ fn first_end(values: &[Value]) -> Option<(usize, Interval)> {
     None
 }
 
-// The first place of an interval that begins last, and the interval.
+// Returns the interval that begins last, with the first index of such an interval.
 fn last_begin(values: &[Value]) -> Option<(usize, Interval)> {
     for (place, value) in values.iter().enumerate() {
         if let Some(here) = interval(value)
@@ -108,7 +108,7 @@ fn said_by_pairs(values: &[Value]) -> Option<(Verdict, Evidence)> {
     Some((verdict_by_pairs(values), evidence_by_pairs(values)?))
 }
 
-// The places of three values in each order.
+// The indices of three values in each order.
 const ORDERS: [[usize; 3]; 6] = [
     [0, 1, 2],
     [0, 2, 1],
@@ -118,7 +118,7 @@ const ORDERS: [[usize; 3]; 6] = [
     [2, 1, 0],
 ];
 
-// Adds the value at a place; false where it is not read.
+// Adds the value at an index, or returns false if it is refused.
 fn add_at(rt: &HostRuntime, base: &mut Base<'_>, values: &[&str], place: usize) -> bool {
     match values.get(place) {
         Some(value) => add(rt, base, FACT, value, OF_A),
@@ -142,13 +142,14 @@ fn is_judged_by_pairs(base: &Base<'_>) -> bool {
     }
 }
 
-// Whether the values in an order make the same base, with the verdict that comparing pairs gives.
+// Returns whether the values in this order make the same base, and whether its verdict is the one
+// from comparing pairs.
 fn is_same_in(rt: &HostRuntime, all: &Base<'_>, values: &[&str], order: &[usize]) -> bool {
     let mut base = Base::new(rt.alloc(), all.sheet());
     add_in_order(rt, &mut base, values, order) && base.same_as(all) && is_judged_by_pairs(&base)
 }
 
-// The first order in which the values make another base, or one with another verdict.
+// Returns the first order in which the values make another base, or a base with another verdict.
 fn first_other(rt: &HostRuntime, all: &Base<'_>, values: &[&str]) -> Option<usize> {
     for (place, order) in ORDERS.iter().enumerate() {
         if !is_same_in(rt, all, values, order) {
@@ -165,7 +166,7 @@ fn is_same_in_each(rt: &HostRuntime, sheet: &Sheet, values: &[&str]) -> bool {
     }
 }
 
-// Values of one dimension set. Where there are fewer than three, one is repeated.
+// Values of one dimension set. If there are fewer than three, one is repeated.
 const ROWS: [[&str; 3]; 11] = [
     [
         r#""value":"100","decimals":0"#,

@@ -6,12 +6,12 @@ use oim_report::{Report, Sheet};
 const BEFORE: &str =
     r#"{"documentInfo":{"documentType":"https://xbrl.org/2021/xbrl-json","namespaces":{"eg":"http://example.org/t"},"taxonomy":["b.xsd"]},"facts":{"a":{"value":"100","decimals":0,"dimensions":{"concept":"eg:A"}}}}"#;
 
-// A report of another number of the same dimensions, a text and another reference.
+// A report of another number with the same dimensions, a text and another reference.
 const ADDED: &str =
     r#"{"documentInfo":{"documentType":"https://xbrl.org/2021/xbrl-json","namespaces":{"eg":"http://example.org/t"},"taxonomy":["a.xsd"]},"facts":{"a":{"value":"101","decimals":0,"dimensions":{"concept":"eg:A"}},"b":{"value":"x","dimensions":{"concept":"eg:T"}}}}"#;
 
-// Takes a report. Where a request for memory is refused, the base is to be as another, and the next
-// request is not refused.
+// Takes a report. If a request for memory is refused, the base must be unchanged, and the call is
+// repeated.
 pub(super) fn take(
     rt: &HostRuntime,
     base: &mut Base<'_>,
@@ -44,7 +44,7 @@ pub(super) fn join(
     base.same_as(before) && base.join(other).is_ok()
 }
 
-// The same where the other is given up; it is lost where a request is refused, and `again` comes then.
+// Absorbs the other base. If a request is refused, the other is lost and `again` is absorbed.
 fn absorb(
     rt: &HostRuntime,
     base: &mut Base<'_>,
@@ -68,7 +68,7 @@ fn take_first(rt: &HostRuntime, base: &mut Base<'_>, report: &Report<'_>) -> boo
     take(rt, base, &empty, report)
 }
 
-// A base of one report.
+// Returns a base of one report.
 pub(super) fn base_of<'s>(rt: &HostRuntime, report: &Report<'s>) -> Option<Base<'s>> {
     let mut base = Base::new(rt.alloc(), report.sheet());
     if !take_first(rt, &mut base, report) {
@@ -77,7 +77,7 @@ pub(super) fn base_of<'s>(rt: &HostRuntime, report: &Report<'s>) -> Option<Base<
     Some(base)
 }
 
-// A way in which a base gets what a report says.
+// A way in which a base gets the facts of a report.
 #[derive(Clone, Copy)]
 enum Way {
     Take,
@@ -85,7 +85,7 @@ enum Way {
     Absorb,
 }
 
-// Absorbs the base of a report; `again` is a second base of that report.
+// Absorbs the base of a report. `again` is a second base of that report.
 fn absorb_report(
     rt: &HostRuntime,
     base: &mut Base<'_>,
@@ -129,12 +129,12 @@ fn add(
     }
 }
 
-// Whether a base has what both reports say.
+// Returns whether a base has the facts and references of both reports.
 fn has_both(base: &Base<'_>) -> bool {
     base.row_count() == 2 && base.fact_count() == 3 && base.taxonomy().len() == 2
 }
 
-// Whether the base of the first report gets what the other says.
+// Returns whether the base of the first report gets the facts and references of the other.
 fn gets(
     rt: &HostRuntime,
     way: Way,
@@ -191,7 +191,8 @@ fn a_refused_base_leaves_the_one_that_absorbs_it(rt: HostRuntime) {
     assert!(rt; gets_both(&rt, Way::Absorb));
 }
 
-// Adds a report of this text, and returns whether it did; where a request is refused, it is lost.
+// Adds a report with this text, and returns whether it was added. If a request is refused, the
+// report is lost.
 pub(super) fn gather(rt: &HostRuntime, gathered: &mut Gathering<'_>, text: &str) -> Option<bool> {
     let report = read(rt, gathered.sheet(), text)?;
     if !gathered.sheet().same_as(report.sheet()) {
@@ -200,7 +201,8 @@ pub(super) fn gather(rt: &HostRuntime, gathered: &mut Gathering<'_>, text: &str)
     Some(gathered.add(report).is_ok())
 }
 
-// Whether what was gathered becomes a base with what both reports say, where no request is refused.
+// Returns whether the gathering becomes a base with the facts and references of both reports, if no
+// request is refused.
 fn becomes_both(rt: &HostRuntime, gathered: Gathering<'_>) -> bool {
     match gathered.into_base() {
         Ok(base) => has_both(&base),
@@ -211,7 +213,7 @@ fn becomes_both(rt: &HostRuntime, gathered: Gathering<'_>) -> bool {
     }
 }
 
-// Whether the gathered facts and references are those of a base.
+// Returns whether the gathering has the facts and references of a base.
 fn is_as_before(gathered: Gathering<'_>, before: &Base<'_>) -> bool {
     match gathered.into_base() {
         Ok(base) => base.same_as(before),
@@ -219,7 +221,7 @@ fn is_as_before(gathered: Gathering<'_>, before: &Base<'_>) -> bool {
     }
 }
 
-// Whether what was gathered of the first report gains what the other says, or is as before.
+// Returns whether a gathering with the first report gains the other, or is unchanged.
 fn gains(rt: &HostRuntime, mut gathered: Gathering<'_>, before: &Base<'_>) -> bool {
     match gather(rt, &mut gathered, ADDED) {
         Some(true) => becomes_both(rt, gathered),
@@ -231,7 +233,7 @@ fn gains(rt: &HostRuntime, mut gathered: Gathering<'_>, before: &Base<'_>) -> bo
     }
 }
 
-// The same again where the first report is refused.
+// Starts again if the first report is refused memory.
 fn gathers_both(rt: &HostRuntime, before: &Base<'_>) -> bool {
     let mut gathered = Gathering::new(rt.alloc(), before.sheet());
     match gather(rt, &mut gathered, BEFORE) {

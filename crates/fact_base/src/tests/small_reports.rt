@@ -11,8 +11,9 @@ use std::test::Fail;
 const LARGE: &str =
     r#"{"documentInfo":{"documentType":"https://xbrl.org/2021/xbrl-json","namespaces":{"eg":"http://example.org/t"}},"facts":{"a":{"value":"0","decimals":0,"dimensions":{"concept":"eg:A"}},"b":{"value":"1","decimals":0,"dimensions":{"concept":"eg:A"}},"c":{"value":"2","decimals":0,"dimensions":{"concept":"eg:A"}},"d":{"value":"3","decimals":0,"dimensions":{"concept":"eg:A"}},"e":{"value":"4","decimals":0,"dimensions":{"concept":"eg:A"}},"f":{"value":"5","decimals":0,"dimensions":{"concept":"eg:A"}},"g":{"value":"6","decimals":0,"dimensions":{"concept":"eg:A"}},"h":{"value":"7","decimals":0,"dimensions":{"concept":"eg:A"}},"i":{"value":"8","decimals":0,"dimensions":{"concept":"eg:A"}},"j":{"value":"9","decimals":0,"dimensions":{"concept":"eg:A"}}}}"#;
 
-// A small report up to its reference, what is between that and its value, and what follows the value:
-// one fact, or one fact more, so that the lists have more dimension sets than the large report.
+// The parts of a small report's text: up to its reference, between reference and value, and after
+// the value. The last part may add one more fact, so that the lists have more dimension sets than
+// the large report.
 const REFERENCE: &str =
     r#"{"documentInfo":{"documentType":"https://xbrl.org/2021/xbrl-json","namespaces":{"eg":"http://example.org/t"},"taxonomy":[""#;
 
@@ -23,8 +24,9 @@ const ONE_FACT: &str = r#"","decimals":0,"dimensions":{"concept":"eg:A"}}}}"#;
 const TWO_FACTS: &str =
     r#"","decimals":0,"dimensions":{"concept":"eg:A"}},"b":{"value":"1","decimals":0,"dimensions":{"concept":"eg:B"}}}}"#;
 
-// Of each number is a report. They fall and rise, the large report has one of them, and two are repeated.
-// The list of references is put in order before the third report and before the seventh.
+// There is a report for each number. The numbers rise and fall, the large report has one of them,
+// and two are repeated. The list of references is sorted before the third report and before the
+// seventh.
 const NUMBERS: [&str; 8] = ["16", "12", "14", "12", "9", "11", "16", "10"];
 
 fn small(rt: &HostRuntime, number: &str, facts: &str) -> Option<String> {
@@ -32,7 +34,8 @@ fn small(rt: &HostRuntime, number: &str, facts: &str) -> Option<String> {
     joined(rt, REFERENCE, named.as_str(), facts).ok()
 }
 
-// Adds a small report, and returns whether it did; where a request is refused, it is lost.
+// Adds a small report, and returns whether it was added. If a request is refused, the report is
+// lost.
 fn gather_small(
     rt: &HostRuntime,
     gathered: &mut Gathering<'_>,
@@ -43,7 +46,8 @@ fn gather_small(
     gather(rt, gathered, text.as_str())
 }
 
-// Adds a small report for each number until a request is refused, and returns how many were added.
+// Adds a small report for each number until a request is refused, and returns the number of added
+// reports.
 fn gather_each(
     rt: &HostRuntime,
     gathered: &mut Gathering<'_>,
@@ -75,7 +79,7 @@ fn take_small(rt: &HostRuntime, base: &mut Base<'_>, number: &str, facts: &str) 
     }
 }
 
-// The base that takes the large report and a small one of each number.
+// Returns the base that takes the large report and a small one for each number.
 fn taken<'s>(
     rt: &HostRuntime,
     sheet: &'s Sheet,
@@ -101,7 +105,8 @@ fn is_taken(rt: &HostRuntime, base: &Base<'_>, numbers: &[&str], facts: &str) ->
     }
 }
 
-// Whether what was gathered becomes the base that takes these reports; None where a request is refused.
+// Returns whether the gathering becomes the base that takes these reports, or None if a request is
+// refused.
 fn becomes_taken(
     rt: &HostRuntime,
     gathered: Gathering<'_>,
@@ -114,8 +119,8 @@ fn becomes_taken(
     }
 }
 
-// Gathers the large report and a small one for each number, and returns whether all were added, or
-// None if the base does not have exactly what was added, even after a refused request.
+// Gathers the large report and a small one for each number, and returns whether all were added. It
+// returns None if the base does not have exactly what was added, even after a refused request.
 fn gather_all(rt: &HostRuntime, sheet: &Sheet, facts: &str) -> Option<bool> {
     let mut gathered = Gathering::new(rt.alloc(), sheet);
     if !gather_large(rt, &mut gathered) {
@@ -129,7 +134,7 @@ fn gather_all(rt: &HostRuntime, sheet: &Sheet, facts: &str) -> Option<bool> {
     }
 }
 
-// The same again where a request is refused.
+// Starts again if a request is refused.
 fn are_gathered(rt: &HostRuntime, sheet: &Sheet, facts: &str) -> bool {
     match gather_all(rt, sheet, facts) {
         Some(false) => {

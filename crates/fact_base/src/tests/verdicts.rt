@@ -9,7 +9,7 @@ type Said = (Verdict, Evidence);
 // Values of one dimension set, in any order, with their verdict and evidence.
 type Row<'t> = (&'t [&'t str], Said);
 
-// Whether values with these dimensions have this verdict and evidence.
+// Returns whether values with these dimensions have this verdict and evidence.
 fn is_said(rt: &HostRuntime, sheet: &Sheet, end: &str, row: &Row<'_>) -> bool {
     match base_between(rt, sheet, FACT, row.0, end) {
         Some(base) => judged(&base) == Some(row.1),
@@ -31,7 +31,8 @@ fn first_other_under(
     None
 }
 
-// The first row of the table whose values, with these dimensions, have another verdict or evidence.
+// Returns the first row of the table whose values, with these dimensions, have another verdict or
+// evidence.
 fn first_other(rt: &HostRuntime, end: &str, rows: &[Row<'_>]) -> Option<usize> {
     match read_sheet(rt) {
         Ok(sheet) => first_other_under(rt, &sheet, end, rows),
@@ -42,7 +43,7 @@ fn first_other(rt: &HostRuntime, end: &str, rows: &[Row<'_>]) -> Option<usize> {
 const ALIKE: Said = (Verdict::Complete, Evidence::Alike);
 
 const MEETING: [Row<'static>; 6] = [
-    // half of the eighteenth place is five units
+    // half of the eighteenth decimal place is five units
     (
         &[
             r#""value":"0.000000000000000001","decimals":18"#,
@@ -266,7 +267,7 @@ fn texts_and_names_meet_as_equal(rt: HostRuntime) {
     assert_eq!(rt; first_other(&rt, OF_Q, &NAMES), None);
 }
 
-// Whether the first row has nil and a name.
+// Returns whether the first row has nil and a name.
 fn has_nil_first(base: &Base<'_>) -> bool {
     match base.rows().next() {
         Some(row) => {
@@ -293,7 +294,8 @@ fn add_several(rt: &HostRuntime, base: &mut Base<'_>) -> bool {
     true
 }
 
-// Whether there are two rows of two values, at the level of values that do not meet.
+// Returns whether there are two rows of two values, and the level is the one of values that do not
+// meet.
 fn has_several(base: &Base<'_>) -> bool {
     base.row_count() == 2
         && base.fact_count() == 4
