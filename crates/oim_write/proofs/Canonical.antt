@@ -1,4 +1,4 @@
--- The canonical text is its parts, one after another.
+-- The canonical text is the concatenation of its parts.
 use Rattle.std.proofs.Common.{◌≡◌, ℕ, ◌+◌, ◌<◌, Bool, true, false, ◌||◌, List, [], ◌∷◌, ◌++◌, length, get_or, codes, Some, refl, sym, ap, subst, ◌∙◌, append_assoc, arith, length-append}
 use Rattle.std.proofs.lemmas.List.{get_or_at}
 use Rattle.std.specs.Prelude.{Contains}
@@ -27,12 +27,12 @@ use Rattle.oim_write.proofs.WrittenOrder.{facts_are_written_in_order}
 -- ---- the members of facts
 
 module _ (facts : List Fact) (rises : IsSet fact_cmp facts) where
-  -- a fact has the identifier of its place
+  -- the rank of a fact gives its identifier
   identifier_at : (i : ℕ) (f : Fact) → i < length facts → get_or facts i f ≡ f → identifier facts f ≡ 102 ∷ padded (width (length facts)) (i + 1)
   identifier_at i f within is = ap (λ n. 102 ∷ padded (width (length facts)) n) (ap (λ g. rank fact_cmp g facts) (sym is) ∙ rank_at fact_cmp_total facts i f rises within)
 
   module _ (sets : (f : Fact) → Contains facts f → IsDimensionSet f.dimensions) where
-    -- facts behind others are numbered from their count on, and their members are ordered
+    -- facts that follow others are numbered from there, and their members are in byte order
     numbered_behind : (done left : List Fact) → done ++ left ≡ facts
         → members_by (identifier facts) (fact_object (name_text (uris facts))) left ≡ numbered_members (uris facts) (width (length facts)) (length done) left
     numbered_behind done [] all = refl
@@ -47,11 +47,11 @@ module _ (facts : List Fact) (rises : IsSet fact_cmp facts) where
 
 -- ---- the namespaces
 
--- the member that binds `xbrl`
+-- the member that binds the prefix `xbrl`
 abbrev bound_text : List ℕ
 bound_text = codes "\"xbrl\":\"https://xbrl.org/2021\""
 
--- it stands behind the others, and behind a comma where there is one
+-- it follows the other prefixes, after a comma if there are any
 names-parts : (later : Bool) (level : Level) (us vs : List (List ℕ)) → parts later (members_before (prefix us) string vs (xbrl_member (Some level))) ≡ parts later (namespace_members us vs) ++ (comma_if (later || has_some vs) ++ bound_text)
 unfolding escape_byte
 names-parts true level us [] = refl
@@ -63,7 +63,7 @@ names-parts false level us (v ∷ vs) =
     ap (λ t. part false (prefix us v) (string v) ++ t) (names-parts true level us vs)
     ∙ sym (append_assoc (part false (prefix us v) (string v)) (parts true (namespace_members us vs)) (comma_if true ++ bound_text))
 
--- ---- the whole
+-- ---- the whole text
 
 quoted_level : (l : Level) → quoted (level_entry l).text ≡ 34 ∷ ((level_entry l).text ++ 34 ∷ [])
 unfolding escape_byte
@@ -92,7 +92,7 @@ canonical_is sheet b fits =
     ++ (codes ",\"facts\":{" ++ ((ap (members_text false) numbered ∙ members_text-parts false facts) i ++ 125 ∷ [])))
     ∙ rejoin (level_entry level).text (parts false (namespace_members us us)) (comma_if (has_some us)) bound_text (text_parts false b.references) (parts false facts))
 
--- the head of a base, and all that stands behind it
+-- the same, for the head of a base
 pub canonical_of : (sheet : Sheet) (b : Body) (level : Level) (us : List (List ℕ)) (head : List ℕ) → Fits sheet b → head ≡ head_text level us → level ≡ level_of b.facts → us ≡ uris b.facts → parts_text head us b ≡ canonical b
 canonical_of sheet b level us head fits first declared table =
     ap (λ t. parts_text t us b) first

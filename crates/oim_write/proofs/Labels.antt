@@ -1,4 +1,4 @@
--- The labels that number a set's members: their order, their form, and what is found under a prefix.
+-- The labels that number the members of a set: their order, their form, and how a prefix is resolved.
 use Rattle.std.proofs.Common.{◌≡◌, ◌≢◌, ℕ, zero, suc, ◌+◌, ◌^◌, ◌/◌, ◌%◌, ◌<◌, List, [], ◌∷◌, ◌++◌, length, get_or, map, take, true, false, cond, Option, Some, None, ⊎_elim, refl, sym, ap, ◌∙◌, arith, length-take-le}
 use Rattle.std.specs.Prelude.{Contains, IsUtf8, is_some, nat_lt}
 use Rattle.std.specs.Char.{is_ascii_alphanumeric}
@@ -30,7 +30,7 @@ use Rattle.oim_write.proofs.Ranks.{rank_at}
 -- ---- order
 
 module _ {K : Type 0} {R : K → K → Ordering} (o : IsTotalOrder R) (letter : ℕ) (xs : List K) (rises : IsStrictlySortedBy R xs) where
-  -- labels are in the order of what they number
+  -- labels have the order of the members that they number
   pub numbered_rise : (i j : ℕ) (d : K) → i < j → j < length xs → slice_cmp nat_cmp (numbered letter R (get_or xs i d) xs) (numbered letter R (get_or xs j d) xs) ≡ Less
   numbered_rise i j d apart within =
       let low : rank R (get_or xs i d) xs ≡ i + 1 = rank_at o xs i d rises (omega arith) in
@@ -39,7 +39,7 @@ module _ {K : Type 0} {R : K → K → Ordering} (o : IsTotalOrder R) (letter : 
       after_front nat_cmp_total (letter ∷ []) (padded (width (length xs)) (rank R (get_or xs i d) xs)) (padded (width (length xs)) (rank R (get_or xs j d) xs))
       ∙ padded_keeps_order (width (length xs)) (rank R (get_or xs i d) xs) (rank R (get_or xs j d) xs) (omega (arith, low, high)) (omega (arith, high, fits))
 
-  -- so that those of two members differ
+  -- so two members have different labels
   pub apart : (i j : ℕ) (x y : K) → i < j → j < length xs → get_or xs i x ≡ x → get_or xs j y ≡ y → numbered letter R x xs ≢ numbered letter R y xs
   apart i j x y under within here there same =
       let less : slice_cmp nat_cmp (numbered letter R x xs) (numbered letter R y xs) ≡ Less =
@@ -85,7 +85,7 @@ padded_utf8 (suc w) n = IsUtf8-append (padded w (n / 10)) ((48 + n % 10) ∷ [])
 pub numbered_utf8 : {K : Type 0} (letter : ℕ) (R : K → K → Ordering) (x : K) (xs : List K) → letter < 128 → IsUtf8 (numbered letter R x xs)
 numbered_utf8 letter R x xs h = IsUtf8-append (letter ∷ []) (padded (width (length xs)) (rank R x xs)) (small_utf8 letter h) (padded_utf8 (width (length xs)) (rank R x xs))
 
--- ---- what is found under a label
+-- ---- resolving a label
 
 module _ (label : List ℕ → List ℕ) where
   abbrev binding : List ℕ → Binding
@@ -114,7 +114,7 @@ module _ (label : List ℕ → List ℕ) where
 pub prefix_bound : (us : List (List ℕ)) (u : List ℕ) → IsSet text_cmp us → Contains us u → uri_of (map (binding (prefix us)) us) (prefix us u) ≡ Some u
 prefix_bound us u rises at = found_under (prefix us) us u (λ v there same. one_member nat_list_cmp_total 110 us rises v u there at same) at
 
--- the next prefix is bound behind those before it
+-- the next URI gets the next prefix
 pub bound_more : (us : List (List ℕ)) (i : ℕ) (u : List ℕ) → IsSet text_cmp us → i < length us → u ≡ get_or us i u
     → bound (map (binding (prefix us)) (take i us)) (prefix us u) u ≡ map (binding (prefix us)) (take (i + 1) us)
 bound_more us i u rises within is =

@@ -1,4 +1,4 @@
--- Spelled by prefixes that are numbered in the order of their URIs, names keep their order.
+-- Prefixes are numbered in the order of their URIs, so spelled names keep the order of names.
 use Rattle.std.proofs.Common.{◌≡◌, ℕ, ◌+◌, ◌<◌, ◌≤◌, ◌^◌, List, ◌∷◌, ◌++◌, length, get_or, ⊎_elim, refl, sym, ap, ◌∙◌, arith}
 use Rattle.std.specs.Prelude.{Contains, nat_lt}
 use mathlib.Core.Bool.{true≢false}

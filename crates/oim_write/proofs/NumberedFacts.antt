@@ -1,4 +1,4 @@
--- Numbered facts, some after others.
+-- The text of numbered facts, split at any fact.
 use Rattle.std.proofs.Common.{◌≡◌, ℕ, suc, ◌+◌, ◌<◌, ◌≤◌, nat_lt, List, [], ◌∷◌, ◌++◌, map, length, take, drop, get_or, true, refl, sym, ap, ◌∙◌, append_assoc, append-nil, add-zero, zero-add, arith}
 use Rattle.std.specs.Prelude.{flat_map}
 use Rattle.std.proofs.lemmas.Bool.Decides.{nat_tests}
@@ -22,11 +22,11 @@ one_less : (n k : ℕ) → n + 1 + k ≡ n + suc k
 one_less n k = omega arith
 
 module _ (us : List (List ℕ)) (digits : ℕ) where
-  -- one fact, where so many stand before it
+  -- the text of one fact, given how many come before it
   abbrev pub fact_part : ℕ → Fact → List ℕ
   fact_part before f = part (nat_lt 0 before) (102 ∷ padded digits (before + 1)) (ordered_fact (name_text us) f)
 
-  -- the text of facts is that of some, and that of the others behind so many
+  -- the text of two lists of facts is the text of each, the second numbered after the first
   pub numbered-append : (before : ℕ) (fs gs : List Fact) → numbered_text us digits before (fs ++ gs) ≡ numbered_text us digits before fs ++ numbered_text us digits (before + length fs) gs
   numbered-append before [] gs = ap (λ n. numbered_text us digits n gs) (sym (add-zero before))
   numbered-append before (f ∷ fs) gs =
@@ -36,7 +36,7 @@ module _ (us : List (List ℕ)) (digits : ℕ) where
       ∙ (λ i. parts (later_next before i) (numbered_members us digits (before + 1) fs) ++ numbered_text us digits (one_less before (length fs) i) gs))
       ∙ sym (append_assoc (fact_part before f) (parts true (numbered_members us digits (before + 1) fs)) (numbered_text us digits (before + suc (length fs)) gs))
 
-  -- the text of a fact before others
+  -- the text of the facts that are left
   abbrev pub rest_text : ℕ → List Fact → List ℕ
   rest_text before fs = parts true (numbered_members us digits (before + 1) fs)
 
@@ -53,7 +53,7 @@ module _ (us : List (List ℕ)) (digits : ℕ) where
     length-so_far within = omega (arith, length-map (take i vs) fact_of, length-take-le i vs (omega arith))
 
     module _ (v : Value) (written : List ℕ) (within : i < length vs) (is : v ≡ get_or vs i v) (this : written ≡ fact_part (before + i) (fact_of v)) where
-      -- with the next fact
+      -- after the next fact
       pub next_fact : so_far ++ written ≡ numbered_text us digits before (facts_with s (take (i + 1) vs))
       next_fact =
           ap (λ t. so_far ++ t) (this ∙ sym (append-nil (fact_part (before + i) (fact_of v))))
@@ -62,7 +62,7 @@ module _ (us : List (List ℕ)) (digits : ℕ) where
           ∙ ap (numbered_text us digits before) (sym (map-append fact_of (take i vs) (v ∷ [])))
           ∙ ap (λ ws. numbered_text us digits before (facts_with s ws)) (ap (λ w. take i vs ++ w ∷ []) is ∙ sym (take_more vs i v within))
 
-      -- with all that are left
+      -- after all facts that are left
       pub left_facts : so_far ++ (written ++ rest_text (before + i) (facts_with s (drop (i + 1) vs))) ≡ numbered_text us digits before (facts_with s vs)
       left_facts =
           let rest = drop (i + 1) vs in
@@ -84,11 +84,11 @@ by_entries : (entry : Row → Entry) → ((r : Row) → facts_of_entry (entry r)
 by_entries entry same [] = refl
 by_entries entry same (r ∷ rs) = (λ i. same r i ++ by_entries entry same rs i)
 
--- those of the rows of facts are the facts
+-- the facts of the rows are all facts
 pub rows_facts_are : (fs : List Fact) → rows_facts (rows_of fs) ≡ fs
 rows_facts_are fs = sym (by_entries _ (λ r. refl) (rows_of fs)) ∙ facts_are fs
 
--- with rows that are done, one that is next, and the others
+-- rows that are written, the next row, and the others
 module _ (before : ℕ) (fs : List Fact) (done rows rest : List Row) (r : Row) (all : done ++ rows ≡ rows_of fs) (next : rows ≡ r ∷ rest) (count : before ≡ length (rows_facts done)) where
   facts_split : fs ≡ rows_facts done ++ (row_facts r ++ rows_facts rest)
   facts_split = sym (rows_facts_are fs) ∙ ap rows_facts (sym all ∙ ap (λ rs. done ++ rs) next) ∙ flat_map-append row_facts done (r ∷ rest)
@@ -96,7 +96,7 @@ module _ (before : ℕ) (fs : List Fact) (done rows rest : List Row) (r : Row) (
   length-row_facts : length (row_facts r) ≡ length r.1
   length-row_facts = length-map r.1 (λ v. record { dimensions = r.0; value = v })
 
-  -- there is room to count them
+  -- the count of facts does not overflow
   pub row_within : before + length r.1 ≤ length fs
   row_within = omega (arith, count, length-row_facts, ap length facts_split, length-append (rows_facts done) (row_facts r ++ rows_facts rest), length-append (row_facts r) (rows_facts rest))
 
@@ -107,14 +107,14 @@ module _ (before : ℕ) (fs : List Fact) (done rows rest : List Row) (r : Row) (
   count_with_row = omega (arith, count, length-row_facts, ap length facts_with_row, length-append (rows_facts done) (row_facts r))
 
   module _ (us : List (List ℕ)) (digits : ℕ) where
-    -- with the next row
+    -- after the next row
     pub next_row : numbered_text us digits 0 (rows_facts done) ++ numbered_text us digits before (row_facts r) ≡ numbered_text us digits 0 (rows_facts (done ++ r ∷ []))
     next_row =
         ap (λ n. numbered_text us digits 0 (rows_facts done) ++ numbered_text us digits n (row_facts r)) (count ∙ sym (zero-add (length (rows_facts done))))
         ∙ sym (numbered-append us digits 0 (rows_facts done) (row_facts r))
         ∙ ap (numbered_text us digits 0) (sym facts_with_row)
 
-    -- with all that are left
+    -- after all rows that are left
     pub left_rows : numbered_text us digits 0 (rows_facts done) ++ (numbered_text us digits before (row_facts r) ++ numbered_text us digits (before + length r.1) (rows_facts rest)) ≡ numbered_text us digits 0 fs
     left_rows =
         ap (λ n. numbered_text us digits 0 (rows_facts done) ++ (numbered_text us digits before (row_facts r) ++ numbered_text us digits (before + n) (rows_facts rest))) (sym length-row_facts)

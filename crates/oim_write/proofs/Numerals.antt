@@ -1,4 +1,4 @@
--- Padded numbers as numerals: how long, what they write, and their order.
+-- Padded numbers: their length, their value and their order.
 use Rattle.std.proofs.Common.{◌≡◌, ℕ, zero, suc, ◌+◌, ◌/◌, ◌%◌, ◌^◌, ◌<◌, ◌≤◌, List, [], ◌∷◌, ◌++◌, length, ⊎_elim, refl, sym, ap, ◌∙◌, arith, length-append}
 use Rattle.std.proofs.Math.Nat.{pow-suc, pow-zero}
 use Rattle.std.proofs.lemmas.Bool.{cases_Bool}
@@ -16,7 +16,7 @@ use Rattle.std.specs.Ordering.{nat_cmp, ordering_then}
 use Rattle.oim_write.specs.Rank.{padded, width, PaddedWritesNumber, PaddedKeepsOrder, IsFewestDigits, WidthIsFewestDigits}
 use Rattle.oim_write.proofs.Digits.{width_small, width_large}
 
--- ---- what a padded number writes
+-- ---- the value of a padded number
 
 last_digit : (n : ℕ) → digit_value (48 + n % 10) ≡ n % 10
 last_digit n = omega (arith, digit_value_digit (48 + n % 10) (omega arith, omega arith))

@@ -1,4 +1,4 @@
--- The parts of a text as a writer gives them, one after another.
+-- The parts of a text are the text that a JSON writer produces.
 use Rattle.std.proofs.Common.{◌≡◌, ℕ, List, [], ◌∷◌, ◌++◌, append_assoc, Bool, true, refl, sym, ap, ◌∙◌}
 use Rattle.json.specs.Print.{quoted, print, print_from}
 use Rattle.json.specs.Token.{Token, key}
@@ -9,9 +9,9 @@ use Rattle.serde_json.proofs.Texts.{print-outline}
 use Rattle.oim_write.specs.Parts.{part, parts, text_parts}
 use Rattle.oim_write.specs.Tree.{text_items}
 
--- ---- by a writer
+-- ---- written by a JSON writer
 
--- what was written behind what stood there
+-- new tokens follow the old ones
 pub behind : (us : List Token) {xs ys zs : List Token} → zs ≡ ys ++ us → ys ≡ xs → zs ≡ xs ++ us
 behind us step so_far = step ∙ ap (λ ts. ts ++ us) so_far
 
@@ -33,20 +33,20 @@ item_is old before later d ts front tokens =
     ∙ append_assoc old (comma_if later) (print (json_tokens (outline d)))
     ∙ ap (λ t. old ++ (comma_if later ++ t)) (print-outline d)
 
--- one step of a loop that writes one after another
+-- one step of a loop that writes parts
 pub next_part : (text new all part more : List ℕ) → new ≡ text ++ part → text ++ (part ++ more) ≡ all → new ++ more ≡ all
 next_part text new all part more step so_far = ap (λ t. t ++ more) step ∙ append_assoc text part more ∙ so_far
 
--- what was written behind nothing
+-- an empty text followed by a part is the part
 pub behind_nothing : {old new part : List ℕ} → new ≡ old ++ part → old ≡ [] → new ≡ part
 behind_nothing {part = part} step none = step ∙ ap (λ t. t ++ part) none
 
--- ---- members and items as parts
+-- ---- the members and items of a tree
 
 regroup : (c q t r : List ℕ) → c ++ (q ++ 58 ∷ (t ++ r)) ≡ (c ++ (q ++ 58 ∷ t)) ++ r
 regroup c q t r = simp append_assoc
 
--- the text of members is their parts and a brace
+-- the text of members is their parts and a closing brace
 pub members_text-parts : (later : Bool) (ms : Members) → members_text later ms ≡ parts later ms ++ 125 ∷ []
 members_text-parts later no_members = refl
 members_text-parts later (member k d ms) =
@@ -57,7 +57,7 @@ members_text-parts later (member k d ms) =
 regroup_item : (c q t r : List ℕ) → c ++ (q ++ (t ++ r)) ≡ ((c ++ q) ++ t) ++ r
 regroup_item c q t r = simp append_assoc
 
--- that of items is theirs and a bracket
+-- the text of items is their parts and a closing bracket
 pub items_text-parts : (later : Bool) (ts : List (List ℕ)) → items_text later (text_items ts) ≡ text_parts later ts ++ 93 ∷ []
 items_text-parts later [] = refl
 items_text-parts later (t ∷ ts) =

@@ -1,4 +1,4 @@
--- Lemmas on a text on its way to a sink, for those who push it in parts.
+-- Lemmas for callers that push a text to a sink in parts.
 use Rattle.std.proofs.Common.{◌≡◌, ℕ, ◌+◌, ◌-◌, ◌^◌, ◌≤◌, List, [], ◌++◌, Option, Result, Ok, Err, IfErr, length, take, drop, refl, sym, ap, ◌∙◌, append_assoc, append-nil, add-zero, zero-add, arith, length-append, length-take-le, take-append-drop}
 use Rattle.std.specs.Prelude.{OnOk, is_err, false}
 use Rattle.std.specs.Io.KnownBytes.{Appends}
@@ -7,12 +7,12 @@ use Rattle.oim_write.specs.Sink.{AppendsFirst, AppendsFront, saturated, written_
 use Rattle.oim_write.specs.SinkBuffer.{Pending, Passes, Breaks, nothing_yet}
 use Rattle.oim_write.specs.declared.write_fault.WriteFault.{WriteFault}
 
--- what holds on success, where there was no error
+-- a result that is no error has the property that holds on success
 pub holds_where_ok : {T E P : Type 0} (r : Result T E) → false ≡ is_err r → OnOk r P → P
 holds_where_ok (Ok x) e p = p
 holds_where_ok (Err x) e p = cc
 
--- no text came
+-- an empty text
 pub Passes-nil : (a : Option (List ℕ)) (p : Pending) → Passes a a p p []
 Passes-nil a p = record {
   front = [];
@@ -21,7 +21,7 @@ Passes-nil a p = record {
   count = ap saturated (sym (add-zero p.written));
 }
 
--- one text came after the other
+-- two texts, one after the other
 pub Passes-trans : {a b c : Option (List ℕ)} {p q r : Pending} {xs ys : List ℕ} → Passes a b p q xs → Passes b c q r ys → Passes a c p r (xs ++ ys)
 Passes-trans {a} {b} {c} {p} {q} {r} {xs} {ys} first second = record {
   front = first.front ++ second.front;
@@ -31,12 +31,12 @@ Passes-trans {a} {b} {c} {p} {q} {r} {xs} {ys} first second = record {
   count = omega (arith, first.count, second.count, length-append first.front second.front);
 }
 
--- the sink took the whole text, before which nothing was pushed and of which nothing waits
+-- nothing was pushed before and nothing waits: the sink took the whole text
 pub Appends-passed : {a b : Option (List ℕ)} {p q : Pending} {text : List ℕ} → p ≡ nothing_yet → Passes a b p q text → q.bytes ≡ [] → Appends a b text
 Appends-passed {text = text} new passed none =
     rw (ap (λ (p : Pending). p.bytes ++ text) (sym new) ∙ passed.whole ∙ ap (λ l. passed.front ++ l) none ∙ append-nil passed.front) passed.appended
 
--- a fault in a text is one in the longer text
+-- a fault in a text is a fault in a longer text
 pub Breaks-more : {a b : Option (List ℕ)} {p : Pending} {xs : List ℕ} {written : ℕ} (more : List ℕ) → Breaks a b p xs written → Breaks a b p (xs ++ more) written
 Breaks-more {p = p} {xs = xs} more broken = record {
   front = broken.front;
@@ -46,7 +46,7 @@ Breaks-more {p = p} {xs = xs} more broken = record {
   count = broken.count;
 }
 
--- a fault in the later of two texts is one in both
+-- a fault in the second text is a fault in both
 pub Breaks-trans : {a b c : Option (List ℕ)} {p q : Pending} {xs ys : List ℕ} {written : ℕ} → Passes a b p q xs → Breaks b c q ys written → Breaks a c p (xs ++ ys) written
 Breaks-trans {a} {b} {c} {p} {q} {xs} {ys} passed broken = record {
   front = passed.front ++ broken.front;
@@ -57,7 +57,7 @@ Breaks-trans {a} {b} {c} {p} {q} {xs} {ys} passed broken = record {
   count = omega (arith, passed.count, broken.count, length-append passed.front broken.front);
 }
 
--- a fault in a text before which nothing was pushed
+-- a fault in a text that was pushed first
 pub AppendsFront-broken : {a b : Option (List ℕ)} {p : Pending} {text : List ℕ} {written : ℕ} → p ≡ nothing_yet → Breaks a b p text written → AppendsFront a b text written
 AppendsFront-broken {text = text} new broken = record {
   front = broken.front;
@@ -67,14 +67,14 @@ AppendsFront-broken {text = text} new broken = record {
   count = broken.count ∙ ap (λ (p : Pending). saturated (p.written + length broken.front)) new ∙ ap saturated (zero-add (length broken.front));
 }
 
--- a fault in the flush behind a text before which nothing was pushed
+-- a fault when a text that was pushed first is flushed
 pub AppendsFront-flushed : {a b : Option (List ℕ)} {p q : Pending} {text : List ℕ} (c : Option (List ℕ)) (r : Result (Unit {0}) WriteFault) → p ≡ nothing_yet → Passes a b p q text
     → IfErr r (λ fault. Breaks b c q [] (written_of fault)) → IfErr r (λ fault. AppendsFront a c text (written_of fault))
 AppendsFront-flushed c (Ok x) new passed broken = tt
 AppendsFront-flushed c (Err fault) new passed broken =
     let both = AppendsFront-broken new (Breaks-trans passed broken) in rw append-nil at both
 
--- the text waits whole
+-- the whole text waits
 pub Passes-waiting : (a : Option (List ℕ)) (p : Pending) (text : List ℕ) → Passes a a p (record { written = p.written; bytes = p.bytes ++ text }) text
 Passes-waiting a p text = record {
   front = [];
@@ -83,7 +83,7 @@ Passes-waiting a p text = record {
   count = ap saturated (sym (add-zero p.written));
 }
 
--- a fault before the sink took anything
+-- a fault before the sink took a byte
 pub Breaks-none : (a : Option (List ℕ)) (p : Pending) (text : List ℕ) → p.written ≤ 2 ^ 64 - 1 → Breaks a a p text p.written
 Breaks-none a p text small = record {
   front = [];
@@ -93,7 +93,7 @@ Breaks-none a p text small = record {
   count = omega arith;
 }
 
--- a fault after the sink took the first n bytes of what waited
+-- a fault after the sink took the first n waiting bytes
 pub Breaks-first : (a b : Option (List ℕ)) (p : Pending) (n : ℕ) → AppendsFirst a b p.bytes n → Breaks a b p [] (saturated (p.written + n))
 Breaks-first a b p n put = record {
   front = take n p.bytes;
@@ -103,7 +103,7 @@ Breaks-first a b p n put = record {
   count = ap (λ k. saturated (p.written + k)) (sym (length-take-le n p.bytes put.1));
 }
 
--- a fault in what waits is one in the text that was pushed just now
+-- a fault in the waiting bytes is a fault in the text that was just pushed
 pub Breaks-pushed : (a b : Option (List ℕ)) (p : Pending) (text : List ℕ) (r : Result (Unit {0}) WriteFault)
     → IfErr r (λ fault. Breaks a b (record { written = p.written; bytes = p.bytes ++ text }) [] (written_of fault))
     → IfErr r (λ fault. Breaks a b p text (written_of fault))

@@ -1,4 +1,5 @@
--- The tree of a body that fits a sheet is plain: its texts are UTF-8, the keys of its objects rise, and it nests four deep.
+-- The tree of a body that fits a sheet is plain: its texts are UTF-8, the keys of its objects rise, and it nests at
+-- most four deep.
 use Rattle.std.proofs.Common.{◌≡◌, ℕ, suc, ◌≤◌, ◌<◌, List, [], ◌∷◌, length, get_or, Option, Some, None, refl, codes, arith}
 use Rattle.std.specs.Prelude.{All, IsUtf8}
 use Rattle.std.specs.Cmp.Lexicographic.{slice_cmp}
@@ -28,7 +29,7 @@ use Rattle.oim_write.proofs.Labels.{numbered_rise, numbered_utf8}
 use Rattle.oim_write.proofs.SpelledFacts.{facts_are_spelled}
 use Rattle.oim_write.proofs.UrisOfFacts.{uris_rise}
 
--- ---- a value that nests at most so deep
+-- ---- depth of a value
 
 record IsKept (d : Data) (most : ℕ) : Type 0 where
   plain : IsPlain d
@@ -73,7 +74,7 @@ texts_kept (t ∷ ts) n are =
     let rest = texts_kept ts n (All-tail IsUtf8 t ts are) in
     record { plain = (tt, rest.plain); utf8 = (All-head IsUtf8 t ts are, rest.utf8); shallow = omega (arith, rest.shallow) }
 
--- ---- members with labels that rise, before others
+-- ---- members with rising labels, before other members
 
 module _ {A : Type 0} (key : A → List ℕ) (shown : A → Data) (others : Members) where
   before_each : (k : List ℕ) (xs : List A) → IsBefore k others → ((j : ℕ) (d : A) → j < length xs → slice_cmp nat_cmp k (key (get_or xs j d)) ≡ Less) → IsBefore k (members_before key shown xs others)
@@ -86,7 +87,7 @@ module _ {A : Type 0} (key : A → List ℕ) (shown : A → Data) (others : Memb
       one_more (key x) (shown x) (members_before key shown xs others) n (before_each (key x) xs (last x) (λ j d h. before 0 (suc j) d (omega arith) (omega arith))) (utf8 x) (All-head (λ y. IsKept (shown y) n) x xs are)
       (members_kept n xs (λ i j d l h. before (suc i) (suc j) d (omega arith) (omega arith)) utf8 last kept (All-tail (λ y. IsKept (shown y) n) x xs are))
 
--- ---- what a text declares
+-- ---- the declared level
 
 level_utf8 : (l : Level) → IsUtf8 (level_entry l).text
 level_utf8 Unique = IsUtf8-are_ascii _ refl
@@ -94,7 +95,7 @@ level_utf8 Complete = IsUtf8-are_ascii _ refl
 level_utf8 Consistent = IsUtf8-are_ascii _ refl
 level_utf8 AllLevel = IsUtf8-are_ascii _ refl
 
--- the prefixes n.. stand before `xbrl`
+-- the prefixes n1, n2 .. come before `xbrl`
 prefix_before : (declared : Option Level) (us : List (List ℕ)) (u : List ℕ) → IsBefore (prefix us u) (xbrl_member declared)
 prefix_before None us u = tt
 prefix_before (Some l) us u = (refl, tt)

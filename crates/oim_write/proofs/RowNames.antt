@@ -1,4 +1,4 @@
--- The names of rows are those of their facts.
+-- The names of the rows are the names of their facts.
 use Rattle.std.proofs.Common.{◌≡◌, ℕ, true, false, cond, List, [], ◌∷◌, ◌++◌, append-nil, inl, inr, ⊎_elim, refl, sym, ap, subst}
 use Rattle.std.specs.Prelude.{Contains, flat_map}
 use Rattle.std.specs.Cmp.{Equal-is}
@@ -25,7 +25,7 @@ module _ {A : Type 0} where
   by_part : {B : Type 0} (xs ys : List A) (x : A) → (Contains xs x → B) → (Contains ys x → B) → Contains (xs ++ ys) x → B
   by_part xs ys x f g h = ⊎_elim f g ((in_one_of_both xs ys x).0 h)
 
-  -- what stands twice is there as well once
+  -- a repeated element counts once
   said_once : (d v w rest : List A) → SameMembers ((d ++ (v ++ w)) ++ rest) ((d ++ v) ++ ((d ++ w) ++ rest))
   said_once d v w rest x = (
     by_part (d ++ (v ++ w)) rest x
@@ -85,7 +85,7 @@ uris_of_rows fs u = (
   same_uris (flat_map fact_names fs) (flat_map row_names (rows_of fs)) u (λ n. (names_of_rows fs n).1),
 )
 
--- a set that gained the names of all rows has the URIs of the facts
+-- a set that gained the names of all rows contains exactly the URIs of the facts
 pub uris_gained : (fs : List Fact) (set : List (List ℕ)) → IsSet text_cmp set → Gains [] (flat_map row_names (rows_of fs)) set → set ≡ uris fs
 uris_gained fs set rises gained = is_set_of text_cmp_total text_cmp_exact set (uris_of_names (flat_map fact_names fs)) rises (λ u. (
   λ h. (uris_of_rows fs u).0 (⊎_elim (none_there u) (λ of_rows. of_rows) ((gained.members u).0 h)),

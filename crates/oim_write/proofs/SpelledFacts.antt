@@ -1,4 +1,4 @@
--- Each name of a body's facts is spelled by a prefix that is bound to its URI.
+-- Each name of a body's facts is spelled with a prefix that is bound to its URI.
 use Rattle.std.proofs.Common.{◌≡◌, ℕ, zero, suc, ◌+◌, ◌%◌, ◌/◌, ◌<◌, List, [], ◌∷◌, ◌++◌, length, Bool, true, not, ◌==◌, Option, Some, None, refl, arith}
 use Rattle.std.specs.Prelude.{Contains, IfSome, flat_map}
 use Rattle.std.specs.List.{list_all}
@@ -30,7 +30,7 @@ list_all-behind p (x ∷ xs) c all one =
     let both = and_parts (p x) (list_all p xs) all in
     and_from (p x) (list_all p (xs ++ c ∷ [])) both.0 (list_all-behind p xs c both.1 one)
 
--- what each digit passes, padded numbers do
+-- a test that each digit passes is passed by padded numbers
 digits_pass : (p : ℕ → Bool) → ((n : ℕ) → p (48 + n % 10) ≡ true) → (w n : ℕ) → list_all p (padded w n) ≡ true
 unfolding padded
 digits_pass p each zero n = refl
@@ -42,7 +42,7 @@ name_digit n = let small : n % 10 < 10 = omega arith in grind (arith, nat_tests)
 not_none : (n : ℕ) → not (suc n == 0) ≡ true
 not_none n = grind (arith, nat_tests)
 
--- a prefix has its form
+-- a prefix is well-formed
 pub prefix_is_part : (us : List (List ℕ)) (u : List ℕ) → is_part (prefix us u) ≡ true
 prefix_is_part us u = and_from _ _ (digits_pass is_name_byte name_digit (width (length us)) (rank text_cmp u us)) (not_none _)
 

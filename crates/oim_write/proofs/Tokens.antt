@@ -1,4 +1,4 @@
--- The tokens of members, one after another.
+-- The tokens of an object are the tokens of its members.
 use Rattle.std.proofs.Common.{◌≡◌, List, [], ◌∷◌, ◌++◌, append_assoc, append-nil, Option, Some, None, Result, Ok, Err, refl, sym, ap, ◌∙◌}
 use Rattle.std.specs.Prelude.{ℕ, OnOk}
 use Rattle.json.specs.Token.{Token, begin_object, end_object, key}
@@ -18,7 +18,7 @@ outlined : (ms : Members) → tree.members_tokens (members_outline ms) ≡ membe
 outlined no_members = refl
 outlined (member k d ms) = ap (λ ts. key k ∷ (tree.json_tokens (outline d) ++ ts)) (outlined ms) ∙ ap (λ ts. key k ∷ ts) (sym (append_assoc (tree.json_tokens (outline d)) (members_tokens ms) (end_object ∷ [])))
 
--- an object's tokens are those of its members between the brackets
+-- an object's tokens are its members' tokens between the two braces
 pub object_tokens : (ms : Members) → tree.json_tokens (outline (object ms)) ≡ begin_object ∷ (members_tokens ms ++ end_object ∷ [])
 object_tokens ms = ap (λ ts. begin_object ∷ ts) (outlined ms)
 
@@ -40,7 +40,7 @@ module _ (spelled : QName → List ℕ) where
       ap (λ ts. key (spelled e.0) ∷ (tree.json_tokens (outline (member_data spelled e.1)) ++ ts)) (defined_tokens es ms)
       ∙ ap (λ ts. key (spelled e.0) ∷ ts) (sym (append_assoc (tree.json_tokens (outline (member_data spelled e.1))) (members_tokens (defined_members spelled es no_members)) (members_tokens ms)))
 
-  -- one more at the end
+  -- one more dimension at the end
   pub defined_next : (es : List (QName × Member)) (e : QName × Member) →
       members_tokens (defined_members spelled (es ++ e ∷ []) no_members)
       ≡ members_tokens (defined_members spelled es no_members) ++ key (spelled e.0) ∷ tree.json_tokens (outline (member_data spelled e.1))
@@ -49,7 +49,7 @@ module _ (spelled : QName → List ℕ) where
       ap (λ ts. key (spelled f.0) ∷ (tree.json_tokens (outline (member_data spelled f.1)) ++ ts)) (defined_next es e)
       ∙ ap (λ ts. key (spelled f.0) ∷ ts) (sym (append_assoc (tree.json_tokens (outline (member_data spelled f.1))) (members_tokens (defined_members spelled es no_members)) _))
 
--- ---- what was written behind what stood there
+-- ---- tokens that are appended to earlier tokens
 
 pub Adds-is : {a b : Written} {ts us : List Token} → ts ≡ us → Adds a b ts → Adds a b us
 Adds-is {a = a} is added = record { tokens = added.tokens ∙ ap (λ xs. a.tokens ++ xs) is; before = added.before }
@@ -78,7 +78,7 @@ then_decimals v ms decimals rest = Adds-is (sym (decimals_tokens v ms)) (Adds-tr
 pub then_defined : {a b c : Written} (spelled : QName → List ℕ) {es fs : List (QName × Member)} (ms : Members) → es ≡ fs → AddsMembers a b (defined_members spelled es no_members) → AddsMembers b c ms → AddsMembers a c (defined_members spelled fs ms)
 then_defined spelled {es} ms is defined rest = Adds-is (sym (defined_tokens spelled es ms) ∙ ap (λ ds. members_tokens (defined_members spelled ds ms)) is) (Adds-trans defined rest)
 
--- an object that is closed at the end
+-- an object whose brace is closed last
 pub closed_object : {E : Type 0} {a b c d : Written} (r : Result (Unit {0}) E) (ms : Members) → Adds a b (begin_object ∷ []) → AddsMembers b c ms → Writes r c d end_object → OnOk r (AddsValue a d (object ms))
 closed_object (Ok done) ms begun members closed = Adds-is (sym (object_tokens ms)) (Adds-trans begun (Adds-trans members (Adds-one closed)))
 closed_object (Err e) ms begun members closed = tt

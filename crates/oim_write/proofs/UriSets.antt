@@ -1,4 +1,4 @@
--- Sets of URIs that gain those of further names.
+-- Sets of URIs to which the URIs of more names are added.
 use Rattle.std.proofs.Common.{◌≡◌, ℕ, ◌+◌, ◌<◌, Bool, true, false, List, [], ◌∷◌, ◌++◌, length, get_or, take, append-nil, inl, inr, ⊎_elim, refl, sym, ap, subst, ◌∙◌}
 use Rattle.std.specs.Prelude.{Contains, flat_map}
 use Rattle.std.specs.Bool.{OnTrue}
@@ -15,18 +15,18 @@ use Rattle.fact_base.proofs.Sets.{same_sets, set_of_is_set}
 use Rattle.fact_base.proofs.TextOrder.{text_cmp_exact, text_cmp_total}
 use Rattle.oim_write.specs.Uris.{Gains, uris_of_names}
 
--- ---- what is gained
+-- ---- what a set gains
 
 pub gains_none : (us : List (List ℕ)) → Gains us [] us
 gains_none us = record { members = λ u. (λ old. inl old, ⊎_elim (λ old. old) (none_there u)) }
 
--- names whose URI is there
+-- a known URI adds nothing
 pub gains_known : (us : List (List ℕ)) (n : QName) → Contains us n.uri → Gains us (n ∷ []) us
 gains_known us n there = record {
   members = λ u. (λ old. inl old, ⊎_elim (λ old. old) (λ one. ⊎_elim (λ is. subst (Contains us) is there) (none_there u) (first_or_later n.uri [] u one)));
 }
 
--- names one after another
+-- two additions, one after the other
 pub gains_both : {a b c : List (List ℕ)} {ns ms : List QName} → Gains a ns b → Gains b ms c → Gains a (ns ++ ms) c
 gains_both {a} {b} {c} {ns} {ms} first second = record {
   members = λ u.
@@ -45,7 +45,7 @@ gains_both {a} {b} {c} {ns} {ms} first second = record {
       );
 }
 
--- in a walk over a list, those of one item more
+-- a loop over a list adds one item more
 pub gains_more : {A : Type 0} (names : A → List QName) {a b c : List (List ℕ)} (xs : List A) (i : ℕ) (x : A) → i < length xs → x ≡ get_or xs i x
     → Gains a (flat_map names (take i xs)) b → Gains b (names x) c → Gains a (flat_map names (take (i + 1) xs)) c
 gains_more names {a} {b} {c} xs i x within is first second =
@@ -60,9 +60,9 @@ pub gains_name : {a b c : List (List ℕ)} (ns : List QName) (i : ℕ) (n : QNam
 gains_name {a} {b} {c} ns i n within is first second =
     subst (λ ms. Gains a ms c) (sym (take_more ns i n within ∙ ap (λ m. take i ns ++ m ∷ []) (sym is))) (gains_both first second)
 
--- ---- the set of some URIs
+-- ---- the set of a list of URIs
 
--- with one more it gains that one
+-- one more URI in the list adds that URI to the set
 pub gains_one : (us : List (List ℕ)) (n : QName) → Gains (set_of text_cmp us) (n ∷ []) (set_of text_cmp (us ++ n.uri ∷ []))
 gains_one us n =
     let old = set_of_is_set text_cmp_total text_cmp_exact us in
@@ -78,7 +78,7 @@ gains_one us n =
 pub in_set : (us : List (List ℕ)) (u : List ℕ) → Contains us u → Contains (set_of text_cmp us) u
 in_set us u h = ((set_of_is_set text_cmp_total text_cmp_exact us).members u).1 h
 
--- where a URI is told to be at a place
+-- a successful comparison with the URI at an index shows that the set contains it
 pub told_there : (us : List (List ℕ)) (i : ℕ) (known u : List ℕ) (told : Bool) → told ≡ bytes_eq known u → i < length us → get_or us i u ≡ known → OnTrue told (Contains (set_of text_cmp us) u)
 told_there us i known u true is within there = in_set us u (i, within, there ∙ same_bytes known u (sym is))
 told_there us i known u false is within there = tt
@@ -86,7 +86,7 @@ told_there us i known u false is within there = tt
 pub set_rises : (us : List (List ℕ)) → IsSet text_cmp (set_of text_cmp us)
 set_rises us = (set_of_is_set text_cmp_total text_cmp_exact us).rises
 
--- put in order they are the set that they were
+-- sorting the list does not change the set
 pub set_of_set : (us : List (List ℕ)) → set_of text_cmp (set_of text_cmp us) ≡ set_of text_cmp us
 set_of_set us = same_sets text_cmp_total text_cmp_exact (set_of text_cmp us) us (set_of_is_set text_cmp_total text_cmp_exact us).members
 

@@ -31,7 +31,7 @@ own_name (n, Nil) = first_there n []
 own_name (n, Text t) = first_there n []
 own_name (n, Name m) = first_there n (m ∷ [])
 
--- the names of a fact have those of its dimensions
+-- the names of a fact include the names of its dimensions
 pub defined_there : (f : Fact) (e : QName × Member) → Contains f.dimensions.members e → Contains (fact_names f) e.0
 defined_there f e at =
     let d = f.dimensions in

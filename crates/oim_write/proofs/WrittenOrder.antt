@@ -1,4 +1,4 @@
--- The object of a fact has its members in the order in which they are written.
+-- The members of a fact object have the order in which they are written.
 use Rattle.std.proofs.Common.{◌≡◌, ℕ, List, [], ◌∷◌, true, Option, Some, None, codes, refl, ap, ◌∙◌}
 use Rattle.std.specs.Prelude.{Contains}
 use Rattle.std.specs.declared.cmp.Ordering.TheVariants.{Less, Greater}
@@ -21,7 +21,7 @@ use Rattle.oim_write.proofs.NameOrder.{names_keep_order}
 use Rattle.oim_write.proofs.Ranks.{less}
 use Rattle.oim_write.proofs.UrisOfFacts.{defined_there, uri_there, uris_rise}
 
--- ---- one member more
+-- ---- one more member
 
 put_first : (k : List ℕ) (d : Data) (ms : Members) → IsBefore k ms → put k d ms ≡ member k d ms
 put_first k d no_members before = refl
@@ -42,7 +42,7 @@ before_text : (k l : List ℕ) (o : Option (List ℕ)) (ms : Members) → text_c
 before_text k l None ms less before = before
 before_text k l (Some t) ms less before = (less, before)
 
--- ---- the core dimensions, those before the others and those behind them
+-- ---- the core dimensions, before and after the taxonomy-defined ones
 
 abbrev front : Data → Option (List ℕ) → Option (List ℕ) → Members → Members
 front c e l ms = member (codes "concept") c (text_member (codes "entity") e (text_member (codes "language") l ms))
@@ -63,7 +63,7 @@ core_order c e l p u =
     ∙ ap (put_text (codes "entity") e) (text_second (codes "language") (codes "concept") l c (back p u) refl behind_language)
     ∙ text_second (codes "entity") (codes "concept") e c (text_member (codes "language") l (back p u)) refl behind_entity
 
--- ---- the others between them: their keys begin with the letter n
+-- ---- the taxonomy-defined dimensions: their keys begin with the letter n
 
 module _ (us : List (List ℕ)) where
   put_between : (n : QName) (d c : Data) (e l : Option (List ℕ)) (ms : Members) → put (name_text us n) d (front c e l ms) ≡ front c e l (put (name_text us n) d ms)
@@ -103,7 +103,7 @@ module _ (us : List (List ℕ)) where
         ∙ defined_between d.members c e d.language (back p u)
         ∙ ap (front c e d.language) (defined_order d.members (back p u) rise there (λ n. before_back (name_text us n) p u refl refl))
 
--- ---- a fact
+-- ---- the fact object
 
 decimals_first : (spelled : QName → List ℕ) (v : Value) (ms : Members) → IsBefore (codes "decimals") ms → with_decimals spelled v ms ≡ decimals_member v ms
 decimals_first spelled Nil ms before = refl

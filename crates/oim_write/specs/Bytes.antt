@@ -1,4 +1,4 @@
--- The bytes by which a body is written (own).
+-- The bytes of a body's canonical text (own).
 use Rattle.std.specs.Prelude.{◌≡◌, ℕ, List, Option}
 use Rattle.fact_base.specs.Passed.{SameMembers}
 use Rattle.serde_json.specs.Written.{compact_text}
@@ -10,19 +10,19 @@ use Rattle.fact_base.specs.Body.{Body, body}
 use Rattle.fact_base.specs.Fits.{Fits}
 use Rattle.oim_write.specs.Tree.{earlier_tree, tree, tree_declaring}
 
--- the JSON text without spaces
+-- the JSON text of the body's tree, without spaces
 unfoldable pub canonical : Body → List ℕ
 canonical b = compact_text (tree b)
 
--- the text from before levels were declared
+-- the earlier form, which declares no level of duplicates
 unfoldable pub earlier : Body → List ℕ
 earlier b = compact_text (earlier_tree b)
 
--- neither the order of documents nor repeats matter
+-- the order and the repetition of documents do not change the bytes
 abbrev pub BytesIgnoreOrder : Type 0
 BytesIgnoreOrder = (ds es : List Document) → SameMembers ds es → canonical (body ds) ≡ canonical (body es)
 
--- whatever level is declared, the value of a body that fits a sheet has no float, its texts are UTF-8, the keys of each of its objects rise in byte order, each
--- once, and it nests four deep
+-- the tree of a body that fits a sheet has UTF-8 texts and no float, the keys of its objects are distinct and in byte
+-- order, and it nests at most four deep; that holds for each declared level
 abbrev pub TreesArePlain : Type 0
 TreesArePlain = (sheet : Sheet) (b : Body) (declared : Option Level) → Fits sheet b → IsPlainJson (tree_declaring declared b) 4

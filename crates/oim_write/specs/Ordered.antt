@@ -1,4 +1,4 @@
--- The object of a fact member by member, in the order in which it is written (own). That this is the byte order of the keys is a law.
+-- A fact object, member by member in the order of writing (own). A law says that this is the byte order of the keys.
 use Rattle.std.specs.Prelude.{◌≡◌, ℕ, List, [], ◌∷◌, codes, Option, Some, None, Contains}
 use Rattle.serde_json.specs.Data.{Data, number, string, object, Members, no_members, member}
 use Rattle.serde_json.specs.Find.{of_integer}
@@ -13,12 +13,12 @@ use Rattle.fact_base.specs.Passed.{fact_object, member_data, option_spelled, opt
 use Rattle.oim_write.specs.Tree.{name_text}
 use Rattle.oim_write.specs.Uris.{uris}
 
--- a text at a key, if there is one, before other members
+-- a member with a text, if there is one, before other members
 abbrev pub text_member : List ℕ → Option (List ℕ) → Members → Members
 text_member key None ms = ms
 text_member key (Some t) ms = member key (string t) ms
 
--- finite decimals of a number, before other members
+-- the member `decimals` if they are finite, before other members
 abbrev pub decimals_member : Value → Members → Members
 decimals_member (Number units (Some d)) ms = member (codes "decimals") (number (of_integer d)) ms
 decimals_member (Number units None) ms = ms
@@ -27,12 +27,12 @@ decimals_member (AText t) ms = ms
 decimals_member (AName n) ms = ms
 
 module _ (spelled : QName → List ℕ) where
-  -- the dimensions that a taxonomy defines, in the order of their names, before other members
+  -- the taxonomy-defined dimensions in the order of their names, before other members
   abbrev pub defined_members : List (QName × Member) → Members → Members
   defined_members [] ms = ms
   defined_members (e ∷ es) ms = member (spelled e.0) (member_data spelled e.1) (defined_members es ms)
 
-  -- they are between `language` and `period`
+  -- all dimensions: the taxonomy-defined ones are between `language` and `period`
   abbrev pub ordered_dimensions : DimensionSet → Members
   ordered_dimensions d =
       member (codes "concept") (string (spelled d.concept))
@@ -48,6 +48,6 @@ module _ (spelled : QName → List ℕ) where
       (member (codes "dimensions") (object (ordered_dimensions f.dimensions))
       (member (codes "value") (value_data spelled f.value) no_members)))
 
--- if prefixes are n and a rank, this is the object of each fact
+-- if prefixes are the letter n and a rank, this is the object of each fact
 abbrev pub FactsAreWrittenInOrder : Type 0
 FactsAreWrittenInOrder = (facts : List Fact) (f : Fact) → Contains facts f → IsDimensionSet f.dimensions → fact_object (name_text (uris facts)) f ≡ ordered_fact (name_text (uris facts)) f

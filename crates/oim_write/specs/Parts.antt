@@ -1,4 +1,4 @@
--- The canonical text in the parts that are written (own).
+-- The canonical text in the parts in which it is written (own).
 use Rattle.std.specs.Prelude.{◌≡◌, ℕ, ◌+◌, nat_lt, List, [], ◌∷◌, ◌++◌, length, codes, Bool, true, false}
 use Rattle.json.specs.Print.{quoted}
 use Rattle.json.specs.Token.{Token, key}
@@ -14,12 +14,12 @@ use Rattle.oim_write.specs.Ordered.{ordered_fact}
 use Rattle.oim_write.specs.Rank.{padded, width}
 use Rattle.oim_write.specs.Tree.{members_by, name_text, prefix}
 
--- the tokens were appended
+-- the further tokens were appended
 pub record Adds (old new : Written) (further : List Token) : Type 0 where
   pub tokens : new.tokens ≡ old.tokens ++ further
   pub before : new.before ≡ old.before
 
--- the tokens of a value were
+-- the tokens of the value were appended
 abbrev pub AddsValue : Written → Written → Data → Type 0
 AddsValue old new d = Adds old new (json_tokens (outline d))
 
@@ -28,20 +28,20 @@ abbrev pub members_tokens : Members → List Token
 members_tokens no_members = []
 members_tokens (member k d ms) = key k ∷ (json_tokens (outline d) ++ members_tokens ms)
 
--- the members were written into an object that was begun
+-- the members were written into an open object
 abbrev pub AddsMembers : Written → Written → Members → Type 0
 AddsMembers old new ms = Adds old new (members_tokens ms)
 
--- a member of an object, after a comma unless it is the first
+-- one member of an object, after a comma unless it is the first
 abbrev pub part : Bool → List ℕ → Data → List ℕ
 part later name d = comma_if later ++ (quoted name ++ 58 ∷ compact_text d)
 
--- the members of an object one after another, without its brackets
+-- the members of an object, without its braces
 abbrev pub parts : Bool → Members → List ℕ
 parts later no_members = []
 parts later (member name d ms) = part later name d ++ parts true ms
 
--- whether there is one
+-- true if the list is not empty
 abbrev pub has_some : List (List ℕ) → Bool
 has_some [] = false
 has_some (u ∷ us) = true
@@ -54,7 +54,7 @@ abbrev pub text_parts : Bool → List (List ℕ) → List ℕ
 text_parts later [] = []
 text_parts later (t ∷ ts) = (comma_if later ++ quoted t) ++ text_parts true ts
 
--- everything before the first reference
+-- the text before the first reference
 abbrev pub head_text : Level → List (List ℕ) → List ℕ
 head_text level us =
     codes "{\"documentInfo\":{\"documentType\":\"https://xbrl.org/2021/xbrl-json\",\"features\":{\"xbrl:allowedDuplicates\":\""
@@ -64,7 +64,7 @@ head_text level us =
     ++ (comma_if (has_some us)
     ++ codes "\"xbrl\":\"https://xbrl.org/2021\"},\"taxonomy\":["))))
 
--- facts numbered with so many digits, after so many others
+-- facts as members: the identifier has so many digits and counts the facts before
 abbrev pub numbered_members : List (List ℕ) → ℕ → ℕ → List Fact → Members
 numbered_members us digits before [] = no_members
 numbered_members us digits before (f ∷ fs) = member (102 ∷ padded digits (before + 1)) (ordered_fact (name_text us) f) (numbered_members us digits (before + 1) fs)
@@ -72,10 +72,10 @@ numbered_members us digits before (f ∷ fs) = member (102 ∷ padded digits (be
 abbrev pub numbered_text : List (List ℕ) → ℕ → ℕ → List Fact → List ℕ
 numbered_text us digits before fs = parts (nat_lt 0 before) (numbered_members us digits before fs)
 
--- all facts, one after another
+-- the text of all facts
 abbrev pub facts_text : List (List ℕ) → List Fact → List ℕ
 facts_text us facts = numbered_text us (width (length facts)) 0 facts
 
--- a head, and all that stands behind it
+-- a head, and the rest of the text
 abbrev pub parts_text : List ℕ → List (List ℕ) → Body → List ℕ
 parts_text head us b = head ++ (text_parts false b.references ++ (codes "]},\"facts\":{" ++ (facts_text us b.facts ++ codes "}}")))

@@ -1,4 +1,4 @@
--- The numbers of a set's members, from 1, and their texts of one width (own). In bytes, `0` is 48.
+-- The rank of a member in a set, from 1, and ranks as texts of one width (own). In bytes, `0` is 48.
 use Rattle.std.specs.Prelude.{◌≡◌, ℕ, zero, suc, ◌+◌, ◌/◌, ◌%◌, ◌^◌, ◌<◌, ◌≤◌, List, [], ◌∷◌, ◌++◌, length, count_by, nat_lt, if◌then◌else◌, Contains}
 use Rattle.std.specs.declared.cmp.Ordering.{Ordering}
 use Rattle.std.specs.Ordering.{is_lt, nat_cmp}
@@ -7,7 +7,7 @@ use Rattle.std.specs.Cmp.Lexicographic.{slice_cmp}
 use Rattle.std.specs.List.Sorted.{IsStrictlySortedBy}
 use Rattle.std.specs.Str.Parse.{AllDigits, digits_value}
 
--- one more than the number of members that are smaller than x
+-- one more than the number of members smaller than x
 abbrev pub rank : {K : Type 0} → (K → K → Ordering) → K → List K → ℕ
 rank R x members = suc (count_by (λ y. is_lt (R y x)) members)
 
@@ -16,7 +16,7 @@ unfoldable pub padded : ℕ → ℕ → List ℕ
 padded zero n = []
 padded (suc width) n = padded width (n / 10) ++ (48 + n % 10) ∷ []
 
--- how many digits n has, for n at most `most`
+-- the number of digits of n, counted up to `most`
 unfoldable pub digits_up_to : ℕ → ℕ → ℕ
 digits_up_to zero n = 1
 digits_up_to (suc most) n = if nat_lt n 10 then 1 else suc (digits_up_to most (n / 10))
@@ -24,13 +24,13 @@ digits_up_to (suc most) n = if nat_lt n 10 then 1 else suc (digits_up_to most (n
 abbrev pub width : ℕ → ℕ
 width n = digits_up_to n n
 
--- a letter and the rank of x, padded to the width of the greatest
+-- a letter and the rank of x, padded to the width of the highest rank
 abbrev pub numbered : {K : Type 0} → ℕ → (K → K → Ordering) → K → List K → List ℕ
 numbered letter R x members = letter ∷ padded (width (length members)) (rank R x members)
 
--- ---- what these come to
+-- ---- laws
 
--- the text has so many bytes, each a decimal digit, and writes n
+-- the text has this many bytes, all decimal digits, and its value is n
 pub record IsNumeralOf (digits n : ℕ) (text : List ℕ) : Type 0 where
   pub long : length text ≡ digits
   pub decimal : AllDigits 10 text
@@ -39,7 +39,7 @@ pub record IsNumeralOf (digits n : ℕ) (text : List ℕ) : Type 0 where
 abbrev pub PaddedWritesNumber : Type 0
 PaddedWritesNumber = (digits n : ℕ) → n < 10 ^ digits → IsNumeralOf digits n (padded digits n)
 
--- so many digits, one or more, write n, and no fewer do
+-- n has this many digits and no fewer, at least one
 pub record IsFewestDigits (n digits : ℕ) : Type 0 where
   pub some : 1 ≤ digits
   pub enough : n < 10 ^ digits
@@ -48,10 +48,10 @@ pub record IsFewestDigits (n digits : ℕ) : Type 0 where
 abbrev pub WidthIsFewestDigits : Type 0
 WidthIsFewestDigits = (n : ℕ) → IsFewestDigits n (width n)
 
--- the members of a set have ranks from 1 to their number
+-- the members of a set have ranks from 1 to their count
 abbrev pub RanksAreWithin : {K : Type 0} → (K → K → Ordering) → Type 0
 RanksAreWithin {K} R = (members : List K) (x : K) → IsStrictlySortedBy R members → Contains members x → (1 ≤ rank R x members) × (rank R x members ≤ length members)
 
--- padded texts, read as bytes, are in the order of the numbers
+-- padded texts of one width have the byte order of their numbers
 abbrev pub PaddedKeepsOrder : Type 0
 PaddedKeepsOrder = (digits m n : ℕ) → m < n → n < 10 ^ digits → slice_cmp nat_cmp (padded digits m) (padded digits n) ≡ Less

@@ -1,9 +1,9 @@
--- A text on its way to a sink (own).
+-- A text that is buffered on its way to a sink (own).
 use Rattle.std.specs.Prelude.{◌≡◌, ℕ, ◌+◌, ◌++◌, List, [], Option, length}
 use Rattle.std.specs.Io.KnownBytes.{Appends}
 use Rattle.oim_write.specs.Sink.{saturated}
 
--- how many bytes the sink took, and the bytes that wait
+-- how many bytes the sink took, and which bytes wait
 pub record Pending : Type 0 where
   pub written : ℕ
   pub bytes : List ℕ
@@ -12,14 +12,15 @@ pub record Pending : Type 0 where
 abbrev pub nothing_yet : Pending
 nothing_yet = record { written = 0; bytes = [] }
 
--- the text was appended to what waited: the sink took the first part of both, and the rest waits
+-- the text was appended to the waiting bytes: the sink took a first part, and the rest waits
 pub record Passes (old new : Option (List ℕ)) (before after : Pending) (text : List ℕ) : Type 0 where
   pub front : List ℕ
   pub whole : before.bytes ++ text ≡ front ++ after.bytes
   pub appended : Appends old new front
   pub count : saturated after.written ≡ saturated (before.written + length front)
 
--- the text was to be appended to what waited: the sink took the first part of both before a fault, which says how much
+-- a fault while the text was pushed: the sink took a first part of the waiting bytes and the text, and `written` counts
+-- it
 pub record Breaks (old new : Option (List ℕ)) (before : Pending) (text : List ℕ) (written : ℕ) : Type 0 where
   pub front : List ℕ
   pub rest : List ℕ

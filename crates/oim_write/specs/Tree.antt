@@ -1,5 +1,6 @@
--- The JSON value by which a body is written: xBRL-JSON 1.0, sections 2 and 3, with one choice of prefixes and identifiers (own).
--- A text declares a level of duplicates, as the feature `xbrl:allowedDuplicates` (OIM Common 1.0); earlier texts declare none.
+-- The JSON value that is written for a body: xBRL-JSON 1.0, sections 2 and 3; the choice of prefixes and identifiers is
+-- own.
+-- The feature `xbrl:allowedDuplicates` declares a level of duplicates (OIM Common 1.0). The earlier form declares none.
 -- In bytes, `:` is 58, `f` 102, `n` 110.
 use Rattle.std.specs.Prelude.{ℕ, List, [], ◌∷◌, ◌++◌, codes, Option, Some, None}
 use Rattle.serde_json.specs.Data.{Data, string, array, object, Items, no_items, item, Members, no_members, member}
@@ -14,48 +15,48 @@ use Rattle.fact_base.specs.Body.{Body, text_cmp}
 use Rattle.oim_write.specs.Rank.{numbered}
 use Rattle.oim_write.specs.Uris.{uris}
 
--- the prefix of one of these URIs: the letter n, and its rank among them
+-- the prefix of a URI: the letter n and its rank among all URIs
 abbrev pub prefix : List (List ℕ) → List ℕ → List ℕ
 prefix us uri = numbered 110 text_cmp uri us
 
--- the spelling of a name
+-- a name: its prefix, a colon and the local part
 abbrev pub name_text : List (List ℕ) → QName → List ℕ
 name_text us n = prefix us n.uri ++ 58 ∷ n.local_part
 
--- the letter f, and the rank of a fact among these
+-- an identifier: the letter f and the rank of the fact among all facts
 abbrev pub identifier : List Fact → Fact → List ℕ
 identifier facts f = numbered 102 fact_cmp f facts
 
--- a member for each item of a list, before others
+-- one member for each item of a list, before other members
 abbrev pub members_before : {A : Type 0} → (A → List ℕ) → (A → Data) → List A → Members → Members
 members_before key shown [] others = others
 members_before key shown (x ∷ xs) others = member (key x) (shown x) (members_before key shown xs others)
 
--- and with none after them
+-- one member for each item of a list
 abbrev pub members_by : {A : Type 0} → (A → List ℕ) → (A → Data) → List A → Members
 members_by key shown xs = members_before key shown xs no_members
 
--- an item for each text
+-- one item for each text
 abbrev pub text_items : List (List ℕ) → Items
 text_items [] = no_items
 text_items (t ∷ ts) = item (string t) (text_items ts)
 
--- ---- what a text declares
+-- ---- the declared level
 
--- the feature that declares a level, if one is declared, before other members
+-- the feature that declares a level, before other members; no member if no level is declared
 abbrev pub features_member : Option Level → Members → Members
 features_member None others = others
 features_member (Some level) others =
     member (codes "features") (object (member (codes "xbrl:allowedDuplicates") (string (level_entry level).text) no_members)) others
 
--- the prefix of that feature, bound if a level is declared
+-- the prefix `xbrl` of that feature; no member if no level is declared
 abbrev pub xbrl_member : Option Level → Members
 xbrl_member None = no_members
 xbrl_member (Some level) = member (codes "xbrl") (string reserved_uri) no_members
 
--- ---- the whole
+-- ---- the whole object
 
--- each URI under its prefix, and then `xbrl`
+-- each URI under its prefix, and `xbrl` last
 abbrev pub namespaces_object : Option Level → List (List ℕ) → Data
 namespaces_object declared us = object (members_before (prefix us) string us (xbrl_member declared))
 
@@ -75,10 +76,10 @@ tree_declaring declared b =
     object (member (codes "documentInfo") (info_object declared (uris b.facts) b.references) (
     member (codes "facts") (facts_object b.facts) no_members))
 
--- a text declares the strictest level that allows its facts
+-- the canonical form declares the strictest level that the facts satisfy
 abbrev pub tree : Body → Data
 tree b = tree_declaring (Some (level_of b.facts)) b
 
--- an earlier text declares none
+-- the earlier form declares none
 abbrev pub earlier_tree : Body → Data
 earlier_tree b = tree_declaring None b

@@ -1,4 +1,4 @@
--- The namespaces of the names of facts, which get a prefix each (OIM Common 1.0: names are expanded, so prefixes carry no meaning).
+-- The namespace URIs of the names of facts; each gets one prefix (OIM Common 1.0: prefixes carry no meaning).
 use Rattle.std.specs.Prelude.{◌↔◌, ◌⊎◌, Contains, ℕ, List, [], ◌∷◌, ◌++◌, map, flat_map, Option, Some, None}
 use Rattle.oim_names.specs.QName.{QName}
 use Rattle.oim_value.specs.declared.value.Value.{Value}
@@ -20,7 +20,7 @@ abbrev pub unit_names : Option Measures → List QName
 unit_names None = []
 unit_names (Some m) = m.numerators ++ m.denominators
 
--- a dimension, and its member if that is a name
+-- the name of a dimension, and its member if that is a name
 abbrev pub defined_names : QName × Member → List QName
 defined_names (n, NoMember) = n ∷ []
 defined_names (n, MemberText t) = n ∷ []
@@ -35,21 +35,21 @@ value_names (Number units d) = []
 value_names (AText t) = []
 value_names (AName n) = n ∷ []
 
--- the names of a fact: its concept, entity, measures, dimensions, explicit members, and a value that is a name
+-- the names of a fact: concept, entity, measures, dimensions, explicit members, and the value if it is a name
 abbrev pub fact_names : Fact → List QName
 fact_names f = dimension_names f.dimensions ++ value_names f.value
 
 abbrev pub uris_of_names : List QName → List (List ℕ)
 uris_of_names names = map (λ n. n.uri) names
 
--- the set of their namespaces, in byte order
+-- the URIs of the facts' names, distinct and in byte order
 abbrev pub uris : List Fact → List (List ℕ)
 uris facts = set_of text_cmp (uris_of_names (flat_map fact_names facts))
 
--- the names of a row: of its dimensions, and of its values
+-- the names of a row: of its dimensions and of its values
 abbrev pub row_names : Row → List QName
 row_names r = dimension_names r.0 ++ flat_map value_names r.1
 
--- a set of URIs after the namespaces of further names are added
+-- the new set has the old URIs, the URIs of the added names, and no others
 pub record Gains (old : List (List ℕ)) (names : List QName) (new : List (List ℕ)) : Type 0 where
   pub members : (u : List ℕ) → Contains new u ↔ (Contains old u ⊎ Contains (uris_of_names names) u)

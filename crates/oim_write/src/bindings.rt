@@ -9,8 +9,8 @@ use fact_base::Base;
 use oim_names::Aliases;
 use std::alloc::{AllocError, Global};
 
-/// The prefixes of a base's text: for each URI of its names, in byte order, the letter `n` and the
-/// rank of the URI from 1, padded with zeros to the width of their number (own).
+/// The prefixes of a base's text. The URIs of its names, in byte order, get `n1`, `n2` and so on,
+/// padded with zeros to the width of their count (own).
 ///
 /// Errors: out of memory.
 pub fn prefixes(alloc: Global, base: &Base<'_>) -> Result<Aliases, AllocError>

@@ -3,7 +3,7 @@ ghost use Rattle.std.specs.Prelude.{◌≡◌, IfOk};
 use std::alloc::{AllocError, Global};
 use std::marker::Model;
 
-/// The bytes of a text. Contracts see their list.
+/// The bytes of a text. In contracts it is a list of bytes.
 #[derive(Debug, Drop)]
 pub struct Encoded {
     bytes: Vec<u8>,
@@ -18,7 +18,7 @@ impl Model for Encoded {
 }
 
 impl Encoded {
-    /// A copy of these bytes.
+    /// Copies these bytes.
     ///
     /// Errors: out of memory.
     pub fn new(alloc: Global, bytes: &[u8]) -> Result<Encoded, AllocError>
@@ -28,7 +28,7 @@ impl Encoded {
         Ok(Encoded { bytes })
     }
 
-    /// These bytes, without a copy.
+    /// Takes these bytes without a copy.
     pub fn from_vec(bytes: Vec<u8>) -> Encoded
         ensures { result ≡ bytes.items }
     {

@@ -1,4 +1,4 @@
-//! Laws of the definitions, each the contract of a function that does nothing.
+//! Laws of the definitions. Each is the contract of a function that does nothing.
 ghost use Rattle.oim_dims.specs.FactOrder.{fact_cmp};
 ghost use Rattle.fact_base.specs.Body.{text_cmp};
 ghost use Rattle.oim_write.specs.Bytes.{BytesIgnoreOrder, TreesArePlain};
@@ -6,7 +6,7 @@ ghost use Rattle.oim_write.specs.Ordered.{FactsAreWrittenInOrder};
 ghost use Rattle.oim_write.specs.Prefixes.{FactsAreSpelled};
 ghost use Rattle.oim_write.specs.Rank.{PaddedKeepsOrder, PaddedWritesNumber, RanksAreWithin, WidthIsFewestDigits};
 
-/// The same documents give the same bytes, in any order and however often each is repeated.
+/// The same documents give the same bytes, whatever their order and repetition.
 pub fn bytes_ignore_order()
     ensures { BytesIgnoreOrder }
 {}
@@ -17,8 +17,8 @@ pub fn trees_are_plain()
     ensures { TreesArePlain }
 {}
 
-/// The members of a fact object are in byte order of their keys if those of the dimensions that a
-/// taxonomy defines are between `language` and `period`, in the order of their names.
+/// The members of a fact object are in byte order of their keys. The taxonomy-defined dimensions
+/// come between `language` and `period`, in the order of their names.
 pub fn facts_are_written_in_order()
     ensures { FactsAreWrittenInOrder }
 {}
@@ -28,23 +28,23 @@ pub fn facts_are_spelled()
     ensures { FactsAreSpelled }
 {}
 
-/// A number that fits in so many decimal digits is written with them, and they read as the number.
+/// A number that fits in a width is padded to that width, and the digits read as the number.
 pub fn padded_writes_number()
     ensures { PaddedWritesNumber }
 {}
 
-/// The width of a number is the fewest digits that write it.
+/// The width of a number is the smallest count of digits that can write it.
 pub fn width_is_fewest_digits()
     ensures { WidthIsFewestDigits }
 {}
 
-/// The members of a set have ranks from 1 to their number.
+/// The members of a set have ranks from 1 to their count.
 pub fn ranks_are_within()
     ensures facts { RanksAreWithin fact_cmp }
     ensures uris { RanksAreWithin text_cmp }
 {}
 
-/// Padded texts of one width are in the order of their numbers.
+/// Padded numbers of one width have the order of the numbers.
 pub fn padded_keeps_order()
     ensures { PaddedKeepsOrder }
 {}

@@ -18,21 +18,21 @@ use oim_value::{Level, Value};
 use std::alloc::{AllocError, Global};
 use std::mem;
 
-// The parts of the canonical text. Where memory is refused, the text so far is given up.
+// The parts of the canonical text. If memory is refused, the text so far is dropped.
 
-/// What stands before the level.
+/// The text before the declared level.
 const TYPE_AND_FEATURE: &[u8] =
     b"{\"documentInfo\":{\"documentType\":\"https://xbrl.org/2021/xbrl-json\",\"features\":{\"xbrl:allowedDuplicates\":\"";
 
-/// What the facts of a text are labelled with: the prefixes of their names, and how many digits an
-/// identifier has.
+/// How the facts of a text are labelled: the prefixes of their names, and the number of digits in
+/// an identifier.
 #[derive(Clone, Copy)]
 pub(crate) struct Labels<'t> {
     pub table: &'t PrefixTable,
     pub digits: usize,
 }
 
-/// All that stands before the first reference.
+/// The text before the first reference.
 pub(crate) fn head(alloc: Global, level: Level, table: &PrefixTable) -> Result<Vec<u8>, AllocError>
     ensures { IfOk result (λ text. text.items ≡ head_text level table.now) }
 {
@@ -107,7 +107,7 @@ pub(crate) fn append_reference(
     Ok(())
 }
 
-/// One member of `facts`, where so many facts stand before it.
+/// One member of `facts`, given the number of facts before it.
 pub(crate) fn append_fact(
     alloc: Global,
     text: &mut Vec<u8>,

@@ -8,7 +8,7 @@ use oim_names::Text;
 use std::alloc::{AllocError, Global};
 use std::marker::Model;
 
-/// The number of classes: a prime, so that days are spread over them.
+/// The number of classes: a prime, so that days spread over them.
 const CLASSES: u64 = 251;
 
 /// A period with its text; `Period::Forever` has none.
@@ -55,8 +55,8 @@ impl PeriodText {
     }
 }
 
-/// A cache of the last text for each class of periods, since a report has few periods. Contracts
-/// see the period that is cached for each class.
+/// Caches the last text for each class of periods, since a report has few periods. Contracts see
+/// the period cached for each class.
 #[derive(Drop)]
 pub(crate) struct PeriodTexts {
     texts: Vec<PeriodText>,
@@ -72,14 +72,14 @@ impl Model for PeriodTexts {
 }
 
 impl PeriodTexts {
-    /// No texts. Later calls take their memory from `alloc`.
+    /// An empty cache. Later calls take their memory from `alloc`.
     pub(crate) fn new(alloc: Global) -> PeriodTexts {
         PeriodTexts {
             texts: Vec::new(alloc),
         }
     }
 
-    /// Spells a period, unless it is the one cached for its class, and returns its place.
+    /// Spells a period unless its class has it cached, and returns its index.
     pub(crate) fn spell(&mut self, alloc: Global, period: Period) -> Result<usize, AllocError>
         ensures there { IfOk result (λ place. place < length self.new) }
         ensures is { IfOk result (λ place. (d : APeriod) → get_or self.new place d ≡ period) }
@@ -90,7 +90,7 @@ impl PeriodTexts {
         Ok(class)
     }
 
-    /// The text of the period at a place, or None for `Period::Forever`.
+    /// The text of the period at an index, or None for `Period::Forever`.
     pub(crate) fn text(&self, place: usize) -> Option<&Text>
         requires { place < length self.now }
         ensures { (d : APeriod) → option_copied result ≡ period_text (get_or self.now place d) }
@@ -99,7 +99,7 @@ impl PeriodTexts {
     }
 }
 
-// Makes a place for the class.
+// Extends the cache to the class.
 fn reach(texts: &mut Vec<PeriodText>, class: usize) -> Result<(), AllocError>
     ensures { OnOk result (class < length texts.new.items) }
 {

@@ -11,7 +11,7 @@ use oim_names::{Name, PositionCache, Text};
 use std::alloc::{AllocError, Global};
 use std::marker::Model;
 
-/// The URIs of a base's names, which get a prefix each. Contracts see them in order.
+/// The URIs of a base's names. Each gets one prefix. Contracts see them in order.
 #[derive(Drop)]
 pub(crate) struct PrefixTable {
     uris: Vec<Text>,
@@ -31,7 +31,7 @@ impl Model for PrefixTable {
 }
 
 impl PrefixTable {
-    /// The URIs of the names of a base's facts, found in one pass over its rows.
+    /// Collects the URIs of the facts' names in one pass over the rows.
     pub(crate) fn of(alloc: Global, base: &Base<'_>) -> Result<PrefixTable, AllocError>
         ensures { IfOk result (λ table. table ≡ uris base.now.body.facts) }
     {
@@ -49,21 +49,21 @@ impl PrefixTable {
         })
     }
 
-    /// The URIs, each once and in order.
+    /// The URIs, distinct and in order.
     pub(crate) fn uris(&self) -> &[Text]
         ensures { result.now ≡ self.now }
     {
         self.uris.as_slice()
     }
 
-    /// The prefix of a URI: the letter n, and its rank.
+    /// The prefix of a URI: the letter n and its rank.
     pub(crate) fn prefix(&self, alloc: Global, uri: &str) -> Result<String, AllocError>
         ensures { IfOk result (λ text. string_bytes text ≡ prefix self.now uri.now) }
     {
         label(alloc, "n", self.digits, self.rank(uri))
     }
 
-    // Most names have the URI that was last found for their class.
+    // Most names have the URI that was found last for their class.
     fn rank(&self, uri: &str) -> u128
         ensures { result ≡ rank text_cmp uri.now self.now }
     {
@@ -89,7 +89,7 @@ impl PrefixTable {
         text.push_str(name.local())
     }
 
-    /// The same, replacing the text.
+    /// Replaces the text by the text of a name.
     pub(crate) fn spell(&self, text: &mut String, name: &Name) -> Result<(), AllocError>
         ensures { OnOk result (string_bytes text.new ≡ name_text self.now name.now) }
     {
@@ -98,7 +98,7 @@ impl PrefixTable {
     }
 }
 
-// The place of the last URI for each class of names.
+// The index of the last URI for each class of names.
 fn places_of(uris: &[Text]) -> PositionCache {
     let mut cache = PositionCache::new();
     for (place, uri) in uris.iter().enumerate() {

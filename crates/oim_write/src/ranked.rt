@@ -4,11 +4,11 @@ ghost use Rattle.oim_write.specs.Rank.{padded, width};
 use oim_names::Text;
 use std::alloc::{AllocError, Global};
 
-/// The capacity of a label, requested at once; few labels are longer.
+/// The first capacity of a label; few labels are longer.
 const LABEL: usize = 16;
 
-/// The identifier of a fact in a canonical text: the letter `f` and its rank, from 1, with zeros on
-/// the left to the width of the count (own).
+/// The identifier of a fact in a canonical text: the letter `f` and its rank, from 1, padded with
+/// zeros to the width of the count (own).
 ///
 /// Errors: out of memory.
 pub fn identifier(alloc: Global, rank: u128, count: u128) -> Result<Text, AllocError>
@@ -18,7 +18,7 @@ pub fn identifier(alloc: Global, rank: u128, count: u128) -> Result<Text, AllocE
     Text::new(alloc, text.as_str())
 }
 
-/// How many digits a number has.
+/// The number of digits of a number.
 #[tactic(auto, unfolding(crate::specs::Rank::digits_up_to))]
 pub(crate) fn width_of(number: u128) -> usize
     ensures { result ≡ width number }

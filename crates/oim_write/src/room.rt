@@ -1,8 +1,8 @@
 use crate::period_texts::PeriodTexts;
 use std::alloc::Global;
 
-/// Buffers that are reused from fact to fact, so that few requests for memory are made: one for a
-/// name, a unit or a label, and the texts of periods.
+/// Buffers reused from fact to fact, which saves requests for memory: one for a name, a unit or a
+/// label, and the texts of periods.
 #[derive(Drop)]
 pub(crate) struct Room {
     pub(crate) spelled: String,

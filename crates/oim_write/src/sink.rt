@@ -6,17 +6,17 @@ ghost use Rattle.oim_write.specs.Sink.{AppendsFirst};
 #[derive(Clone, Copy, Debug, PartialEq, Eq)]
 pub struct SinkError;
 
-/// Takes bytes, and counts its failures.
+/// Takes bytes and counts its failures.
 pub trait Sink {
-    /// The bytes that it holds, if contracts can see them: a list in memory shows them, a file does
-    /// not.
+    /// The bytes that it holds, if contracts can see them. A list in memory shows its bytes; a file
+    /// does not.
     ghost told: { Self → Option (List ℕ) };
 
-    /// How often it has failed.
+    /// The number of failures so far.
     ghost failures: { Self → ℕ };
 
-    /// Appends the first of these bytes and returns their number, which is at least 1 unless no
-    /// bytes were given. On an error it appends none, and counts one more failure.
+    /// Appends the first of these bytes and returns their number: at least 1, unless no bytes were
+    /// given. On an error it appends none and counts one more failure.
     fn put(&mut self, bytes: &[u8]) -> Result<usize, SinkError>
         requires { failures self.old < 2 ^ 64 - 1 }
         ensures bytes { WriteAppends (told self.old) (told self.new) result bytes.now }
@@ -24,12 +24,12 @@ pub trait Sink {
         ensures failures { failures self.new ≡
             (if is_ok result then failures self.old else failures self.old + 1) };
 
-    /// How often it has failed.
+    /// The number of failures so far.
     fn failures(&self) -> u64
         ensures { result ≡ failures self.now };
 }
 
-/// Gives the sink all these bytes, or returns how many it took before it failed.
+/// Writes all these bytes to the sink, or returns how many it took before it failed.
 pub fn put_all<S: Sink>(sink: &mut S, bytes: &[u8]) -> Result<(), usize>
     requires { S.failures sink.old < 2 ^ 64 - 1 }
     ensures ok { OnOk result (Appends (S.told sink.old) (S.told sink.new) bytes.now) }

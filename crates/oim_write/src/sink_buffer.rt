@@ -7,11 +7,11 @@ use crate::write_fault::WriteFault;
 use std::alloc::{AllocError, Global};
 use std::marker::Model;
 
-/// The number of bytes from which a sink is given what waits.
+/// The number of waiting bytes at which they are written to the sink.
 const CHUNK: usize = 1 << 16;
 
-/// A text on its way to a sink. It counts what the sink took, and keeps the end of the text until
-/// that fills a chunk or is flushed. After a fault it must not be used any more.
+/// A text on its way to a sink. It counts the bytes that the sink took, and keeps the rest until
+/// they fill a chunk or are flushed. It must not be used after a fault.
 #[derive(Drop)]
 pub struct SinkBuffer {
     buffer: Vec<u8>,
@@ -30,7 +30,7 @@ impl Model for SinkBuffer {
 }
 
 impl SinkBuffer {
-    /// No text yet, and the memory for a chunk.
+    /// Starts an empty text, with the memory for a chunk.
     pub fn new(alloc: Global) -> Result<SinkBuffer, AllocError>
         ensures { IfOk result (λ made. made ≡ nothing_yet) }
     {
@@ -40,7 +40,7 @@ impl SinkBuffer {
         })
     }
 
-    /// Appends bytes. Once they fill a chunk, the sink is given all that waits.
+    /// Appends bytes. Once they fill a chunk, all waiting bytes are written to the sink.
     pub fn push<S: Sink>(&mut self, sink: &mut S, bytes: &[u8]) -> Result<(), WriteFault>
         requires { S.failures sink.old < 2 ^ 64 - 1 }
         ensures ok { OnOk result
@@ -77,8 +77,9 @@ impl SinkBuffer {
         }
     }
 
-    /// Ends the text because memory was refused. The sink is given what waits, so that the reported
-    /// length is that of the text so far.
+    /// Ends the text because memory was refused. The waiting bytes are written first, so the
+    /// reported
+    /// length is the length of the text so far.
     pub fn stop<S: Sink>(&mut self, sink: &mut S) -> WriteFault
         requires { S.failures sink.old < 2 ^ 64 - 1 }
         ensures broken { Breaks (S.told sink.old) (S.told sink.new) self.old [] (written_of result) }
@@ -90,7 +91,7 @@ impl SinkBuffer {
         }
     }
 
-    /// How many bytes the sink took.
+    /// The number of bytes that the sink took.
     pub fn written(&self) -> u64
         ensures { result ≡ self.now.written }
     {

@@ -4,7 +4,7 @@ ghost use Rattle.std.specs.Io.KnownBytes.{WriteAppends};
 use crate::sink::{Sink, SinkError};
 use std::io::Write;
 
-/// A sink over a writer. It fails if a write fails, is interrupted, or takes none of its bytes.
+/// A sink over a writer. It fails if a write fails, is interrupted, or takes no byte.
 #[derive(Drop)]
 pub struct StdSink<W: Write> {
     writer: W,
@@ -13,7 +13,7 @@ pub struct StdSink<W: Write> {
 }
 
 impl<W: Write> StdSink<W> {
-    /// A sink over this writer, without failures or bytes so far.
+    /// A sink over this writer, with no failures and no bytes yet.
     pub fn new(writer: W) -> StdSink<W>
         ensures writer { result.writer ≡ writer }
         ensures failures { result.failures ≡ 0 }
@@ -26,7 +26,7 @@ impl<W: Write> StdSink<W> {
         }
     }
 
-    /// The number of bytes that the writer took. At the greatest u64 the count stays.
+    /// The number of bytes that the writer took. The count stays at the greatest u64.
     pub fn taken(&self) -> u64
         ensures { result ≡ self.now.taken }
     {

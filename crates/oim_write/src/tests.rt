@@ -8,8 +8,8 @@ use crate::std_sink::StdSink;
 use std::alloc::{AllocError, Global};
 use std::test::Fail;
 
-// Where a request for memory is refused, the next one is not: what asked for it is asked again. What
-// needs a base is tested in the crate that reads reports.
+// Refuses each request for memory once; the repeated call then succeeds. Tests that need a base
+// are in the crate that reads reports.
 
 pub(crate) fn tell_refused(rt: &HostRuntime) {
     let _ = eprintln!(rt; "refused");
@@ -38,7 +38,7 @@ fn is_encoded(alloc: Global) -> Result<bool, AllocError> {
     Ok(Encoded::new(alloc, b"ab")?.as_bytes() == b"ab".as_slice())
 }
 
-/// Whether two pieces that are pushed into a buffer come to the writer's list when it is flushed.
+/// True if two pieces pushed into a buffer reach the writer when it is flushed.
 fn passes(alloc: Global) -> Result<bool, AllocError> {
     let mut sink = StdSink::new(Vec::new(alloc));
     let mut buffer = SinkBuffer::new(alloc)?;

@@ -7,7 +7,7 @@ use oim_dims::Unit;
 use oim_names::Name;
 use std::alloc::AllocError;
 
-/// Replaces the text by that of a unit, with each side in the order of names (xBRL-JSON 1.0).
+/// Replaces the text by a unit, with each side in the order of names (xBRL-JSON 1.0).
 pub(crate) fn spell_unit(
     text: &mut String,
     table: &PrefixTable,

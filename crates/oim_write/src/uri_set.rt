@@ -13,8 +13,9 @@ use oim_value::Value;
 use std::alloc::{AllocError, Global};
 use std::marker::Model;
 
-/// The URIs of names. Contracts see them distinct and in byte order. In memory the first ones are
-/// sorted and new ones follow as they come; whenever the new ones are more, all are sorted.
+/// The URIs of names. Contracts see them distinct and in byte order. In memory, a sorted part is
+/// followed by new URIs in order of arrival. Once the new ones outnumber the sorted ones, all are
+/// sorted.
 #[derive(Drop)]
 pub(crate) struct UriSet {
     uris: Vec<Text>,
@@ -111,7 +112,7 @@ impl UriSet {
         Ok(())
     }
 
-    // Adds those of a dimension, and of its member if that is a name.
+    // Adds the URI of a dimension, and of its member if that is a name.
     fn add_defined(&mut self, alloc: Global, defined: &(Name, Member)) -> Result<(), AllocError>
         ensures { OnOk result (Gains self.old (defined_names defined.now) self.new) }
     {
@@ -140,7 +141,8 @@ impl UriSet {
         }
     }
 
-    // Takes memory for a new URI only. Most URIs are where the last one of their class was found.
+    // Requests memory only for a new URI. Most URIs are where the last one of their class was
+    // found.
     fn add(&mut self, alloc: Global, name: &Name) -> Result<(), AllocError>
         ensures { OnOk result (Gains self.old (name.now ∷ []) self.new) }
     {
@@ -153,7 +155,7 @@ impl UriSet {
         Ok(())
     }
 
-    // Whether the URI is at a place.
+    // True if the URI is at this index.
     fn is_at(&self, place: usize, uri: &str) -> bool
         ensures { OnTrue result (Contains self.now uri.now) }
     {
@@ -163,7 +165,7 @@ impl UriSet {
         }
     }
 
-    // Does what `add` does, and returns where the URI is until all are sorted.
+    // Does what `add` does, and returns the index of the URI until the next sort.
     fn put(&mut self, alloc: Global, name: &Name) -> Result<usize, AllocError>
         ensures { OnOk result (Gains self.old (name.now ∷ []) self.new) }
     {
@@ -180,7 +182,7 @@ impl UriSet {
         Ok(place)
     }
 
-    // Sorts all, which changes nothing that contracts see.
+    // Sorts all URIs. Contracts see no change.
     fn put_in_order(&mut self)
         ensures { self.new ≡ self.old }
     {
@@ -189,7 +191,7 @@ impl UriSet {
     }
 }
 
-// Leaves each text once, in byte order.
+// Sorts the texts in byte order and drops repetitions.
 fn put_in_order(texts: &mut Vec<Text>)
     ensures { texts.new.items ≡ set_of text_cmp texts.old.items }
 {

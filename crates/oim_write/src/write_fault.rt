@@ -1,7 +1,7 @@
 use thiserror::Error;
 
-/// Why a text was not written to its end, with the length of what was written. At the greatest u64
-/// the length stays.
+/// Why a text was not written to its end, with the length that was written. The length stays at the
+/// greatest u64.
 #[derive(Clone, Copy, Debug, PartialEq, Eq, Error)]
 pub enum WriteFault {
     /// Memory was refused.

@@ -20,7 +20,7 @@ use oim_names::Text;
 use std::alloc::{AllocError, Global};
 
 /// The canonical text of a base (xBRL-JSON 1.0; the choice of prefixes and identifiers is own). It
-/// declares the strictest level of duplicates that allows the facts (OIM Common 1.0,
+/// declares the strictest level of duplicates that the facts satisfy (OIM Common 1.0,
 /// `xbrl:allowedDuplicates`).
 ///
 /// Errors: out of memory.
@@ -35,9 +35,9 @@ pub fn text(alloc: Global, base: &Base<'_>) -> Result<Encoded, AllocError>
 }
 
 /// Appends the canonical text of the base to the sink, fact by fact. Each chunk but the last has at
-/// least 64 kB. On a fault the sink has the first part of the text, with the length in the fault.
+/// least 64 kB. On a fault the sink has a first part of the text; the fault carries its length.
 ///
-/// Errors: `Device` if the sink failed; `OutOfMemory`, with what was written by then counted.
+/// Errors: `Device` if the sink failed; `OutOfMemory`, which also counts the bytes written so far.
 pub fn write_to<S: Sink>(alloc: Global, base: &Base<'_>, out: &mut S) -> Result<(), WriteFault>
     requires { S.failures out.old < 2 ^ 64 - 1 }
     ensures ok { OnOk result (Appends (S.told out.old) (S.told out.new) (canonical base.now.body)) }
@@ -137,7 +137,7 @@ fn write_facts<S: Sink>(
     Ok(())
 }
 
-/// Writes the facts of a row after so many others. `part` is a buffer for one.
+/// Writes the facts of a row, numbered after the facts before. `part` is a reused buffer.
 fn write_row<S: Sink>(
     alloc: Global,
     buffer: &mut SinkBuffer,

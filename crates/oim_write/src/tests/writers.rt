@@ -9,7 +9,7 @@ use std::alloc::{AllocError, Global};
 use std::io::{self, ErrorKind, Write};
 use std::test::Fail;
 
-// A sink over writers that stop at each place of a text, which is put at once or waits in a buffer.
+// Writers that stop at each byte of a text, with and without a buffer.
 
 /// What a writer does when it is full.
 #[derive(Clone, Copy, Debug, PartialEq, Eq)]
@@ -19,16 +19,16 @@ enum Then {
     IsInterrupted,
 }
 
-/// How much of the given bytes a writer takes at once.
+/// How many of the given bytes a writer takes at once.
 #[derive(Clone, Copy, Debug, PartialEq, Eq)]
 enum Step {
     All,
-    /// Half of it, and one byte at least.
+    /// Half of them, and at least one byte.
     Half,
     One,
 }
 
-/// Takes bytes, a step at a time, until it is full, and compares them with a text.
+/// Takes bytes in steps until it is full, and compares them with a text.
 #[derive(Clone, Copy)]
 struct ShortWriter<'a> {
     left: &'a [u8],
@@ -66,8 +66,8 @@ impl Write for ShortWriter<'_> {
     }
 }
 
-/// The result of a run: the length that the fault reported, how many bytes were taken, how often
-/// the sink failed, and whether the text was taken.
+/// The result of a run: the length that the fault reported, the bytes taken, the failures of the
+/// sink, and whether the whole text was taken.
 type Left = (Option<u64>, u64, u64, bool);
 
 fn left(told: Option<u64>, sink: StdSink<ShortWriter<'_>>) -> Left {
@@ -83,7 +83,7 @@ fn put(writer: ShortWriter<'_>, text: &[u8]) -> Left {
     left(told.map(|taken| taken as u64), sink)
 }
 
-/// Pushes the text in three pieces; the last two begin at these places.
+/// Pushes the text in three pieces. The last two begin at these indices.
 fn push_pieces<S: Sink>(
     buffer: &mut SinkBuffer,
     sink: &mut S,
@@ -119,7 +119,7 @@ fn push(
     }
 }
 
-/// Whether a writer that takes so many bytes has exactly these of the text, and the fault says so.
+/// True if a writer of this size takes exactly its first bytes of the text, and the fault says so.
 fn stops_at(
     alloc: Global,
     text: &[u8],
@@ -170,13 +170,13 @@ fn stops_anywhere(alloc: Global) -> Result<bool, AllocError> {
     Ok(true)
 }
 
-/// Places near the end of a chunk, and near both ends of the text.
+/// Sizes around the end of a chunk and around both ends of the text.
 const LONG_ROOMS: [usize; 9] = [0, 1, 65_535, 65_536, 65_537, 65_989, 65_990, 65_999, 66_000];
 
 fn stops_about_a_chunk(alloc: Global) -> Result<bool, AllocError> {
     let text = LINE.repeat(alloc, 2000)?;
     for room in LONG_ROOMS {
-        // the second piece fills a chunk, just or with more
+        // the second piece fills a chunk exactly, or with bytes left over
         if !stops(alloc, text.as_bytes(), (60_000, 65_536), room)?
             || !stops(alloc, text.as_bytes(), (65_535, 65_990), room)?
         {
@@ -208,7 +208,7 @@ fn a_writer_may_stop_about_a_chunk(rt: HostRuntime) -> Result<(), Fail> {
     Ok(())
 }
 
-/// Is interrupted at its first write, and takes the next one.
+/// A writer whose first write is interrupted and whose second succeeds.
 #[derive(Clone, Copy)]
 struct InterruptedOnce {
     is_over: bool,

@@ -2,7 +2,7 @@ use Rattle.std.proofs.Common.{◌≡◌, ◌+◌, ◌-◌, ◌^◌, ◌<◌}
 use Rattle.oim_write.specs.Rank.{width}
 use Rattle.oim_write.proofs.ranked.width_of.Given as goal
 
--- a u128 has 39 digits at most
+-- a u128 has at most 39 digits
 abbrev pub invariant-loop-rest : goal.invariant-loop-rest
 invariant-loop-rest l = record {
   same : l.digits + width l.rest ≡ 1 + width l.number;

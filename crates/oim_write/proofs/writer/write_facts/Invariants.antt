@@ -6,7 +6,7 @@ use Rattle.oim_write.specs.SinkBuffer.{Passes}
 use Rattle.oim_write.proofs.NumberedFacts.{rows_facts}
 use Rattle.oim_write.proofs.writer.write_facts.Given as goal
 
--- the facts of the rows so far passed, and were counted
+-- the rows so far are written, and their facts are counted
 abbrev pub invariant-loop-row : goal.invariant-loop-row
 invariant-loop-row g l = record {
   rows : map shown l.yielded ++ rows_left l.row-iterator ≡ rows_of l.base.body.facts;

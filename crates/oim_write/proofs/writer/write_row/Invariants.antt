@@ -4,7 +4,7 @@ use Rattle.oim_write.specs.Parts.{numbered_text}
 use Rattle.oim_write.specs.SinkBuffer.{Passes}
 use Rattle.oim_write.proofs.writer.write_row.Given as goal
 
--- the facts so far passed
+-- the facts so far are written
 abbrev pub invariant-loop-i : goal.invariant-loop-i
 invariant-loop-i g l = record {
   passed : Passes (g.S.Sink.told l.initial.out) (g.S.Sink.told l.out) l.initial.buffer l.buffer
