@@ -1,4 +1,4 @@
--- What replicas say is what is said by the reports that reached them.
+-- A replica has what a new merge of the reports that reached it has.
 use Rattle.std.proofs.Common.{◌≡◌, ℕ, zero, suc, List, map, Some, refl, sym, ap, ◌∙◌}
 use Rattle.std.specs.Prelude.{option_map}
 use Rattle.std.specs.Option.{unwrap_or}

@@ -1,4 +1,4 @@
--- Replicas that know bytes alone agree with the sets of reports that reached them.
+-- Replicas that see only bytes agree with the sets of reports that reached them.
 use Rattle.std.proofs.Common.{◌≡◌, ℕ, zero, suc, ◌-◌, List, [], ◌∷◌, ◌++◌, map, length, get_or, set, replicate, Result, Ok, Err, Option, Some, None, refl, sym, ap, subst, ◌∙◌}
 use Rattle.std.proofs.lemmas.List.{map-set, length-set}
 use Rattle.std.proofs.Math.ListN.{get_or-map}
@@ -19,7 +19,7 @@ use Rattle.oim_merge.proofs.Histories.{earlier_texts_give_bodies, texts_give_bod
 use Rattle.oim_merge.proofs.NamedReports.{base_both, reports_fit}
 use Rattle.oim_merge.proofs.Zips.{AtBoth, zip_numbered, zip_push}
 
--- ---- lists of one thing
+-- ---- lists of one repeated element
 
 map-replicate : {A B : Type 0} (f : A → B) (n : ℕ) (x : A) → replicate n (f x) ≡ map f (replicate n x)
 map-replicate f zero x = refl
@@ -29,7 +29,7 @@ length-replicate : {A : Type 0} (n : ℕ) (x : A) → length (replicate n x) ≡
 length-replicate zero x = refl
 length-replicate (suc n) x = ap suc (length-replicate n x)
 
--- ---- no event makes replicas or takes them away
+-- ---- no event changes the number of replicas
 
 module _ {S M : Type 0} (machine : Machine S M) where
   count-receives : (world : World S M) (i : ℕ) (message : Option M) → length (receives machine world i message).replicas ≡ length world.replicas
@@ -80,7 +80,7 @@ module _ (sheet : Sheet) (writers : List Writer) (reports : List (List ℕ)) whe
     sent = agree.sent;
   }
 
-  -- a report that is taken
+  -- a replica takes a report
   says_taken : (r : ℕ) (numbers : Numbers) (base : Contents) → base ≡ says numbers →
       with_outcome (outcome sheet (report reports r)) base ≡ says (with_accepted (outcome sheet (report reports r)) r numbers)
   says_taken r numbers base is = by_outcome (outcome sheet (report reports r)) refl
@@ -91,7 +91,7 @@ module _ (sheet : Sheet) (writers : List Writer) (reports : List (List ℕ)) whe
           (λ t. joined_with (is t) (sym one t)) ∙ sym (base_both sheet reports numbers (r ∷ []))
       by_outcome (Err f) e = is
 
-  -- a text that is received
+  -- a replica receives a text
   says_received : (bytes : List ℕ) (message : Numbers) → Says bytes message → (numbers : Numbers) (base : Contents) → base ≡ says numbers →
       with_outcome (outcome sheet bytes) base ≡ says (both numbers message)
   says_received bytes message said numbers base is =
@@ -99,7 +99,7 @@ module _ (sheet : Sheet) (writers : List Writer) (reports : List (List ℕ)) whe
       ∙ (λ t. record { sheet = (is t).sheet; body = union (is t).body (said.same t) })
       ∙ sym (base_both sheet reports numbers message)
 
-  -- a text that is sent, whoever writes it
+  -- a replica sends a text, written by either writer
   says_sent : (numbers : Numbers) (sent : ℕ) (base : Contents) → base ≡ says numbers → Says (text_chosen writers sent base.body) numbers
   says_sent numbers sent base is = subst (λ (c : Contents). Says (text_chosen writers sent c.body) numbers) (sym is) (by_writer (get_or writers sent present))
     where
@@ -128,7 +128,7 @@ module _ (sheet : Sheet) (writers : List Writer) (reports : List (List ℕ)) whe
   agree_run [] sets bases agree = agree
   agree_run (event ∷ events) sets bases agree = agree_run events _ _ (agree_happens sets bases agree event)
 
-  -- whether an event is bad does not matter to it
+  -- the agreement holds for bad events too
   pub agree : (n : ℕ) (events : List Event) → Agreeing (world_after sets_machine n events) (world_after bytes_machine n events)
   agree n events = agree_run events (start sets_machine n) (start bytes_machine n) (record { replicas = map-replicate says n []; sent = tt })
 

@@ -1,4 +1,4 @@
--- No dimension set is above a level exactly if the level of all facts is not.
+-- No dimension set is above a level if and only if the level of all facts is not.
 use Rattle.std.proofs.Common.{◌≡◌, ◌≤◌, Bool, true, false, not, ◌&&◌, cond, List, [], ◌∷◌, map, refl, sym, ap, subst, ◌∙◌}
 use Rattle.std.specs.Prelude.{◌↔◌, All, IsTrue}
 use Rattle.std.specs.List.{AllByRecursion, list_all}
@@ -55,7 +55,7 @@ each P a b c d AllLevel = d
 abbrev Splits : Level → Level → Level → Type 0
 Splits x y l = is_le (level_cmp (ord_max level_cmp x y) l) ≡ (is_le (level_cmp x l) && is_le (level_cmp y l))
 
--- the higher of two is within a level exactly if both are
+-- the maximum of two levels is within a level if and only if both are
 splits : (x y l : Level) → Splits x y l
 splits = each (λ x. (y l : Level) → Splits x y l)
     (each (λ y. (l : Level) → Splits Unique y l) (each (Splits Unique Unique) refl refl refl refl) (each (Splits Unique Complete) refl refl refl refl) (each (Splits Unique Consistent) refl refl refl refl) (each (Splits Unique AllLevel) refl refl refl refl))
@@ -69,7 +69,7 @@ unique_first = each (λ l. ord_max level_cmp Unique l ≡ l) refl refl refl refl
 unique_within : (l : Level) → is_le (level_cmp Unique l) ≡ true
 unique_within = each (λ l. is_le (level_cmp Unique l) ≡ true) refl refl refl refl
 
--- ---- a row is within a level where the level of its values is
+-- ---- a row is within a level if the level of its values is
 
 abbrev Within : Level → List Value → Type 0
 Within l vs = some_above l (verdict_of vs) ≡ not (is_le (level_cmp (level_of_values vs) l))

@@ -1,4 +1,4 @@
--- What a bundle's run leaves, from what its steps say.
+-- The result of merging a bundle follows from its steps.
 use Rattle.std.proofs.Common.{◌≡◌, ℕ, List, Option, Ok, inr, sym, ap, ◌∙◌, subst}
 use Rattle.std.specs.List.{after_first, before_first}
 use Rattle.oim_value.specs.declared.level.Level.TheVariants.{All as AllLevel}
@@ -12,7 +12,7 @@ use Rattle.oim_merge.specs.declared.fault.Fault.{Fault}
 use Rattle.oim_merge.specs.declared.fault.Fault.TheVariants.{OutOfMemory, Device, TooLoose, Sheet as SheetFault}
 use Rattle.oim_merge.proofs.LinePieces.{report_pieces-filled}
 
--- a fault that came behind the sheet
+-- a fault after the sheet was read
 pub behind_sheet : (bytes : List ℕ) (old new : Option (List ℕ)) (fault : Fault) → StopsBehindSheet bytes old new fault → BundleStops bytes old new fault
 behind_sheet bytes old new (OutOfMemory written) h = inr h
 behind_sheet bytes old new (Device written) h = h

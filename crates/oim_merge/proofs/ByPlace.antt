@@ -1,4 +1,4 @@
--- Mentions whose places do not fall are those of each place, one place after another.
+-- If the places of mentions never fall, grouping them by place does not change their order.
 use Rattle.std.proofs.Common.{◌≡◌, ℕ, zero, suc, ◌+◌, ◌<◌, ◌≤◌, List, [], ◌∷◌, ◌++◌, length, get_or, Bool, true, false, not, ◌&&◌, ⊎_elim, refl, sym, ap, ◌∙◌, arith}
 use Rattle.std.specs.Prelude.{filter, nat_lt}
 use Rattle.std.specs.List.{AllByRecursion}
@@ -13,7 +13,7 @@ use Rattle.std.proofs.lemmas.Cmp.{nat_cmp_total}
 use Rattle.std.proofs.lemmas.Map.Lookups.{exact_unsigned}
 use Rattle.oim_merge.specs.declared.placed_mention.PlacedMention.{PlacedMention}
 
--- whether a mention has a place
+-- true if the mention has this place
 abbrev pub has_place : ℕ → PlacedMention → Bool
 has_place k m = is_eq (nat_cmp k m.place)
 
@@ -39,9 +39,9 @@ not_here k p e le = ⊎_elim (λ (lt : nat_lt k p ≡ true). grind (arith, nat_t
     let same : k ≡ p = grind (arith, nat_tests) in
     let is : is_eq (nat_cmp k p) ≡ true = is_place k p same in absurd (cc)) (cases_Bool (nat_lt k p))
 
--- ---- places that do not fall
+-- ---- places that never fall
 
--- from one on
+-- no place is below k, and none falls
 abbrev pub RiseFrom : ℕ → List PlacedMention → Type 0
 RiseFrom k [] = Unit {0}
 RiseFrom k (m ∷ ms) = (k ≤ m.place) × RiseFrom m.place ms
@@ -55,9 +55,9 @@ rise_lower : (k n : ℕ) (ms : List PlacedMention) → k ≤ n → RiseFrom n ms
 rise_lower k n [] le h = tt
 rise_lower k n (m ∷ ms) le h = (omega (arith, le, h.0), h.1)
 
--- ---- by their places
+-- ---- groups by place
 
--- those of so many places, from one on
+-- the mentions of n places from k on, grouped by place
 abbrev pub groups : ℕ → ℕ → List PlacedMention → List PlacedMention
 groups k zero ms = []
 groups k (suc n) ms = filter (has_place k) ms ++ groups (suc k) n ms
@@ -70,12 +70,12 @@ none_here : (k : ℕ) (ms : List PlacedMention) → RiseFrom (suc k) ms → filt
 none_here k [] h = refl
 none_here k (m ∷ ms) h = rw (other_place k m.place (omega (arith, h.0))) (none_here k ms (rise_lower (suc k) m.place ms h.0 h.1))
 
--- one that comes before these places is not among them
+-- a mention of an earlier place is in no group
 passed_over : (k n : ℕ) (m : PlacedMention) (ms : List PlacedMention) → m.place < k → groups k n (m ∷ ms) ≡ groups k n ms
 passed_over k zero m ms lt = refl
 passed_over k (suc n) m ms lt = rw (later_place k m.place lt) (ap (λ gs. filter (has_place k) ms ++ gs) (passed_over (suc k) n m ms (omega (arith, lt))))
 
--- the first one comes first
+-- the first mention is the first in the groups
 first_first : (k n : ℕ) (m : PlacedMention) (ms : List PlacedMention) → k ≤ m.place → m.place < k + n → RiseFrom m.place ms → groups k n (m ∷ ms) ≡ m ∷ groups k n ms
 first_first k zero m ms le lt up = absurd (omega (arith, le, lt))
 first_first k (suc n) m ms le lt up = ⊎_elim
@@ -103,7 +103,7 @@ before m n = is_lt (nat_cmp m.place n.place)
 ties_place : (k : ℕ) (m : PlacedMention) → ties before (record { place = k; report = 0; identifier = [] }) m ≡ has_place k m
 ties_place k m = ap (λ o. not (is_lt (nat_cmp k m.place)) && not (is_lt o)) (nat_cmp_total.antisymm m.place k) ∙ tied (nat_cmp k m.place)
 
--- each place has the same ones
+-- a stable sort keeps the mentions of each place in order
 pub same_here : (ms sorted : List PlacedMention) → IsStableByKey (λ (m : PlacedMention). m.place) nat_cmp ms sorted → (k : ℕ) → filter (has_place k) sorted ≡ filter (has_place k) ms
 same_here ms sorted stable k =
     (λ i. filter (λ m. sym (ties_place k m) i) sorted)

@@ -1,4 +1,4 @@
--- A text of before is nobody's text of today.
+-- No text of the earlier form is the text of any body in the present form.
 use Rattle.std.proofs.Common.{◌≡◌, get_or, sym, ap, ◌∙◌, arith}
 use Rattle.oim_write.proofs.FirstKeys.{behind_type, earlier_letter, present_letter}
 use Rattle.oim_merge.specs.ReadBack.{EarlierIsNotCanonical}

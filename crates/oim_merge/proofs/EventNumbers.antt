@@ -1,4 +1,4 @@
--- Numbers in lines of events.
+-- Numbers in event lines.
 use Rattle.std.proofs.Common.{◌≡◌, ◌≢◌, ℕ, ◌^◌, ◌<◌, List, length, get_or, sym, ap, subst, ◌∙◌, arith}
 use Rattle.std.specs.Prelude.{Result, Ok, Err, MatchOption}
 use Rattle.std.specs.Fmt.{decimal}
@@ -10,7 +10,7 @@ use Rattle.std.proofs.lemmas.Str.{IsUtf8-from_ascii}
 use Rattle.std.proofs.lemmas.Str.Parse.{IsNumeralModel, numerals_by_value, parse_plain, tells_digits}
 use Rattle.oim_merge.specs.EventParts.{IsNumberText}
 
--- what the text of a number is beside
+-- further properties of a number's text
 pub record LooksLikeNumber (text : List ℕ) : Type 0 where
   pub some : 0 < length text
   pub leads : 48 < get_or text 0 0
@@ -37,7 +37,7 @@ digits_are_text text digits some leads small =
     (λ e. leads (ap (λ t. get_or t 0 0) (sym text_is ∙ ap decimal e ∙ decimal_digit 0 (omega arith)))) in
     (sym text_is, (grind (arith, not_zero), small))
 
--- what is parsed where neither a plus nor a zero leads
+-- the parsed value, if the text begins with neither a plus nor a zero
 pub parses_number : {E : Type 0} (text : List ℕ) (r : Result ℕ E) → ParsesUnsigned 32 10 text r → get_or text 0 0 ≢ 43 → get_or text 0 0 ≢ 48 → MatchOption (result_ok r) ((n : ℕ) → ¬ (IsNumberText text n)) (IsNumberText text)
 parses_number {E = E} text (Ok x) h plus zero =
     let read = parse_plain own {E = E} 32 text (Ok x) h plus in

@@ -1,4 +1,4 @@
--- Two numbers with a space between, in lines of events.
+-- Two numbers in an event line, with a space between them.
 use Rattle.std.proofs.Common.{◌≡◌, ℕ, ◌+◌, ◌^◌, ◌<◌, List, ◌∷◌, ◌++◌, length, get_or, take, drop, cond, refl, sym, ap, ◌∙◌, arith}
 use Rattle.std.specs.Prelude.{Some, None, position}
 use Rattle.std.specs.Fmt.{decimal}
@@ -26,7 +26,7 @@ space_behind m rest small =
     let within : position_or_len is_space text < length text = omega (arith, length-append (decimal m) (32 ∷ rest)) in
     ap (λ b. cond b (Some (position_or_len is_space text)) None) (lt-ltb _ _ within) ∙ ap Some first
 
--- so the first space of two numbers is behind the first of them
+-- so the first space of two numbers is after the first number
 space_of_numbers : (text : List ℕ) (m n : ℕ) → AreNumbersText text m n → position is_space text ≡ Some (length (decimal m))
 space_of_numbers text m n are = ap (position is_space) are.0 ∙ space_behind m (decimal n) (omega (arith, are.1.0.1))
 
@@ -46,7 +46,7 @@ joined_numbers text m n place found first second =
     let rest : drop place text ≡ 32 ∷ decimal n = drop_more text place 0 space.0 ∙ (λ i. eqb-true (get_or text place 0) 32 space.1 i ∷ second.0 i) in
     (sym (take-append-drop place text) ∙ (λ i. first.0 i ++ rest i), (first.1, second.1))
 
--- ---- a text is of one number, or of one pair
+-- ---- a text is one number, one pair, or neither
 
 pub same_number : (text : List ℕ) (m n : ℕ) → IsNumberText text m → IsNumberText text n → m ≡ n
 same_number text m n is also = decimal_injective m n (omega (arith, is.1.1)) (omega (arith, also.1.1)) (sym is.0 ∙ also.0)

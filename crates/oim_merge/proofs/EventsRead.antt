@@ -1,4 +1,4 @@
--- The lines of a file, one after another, and what was read of them.
+-- Reading the lines of a schedule one after another.
 use Rattle.std.proofs.Common.{◌≡◌, ◌<◌, ◌+◌, ℕ, List, [], ◌∷◌, ◌++◌, length, cond, inl, inr, refl, sym, ap, ◌∙◌, arith}
 use Rattle.std.specs.List.{AllZip, after_first, before_first, position_or_len}
 use Rattle.std.proofs.lemmas.Bool.{cases_lt, ne_eqb}
@@ -17,7 +17,7 @@ without_empty_last-cons : (line : List ℕ) (lines : List (List ℕ)) → 0 < le
 without_empty_last-cons line [] some = absurd (omega arith)
 without_empty_last-cons line (next ∷ lines) some = refl
 
--- the first line, and then the others
+-- the first line comes before the other lines
 lines_of-first : (bytes : List ℕ) → 0 < length bytes → lines_of bytes ≡ before_first is_line_end bytes ∷ lines_of (after_first is_line_end bytes)
 lines_of-first bytes some =
     elim (cases_lt (position_or_len is_line_end bytes) (length bytes)) [
@@ -31,7 +31,7 @@ lines_of-first bytes some =
 
 -- ---- the events
 
--- the lines before the rest say these events
+-- the lines before the rest spell these events
 pub record HasReadEvents (bytes rest : List ℕ) (events : List Event) : Type 0 where
   pub before : List (List ℕ)
   pub lines : lines_of bytes ≡ before ++ lines_of rest

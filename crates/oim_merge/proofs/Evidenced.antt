@@ -1,4 +1,4 @@
--- The evidence of the dimension sets of a body that fits a sheet.
+-- The evidence for each dimension set of a body that fits a sheet.
 use Rattle.std.proofs.Common.{◌≡◌, ◌≢◌, ℕ, zero, suc, ◌<◌, ◌≤◌, Bool, true, false, List, [], ◌∷◌, length, Option, Some, None, ◌++◌, inl, inr, refl, sym, ap, subst, ◌∙◌, arith}
 use mathlib.Core.Bool.{true≢false}
 use Rattle.std.specs.Prelude.{Contains, codes, is_some, slice_get, ℤ, ◌≤ℤ◌, if◌then◌else◌}
@@ -37,7 +37,7 @@ use Rattle.fact_base.proofs.Summaries.{crossed_are_apart, nil_is_apart, no_numbe
 use Rattle.oim_merge.specs.Lines.{LinesTellVerdicts, WordsShowVerdicts, verdict_shown}
 use Rattle.oim_write.proofs.NumberedFacts.{row_facts, rows_facts_are}
 
--- the values of a dimension set are different, in order and of one kind
+-- the values of a dimension set are distinct, sorted and of one kind
 summarised : (sheet : Sheet) (b : Body) → Fits sheet b → (r : Row) → Contains (rows_of b.facts) r → AreSummarised r.1 (summary_of_all r.1)
 summarised sheet b fits r at =
     let are = rows_tell_facts b.facts fits.rises.facts in
@@ -76,7 +76,7 @@ shown_by (v ∷ w ∷ vs) s h = several_shown (v ∷ w ∷ vs) s h (omega arith)
 pub evidence_exists : (sheet : Sheet) (b : Body) → Fits sheet b → (r : Row) → Contains (rows_of b.facts) r → (e : Evidence) × IsEvidence r.1 e
 evidence_exists sheet b fits r at = shown_by r.1 (summary_of_all r.1) (summarised sheet b fits r at)
 
--- ---- there is no other evidence
+-- ---- the evidence is unique
 
 pub slice_within : {A : Type 0} (xs : List A) (i : ℕ) (x : A) → slice_get xs i ≡ Some x → i < length xs
 slice_within [] i x is = absurd (true≢false (sym (ap is_some is)))
@@ -86,7 +86,7 @@ slice_within (y ∷ ys) (suc i) x is = omega (arith, slice_within ys i x is)
 stands : (vs : List Value) (i : ℕ) (v : Value) → slice_get vs i ≡ Some v → Contains vs v
 stands vs i v is = (i, slice_within vs i v is, get_or_from_slice_get vs i v v is)
 
--- one value is not apart from itself
+-- a value does not contradict itself
 one_not_apart : (vs : List Value) (i j : ℕ) → length vs ≡ 1 → ¬ (AreApart vs i j)
 one_not_apart vs i j one apart =
     let i_first : i ≡ 0 = omega (arith, one, slice_within vs i apart.first apart.first_there) in
@@ -94,7 +94,7 @@ one_not_apart vs i j one apart =
     let same : apart.first ≡ apart.second = ap (λ o. unwrap_or o apart.first) (sym apart.first_there ∙ ap (slice_get vs) (i_first ∙ sym j_first) ∙ apart.second_there) in
     apart.apart (subst (Meets apart.first) same (meets_is_reflexive apart.first))
 
--- nor are values of which each two meet
+-- values that pairwise meet do not contradict each other
 none_apart : (vs : List Value) (i j : ℕ) → EachTwoValuesMeet vs → ¬ (AreApart vs i j)
 none_apart vs i j each apart =
     apart.apart ((each_two_meet_by_members vs).0 each apart.first apart.second (stands vs i apart.first apart.first_there) (stands vs j apart.second apart.second_there))
@@ -102,7 +102,7 @@ none_apart vs i j each apart =
 one_number : {x y : ℤ} → x ≤ℤ y → y ≤ℤ x → x ≡ y
 one_number p q = omega (arith, ints, p, q)
 
--- intervals of the same numbers are one
+-- the common interval is unique
 low_within : (vs : List Value) (a b : Interval) → IsCommonOf vs a → IsCommonOf vs b → b.low ≤ℤ a.low
 low_within vs a b first second = ((second.within a.low).1 ((first.within a.low).0 (record { above = omega (arith, ints); below = first.points }))).above
 
@@ -123,7 +123,7 @@ some_intervals (Nil ∷ w ∷ vs) is = absurd (true≢false (sym is))
 some_intervals (AText t ∷ w ∷ vs) is = absurd (true≢false (sym is))
 some_intervals (AName n ∷ w ∷ vs) is = absurd (true≢false (sym is))
 
--- the pair that is shown is one
+-- the pair that shows the contradiction is unique
 one_pair : (vs : List Value) (b : Bool) → begin_with_numbers vs ≡ b → (i j k l : ℕ) → IsPairOf b vs i j → IsPairOf b vs k l → (i ≡ k) × (j ≡ l)
 one_pair vs false is i j k l first second = (first.0 ∙ sym second.0, first.1 ∙ sym second.1)
 one_pair vs true is i j k l first second =

@@ -1,4 +1,4 @@
--- Lemmas on a list whose filled front grows by what a source gives.
+-- Lemmas on a buffer that is filled from a source.
 use Rattle.std.proofs.Common.{◌≡◌, ℕ, ◌+◌, List, Option, Result, Ok, Err, ◌++◌, IfOk, length, take, drop, sym, ap, subst, ◌∙◌, drop_at}
 use Rattle.std.proofs.lemmas.List.{take-append-le}
 use Rattle.std.proofs.Math.Seq.{take-add}
@@ -6,14 +6,14 @@ use Rattle.std.specs.Io.{ReadsAtMost}
 use Rattle.std.specs.Io.KnownBytes.{Consumes}
 use Rattle.std.proofs.KnownBytes.{Consumes-trans}
 
--- what was read into the part stands behind the front
+-- the new bytes follow the filled ones
 pub Consumes-behind : {E : Type 0} (a b : Option (List ℕ)) (r : Result ℕ E) (front part rest : List ℕ) (at : ℕ) → length front ≡ at → ReadsAtMost r part
     → IfOk r (λ n. Consumes a b (take n part)) → IfOk r (λ n. Consumes a b (take n (drop at (front ++ (part ++ rest)))))
 Consumes-behind a b (Ok n) front part rest at long fits read =
     subst (Consumes a b) (sym (ap (take n) (drop_at front (part ++ rest) at long) ∙ take-append-le n part rest fits.0)) read
 Consumes-behind a b (Err e) front part rest at long fits read = tt
 
--- the source gave the first i bytes of xs, which stand in front of ys too, and then the next n bytes of ys
+-- two reads, one after the other
 pub Consumes-more : (a b c : Option (List ℕ)) (xs ys : List ℕ) (i n : ℕ) → take i ys ≡ take i xs
     → Consumes a b (take i xs) → Consumes b c (take n (drop i ys)) → Consumes a c (take (i + n) ys)
 Consumes-more a b c xs ys i n front before read =

@@ -1,4 +1,4 @@
--- What is kept of texts, and sent texts that are held once.
+-- Cached readings of texts, and sent texts that are stored once.
 use Rattle.std.proofs.Common.{◌≡◌, ℕ, suc, ◌<◌, ◌≤◌, zero, List, [], ◌∷◌, ◌++◌, length, length-append, get_or, set, replicate, Bor, Option, None, Some, MatchOption, HoldsAt, option_map, Result, Ok, Err, refl, sym, ap, subst, ◌∙◌, arith}
 use Rattle.std.specs.Prelude.{IfOk}
 use Rattle.std.specs.List.{AllZip}
@@ -19,9 +19,9 @@ use Rattle.oim_merge.specs.Schedule.{numbered}
 use Rattle.oim_merge.proofs.Schedules.{slice_there}
 use Rattle.oim_merge.proofs.Zips.{zip_at, zip_both, zip_long, zip_push, zip_same, zip_set, zip_weaker}
 
--- ---- what was read
+-- ---- cached readings
 
--- to take what was read is to take what the outcome says
+-- taking the cached reading is taking the outcome
 pub with_read_is : (sheet : Sheet) (said : Result Document Refusal) (base : Contents) → with_read (read_as sheet said) base ≡ with_outcome said base
 with_read_is sheet (Ok d) base = refl
 with_read_is sheet (Err refusal) base = refl
@@ -38,7 +38,7 @@ module _ (sheet : Sheet) (texts : List (List ℕ)) (kept : List (Option (Result 
   pub kept_there : place < length kept
   kept_there = let long = zip_long (IsReadingOf sheet) texts kept each in omega (arith, there, long)
 
-  -- what is kept of a text is what it is read as
+  -- the cached reading of a text is its outcome
   pub kept_is : (found : Option (Result Contents Refusal)) (read : Result Contents Refusal) → get_or kept place found ≡ Some read → read ≡ read_as sheet (outcome sheet (get_or texts place []))
   kept_is found read is = subst (IsReadingOf sheet (get_or texts place [])) is (zip_at (IsReadingOf sheet) texts kept each place [] found there)
 
@@ -50,7 +50,7 @@ none_is_kept sheet texts = zip_same (IsReadingOf sheet) texts None (λ text. tt)
 
 -- ---- sent texts
 
--- the texts at places stay when one more is held
+-- a new stored text does not change the texts at earlier indices
 pub among_more : (texts : List (List ℕ)) (text : List ℕ) (sent : List ℕ) → AreWithin texts sent → texts_at (texts ++ text ∷ []) sent ≡ texts_at texts sent
 among_more texts text [] within = refl
 among_more texts text (place ∷ sent) within =
@@ -59,7 +59,7 @@ among_more texts text (place ∷ sent) within =
     λ i. get_or_append_left texts (text ∷ []) [] place here i ∷ rest i
 
 module _ (texts : List (List ℕ)) (sent : List ℕ) (text : List ℕ) where
-  -- a text is held that is new
+  -- the new text is last
   pub stands_last : IsTextAt (texts ++ text ∷ []) text (length texts)
   stands_last =
       let longer = length-append texts (text ∷ []) in
@@ -71,7 +71,7 @@ module _ (texts : List (List ℕ)) (sent : List ℕ) (text : List ℕ) where
       let longer = length-append texts (text ∷ []) in
       omega (arith, earlier, longer)
 
--- ---- current texts
+-- ---- the current text of each replica
 
 pub stay_with_more : (texts : List (List ℕ)) (text : List ℕ) → Stay texts (texts ++ text ∷ [])
 stay_with_more texts text other place there =
@@ -89,14 +89,14 @@ current_at texts bases places each k base place within there known =
     subst (λ b. IsCurrent texts b place) (sym there)
     (subst (IsCurrent texts (get_or bases k base)) (sym known) (zip_at (IsCurrent texts) bases places each k base place within))
 
--- a replica sent its text
+-- after a replica sent its text
 pub current_after_send : (texts more : List (List ℕ)) (bases : List Contents) (places : List (Option ℕ)) → AllZip (IsCurrent texts) bases places → Stay texts more →
     (k : ℕ) (base : Contents) (place : Option ℕ) → base ≡ get_or bases k base → IsCurrent more base place → AllZip (IsCurrent more) bases (set places k place)
 current_after_send texts more bases places each stay k base place there is =
     zip_set (IsCurrent more) bases places (zip_weaker (IsCurrent texts) (IsCurrent more) (still_current texts more stay) bases places each) k base place
     (subst (λ b. IsCurrent more b place) there is)
 
--- the base of a replica changed
+-- after the base of a replica changed
 pub current_after_change : (texts : List (List ℕ)) (bases more : List Contents) (places left : List (Option ℕ)) → AllZip (IsCurrent texts) bases places →
     (k : ℕ) (base : Contents) → more ≡ set bases k base → left ≡ set places k None → AllZip (IsCurrent texts) more left
 current_after_change texts bases more places left each k base changed forgotten =
@@ -110,7 +110,7 @@ none_is_current texts (suc n) base = (tt, none_is_current texts n base)
 pub kept_new : (sheet : Sheet) (texts : List (List ℕ)) (kept : List (Option (Result Contents Refusal))) (text : List ℕ) → AreKept sheet texts kept → AreKept sheet (texts ++ text ∷ []) (kept ++ None ∷ [])
 kept_new sheet texts kept text each = zip_push (IsReadingOf sheet) texts kept text None each tt
 
--- the text of a number, where its place was found and looked up
+-- the sent text with a number, looked up through its index
 pub text_of_number : (texts : List (List ℕ)) (sent : List ℕ) (number before held : ℕ) (text : Option (Bor (List ℕ))) → AreWithin texts sent → number ≡ suc before → before < length sent → held ≡ get_or sent before held →
     MatchOption text (length texts ≤ held) (λ t. (held < length texts) × HoldsAt (λ y. t.now ≡ y) texts held) →
     MatchOption text (numbered (texts_at texts sent) number ≡ None) (λ t. numbered (texts_at texts sent) number ≡ Some t.now)

@@ -1,4 +1,4 @@
--- The lines of dimension sets, one after another.
+-- The verdict lines of dimension sets, one after another.
 use Rattle.std.proofs.Common.{◌≡◌, ℕ, suc, ◌+◌, ◌-◌, ◌<◌, ◌≤◌, List, [], ◌∷◌, ◌++◌, length, get_or, codes, inr, Option, refl, sym, ap, subst, ◌∙◌, append_assoc, append-nil, arith}
 use Rattle.std.specs.Prelude.{◌≢◌, Contains}
 use Rattle.std.specs.Fmt.{decimal}
@@ -28,7 +28,7 @@ use Rattle.oim_merge.proofs.Evidenced.{evidence_exists, one_evidence, slice_with
 
 -- ---- lists of lines
 
--- lines, and those of further dimension sets
+-- the lines of two lists of dimension sets
 pub lines_both : (facts : List Fact) (n : ℕ) (done rest : List Row) (text more : List ℕ) → AreLinesFrom facts n done text → AreLinesFrom facts (n + length done) rest more → AreLinesFrom facts n (done ++ rest) (text ++ more)
 lines_both facts n [] rest text more none further =
     subst (λ t. AreLinesFrom facts n rest (t ++ more)) (sym none) (subst (λ k. AreLinesFrom facts k rest more) (omega arith) further)
@@ -38,7 +38,7 @@ lines_both facts n (x ∷ xs) rest text more h further =
 pub one_line : (facts : List Fact) (n : ℕ) (r : Row) (line : List ℕ) → IsLine facts n r line → AreLinesFrom facts n (r ∷ []) line
 one_line facts n r line is = (line, [], (sym (append-nil line), (is, refl)))
 
--- there are lines where there is evidence
+-- there are lines if each dimension set has evidence
 pub lines_exist : (facts : List Fact) (n : ℕ) (rows : List Row) → ((r : Row) → Contains rows r → (e : Evidence) × IsEvidence r.1 e) → (text : List ℕ) × AreLinesFrom facts n rows text
 lines_exist facts n [] shown = ([], refl)
 lines_exist facts n (r ∷ rs) shown =
@@ -47,7 +47,7 @@ lines_exist facts n (r ∷ rs) shown =
     let rest = lines_exist facts (suc n) rs (λ q at. shown q (later_there r rs q at)) in
     (line ++ rest.0, (line, rest.0, (refl, (record { evidence = this.0; shows = this.1; text = refl }, rest.1))))
 
--- and no others
+-- the lines are unique
 lines_agree : (facts : List Fact) (n : ℕ) (rows : List Row) (s t : List ℕ) → AreLinesFrom facts n rows s → AreLinesFrom facts n rows t → s ≡ t
 lines_agree facts n [] s t h g = h ∙ sym g
 lines_agree facts n (r ∷ rs) s t h g =
@@ -61,15 +61,15 @@ lines_are_one sheet b fits =
     let all = lines_exist b.facts 1 (rows_of b.facts) (evidence_exists sheet b fits) in
     record { text = all.0; lines = all.1; only = λ other lines. lines_agree b.facts 1 (rows_of b.facts) other all.0 lines all.1 }
 
--- ---- lines on their way
+-- ---- buffered lines
 
--- the lines of some dimension sets passed
+-- the lines of these dimension sets were pushed
 pub record HasPassed (facts : List Fact) (rows : List Row) (old new : Option (List ℕ)) (before after : Pending) : Type 0 where
   pub text : List ℕ
   pub lines : AreLinesFrom facts 1 rows text
   pub passed : Passes old new before after text
 
--- ---- identifiers by their places
+-- ---- identifiers of facts
 
 module _ (name other : ℕ → List ℕ) (n : ℕ) (same : (i : ℕ) → i < n → name i ≡ other i) where
   same_evidence : (e : Evidence) → HasPlaces n e → evidence_text name e ≡ evidence_text other e
@@ -77,12 +77,12 @@ module _ (name other : ℕ → List ℕ) (n : ℕ) (same : (i : ℕ) → i < n �
   same_evidence (Common c) within = refl
   same_evidence (Apart i j) within = λ k. codes "inconsistent apart " ++ (same i within.0 k ++ 32 ∷ same j within.1 k)
 
-  -- a line is the same where the facts are called the same
+  -- a line does not change if the identifiers do not
   pub same_line : (number : ℕ) (e : Evidence) → 0 < n → HasPlaces n e → line_text number name n e ≡ line_text number other n e
   same_line number e some within =
       λ k. decimal number ++ 32 ∷ (same 0 some k ++ 32 ∷ (same (n - 1) (omega (arith, some)) k ++ 32 ∷ (same_evidence e within k ++ 10 ∷ [])))
 
--- the fact at a place of a dimension set is called by the facts before it
+-- the identifier of a fact in a dimension set follows from the facts before it
 module _ (facts : List Fact) (rises : IsSet fact_cmp facts) (before : List Fact) (r : Row) (behind : List Fact) (split : facts ≡ before ++ (row_facts r ++ behind)) where
   any_fact : Fact
   any_fact = record { dimensions = r.0; value = Nil }
@@ -100,7 +100,7 @@ module _ (facts : List Fact) (rises : IsSet fact_cmp facts) (before : List Fact)
       ∙ ap (identifier facts) (sym there)
       ∙ ap (λ k. 102 ∷ padded (width (length facts)) k) (rank_at fact_cmp_total facts (length before + i) any_fact rises place))
 
--- ---- the line of a row that comes behind others
+-- ---- the line of the next row
 
 pub places_within : (vs : List Value) (e : Evidence) → IsEvidence vs e → HasPlaces (length vs) e
 places_within vs Alike is = tt
@@ -121,7 +121,7 @@ module _ (b : Body) (rises : IsSet fact_cmp b.facts) (done rest : List Row) (r :
       filled [] some = absurd (some refl)
       filled (v ∷ vs) some = omega arith
 
-  -- there is room for its facts
+  -- the count of facts does not overflow
   pub row_within : length (rows_facts done) + length r.1 ≤ length b.facts
   row_within =
       let long : length (row_facts r) ≡ length r.1 = length-map r.1 (λ v. record { dimensions = r.0; value = v }) in

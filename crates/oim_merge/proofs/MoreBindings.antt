@@ -1,4 +1,4 @@
--- Bindings behind others change nothing that is found among these.
+-- Further bindings at the end do not change how earlier prefixes are resolved.
 use Rattle.std.proofs.Common.{◌≡◌, ℕ, List, [], ◌∷◌, ◌++◌, true, false, cond, Option, Some, None}
 use Rattle.std.specs.Prelude.{IfSome, option_map}
 use Rattle.std.specs.List.{find}

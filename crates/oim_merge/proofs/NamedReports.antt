@@ -1,4 +1,4 @@
--- The bases of the reports that sets of numbers name.
+-- The base of the reports in a set of report numbers.
 use Rattle.std.proofs.Common.{◌≡◌, ℕ, List, [], ◌++◌, Result, Ok, Err, refl, sym, ap, ◌∙◌, ⊎_elim}
 use Rattle.std.specs.Prelude.{Contains, flat_map}
 use Rattle.std.specs.Cmp.{nat_cmp_total}
@@ -45,11 +45,11 @@ module _ (sheet : Sheet) (reports : List (List ℕ)) where
       ∙ body_of_both (flat_map documents_at a) (flat_map documents_at b)
       ∙ (λ i. union (body (sym (named_is a) i)) (body (sym (named_is b) i)))
 
-  -- what two sets name is what the base of the one has after it joined that of the other
+  -- the base of a union of two sets is the join of the two bases
   pub base_both : (a b : Numbers) → base_named sheet reports (both a b) ≡ joined_with (base_named sheet reports a) (base_named sheet reports b)
   base_both a b = ap (λ (x : Body). let c : Contents = record { sheet = sheet; body = x } in c) (body_both a b)
 
--- ---- the documents of accepted reports fit their sheet
+-- ---- accepted documents fit their sheet
 
 accepted_one : (sheet : Sheet) (bytes : List ℕ) (outcome_is : Result Document Refusal) (d : Document) → outcome sheet bytes ≡ outcome_is → Contains (document_in outcome_is) d → IsAccepted sheet d
 accepted_one sheet bytes (Ok x) d is h = (bytes, is ∙ ap Ok (⊎_elim (λ e. e) (none_there d) (first_or_later x [] d h)))

@@ -1,4 +1,4 @@
--- Mentions by the places of their facts are mentions by their facts.
+-- Grouping mentions by the places of their facts is grouping them by fact.
 use Rattle.std.proofs.Common.{◌≡◌, ℕ, suc, ◌+◌, ◌<◌, List, [], ◌∷◌, ◌++◌, length, get_or, Bool, true, false, cond, refl, sym, ap, ◌∙◌, arith, append_assoc}
 use Rattle.std.specs.Prelude.{filter, Contains}
 use Rattle.std.specs.List.{All, AllByRecursion}
@@ -18,7 +18,7 @@ use Rattle.oim_merge.specs.Sources.{Mention, by_fact, is_of}
 use Rattle.oim_merge.specs.declared.placed_mention.PlacedMention.{PlacedMention}
 use Rattle.oim_merge.proofs.ByPlace.{grouped, groups, has_place, is_equal, is_place, place_is, rise_from, same_groups, same_here}
 
--- every fact that is mentioned is among these
+-- each mentioned fact is in the list
 abbrev pub AreOf : List Fact → List Mention → Type 0
 AreOf facts ms = AllByRecursion (λ (m : Mention). Contains facts m.fact) ms
 
@@ -31,7 +31,7 @@ agree false true f g = g refl
 agree false false f g = refl
 
 module _ (facts : List Fact) (rise : IsSet fact_cmp facts) where
-  -- how many come before the one at a place
+  -- the place of a fact in the list is its index
   pub place_at : (i : ℕ) (d : Fact) → i < length facts → place facts (get_or facts i d) ≡ i
   place_at i d within = one_less (place facts (get_or facts i d)) i (rank_at fact_cmp_total facts i d rise within)
 
@@ -54,7 +54,7 @@ module _ (facts : List Fact) (rise : IsSet fact_cmp facts) where
     place_here : place facts f ≡ length done
     place_here = ap (place facts) (sym there) ∙ place_at (length done) f within
 
-    -- a fact at the place is the fact
+    -- the fact at its place is the fact itself
     is_here : (g : Fact) → Contains facts g → length done ≡ place facts g → g ≡ f
     is_here g at same =
         let at_place : place facts g ≡ at.0 = ap (place facts) (sym at.2) ∙ place_at at.0 g at.1 in
@@ -85,7 +85,7 @@ module _ (facts : List Fact) (rise : IsSet fact_cmp facts) where
   pub placed_by_fact : (ms : List Mention) → AreOf facts ms → groups 0 (length facts) (all_placed facts ms) ≡ all_placed facts (by_fact facts ms)
   placed_by_fact ms h = groups_are [] facts refl 0 refl ms h
 
--- placed mentions that a stable sort by place left are those of each fact, one fact after another
+-- a stable sort by place gives the mentions fact by fact
 pub sorted_are : (facts : List Fact) → IsSet fact_cmp facts → (ms : List Mention) → AreOf facts ms → (sorted : List PlacedMention) → IsNonDecreasingBy (λ (m : PlacedMention). m.place) sorted → IsStableByKey (λ (m : PlacedMention). m.place) nat_cmp (all_placed facts ms) sorted → IsPermutation (all_placed facts ms) sorted → sorted ≡ all_placed facts (by_fact facts ms)
 sorted_are facts rise ms of_facts sorted up stable moved =
     let placed_ms = all_placed facts ms in

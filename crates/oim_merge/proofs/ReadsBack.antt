@@ -1,4 +1,4 @@
--- The value of a text is read as the document that it was written for.
+-- The canonical text is read as the document for which it was written.
 use Rattle.std.proofs.Common.{◌≡◌, ℕ, ◌+◌, List, [], ◌∷◌, ◌++◌, true, false, cond, Option, Some, None, Ok, Err, refl, sym, ap, subst, bytes_eq, ◌≢◌, ◌∙◌, codes, map, arith}
 use Rattle.std.specs.Prelude.{All, Bool, IsTrue, IsUtf8, ◌<◌, ◌↔◌, ⊤, nat_lt, not}
 use Rattle.std.specs.List.{list_all}
@@ -69,7 +69,7 @@ facts_back sheet bs key spelled (f ∷ fs) n fit spell =
     rw (fact_back sheet bs spelled f (All-head (FactFits sheet) f fs fit) (All-head (SpellsFact bs spelled) f fs spell)).outcome
     (ap (map_ok (λ gs. f ∷ gs)) (facts_back sheet bs key spelled fs (n + 1) (All-tail (FactFits sheet) f fs fit) (All-tail (SpellsFact bs spelled) f fs spell)))
 
--- a document that declares a level is not above it
+-- a document is not above the level that it declares
 none_above : (l : Level) → is_lt (level_cmp l l) ≡ false
 none_above Unique = refl
 none_above Complete = refl
@@ -89,13 +89,13 @@ ascii : (t : List ℕ) → list_all (λ c. nat_lt c 128) t ≡ true → IsAscii 
 ascii [] h = IsAscii-nil
 ascii (c ∷ cs) h = let both = and_parts (nat_lt c 128) (list_all (λ d. nat_lt d 128) cs) h in IsAscii-cons c cs (small_byte c both.0) (ascii cs both.1)
 
--- the type of the document is a text
+-- the document type is a valid text
 type_said : is_utf8 document_type ≡ true
 type_said = is_utf8-from_IsUtf8 document_type (IsUtf8-from_ascii document_type (ascii document_type refl))
 
 -- ---- the level
 
--- the level that a declaration declares
+-- the level that the document declares
 abbrev declared_level : Option Level → Level
 declared_level None = AllLevel
 declared_level (Some l) = l
@@ -112,11 +112,11 @@ level_given Complete = ap (λ g. said_level (g ∷ [])) (ascii_given (codes "com
 level_given Consistent = ap (λ g. said_level (g ∷ [])) (ascii_given (codes "consistent") refl)
 level_given AllLevel = ap (λ g. said_level (g ∷ [])) (ascii_given (codes "all") refl)
 
--- the feature is found where its prefix is bound
+-- the feature is found if its prefix is bound
 level_found : (bs : List Binding) → uri_of bs (codes "xbrl") ≡ Some reserved_uri → (l : Level) → said_level (declarations bs (member (codes "xbrl:allowedDuplicates") (string (level_entry l).text) no_members)) ≡ Some l
 level_found bs bound l = rw bound (level_given l)
 
--- ---- a report's object with these members
+-- ---- a report object with these members
 
 abbrev report_object : Option Level → Members → List (List ℕ) → Members → Data
 report_object declared namespaces references facts =
@@ -127,7 +127,7 @@ report_object declared namespaces references facts =
     member (codes "taxonomy") (array (text_items references)) no_members))))) (
     member (codes "facts") (object facts) no_members))
 
--- where a level is declared, the prefix of its feature is bound
+-- if a level is declared, the prefix of its feature is bound
 abbrev BindsFeature : Option Level → List Binding → Type 0
 BindsFeature None bs = ⊤
 BindsFeature (Some l) bs = uri_of bs (codes "xbrl") ≡ Some reserved_uri
@@ -168,7 +168,7 @@ not_empty : (u : List ℕ) → u ≢ [] → bytes_eq u [] ≡ false
 not_empty [] h = absurd (h refl)
 not_empty (c ∷ cs) h = refl
 
--- what the last member binds
+-- the bindings after the prefixes n1, n2 ..
 abbrev last_bindings : Option Level → List Binding
 last_bindings None = []
 last_bindings (Some l) = (record { prefix = codes "xbrl"; uri = reserved_uri }) ∷ []
@@ -191,7 +191,7 @@ bound_all : (declared : Option Level) (us vs : List (List ℕ)) → All IsNamesp
 bound_all declared us [] are = bound_last declared
 bound_all declared us (v ∷ vs) are = rw (text_given v (All-head IsNamespace v vs are).utf8, bound_all declared us vs (All-tail IsNamespace v vs are)) refl
 
--- no n.. is `xbrl`
+-- none of the prefixes n1, n2 .. is `xbrl`
 xbrl_found : (us vs : List (List ℕ)) → uri_of (map (λ u. record { prefix = prefix us u; uri = u }) vs ++ (record { prefix = codes "xbrl"; uri = reserved_uri }) ∷ []) (codes "xbrl") ≡ Some reserved_uri
 xbrl_found us [] = refl
 xbrl_found us (v ∷ vs) = xbrl_found us vs
@@ -205,7 +205,7 @@ feature_bound (Some l) us = xbrl_found us us
 read_back : (sheet : Sheet) (b : Body) (declared : Option Level) → IsPlainJson (tree_declaring declared b) 4 → json (compact_text (tree_declaring declared b)) ≡ Some (tree_declaring declared b)
 read_back sheet b declared plain = object_text_back _ (record { plain = plain.plain; utf8 = plain.utf8; shallow = omega (arith, plain.shallow) })
 
--- whatever it declares, a text is read as its body, unless that is above what it declares
+-- a text is read as its body, unless the facts are above the declared level
 declared_reads_back : (sheet : Sheet) (b : Body) (declared : Option Level) → Fits sheet b → outcome sheet (compact_text (tree_declaring declared b)) ≡ unless_above (level_of b.facts) (document_at (declared_level declared) b)
 unfolding outcome
 declared_reads_back sheet b declared fits =
@@ -231,7 +231,7 @@ earlier_reads_back sheet b fits =
     declared_reads_back sheet b None fits
     ∙ ap (λ t. cond t (Err (at AtDocument DisallowedDuplicates)) (Ok (document_at AllLevel b))) (none_above_all (level_of b.facts))
 
--- ---- the least level
+-- ---- the strictest level
 
 turned : (x y : Level) → is_le (level_cmp y x) ≡ not (is_lt (level_cmp x y))
 turned Unique Unique = refl

@@ -1,4 +1,4 @@
--- What comes of the members of a list, one list behind another, comes of them in another order too.
+-- Permuting a list permutes the concatenation of its images.
 use Rattle.std.proofs.Common.{ℕ, zero, suc, ◌<◌, List, [], ◌∷◌, ◌++◌, length, get_or, set, subst, append_assoc, arith}
 use Rattle.std.specs.Prelude.{flat_map, swap}
 use Rattle.std.specs.List.Sorted.{IsPermutation}
@@ -11,7 +11,7 @@ exchanged us vs ws =
     subst (λ l. IsPermutation l (vs ++ (us ++ ws))) (append_assoc us vs ws) (subst (IsPermutation ((us ++ vs) ++ ws)) (append_assoc vs us ws) both)
 
 module _ {A B : Type 0} (f : A → List B) where
-  -- the first for one further on
+  -- swap the first element with a later one
   put_first : (x d : A) (xs : List A) (j : ℕ) → j < length xs → IsPermutation (f x ++ flat_map f xs) (f (get_or xs j d) ++ flat_map f (set xs j x))
   put_first x d [] j h = absurd (omega (arith, h))
   put_first x d (z ∷ zs) zero h = exchanged (f x) (f z) (flat_map f zs)

@@ -12,7 +12,7 @@ use Rattle.oim_merge.specs.declared.event.Event.{Event}
 use Rattle.oim_merge.proofs.Agreement.{agree, count}
 use Rattle.oim_merge.proofs.Schedules.{first_bad, flat_map_next, good_next, none_bad, run_next, sent_run}
 
--- the first k events have happened, and none of them is bad
+-- the first k events were run, and none of them is bad
 pub record HasRun (sheet : Sheet) (n : ℕ) (reports : List (List ℕ)) (events : List Event) (k : ℕ) (bases : List Contents) (sent : List (List ℕ)) (told : List (ℕ × Refusal)) : Type 0 where
   pub world : world_of bases sent ≡ world_after (wire sheet [] reports) n (take k events)
   pub refused : told ≡ refused_takes sheet reports (take k events)
@@ -25,7 +25,7 @@ module _ (sheet : Sheet) (n : ℕ) (reports : List (List ℕ)) (events : List Ev
   sent_are : length sent ≡ sent_by (take k events)
   sent_are = ap (λ (w : World Contents (List ℕ)). length w.sent) h.world ∙ sent_run (wire sheet [] reports) (take k events) (start (wire sheet [] reports) n) ∙ omega arith
 
-  -- all bases are of the sheet
+  -- all bases belong to the sheet
   pub sheets_are : All (λ base. base.sheet ≡ sheet) bases
   sheets_are =
       let sets = (world_after (reached sheet reports) n (take k events)).replicas in
@@ -36,7 +36,7 @@ module _ (sheet : Sheet) (n : ℕ) (reports : List (List ℕ)) (events : List Ev
   names_are : (event : Event) → names_none (length bases) (length reports) (length sent) event ≡ names_none n (length reports) (sent_by (take k events)) event
   names_are event = λ t. names_none (replicas_are t) (length reports) (sent_are t) event
 
-  -- one event more
+  -- after one event more
   pub run_further : (d : Event) (new : List Contents) (texts : List (List ℕ)) (refusals : List (ℕ × Refusal)) → k < length events →
       names_none (length bases) (length reports) (length sent) (get_or events k d) ≡ false →
       world_of new texts ≡ happens (wire sheet [] reports) (world_of bases sent) (get_or events k d) →
@@ -48,11 +48,11 @@ module _ (sheet : Sheet) (n : ℕ) (reports : List (List ℕ)) (events : List Ev
     earlier = good_next n (length reports) events k d (sym (names_are (get_or events k d)) ∙ good) h.earlier;
   }
 
-  -- the next one is bad
+  -- the next event is bad
   pub run_ends : (d : Event) → k < length events → names_none (length bases) (length reports) (length sent) (get_or events k d) ≡ true → IsFirstBad n (length reports) events (k + 1)
   run_ends d within bad = first_bad n (length reports) events k d within (sym (names_are (get_or events k d)) ∙ bad) h.earlier
 
-  -- there is no other
+  -- no event is left
   pub run_whole : (replay : Replay) → length events ≤ k → replay.world ≡ world_of bases sent → replay.refused ≡ told → IsReplayOf sheet n reports events replay
   run_whole replay ended world_is refused_is =
       let all : take k events ≡ events = to_the_end events k ended in

@@ -37,7 +37,7 @@ same_added {sheet} p q e = λ i. record { sheet = sheet; body = p i; refusals = 
 pub added_more : (sheet : Sheet) (reports : List (List ℕ)) (bytes : List ℕ) → with_report (added sheet reports) bytes ≡ added sheet (reports ++ bytes ∷ [])
 added_more sheet reports bytes = same_added (merged_more sheet reports bytes) (refused_more 1 sheet reports bytes) (sym (length_push reports bytes))
 
--- several more
+-- several reports more
 added_then : (sheet : Sheet) (reports others : List (List ℕ)) → with_reports (added sheet reports) others ≡ added sheet (reports ++ others)
 added_then sheet reports [] = sym (ap (added sheet) (append-nil reports))
 added_then sheet reports (bytes ∷ others) =
@@ -48,7 +48,7 @@ added_then sheet reports (bytes ∷ others) =
 pub steps_are_list : StepsAreList
 steps_are_list sheet reports = added_then sheet [] reports
 
--- what was added, which with the reports that are left is all
+-- the reports that were added and those that are left are all
 pub record HasAdded (sheet : Sheet) (a : Added) (left all : List (List ℕ)) : Type 0 where
   pub done : List (List ℕ)
   pub is : a ≡ added sheet done
@@ -70,7 +70,7 @@ list_step sheet reports i r bytes a new within at read stepped is =
     stepped ∙ (λ k. with_report (is k) (read k)) ∙ added_more sheet (take i reports) r
     ∙ ap (added sheet) (ap (λ b. take i reports ++ b ∷ []) at ∙ sym (take_more reports i r within))
 
--- a report that is accepted, and one that is refused
+-- an accepted report, and a refused one
 pub accepted_step : (sheet : Sheet) (bytes : List ℕ) (d : Document) (old new : Body) (told : List (ℕ × Refusal)) (n : ℕ) → outcome sheet bytes ≡ Ok d → new ≡ union old (body (d ∷ [])) →
     ◌≡◌ {A = Added} (record { sheet = sheet; body = new; refusals = told; reports = n + 1 }) (with_report (record { sheet = sheet; body = old; refusals = told; reports = n }) bytes)
 accepted_step sheet bytes d old new told n o is = same_added

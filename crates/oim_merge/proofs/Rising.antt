@@ -1,4 +1,4 @@
--- Facts of which each is below the next one, and what is canonical.
+-- Facts that strictly rise, and canonical reports.
 use Rattle.std.proofs.Common.{◌≡◌, ℕ, zero, suc, ◌+◌, ◌<◌, Bool, true, false, List, [], ◌∷◌, length, get_or, Ok, refl, sym, ap, subst, ◌∙◌, arith}
 use Rattle.std.specs.Prelude.{◌↔◌, IsTrue}
 use Rattle.std.specs.List.{All, IsAllAdjacentAnswer}
@@ -30,7 +30,7 @@ less_is Less h = cc
 less_is Equal h = absurd (false≢true (sym h))
 less_is Greater h = absurd (false≢true (sym h))
 
--- each fact is below the next one exactly if all rise
+-- all facts rise if and only if each is below the next one
 pub rise_is : (facts : List Fact) (told : Bool) → IsAllAdjacentAnswer (λ x y b. b ≡ is_lt (fact_cmp x y)) facts told → IsTrue told ↔ IsSet fact_cmp facts
 unfolding IsStrictlySortedBy
 rise_is [] true each = (λ h. tt, λ h. refl)
@@ -39,13 +39,13 @@ rise_is (f ∷ fs) true each = (λ h. sorted_from_all_adjacent fact_cmp_total (f
 rise_is (f ∷ fs) false (k, within, apart) =
     (λ h. absurd (false≢true h), λ rises. apart f ∙ ap is_lt (Less-from_sorted fact_cmp (f ∷ fs) k (k + 1) f rises (omega arith) within))
 
--- ---- what is canonical
+-- ---- canonical reports
 
 module _ (sheet : Sheet) (bytes : List ℕ) (d : Document) (read : outcome sheet bytes ≡ Ok d) where
   accepted : All (IsAccepted sheet) (d ∷ [])
   accepted = All-cons (IsAccepted sheet) d [] (bytes, read) (All-nil (IsAccepted sheet))
 
-  -- the facts of a canonical text rise
+  -- the facts of a canonical report rise
   pub canonical_rises : IsCanonicalOf d bytes → IsSet fact_cmp d.facts
   canonical_rises is =
       let b : Body = body (d ∷ []) in

@@ -78,7 +78,7 @@ module _ (n reports : ℕ) (events : List Event) where
       let is : get_or events k d ≡ bad.event = get_or_from_slice_get events k bad.event d bad.there in
       true≢false (sym bad.bad ∙ ap (names_none n reports (sent_by (take k events))) (sym is) ∙ good)
 
-  -- the events before k are good, and so is that at k
+  -- the first k events and the next one are good
   pub good_next : (k : ℕ) (d : Event) → names_none n reports (sent_by (take k events)) (get_or events k d) ≡ false →
       ((before : ℕ) → before < k → ¬ (IsBadAt n reports events before)) → (before : ℕ) → before < k + 1 → ¬ (IsBadAt n reports events before)
   good_next k d good earlier before within bad =

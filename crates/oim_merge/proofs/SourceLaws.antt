@@ -1,4 +1,4 @@
--- Each fact object is told once, and each fact of the body is told.
+-- Each fact object is listed once, and each fact of the body is listed.
 use Rattle.std.proofs.Common.{◌≡◌, ℕ, suc, List, [], ◌∷◌, ◌++◌, map, length, Bool, true, false, not, Option, Some, None, Result, Ok, Err, refl, sym, ap, ◌∙◌, subst, inl, inr, ⊎_elim}
 use Rattle.std.specs.Prelude.{Contains, filter}
 use Rattle.std.specs.List.{AllByRecursion, AllZip}
@@ -32,7 +32,7 @@ use Rattle.oim_merge.proofs.ByPlace.{is_equal}
 use Rattle.oim_merge.proofs.PlacedFacts.{AreOf}
 use Rattle.oim_merge.proofs.SourceMentions.{mentions_are_of}
 
--- ---- each once
+-- ---- each object once
 
 abbrev is_other : Fact → Mention → Bool
 is_other f m = not (is_of f m)
@@ -43,7 +43,7 @@ same_fact f m e = fact_cmp_exact m.fact f (is_equal (fact_cmp m.fact f) e)
 is_fact : (f : Fact) (m : Mention) → m.fact ≡ f → is_of f m ≡ true
 is_fact f m e = ap (λ g. is_eq (fact_cmp g f)) e ∙ ap is_eq (tied_itself fact_cmp_total f)
 
--- where one fact is said, none of those above it is
+-- a mention of a fact is no mention of a greater fact
 not_both : (f g : Fact) (m : Mention) → fact_cmp f g ≡ Less → is_of g m ≡ true → is_other f m ≡ true
 not_both f g m less e = ⊎_elim
     (λ (of_f : is_of f m ≡ true).
@@ -90,7 +90,7 @@ each_mention_is_told sheet reports =
     let set = set_of_is_set fact_cmp_total fact_cmp_exact (all_facts (accepted sheet reports)) in
     each_once (merged sheet reports).facts (mentions sheet reports) set.rises (mentions_are_of sheet reports)
 
--- ---- each fact
+-- ---- each fact of the body
 
 abbrev IsMentioned : List Mention → Fact → Type 0
 IsMentioned ms f = (m : Mention) × (Contains ms m × (m.fact ≡ f))
@@ -140,7 +140,7 @@ each_fact_is_said sheet reports f at =
       of_fact = found.1.1;
     }
 
--- ---- a report's identifiers are as many as its facts
+-- ---- a report has as many identifiers as facts
 
 zip_long : (R : List ℕ × Data → Fact → Type 0) (objects : List (List ℕ × Data)) (fs : List Fact) → AllZip R objects fs → length (map (λ o. o.0) objects) ≡ length fs
 zip_long R [] [] zip = refl
@@ -161,7 +161,7 @@ pub refused_has_none : (n : ℕ) (is : Option (List (List ℕ))) (r : Refusal) �
 refused_has_none n None r = refl
 refused_has_none n (Some is) r = refl
 
--- ---- each object
+-- ---- each fact object
 
 mentioned_in : (sheet : Sheet) (bs : List Binding) (n : ℕ) (objects : List (List ℕ × Data)) (fs : List Fact) → AllZip (IdentifierSays sheet bs) objects fs → AllZip (IsMentionOf sheet bs n) objects (mentions_in n (identifiers_in objects) fs)
 mentioned_in sheet bs n [] fs zip = tt

@@ -1,4 +1,4 @@
--- Each mention in accepted reports is of a fact of what they say in all, and each such fact is mentioned.
+-- The facts mentioned by accepted reports are exactly the facts of the merged body.
 use Rattle.std.proofs.Common.{◌≡◌, ◌⊎◌, ℕ, suc, List, [], ◌∷◌, ◌++◌, Option, Some, None, Result, Ok, Err, sym, subst, inl, inr}
 use Rattle.std.specs.Prelude.{Contains}
 use Rattle.std.specs.List.{AllByRecursion}

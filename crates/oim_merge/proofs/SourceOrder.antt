@@ -1,4 +1,4 @@
--- Reports in another order have the same mentions, but for the numbers.
+-- Reports in another order have the same mentions, except for the report numbers.
 use Rattle.std.proofs.Common.{◌≡◌, ℕ, suc, ◌-◌, ◌+◌, List, [], ◌∷◌, ◌++◌, map, length, get_or, Option, Some, None, Result, Ok, Err, refl, sym, ap, ◌∙◌, subst, append_assoc, arith}
 use Rattle.std.specs.Prelude.{flat_map}
 use Rattle.std.specs.List.Sorted.{IsPermutation}
@@ -17,7 +17,7 @@ use Rattle.oim_merge.specs.Sources.{Mention, Saying, SourcesIgnoreOrder, mention
 use Rattle.oim_merge.proofs.Reordered.{reordered}
 use Rattle.oim_merge.proofs.SourceLaws.{each_mention_is_told}
 
--- what a mention in these bytes says
+-- a mention with the bytes of its report
 abbrev said_in : List ℕ → Mention → Saying
 said_in bytes m = record { bytes = bytes; identifier = m.identifier; fact = m.fact }
 

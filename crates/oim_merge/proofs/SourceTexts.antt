@@ -1,4 +1,4 @@
--- The lines of placed mentions are those of the mentions.
+-- A placed mention has the line of its mention.
 use Rattle.std.proofs.Common.{◌≡◌, ℕ, suc, ◌+◌, List, [], ◌∷◌, ◌++◌, length, Option, ap, ◌∙◌, arith}
 use Rattle.std.specs.Prelude.{flat_map}
 use Rattle.std.specs.Fmt.{decimal}
@@ -28,7 +28,7 @@ lines_are facts ms count is =
     ∙ flat_map-map (placed_line (length facts)) (placed facts) ms
     ∙ (λ i. flat_map (λ m. same_line facts m i) ms)
 
--- what a fault leaves behind
+-- the state after a fault
 pub stops_at : (sheet : Sheet) (reports : List (List ℕ)) (old new : Option (List ℕ)) (fault : WriteFault) → AppendsFront old new (sources sheet reports) (written_of fault) → SourcesStop sheet reports old new (fault_of fault)
 stops_at sheet reports old new (OutOfMemory n) front = front
 stops_at sheet reports old new (Device n) front = front

@@ -1,4 +1,4 @@
--- What one event does to bases in a list.
+-- One event changes a list of bases.
 use Rattle.std.proofs.Common.{◌≡◌, ◌≢◌, ℕ, zero, suc, ◌-◌, ◌<◌, ◌≤◌, ◌||◌, false, inl, ⊎_elim, List, [], ◌++◌, length, get_or, set, Option, Some, sym, ap, ◌∙◌, arith}
 use mathlib.Core.Bool.{true≢false}
 use Rattle.std.proofs.Math.Seq.{set-set}
@@ -37,11 +37,11 @@ union_itself b rises =
 joined_itself : (base : Contents) → IsBody base.body → base ≡ joined_with base base
 joined_itself base rises = λ i. record { sheet = base.sheet; body = union_itself base.body rises i }
 
--- a base joins another that has the same
+-- joining a base with the same body changes nothing
 pub joins_same : (base other : Contents) → base.body ≡ other.body → IsBody base.body → base ≡ joined_with base other
 joins_same base other same rises = joined_itself base rises ∙ (λ i. record { sheet = base.sheet; body = union base.body (same i) })
 
--- what is read at a place is there whatever stands past the end
+-- the element at a valid index does not depend on the default
 pub read_default : {A : Type 0} (xs : List A) (i : ℕ) (x d : A) → i < length xs → x ≡ get_or xs i x → x ≡ get_or xs i d
 read_default xs i x d within is = is ∙ get_or_default xs i x d within
 
@@ -53,7 +53,7 @@ joins_itself bases i j base fresh is within read rises =
     sym (set-get_or bases i fresh)
     ∙ ap (set bases i) (sym there ∙ joined_itself base rises ∙ (λ t. joined_with (there t) ((there ∙ ap (λ k. get_or bases k fresh) is) t)))
 
--- a base is lifted out, joins another and is put back
+-- a base is taken out of the list, joins another and is put back
 pub joins_other : (bases : List Contents) (i j : ℕ) (left base other joined fresh : Contents) → i ≢ j → j < length bases →
     base ≡ get_or bases i fresh → other ≡ get_or (set bases i left) j other → joined ≡ joined_with base other →
     set (set bases i left) i joined ≡ set bases i (joined_with (get_or bases i fresh) (get_or bases j fresh))
@@ -62,7 +62,7 @@ joins_other bases i j left base other joined fresh apart also there read is =
     let others = read_default (set bases i left) j other fresh (omega (arith, long, also)) read ∙ get_or-set_other bases i j left fresh (λ e. apart (sym e)) in
     set-set bases i left joined ∙ ap (set bases i) (is ∙ (λ t. joined_with (there t) (others t)))
 
--- ---- sends and receipts
+-- ---- sends and receives
 
 pub names_good : (replicas reports sent : ℕ) (event other : Event) → event ≡ other → names_none replicas reports sent event ≡ false → names_none replicas reports sent other ≡ false
 names_good replicas reports sent event other is good = sym (ap (names_none replicas reports sent) is) ∙ good
@@ -71,7 +71,7 @@ number_within : (greatest number : ℕ) → is_outside greatest number ≡ false
 number_within greatest zero inside = absurd (true≢false inside)
 number_within greatest (suc place) inside = let least : suc place ≤ greatest = grind (arith, nat_tests) in omega (arith, least)
 
--- the replica that sends is there
+-- the sending replica exists
 pub sender_within : (replicas reports sent : ℕ) (event : Event) (i : ℕ) → event ≡ Send i → names_none replicas reports sent event ≡ false → i - 1 < replicas
 sender_within replicas reports sent event i is good = number_within replicas i (names_good replicas reports sent event (Send i) is good)
 

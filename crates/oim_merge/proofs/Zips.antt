@@ -1,4 +1,4 @@
--- Lists that are related place by place.
+-- Lists whose elements are related index by index.
 use Rattle.std.proofs.Common.{◌≡◌, ℕ, zero, suc, ◌<◌, List, [], ◌∷◌, ◌++◌, length, get_or, set, replicate, Option, Some, None, refl, ap, arith}
 use Rattle.std.specs.Prelude.{slice_get}
 use Rattle.std.specs.List.{AllZip}
@@ -41,7 +41,7 @@ zip_set R (x ∷ xs) [] h k d y one = absurd h
 zip_set R (x ∷ xs) (w ∷ ys) h zero d y one = (one, h.1)
 zip_set R (x ∷ xs) (w ∷ ys) h (suc k) d y one = (h.0, zip_set R xs ys h.1 k d y one)
 
--- both get another at a place
+-- related elements are replaced in both lists
 pub zip_both : {A B : Type 0} (R : A → B → Type 0) (xs : List A) (ys : List B) → AllZip R xs ys → (k : ℕ) (x : A) (y : B) → R x y → AllZip R (set xs k x) (set ys k y)
 zip_both R [] [] h k x y one = tt
 zip_both R [] (w ∷ ys) h k x y one = absurd h

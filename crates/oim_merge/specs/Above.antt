@@ -1,4 +1,4 @@
--- Which dimension sets have duplicates above a level (OIM Common 1.0, `xbrl:allowedDuplicates`; own).
+-- Dimension sets with duplicates above a level (OIM Common 1.0, `xbrl:allowedDuplicates`; own).
 use Rattle.std.specs.Prelude.{◌≡◌, ◌↔◌, IsTrue, ℕ, ◌+◌, Bool, true, false, List, ◌∷◌, ◌++◌, length, Option, Some, None}
 use Rattle.std.specs.List.{All}
 use Rattle.std.specs.Ordering.{is_le}
@@ -14,7 +14,7 @@ use Rattle.fact_base.specs.Verdict.{verdict_of}
 use Rattle.fact_base.specs.declared.verdict.Verdict.{Verdict}
 use Rattle.fact_base.specs.declared.verdict.Verdict.TheVariants.{Complete, Inconsistent}
 
--- an inconsistent dimension set is above `consistent`, and one of several facts is above `complete` and `none`
+-- an inconsistent dimension set is above `consistent`; one with several distinct facts is above `complete` and `none`
 abbrev pub is_above : Level → Verdict → Bool
 is_above AllLevel v = false
 is_above ConsistentLevel Inconsistent = true
@@ -26,7 +26,7 @@ abbrev pub some_above : Level → Option Verdict → Bool
 some_above level None = false
 some_above level (Some v) = is_above level v
 
--- whether a dimension set with its values is
+-- the same, for a row of values
 abbrev pub row_is_above : Level → Row → Bool
 row_is_above level r = some_above level (verdict_of r.1)
 
@@ -34,7 +34,7 @@ row_is_above level r = some_above level (verdict_of r.1)
 abbrev pub StaysWithin : Level → Body → Type 0
 StaysWithin level b = All (λ r. row_is_above level r ≡ false) (rows_of b.facts)
 
--- the dimension set of this number, from 1, is above the level, and none before it is
+-- the dimension set with this number, from 1, is the first above the level
 pub record IsFirstAbove (level : Level) (b : Body) (number : ℕ) : Type 0 where
   pub before : List Row
   pub row : Row
@@ -44,6 +44,6 @@ pub record IsFirstAbove (level : Level) (b : Body) (number : ℕ) : Type 0 where
   pub above : row_is_above level row ≡ true
   pub earlier : All (λ r. row_is_above level r ≡ false) before
 
--- that is so exactly if the level of all facts, which their text declares, is no higher
+-- no dimension set is above a level if and only if the level that the text declares is not
 abbrev pub AllowedIsDeclared : Type 0
 AllowedIsDeclared = (sheet : Sheet) (b : Body) (level : Level) → Fits sheet b → StaysWithin level b ↔ IsTrue (is_le (level_cmp (level_of b.facts) level))

@@ -1,4 +1,4 @@
--- What reports that are added one at a time come to (own).
+-- Reports that are added one at a time (own).
 use Rattle.std.specs.Prelude.{◌≡◌, ◌+◌, ℕ, List, [], ◌∷◌, ◌++◌, length}
 use Rattle.oim_report.specs.Outcome.{outcome}
 use Rattle.oim_report.specs.Sheet.{Sheet}
@@ -6,14 +6,14 @@ use Rattle.oim_report.specs.declared.refusal.Refusal.{Refusal}
 use Rattle.fact_base.specs.Body.{Body, body, union}
 use Rattle.oim_merge.specs.Reports.{document_in, merged, refusal_in, refused}
 
--- what the accepted ones say in all, the refused ones, and how many came, under a sheet
+-- the body of the accepted reports, the refused ones, and the count of all, under a sheet
 pub record Added : Type 0 where
   pub sheet : Sheet
   pub body : Body
   pub refusals : List (ℕ × Refusal)
   pub reports : ℕ
 
--- no report came yet
+-- no report yet
 abbrev pub begun : Sheet → Added
 begun sheet = record { sheet = sheet; body = body []; refusals = []; reports = 0 }
 
@@ -26,15 +26,15 @@ with_report a bytes = record {
   reports = a.reports + 1;
 }
 
--- several more, one after another
+-- several reports more
 abbrev pub with_reports : Added → List (List ℕ) → Added
 with_reports a [] = a
 with_reports a (bytes ∷ reports) = with_reports (with_report a bytes) reports
 
--- what a list of reports comes to
+-- the result of adding a list of reports
 abbrev pub added : Sheet → List (List ℕ) → Added
 added sheet reports = record { sheet = sheet; body = merged sheet reports; refusals = refused sheet reports; reports = length reports }
 
--- the steps over a list come to what the list does
+-- adding one at a time gives the body and the refusals of the list
 abbrev pub StepsAreList : Type 0
 StepsAreList = (sheet : Sheet) (reports : List (List ℕ)) → with_reports (begun sheet) reports ≡ added sheet reports

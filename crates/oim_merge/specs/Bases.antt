@@ -1,4 +1,4 @@
--- Bases by what they took (own).
+-- Bases and the documents that they took (own).
 use Rattle.std.specs.Prelude.{List}
 use Rattle.oim_report.specs.Document.{Document}
 use Rattle.oim_report.specs.Sheet.{Sheet}

@@ -1,4 +1,4 @@
--- A sheet and reports in one file (own). In bytes, a line end is 10.
+-- A bundle: a sheet and reports in one file (own). In bytes, a line end is 10.
 use Rattle.std.specs.Prelude.{ℕ, List, length, drop, filter, Bool, not, ◌==◌}
 use Rattle.std.specs.List.{before_first, slice_split}
 
@@ -12,14 +12,14 @@ is_filled piece = not (length piece == 0)
 abbrev pub line_pieces : List ℕ → List (List ℕ)
 line_pieces bytes = slice_split is_line_end bytes
 
--- the first piece
+-- the first piece, which is the sheet
 abbrev pub sheet_piece : List ℕ → List ℕ
 sheet_piece bytes = before_first is_line_end bytes
 
--- the pieces that have a byte
+-- the pieces that are not empty
 abbrev pub filled_pieces : List ℕ → List (List ℕ)
 filled_pieces bytes = filter is_filled (line_pieces bytes)
 
--- each later piece that has a byte
+-- the later pieces that are not empty, which are the reports
 abbrev pub report_pieces : List ℕ → List (List ℕ)
 report_pieces bytes = filter is_filled (drop 1 (line_pieces bytes))

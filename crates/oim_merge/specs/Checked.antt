@@ -1,4 +1,4 @@
--- What a report that is accepted comes to (own).
+-- The result for an accepted report (own).
 use Rattle.std.specs.Prelude.{◌≡◌, ◌↔◌, ℕ, List, [], ◌∷◌, length, IsTrue, Ok}
 use Rattle.oim_report.specs.Document.{Document}
 use Rattle.oim_report.specs.Duplicates.{level_of}
@@ -8,11 +8,12 @@ use Rattle.fact_base.specs.Body.{body}
 use Rattle.oim_write.specs.Bytes.{canonical}
 use Rattle.oim_merge.specs.declared.checked.Checked.{Checked}
 
--- the bytes are those that are written of a document alone
+-- the bytes are the canonical text of the document
 abbrev pub IsCanonicalOf : Document → List ℕ → Type 0
 IsCanonicalOf d bytes = bytes ≡ canonical (body (d ∷ []))
 
--- the report says a document, which has so many facts, repeats counted, and this level of duplicates; and whether it is canonical
+-- the report is accepted as a document with this many facts, repeats counted, and this level of duplicates; `canonical`
+-- is true if and only if its bytes are canonical
 pub record IsChecked (sheet : Sheet) (bytes : List ℕ) (checked : Checked) : Type 0 where
   pub document : Document
   pub read : outcome sheet bytes ≡ Ok document

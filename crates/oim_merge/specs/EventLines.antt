@@ -1,4 +1,4 @@
--- Lines of events (own). In bytes, a space is 32.
+-- Event lines (own). In bytes, a space is 32.
 use Rattle.std.specs.Prelude.{◌≡◌, ℕ, ◌+◌, ◌^◌, ◌<◌, ◌≤◌, ◌==◌, cond, List, [], ◌∷◌, ◌++◌, length, codes}
 use Rattle.std.specs.Fmt.{decimal}
 use Rattle.std.specs.List.{AllZip}
@@ -8,11 +8,11 @@ use Rattle.oim_merge.specs.declared.event.Event.TheVariants.{Take, Join, Send, R
 use Rattle.oim_merge.specs.declared.replay_fault.ReplayFault.{ReplayFault}
 use Rattle.oim_merge.specs.declared.replay_fault.ReplayFault.TheVariants.{OutOfMemory, BadEvent}
 
--- a number as a line may spell it
+-- a number that a line can spell
 abbrev pub IsNumber : ℕ → Type 0
 IsNumber n = (1 ≤ n) × (n < 2 ^ 32)
 
--- a word and a number, and a word and two numbers, with single spaces and without leading zeros
+-- a word with one number, or with two, with single spaces and without leading zeros
 abbrev pub word_and_one : List ℕ → ℕ → List ℕ
 word_and_one word n = word ++ 32 ∷ decimal n
 
@@ -27,31 +27,31 @@ IsEventLine line (Send i) = (line ≡ word_and_one (codes "send") i) × IsNumber
 IsEventLine line (Receive i k) = (line ≡ word_and_two (codes "receive") i k) × (IsNumber i × IsNumber k)
 IsEventLine line (Restart i) = (line ≡ word_and_one (codes "restart") i) × IsNumber i
 
--- it is not an event
+-- the line spells no event
 abbrev pub IsBadLine : List ℕ → Type 0
 IsBadLine line = (event : Event) → ¬ (IsEventLine line event)
 
--- it is at most one event
+-- a line spells at most one event
 abbrev pub LinesSayOneEvent : Type 0
 LinesSayOneEvent = (line : List ℕ) (e f : Event) → IsEventLine line e → IsEventLine line f → e ≡ f
 
 -- ---- whole files
 
--- pieces without the last one, if that is empty
+-- drops the last piece if it is empty
 abbrev pub without_empty_last : List (List ℕ) → List (List ℕ)
 without_empty_last [] = []
 without_empty_last (line ∷ []) = cond (length line == 0) [] (line ∷ [])
 without_empty_last (line ∷ next ∷ lines) = line ∷ without_empty_last (next ∷ lines)
 
--- the lines of a file: what follows the last line end is one unless it is empty
+-- the lines of a file; an empty piece after the last line end is no line
 abbrev pub lines_of : List ℕ → List (List ℕ)
 lines_of bytes = without_empty_last (line_pieces bytes)
 
--- each line spells the event at its place
+-- each line spells the event with its index
 abbrev pub SaysEvents : List ℕ → List Event → Type 0
 SaysEvents bytes events = AllZip IsEventLine (lines_of bytes) events
 
--- the line with this number, from 1, is not an event, and each earlier one is
+-- the line with this number, from 1, spells no event, and each earlier line spells one
 pub record IsFirstBadLine (bytes : List ℕ) (number : ℕ) : Type 0 where
   pub before : List (List ℕ)
   pub line : List ℕ
@@ -62,7 +62,7 @@ pub record IsFirstBadLine (bytes : List ℕ) (number : ℕ) : Type 0 where
   pub events : List Event
   pub earlier : AllZip IsEventLine before events
 
--- what a fault says
+-- a fault when a schedule is read: memory was refused, or a line is bad
 abbrev pub ReadingEventsStops : List ℕ → ReplayFault → Type 0
 ReadingEventsStops bytes OutOfMemory = Unit {0}
 ReadingEventsStops bytes (BadEvent number) = IsFirstBadLine bytes number

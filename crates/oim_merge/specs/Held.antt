@@ -1,4 +1,4 @@
--- Replicas that hold each different sent text once, with what was read from it and from the reports (own).
+-- Replicas that store each distinct sent text once, and cache what was read from it and from the reports (own).
 use Rattle.std.specs.Prelude.{◌≡◌, ℕ, ◌<◌, List, [], length, map, Option, None, Some}
 use Rattle.std.specs.List.{All, AllZip, slice_index_or}
 use Rattle.oim_report.specs.Sheet.{Sheet}
@@ -12,48 +12,48 @@ use Rattle.oim_merge.specs.Schedule.{World}
 use Rattle.oim_merge.specs.declared.messages.Messages.{Messages}
 use Rattle.oim_merge.specs.declared.replicas.Replicas.{Replicas}
 
--- these of the held texts, by their places
+-- the stored texts at these indices
 abbrev pub texts_at : List (List ℕ) → List ℕ → List (List ℕ)
 texts_at texts places = map (λ place. slice_index_or texts place []) places
 
--- each place has a text
+-- each index is within the list
 abbrev pub AreWithin : List (List ℕ) → List ℕ → Type 0
 AreWithin texts places = All (λ place. place < length texts) places
 
--- this text is at a place
+-- the list has this text at this index
 abbrev pub IsTextAt : List (List ℕ) → List ℕ → ℕ → Type 0
 IsTextAt texts text place = (place < length texts) × (slice_index_or texts place [] ≡ text)
 
--- the current text of a base, if there is one, is at this place
+-- the current text of a base, if there is one, is at this index
 abbrev pub IsCurrent : List (List ℕ) → Contents → Option ℕ → Type 0
 IsCurrent texts base None = Unit {0}
 IsCurrent texts base (Some place) = IsTextAt texts (canonical base.body) place
 
--- a text at a place in one list is at that place in the other too
+-- the second list has each text of the first at the same index
 abbrev pub Stay : List (List ℕ) → List (List ℕ) → Type 0
 Stay texts more = (text : List ℕ) (place : ℕ) → IsTextAt texts text place → IsTextAt more text place
 
--- a text is the text of a body that fits the sheet
+-- the text of some body that fits the sheet
 pub record IsWritten (sheet : Sheet) (text : List ℕ) : Type 0 where
   pub body : Body
   pub fits : Fits sheet body
   pub written : text ≡ canonical body
 
--- the sent texts, in their order
+-- the sent texts in order
 abbrev pub sent_texts : Messages → List (List ℕ)
 sent_texts messages = texts_at messages.texts.items messages.sent.items
 
--- each sent text is held; each held one is the text of a body, and what is kept for it is what was read from it
+-- each sent text is stored; each stored text is the text of a body, and its cached reading is what it is read as
 pub record AreHeld (sheet : Sheet) (messages : Messages) : Type 0 where
   pub places : AreWithin messages.texts.items messages.sent.items
   pub kept : AreKept sheet messages.texts.items messages.kept.items
   pub written : All (IsWritten sheet) messages.texts.items
 
--- what replicas have and have sent
+-- the bases of the replicas, and the texts that they sent
 abbrev pub world_in : Replicas → World Contents (List ℕ)
 world_in replicas = world_of replicas.bases.items (sent_texts replicas.messages)
 
--- what they keep for reports and sent texts is what was read from each, and each current text is the text of its base
+-- each cached reading of a report or a text is what it is read as, and each current text is the text of its base
 pub record KeepReadings (sheet : Sheet) (reports : List (List ℕ)) (replicas : Replicas) : Type 0 where
   pub taken : AreKept sheet reports replicas.reports.items
   pub held : AreHeld sheet replicas.messages

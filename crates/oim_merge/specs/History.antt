@@ -1,4 +1,4 @@
--- Bases by what they took and joined, and what their texts say (own).
+-- Bases by what they took and joined, and how their texts are read (own).
 use Rattle.std.specs.Prelude.{◌≡◌, ℕ, List, [], ◌∷◌, ◌++◌, Contains, Ok}
 use Rattle.std.specs.List.{All}
 use Rattle.merge_laws.specs.Members.{SameMembers}
@@ -12,7 +12,7 @@ use Rattle.fact_base.specs.Fits.{Fits, IsAccepted}
 use Rattle.fact_base.specs.Verdict.{verdict}
 use Rattle.oim_write.specs.Bytes.{canonical, earlier}
 
--- how a base came to be: a new one, one that took a document, one that joined another
+-- the history of a base: it is new, it took a document, or it joined another base
 pub data History : Type 0 where
   fresh : History
   took : History → Document → History
@@ -30,21 +30,20 @@ documents_of fresh = []
 documents_of (took h d) = documents_of h ++ d ∷ []
 documents_of (joined h k) = documents_of h ++ documents_of k
 
--- it has the body of these,
+-- a base has the body of the documents that reached it
 abbrev pub HistoriesGiveBodies : Type 0
 HistoriesGiveBodies = (h : History) → body_of h ≡ body (documents_of h)
 
--- so only these matter: neither their order, nor their grouping, nor how often each came. Bases that the same documents reached
--- write the same bytes,
+-- bases that the same documents reached write the same bytes, whatever the order, grouping and repetition
 abbrev pub HistoriesAreForgotten : Type 0
 HistoriesAreForgotten = (h k : History) → SameMembers (documents_of h) (documents_of k) → canonical (body_of h) ≡ canonical (body_of k)
 
--- and have the same verdicts,
+-- and have the same verdicts
 abbrev pub VerdictsAreForgotten : Type 0
 VerdictsAreForgotten =
     (h k : History) (s : DimensionSet) → SameMembers (documents_of h) (documents_of k) → verdict (body_of h).facts s ≡ verdict (body_of k).facts s
 
--- the same level,
+-- and the same level
 abbrev pub LevelsAreForgotten : Type 0
 LevelsAreForgotten = (h k : History) → SameMembers (documents_of h) (documents_of k) → level_of (body_of h).facts ≡ level_of (body_of k).facts
 
@@ -54,21 +53,21 @@ ReferencesAreForgotten = (h k : History) → SameMembers (documents_of h) (docum
 
 -- ---- round trips
 
--- bytes are read as a document with exactly this body
+-- the bytes are read as a document with exactly this body
 pub record IsReadAsBody (sheet : Sheet) (bytes : List ℕ) (b : Body) : Type 0 where
   pub document : Document
   pub read : outcome sheet bytes ≡ Ok document
   pub same : body (document ∷ []) ≡ b
 
--- the text of a body that fits a sheet gives it again
+-- the text of a body that fits a sheet is read as that body
 abbrev pub TextsGiveBodies : Type 0
 TextsGiveBodies = (sheet : Sheet) (b : Body) → Fits sheet b → IsReadAsBody sheet (canonical b) b
 
--- and so does its text from before levels
+-- its text in the earlier form is too
 abbrev pub EarlierTextsGiveBodies : Type 0
 EarlierTextsGiveBodies = (sheet : Sheet) (b : Body) → Fits sheet b → IsReadAsBody sheet (earlier b) b
 
--- a text that documents were merged to, merged with itself and with any of them, is that text again
+-- merging a merged text with itself and with any of its documents gives the same text
 abbrev pub MergedTextsMerge : Type 0
 MergedTextsMerge =
     (sheet : Sheet) (docs some : List Document) (merged : Document) → All (IsAccepted sheet) docs → ((d : Document) → Contains some d → Contains docs d) →

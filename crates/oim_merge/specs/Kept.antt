@@ -1,4 +1,4 @@
--- What is kept of texts that are read under a sheet (own).
+-- Cached readings of texts under a sheet (own).
 use Rattle.std.specs.Prelude.{◌≡◌, ℕ, List, [], ◌∷◌, Option, None, Some, Result, Ok, Err}
 use Rattle.std.specs.List.{AllZip}
 use Rattle.oim_report.specs.Document.{Document}
@@ -9,21 +9,21 @@ use Rattle.fact_base.specs.Contents.{Contents}
 use Rattle.oim_merge.specs.Bases.{base_of}
 use Rattle.oim_merge.specs.Replicas.{joined_with}
 
--- what an outcome comes to: the base of its document, or the refusal
+-- the reading of an outcome: the base of the document, or the refusal
 abbrev pub read_as : Sheet → Result Document Refusal → Result Contents Refusal
 read_as sheet (Ok d) = Ok (base_of sheet (d ∷ []))
 read_as sheet (Err refusal) = Err refusal
 
--- a base that takes what was read; a refusal adds nothing
+-- a base takes a reading; a refusal changes nothing
 abbrev pub with_read : Result Contents Refusal → Contents → Contents
 with_read (Ok read) base = joined_with base read
 with_read (Err refusal) base = base
 
--- nothing is kept for these bytes, or what they are read as
+-- nothing is cached for these bytes, or the reading that they have
 abbrev pub IsReadingOf : Sheet → List ℕ → Option (Result Contents Refusal) → Type 0
 IsReadingOf sheet bytes None = Unit {0}
 IsReadingOf sheet bytes (Some read) = read ≡ read_as sheet (outcome sheet bytes)
 
--- for each text, at its place
+-- the same for each text, index by index
 abbrev pub AreKept : Sheet → List (List ℕ) → List (Option (Result Contents Refusal)) → Type 0
 AreKept sheet texts kept = AllZip (IsReadingOf sheet) texts kept

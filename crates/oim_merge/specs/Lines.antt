@@ -1,4 +1,4 @@
--- The lines on duplicates: one for each dimension set, in order (own; the words are from the XBRL working group note on
+-- The verdict lines, one for each dimension set, in order (own; the words are from the XBRL working group note on
 -- duplicate facts). In bytes, a space is 32, a line end 10.
 use Rattle.std.specs.Prelude.{◌≡◌, ◌⊎◌, ℕ, suc, ◌-◌, List, [], ◌∷◌, ◌++◌, map, length, get_or, codes, Contains, Some}
 use Rattle.std.specs.Fmt.{decimal}
@@ -16,7 +16,7 @@ use Rattle.fact_base.specs.declared.verdict.Verdict.{Verdict}
 use Rattle.fact_base.specs.declared.verdict.Verdict.TheVariants.{Complete, Consistent, Inconsistent}
 use Rattle.oim_write.specs.Tree.{identifier}
 
--- the identifier, in the canonical text, of the fact at a place, from 0, of a dimension set
+-- the canonical identifier of the fact at an index, from 0, in a dimension set
 abbrev pub identifier_at : List Fact → Row → ℕ → List ℕ
 identifier_at facts r i = get_or (map (identifier facts) (facts_with r.0 r.1)) i []
 
@@ -26,7 +26,7 @@ evidence_text name Alike = codes "complete"
 evidence_text name (Common c) = codes "consistent common " ++ (plain c.low ++ 32 ∷ plain c.high)
 evidence_text name (Apart i j) = codes "inconsistent apart " ++ (name i ++ 32 ∷ name j)
 
--- the line of a dimension set: its number, the identifiers of its first and its last fact, and the evidence
+-- the line of a dimension set: its number, the identifiers of its first and last fact, and the evidence
 abbrev pub line_text : ℕ → (ℕ → List ℕ) → ℕ → Evidence → List ℕ
 line_text number name count evidence = decimal number ++ 32 ∷ (name 0 ++ 32 ∷ (name (count - 1) ++ 32 ∷ (evidence_text name evidence ++ 10 ∷ [])))
 
@@ -52,28 +52,28 @@ pub record HasOneText (b : Body) : Type 0 where
 abbrev pub LinesAreOne : Type 0
 LinesAreOne = (sheet : Sheet) (b : Body) → Fits sheet b → HasOneText b
 
--- the verdict that evidence shows, whose word is in the line
+-- the verdict that evidence shows; its word is in the line
 abbrev pub verdict_shown : Evidence → Verdict
 verdict_shown Alike = Complete
 verdict_shown (Common c) = Consistent
 verdict_shown (Apart i j) = Inconsistent
 
--- it is the verdict on the dimension set
+-- the verdict shown in a line is the verdict on the dimension set
 abbrev pub LinesTellVerdicts : Type 0
 LinesTellVerdicts =
     (sheet : Sheet) (b : Body) → Fits sheet b → (r : Row) → Contains (rows_of b.facts) r →
     (number : ℕ) (line : List ℕ) (is : IsLine b.facts number r line) → verdict b.facts r.0 ≡ Some (verdict_shown is.evidence)
 
--- the word of a verdict
+-- the word for a verdict
 abbrev pub verdict_word : Verdict → List ℕ
 verdict_word Complete = codes "complete"
 verdict_word Consistent = codes "consistent"
 verdict_word Inconsistent = codes "inconsistent"
 
--- a text is this word, alone or with more behind a space
+-- a text is this word, or begins with this word and a space
 abbrev pub BeginsWithWord : List ℕ → List ℕ → Type 0
 BeginsWithWord word text = (text ≡ word) ⊎ ((more : List ℕ) × (text ≡ word ++ 32 ∷ more))
 
--- the evidence of a line begins with the word of the verdict that it shows
+-- the evidence in a line begins with the word for its verdict
 abbrev pub WordsShowVerdicts : Type 0
 WordsShowVerdicts = (name : ℕ → List ℕ) (e : Evidence) → BeginsWithWord (verdict_word (verdict_shown e)) (evidence_text name e)

@@ -1,4 +1,4 @@
--- What listing verdicts leaves behind (own).
+-- The state after verdicts were listed (own).
 use Rattle.std.specs.Prelude.{◌≡◌, ◌⊎◌, ℕ, Option, List}
 use Rattle.std.specs.Io.KnownBytes.{Appends}
 use Rattle.oim_report.specs.Sheet.{Sheet}
@@ -18,13 +18,13 @@ pub record AppendsLines (b : Body) (old new : Option (List ℕ)) : Type 0 where
   pub lines : AreLines b text
   pub appended : Appends old new text
 
--- the first part of them was, and so many bytes were counted
+-- a first part of the lines was appended, and `written` is the number of its bytes
 pub record AppendsFrontOfLines (b : Body) (old new : Option (List ℕ)) (written : ℕ) : Type 0 where
   pub text : List ℕ
   pub lines : AreLines b text
   pub front : AppendsFront old new text written
 
--- on their way through a buffer
+-- the lines of a body were pushed through a buffer
 pub record PassesLines (b : Body) (old new : Option (List ℕ)) (before after : Pending) : Type 0 where
   pub text : List ℕ
   pub lines : AreLines b text
@@ -35,12 +35,12 @@ pub record BreaksLines (b : Body) (old new : Option (List ℕ)) (before : Pendin
   pub lines : AreLines b text
   pub broken : Breaks old new before text written
 
--- its lines were appended, and these refusals were returned
+-- the lines of a body were appended, and these refusals were returned
 pub record Lists (b : Body) (refusals : List (ℕ × Refusal)) (old new : Option (List ℕ)) (told : List (ℕ × Refusal)) : Type 0 where
   pub refusals_are : told ≡ refusals
   pub lines : AppendsLines b old new
 
--- what a fault leaves behind
+-- a fault: memory was refused or the device failed, with a first part of the lines appended
 abbrev pub ListStops : Body → Option (List ℕ) → Option (List ℕ) → Fault → Type 0
 ListStops b old new (OutOfMemory written) = StopsBefore old new written ⊎ AppendsFrontOfLines b old new written
 ListStops b old new (Device written) = AppendsFrontOfLines b old new written
@@ -49,7 +49,7 @@ ListStops b old new (SheetFault reason) = ⊥
 
 -- ---- reports
 
--- the lines for the accepted reports were appended, and the refusals were returned
+-- the lines for the accepted reports were appended, and the refusals of the others were returned
 abbrev pub ListsVerdicts : Sheet → List (List ℕ) → Option (List ℕ) → Option (List ℕ) → List (ℕ × Refusal) → Type 0
 ListsVerdicts sheet reports = Lists (merged sheet reports) (refused sheet reports)
 

@@ -1,4 +1,4 @@
--- Mentions on their way to their lines (own). In bytes, `f` is 102, a space 32, a line end 10.
+-- Mentions before their lines are written (own). In bytes, `f` is 102, a space 32, a line end 10.
 use Rattle.std.specs.Prelude.{ℕ, ◌+◌, List, [], ◌∷◌, ◌++◌, map, count_by}
 use Rattle.std.specs.Fmt.{decimal}
 use Rattle.std.specs.Ordering.{is_lt}
@@ -11,21 +11,21 @@ use Rattle.oim_merge.specs.Sources.{Mention}
 use Rattle.oim_merge.specs.declared.fact_list.LentFact.{LentFact}
 use Rattle.oim_merge.specs.declared.placed_mention.PlacedMention.{PlacedMention}
 
--- the fact that is lent
+-- the borrowed fact
 abbrev pub lent : LentFact → Fact
 lent f = record { dimensions = f.dimensions.now; value = f.value.now }
 
--- how many of these facts come before a fact
+-- the number of these facts that come before a fact
 abbrev pub place : List Fact → Fact → ℕ
 place facts f = count_by (λ g. is_lt (fact_cmp g f)) facts
 
--- a mention with the place of its fact among these
+-- a mention with the place of its fact among these facts
 abbrev pub placed : List Fact → Mention → PlacedMention
 placed facts m = record { place = place facts m.fact; report = m.report; identifier = m.identifier }
 
 abbrev pub all_placed : List Fact → List Mention → List PlacedMention
 all_placed facts ms = map (placed facts) ms
 
--- its line, where there are so many facts
+-- its line, given the number of all facts
 abbrev pub placed_line : ℕ → PlacedMention → List ℕ
 placed_line count m = (102 ∷ padded (width count) (m.place + 1)) ++ 32 ∷ (decimal m.report ++ 32 ∷ (compact_text (string m.identifier) ++ 10 ∷ []))

@@ -1,4 +1,4 @@
--- What is written is read as it was (own; the levels are those of OIM Common 1.0, `xbrl:allowedDuplicates`).
+-- Reading a written text gives what was written (own; levels as in OIM Common 1.0, `xbrl:allowedDuplicates`).
 use Rattle.std.specs.Prelude.{◌≡◌, ◌≢◌, ◌↔◌, ℕ, List, [], ◌∷◌, IsTrue, Option, Some, None, Result, Ok, Err}
 use Rattle.std.specs.Ordering.{is_le, is_lt}
 use Rattle.serde_json.specs.Written.{compact_text}
@@ -17,41 +17,41 @@ use Rattle.fact_base.specs.Fits.{Fits}
 use Rattle.oim_write.specs.Bytes.{canonical, earlier}
 use Rattle.oim_write.specs.Tree.{tree_declaring}
 
--- the document of a body's facts and references, both in order
+-- the document with a body's facts and references, both in order
 abbrev pub document_at : Level → Body → Document
 document_at level b = record { facts = b.facts; references = b.references; level = level }
 
--- the text of a body that fits a sheet is read as that document, with the level of its facts,
+-- the text of a body that fits a sheet is read as that document, with the level of its facts
 abbrev pub CanonicalReadsBack : Type 0
 CanonicalReadsBack = (sheet : Sheet) (b : Body) → Fits sheet b → outcome sheet (canonical b) ≡ Ok (document_at (level_of b.facts) b)
 
--- and its text from before levels, which declares none, with all duplicates allowed
+-- its text in the earlier form declares no level, so all duplicates are allowed
 abbrev pub EarlierReadsBack : Type 0
 EarlierReadsBack = (sheet : Sheet) (b : Body) → Fits sheet b → outcome sheet (earlier b) ≡ Ok (document_at All b)
 
--- ---- what is declared is the least level
+-- ---- the declared level is the strictest
 
 -- the text of a body with this level declared
 abbrev pub declaring : Level → Body → List ℕ
 declaring level b = compact_text (tree_declaring (Some level) b)
 
--- an outcome is the refusal exactly if the declared level is below the one that is found, else the document
+-- the outcome is a refusal if and only if the declared level is stricter than the level of the facts, else the document
 pub record IsHeldTo (declared found : Level) (d : Document) (said : Result Document Refusal) : Type 0 where
   pub refused : (said ≡ Err (at AtDocument DisallowedDuplicates)) ↔ IsTrue (is_lt (level_cmp declared found))
   pub read : (said ≡ Ok d) ↔ IsTrue (is_le (level_cmp found declared))
 
--- a text is held to the level that it declares: no level below that of its facts is accepted
+-- a text is refused if and only if its declared level is stricter than the level of its facts
 abbrev pub LeastLevelIsDeclared : Type 0
 LeastLevelIsDeclared =
     (sheet : Sheet) (b : Body) (level : Level) → Fits sheet b →
     IsHeldTo level (level_of b.facts) (document_at level b) (outcome sheet (declaring level b))
 
--- ---- what is canonical
+-- ---- canonical texts
 
--- the text of a body is the text of the document that it is read as
+-- the text of a body is the canonical text of the document that is read from it
 abbrev pub MergedTextsAreCanonical : Type 0
 MergedTextsAreCanonical = (sheet : Sheet) (b : Body) (d : Document) → Fits sheet b → outcome sheet (canonical b) ≡ Ok d → canonical b ≡ canonical (body (d ∷ []))
 
--- a text from before levels is no text of today
+-- a text in the earlier form is not canonical
 abbrev pub EarlierIsNotCanonical : Type 0
 EarlierIsNotCanonical = (b c : Body) → earlier b ≢ canonical c

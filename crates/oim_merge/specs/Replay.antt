@@ -1,4 +1,4 @@
--- What running a schedule leaves behind (own).
+-- The result of running a schedule (own).
 use Rattle.std.specs.Prelude.{◌≡◌, ℕ, List, [], map, length, flat_map}
 use Rattle.oim_report.specs.Outcome.{outcome}
 use Rattle.oim_report.specs.Sheet.{Sheet}
@@ -12,7 +12,7 @@ use Rattle.oim_merge.specs.declared.event.Event.TheVariants.{Take}
 use Rattle.oim_merge.specs.declared.replay_fault.ReplayFault.{ReplayFault}
 use Rattle.oim_merge.specs.declared.replay_fault.ReplayFault.TheVariants.{OutOfMemory, BadEvent}
 
--- the replicas with what they sent, and the refused takes
+-- the replicas, the texts that they sent, and the refused takes
 pub record Replay : Type 0 where
   pub world : World Contents (List ℕ)
   pub refused : List (ℕ × Refusal)
@@ -29,8 +29,8 @@ refused_by sheet reports event = []
 abbrev pub refused_takes : Sheet → List (List ℕ) → List Event → List (ℕ × Refusal)
 refused_takes sheet reports events = flat_map (refused_by sheet reports) events
 
--- no event is bad; the replicas and the sent texts are those of the wire, with the present writer; so each replica has the base of the
--- documents that reached it, and there are n of them; the refused takes are returned
+-- no event is bad; there are n replicas, each with the base of the documents that reached it; they and the sent texts
+-- are those of the wire with the present writer; the refused takes are returned
 pub record IsReplayOf (sheet : Sheet) (n : ℕ) (reports : List (List ℕ)) (events : List Event) (replay : Replay) : Type 0 where
   pub good : NoneIsBad n (length reports) events
   pub world : replay.world ≡ world_after (wire sheet [] reports) n events
@@ -38,7 +38,7 @@ pub record IsReplayOf (sheet : Sheet) (n : ℕ) (reports : List (List ℕ)) (eve
   pub count : length replay.world.replicas ≡ n
   pub refusals : replay.refused ≡ refused_takes sheet reports events
 
--- what a fault says
+-- a fault: memory was refused, or an event is bad
 abbrev pub ReplayStops : ℕ → List (List ℕ) → List Event → ReplayFault → Type 0
 ReplayStops n reports events OutOfMemory = Unit {0}
 ReplayStops n reports events (BadEvent line) = IsFirstBad n (length reports) events line

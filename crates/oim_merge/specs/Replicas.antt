@@ -1,4 +1,4 @@
--- Replicas that keep bases and exchange their texts, and which reports reached each of them (own).
+-- Replicas that keep bases and exchange texts, and the reports that reached each of them (own).
 use Rattle.std.specs.Prelude.{◌≡◌, ℕ, ◌-◌, List, [], ◌∷◌, ◌++◌, map, length, Some, Result, Ok, Err}
 use Rattle.std.specs.List.{AllZip, slice_index_or}
 use Rattle.std.specs.Ordering.{nat_cmp}
@@ -20,11 +20,11 @@ use Rattle.oim_merge.specs.Reports.{accepted}
 use Rattle.oim_merge.specs.Schedule.{Machine, NoneIsBad, World, numbered, world_after}
 use Rattle.oim_merge.specs.declared.event.Event.{Event}
 
--- the bytes of the report with a number
+-- the bytes of the report with this number
 abbrev pub report : List (List ℕ) → ℕ → List ℕ
 report reports r = slice_index_or reports (r - 1) []
 
--- ---- which reports reached each replica
+-- ---- the reports that reached each replica
 
 -- a finite set of report numbers: the rising list of its members
 abbrev pub Numbers : Type 0
@@ -34,12 +34,12 @@ Numbers = List ℕ
 abbrev pub both : Numbers → Numbers → Numbers
 both a b = set_of nat_cmp (a ++ b)
 
--- the set with the number added, if its report says a document
+-- the set with the number added, if its report is accepted
 abbrev pub with_accepted : Result Document Refusal → ℕ → Numbers → Numbers
 with_accepted (Ok d) r numbers = both numbers (r ∷ [])
 with_accepted (Err refusal) r numbers = numbers
 
--- replicas that keep the numbers of the reports that reached them, and send these sets
+-- replicas that keep and send sets: the numbers of the reports that reached them
 abbrev pub reached : Sheet → List (List ℕ) → Machine Numbers Numbers
 reached sheet reports = record {
   fresh = [];
@@ -49,22 +49,22 @@ reached sheet reports = record {
   received = λ message numbers. both numbers message;
 }
 
--- the documents that a set names
+-- the documents of the reports in a set
 abbrev pub documents_named : Sheet → List (List ℕ) → Numbers → List Document
 documents_named sheet reports numbers = accepted sheet (map (report reports) numbers)
 
--- ---- replicas that know bytes alone
+-- ---- replicas that see only bytes
 
--- a base that takes what an outcome says; a refusal adds nothing
+-- a base takes an outcome; a refusal changes nothing
 abbrev pub with_outcome : Result Document Refusal → Contents → Contents
 with_outcome (Ok d) base = record { sheet = base.sheet; body = union base.body (body (d ∷ [])) }
 with_outcome (Err refusal) base = base
 
--- a base that joins another
+-- a base joins another
 abbrev pub joined_with : Contents → Contents → Contents
 joined_with base other = record { sheet = base.sheet; body = union base.body other.body }
 
--- who writes a sent text: a program of today, or one from before levels were declared
+-- the writer of a sent text: the present form, or the earlier form without a level
 pub data Writer : Type 0 where
   present : Writer
   earlier : Writer
@@ -73,11 +73,11 @@ abbrev pub text_by : Writer → Body → List ℕ
 text_by present b = canonical b
 text_by earlier b = earlier_text b
 
--- each text by the writer that is chosen for it, and by the present one after the last choice
+-- each sent text is written by its chosen writer; after the last choice, by the present one
 abbrev pub text_chosen : List Writer → ℕ → Body → List ℕ
 text_chosen writers sent b = text_by (slice_index_or writers sent present) b
 
--- replicas that keep bases, and send texts
+-- replicas that keep bases and send texts
 abbrev pub wire : Sheet → List Writer → List (List ℕ) → Machine Contents (List ℕ)
 wire sheet writers reports = record {
   fresh = base_of sheet [];
@@ -87,18 +87,18 @@ wire sheet writers reports = record {
   received = λ bytes base. with_outcome (outcome sheet bytes) base;
 }
 
--- ---- they agree
+-- ---- agreement
 
--- the base of the documents that a set names
+-- the base of the documents in a set
 abbrev pub base_named : Sheet → List (List ℕ) → Numbers → Contents
 base_named sheet reports numbers = base_of sheet (documents_named sheet reports numbers)
 
--- each replica has the base of the documents that reached it, and each sent text is accepted and says what its sender had
+-- each replica has the base of the documents that reached it; each sent text is accepted and has its sender's body
 pub record Agree (sheet : Sheet) (reports : List (List ℕ)) (sets : World Numbers Numbers) (bases : World Contents (List ℕ)) : Type 0 where
   pub replicas : bases.replicas ≡ map (base_named sheet reports) sets.replicas
   pub sent : AllZip (λ bytes numbers. IsReadAsBody sheet bytes (body (documents_named sheet reports numbers))) bases.sent sets.sent
 
--- for every schedule, and every choice of writers
+-- this holds for every schedule and every choice of writers
 abbrev pub WireAgrees : Type 0
 WireAgrees =
     (sheet : Sheet) (writers : List Writer) (reports : List (List ℕ)) (n : ℕ) (events : List Event) → NoneIsBad n (length reports) events →
@@ -110,9 +110,9 @@ ReplicasStay =
     (sheet : Sheet) (writers : List Writer) (reports : List (List ℕ)) (n : ℕ) (events : List Event) →
     length (world_after (wire sheet writers reports) n events).replicas ≡ n
 
--- ---- so what a replica says depends on the set that reached it alone
+-- ---- a replica depends only on the set of reports that reached it
 
--- a base has what a new merge of documents has
+-- the base has the text, verdicts, values and level of a new merge of these documents
 pub record SaysAsAfresh (docs : List Document) (base : Contents) : Type 0 where
   pub bytes : canonical base.body ≡ canonical (body docs)
   pub verdicts : (d : DimensionSet) → verdict base.body.facts d ≡ verdict (body docs).facts d

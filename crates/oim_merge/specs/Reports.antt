@@ -1,4 +1,4 @@
--- What reports that are read under a sheet come to (own).
+-- Reports that are read under a sheet (own).
 use Rattle.std.specs.Prelude.{ℕ, suc, List, [], ◌∷◌, ◌++◌, flat_map, Result, Ok, Err}
 use Rattle.oim_report.specs.Document.{Document}
 use Rattle.oim_report.specs.Outcome.{outcome}
@@ -11,11 +11,11 @@ abbrev pub document_in : Result Document Refusal → List Document
 document_in (Ok d) = d ∷ []
 document_in (Err r) = []
 
--- the documents of the accepted reports, in the order of these
+-- the documents of the accepted reports, in the order of the reports
 abbrev pub accepted : Sheet → List (List ℕ) → List Document
 accepted sheet reports = flat_map (λ bytes. document_in (outcome sheet bytes)) reports
 
--- what they say in all
+-- the body of the accepted reports
 abbrev pub merged : Sheet → List (List ℕ) → Body
 merged sheet reports = body (accepted sheet reports)
 
@@ -24,7 +24,7 @@ abbrev pub refusal_in : ℕ → Result Document Refusal → List (ℕ × Refusal
 refusal_in n (Ok d) = []
 refusal_in n (Err r) = (n, r) ∷ []
 
--- the refused reports in their order, where the first has the number n
+-- the refused reports in order; the first report has the number n
 abbrev pub refused_from : ℕ → Sheet → List (List ℕ) → List (ℕ × Refusal)
 refused_from n sheet [] = []
 refused_from n sheet (bytes ∷ reports) = refusal_in n (outcome sheet bytes) ++ refused_from (suc n) sheet reports

@@ -1,4 +1,4 @@
--- What merging leaves behind (own).
+-- The state after a merge (own).
 use Rattle.std.specs.Prelude.{◌≡◌, ◌⊎◌, ◌+◌, ℕ, Option, List, [], Result, Ok, Err}
 use Rattle.std.specs.Io.KnownBytes.{Appends}
 use Rattle.oim_value.specs.declared.level.Level.{Level}
@@ -17,15 +17,15 @@ use Rattle.oim_merge.specs.Reports.{accepted, merged, refused}
 use Rattle.oim_merge.specs.declared.fault.Fault.{Fault}
 use Rattle.oim_merge.specs.declared.fault.Fault.TheVariants.{OutOfMemory, Device, TooLoose, Sheet as SheetFault}
 
--- ---- a body that is written if it stays within a level
+-- ---- a body is written if it stays within a level
 
--- the body stays within the level, these refusals were returned, and its text was appended
+-- the body stays within the level, its text was appended, and these refusals were returned
 pub record Writes (level : Level) (b : Body) (refusals : List (ℕ × Refusal)) (old new : Option (List ℕ)) (told : List (ℕ × Refusal)) : Type 0 where
   pub within : StaysWithin level b
   pub refusals_are : told ≡ refusals
   pub appended : Appends old new (canonical b)
 
--- it does, the first part of its text was appended, and so many bytes were counted
+-- the body stays within the level, a first part of its text was appended, and `written` is the number of its bytes
 pub record StopsWithin (level : Level) (b : Body) (old new : Option (List ℕ)) (written : ℕ) : Type 0 where
   pub within : StaysWithin level b
   pub front : AppendsFront old new (canonical b) written
@@ -40,7 +40,7 @@ pub record IsTooLoose (level : Level) (b : Body) (refusals : List (ℕ × Refusa
   pub refusals_are : told ≡ refusals
   pub appended : Appends old new []
 
--- what a fault leaves behind
+-- a fault: memory was refused, the device failed, or a row is above the level
 abbrev pub Stops : Level → Body → List (ℕ × Refusal) → Option (List ℕ) → Option (List ℕ) → Fault → Type 0
 Stops level b refusals old new (OutOfMemory written) = StopsBefore old new written ⊎ StopsWithin level b old new written
 Stops level b refusals old new (Device written) = StopsWithin level b old new written
@@ -49,14 +49,14 @@ Stops level b refusals old new (SheetFault reason) = ⊥
 
 -- ---- reports
 
--- what the accepted reports say was written, and the refusals were returned
+-- the text of the accepted reports was appended, and the refusals of the others were returned
 abbrev pub Consolidates : Sheet → List (List ℕ) → Level → Option (List ℕ) → Option (List ℕ) → List (ℕ × Refusal) → Type 0
 Consolidates sheet reports level = Writes level (merged sheet reports) (refused sheet reports)
 
 abbrev pub ConsolidationStops : Sheet → List (List ℕ) → Level → Option (List ℕ) → Option (List ℕ) → Fault → Type 0
 ConsolidationStops sheet reports level = Stops level (merged sheet reports) (refused sheet reports)
 
--- ---- a bundle, in which all duplicates are allowed
+-- ---- a bundle: all duplicates are allowed
 
 abbrev pub IsSheetOf : List ℕ → Sheet → Type 0
 IsSheetOf bytes sheet = sheet_outcome (sheet_piece bytes) ≡ Ok sheet
@@ -66,7 +66,7 @@ pub record ConsolidatesBundle (bytes : List ℕ) (old new : Option (List ℕ)) (
   pub read : IsSheetOf bytes sheet
   pub consolidates : Consolidates sheet (report_pieces bytes) AllLevel old new told
 
--- the sheet was read, and then this fault occurred
+-- the sheet was read, and this fault occurred later
 pub record StopsBehindSheet (bytes : List ℕ) (old new : Option (List ℕ)) (fault : Fault) : Type 0 where
   pub sheet : Sheet
   pub read : IsSheetOf bytes sheet
@@ -83,7 +83,7 @@ abbrev pub fault_of : WriteFault → Fault
 fault_of (WriteOutOfMemory n) = OutOfMemory n
 fault_of (WriteDevice n) = Device n
 
--- the failures of a sink that had n of them: one more exactly if a device is at fault
+-- the failures of a sink that had failed n times: one more if and only if the device failed
 abbrev pub failures_after_run : {T : Type 0} → Result T Fault → ℕ → ℕ
 failures_after_run (Ok x) n = n
 failures_after_run (Err (Device w)) n = n + 1
@@ -91,7 +91,7 @@ failures_after_run (Err _) n = n
 
 -- ---- order
 
--- neither the order of the accepted reports nor repeats matter
+-- the order and the repetition of accepted reports do not change the text
 abbrev pub ReportsIgnoreOrder : Type 0
 ReportsIgnoreOrder =
     (sheet : Sheet) (reports others : List (List ℕ)) → SameMembers (accepted sheet reports) (accepted sheet others) →

@@ -1,21 +1,21 @@
--- Schedules of events, and what they leave whatever a replica keeps (own). Replicas, reports and sent messages have numbers from 1.
+-- Schedules of events, for any kind of replica (own). Replicas, reports and sent messages have numbers from 1.
 use Rattle.std.specs.Prelude.{◌≡◌, ℕ, zero, suc, ◌+◌, ◌-◌, ◌<◌, Bool, true, false, ◌||◌, Option, Some, None, List, [], ◌∷◌, ◌++◌, length, filter, take, nat_lt, ◌==◌, slice_get, slice_set, replicate}
 use Rattle.std.specs.List.{slice_index_or}
 use Rattle.oim_merge.specs.declared.event.Event.{Event}
 use Rattle.oim_merge.specs.declared.event.Event.TheVariants.{Take, Join, Send, Receive, Restart}
 
--- what has this number, from 1
+-- the element with this number, from 1
 abbrev pub numbered : {A : Type 0} → List A → ℕ → Option A
 numbered xs zero = None
 numbered xs (suc place) = slice_get xs place
 
--- ---- bad events, by the events alone
+-- ---- bad events
 
--- a number that is not one from 1 to the greatest
+-- the number is not between 1 and the greatest
 abbrev pub is_outside : ℕ → ℕ → Bool
 is_outside greatest number = number == 0 || nat_lt greatest number
 
--- an event that names a replica, a report or a sent message that does not exist
+-- the event names a replica, a report or a sent message that does not exist
 abbrev pub names_none : ℕ → ℕ → ℕ → Event → Bool
 names_none replicas reports sent (Take i r) = is_outside replicas i || is_outside reports r
 names_none replicas reports sent (Join i j) = is_outside replicas i || is_outside replicas j
@@ -27,11 +27,11 @@ abbrev pub is_send : Event → Bool
 is_send (Send i) = true
 is_send event = false
 
--- how many messages these events send
+-- the number of messages that these events send
 abbrev pub sent_by : List Event → ℕ
 sent_by events = length (filter is_send events)
 
--- the event at a place, from 0, is bad: only what earlier events sent can be received
+-- the event at an index, from 0, is bad; a message can be received only after it was sent
 pub record IsBadAt (replicas reports : ℕ) (events : List Event) (place : ℕ) : Type 0 where
   pub event : Event
   pub there : slice_get events place ≡ Some event
@@ -40,7 +40,7 @@ pub record IsBadAt (replicas reports : ℕ) (events : List Event) (place : ℕ) 
 abbrev pub NoneIsBad : ℕ → ℕ → List Event → Type 0
 NoneIsBad replicas reports events = (place : ℕ) → ¬ (IsBadAt replicas reports events place)
 
--- the event of this line, from 1, is the first bad one
+-- the event in this line, from 1, is the first bad one
 pub record IsFirstBad (replicas reports : ℕ) (events : List Event) (line : ℕ) : Type 0 where
   pub place : ℕ
   pub line_is : line ≡ place + 1
@@ -51,15 +51,15 @@ pub record IsFirstBad (replicas reports : ℕ) (events : List Event) (line : ℕ
 
 -- what replicas keep (S), and what they send (M)
 pub record Machine (S M : Type 0) : Type 0 where
-  -- of a replica that is new or restarted
+  -- the state of a new or restarted replica
   pub fresh : S
-  -- after it took the report of this number
+  -- its state after it took the report with this number
   pub taken : ℕ → S → S
-  -- after it joined what another keeps
+  -- its state after it joined another
   pub joined : S → S → S
-  -- what it sends, where so many messages were sent before
+  -- its message, given the number of messages sent before
   pub message : ℕ → S → M
-  -- after it received this message
+  -- its state after it received this message
   pub received : M → S → S
 
 pub record World (S M : Type 0) : Type 0 where
@@ -67,11 +67,11 @@ pub record World (S M : Type 0) : Type 0 where
   pub sent : List M
 
 module _ {S M : Type 0} (machine : Machine S M) where
-  -- what the replica with a number keeps
+  -- the state of the replica with this number
   abbrev pub kept_by : World S M → ℕ → S
   kept_by world i = slice_index_or world.replicas (i - 1) machine.fresh
 
-  -- the replica with a number keeps this from now on
+  -- the world after the replica with this number got this state
   abbrev pub keeps : World S M → ℕ → S → World S M
   keeps world i state = record { replicas = slice_set world.replicas (i - 1) state; sent = world.sent }
 
@@ -91,7 +91,7 @@ module _ {S M : Type 0} (machine : Machine S M) where
   run [] world = world
   run (event ∷ events) world = run events (happens world event)
 
-  -- so many new replicas, and nothing sent
+  -- n new replicas, and no message
   abbrev pub start : ℕ → World S M
   start n = record { replicas = replicate n machine.fresh; sent = [] }
 

@@ -1,4 +1,4 @@
--- What listing sources leaves behind (own).
+-- The state after sources were listed (own).
 use Rattle.std.specs.Prelude.{◌≡◌, ℕ, Option, List}
 use Rattle.std.specs.Io.KnownBytes.{Appends}
 use Rattle.oim_report.specs.Sheet.{Sheet}
@@ -9,12 +9,12 @@ use Rattle.oim_merge.specs.Sources.{sources}
 use Rattle.oim_merge.specs.declared.fault.Fault.{Fault}
 use Rattle.oim_merge.specs.declared.fault.Fault.TheVariants.{OutOfMemory, Device, TooLoose, Sheet as SheetFault}
 
--- the lines of the accepted reports were appended, and the refusals were returned
+-- the lines of the accepted reports were appended, and the refusals of the others were returned
 pub record ListsSources (sheet : Sheet) (reports : List (List ℕ)) (old new : Option (List ℕ)) (told : List (ℕ × Refusal)) : Type 0 where
   pub refusals_are : told ≡ refused sheet reports
   pub appended : Appends old new (sources sheet reports)
 
--- what a fault leaves behind: the first part of the lines was appended, and so many bytes were counted
+-- a fault: a first part of the lines was appended, and the fault carries the number of its bytes
 abbrev pub SourcesStop : Sheet → List (List ℕ) → Option (List ℕ) → Option (List ℕ) → Fault → Type 0
 SourcesStop sheet reports old new (OutOfMemory written) = AppendsFront old new (sources sheet reports) written
 SourcesStop sheet reports old new (Device written) = AppendsFront old new (sources sheet reports) written

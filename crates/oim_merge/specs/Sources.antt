@@ -1,4 +1,5 @@
--- Which report says what: the fact objects of the accepted reports, by the fact that they say (own). In bytes, a space is 32, a line end 10.
+-- The sources of each fact: the fact objects in accepted reports that report it (own). In bytes, a space is 32, a line
+-- end 10.
 use Rattle.std.specs.Prelude.{◌≡◌, ℕ, suc, ◌-◌, Bool, Option, Some, None, List, [], ◌∷◌, ◌++◌, map, get_or, filter, flat_map, Contains, Result, Ok, Err}
 use Rattle.std.specs.Fmt.{decimal}
 use Rattle.std.specs.List.{AllZip}
@@ -19,25 +20,25 @@ use Rattle.oim_report.specs.declared.refusal.Refusal.{Refusal}
 use Rattle.oim_write.specs.Tree.{identifier}
 use Rattle.oim_merge.specs.Reports.{merged}
 
--- the report with a number says a fact, by an object with this identifier
+-- the report with this number reports the fact, in an object with this identifier
 pub record Mention : Type 0 where
   pub report : ℕ
   pub identifier : List ℕ
   pub fact : Fact
 
--- those of a report, with its identifiers and facts in the same order
+-- the mentions in a report, given its identifiers and facts in the same order
 abbrev pub mentions_in : ℕ → List (List ℕ) → List Fact → List Mention
 mentions_in n [] facts = []
 mentions_in n (i ∷ is) [] = []
 mentions_in n (i ∷ is) (f ∷ facts) = record { report = n; identifier = i; fact = f } ∷ mentions_in n is facts
 
--- a refused report has none
+-- a refused report has no mentions
 abbrev pub mentions_of : ℕ → Option (List (List ℕ)) → Result Document Refusal → List Mention
 mentions_of n None said = []
 mentions_of n (Some is) (Ok d) = mentions_in n is d.facts
 mentions_of n (Some is) (Err r) = []
 
--- those of reports in order, numbered from n
+-- the mentions in reports, numbered from n
 abbrev pub mentions_from : ℕ → Sheet → List (List ℕ) → List Mention
 mentions_from n sheet [] = []
 mentions_from n sheet (bytes ∷ reports) = mentions_of n (identifiers bytes) (outcome sheet bytes) ++ mentions_from (suc n) sheet reports
@@ -45,28 +46,28 @@ mentions_from n sheet (bytes ∷ reports) = mentions_of n (identifiers bytes) (o
 abbrev pub mentions : Sheet → List (List ℕ) → List Mention
 mentions sheet reports = mentions_from 1 sheet reports
 
--- whether it says this fact
+-- true if the mention is of this fact
 abbrev pub is_of : Fact → Mention → Bool
 is_of f m = is_eq (fact_cmp m.fact f)
 
--- fact by fact, the mentions of it
+-- the mentions grouped by fact
 abbrev pub by_fact : List Fact → List Mention → List Mention
 by_fact facts ms = flat_map (λ f. filter (is_of f) ms) facts
 
 abbrev pub mentions_by_fact : Sheet → List (List ℕ) → List Mention
 mentions_by_fact sheet reports = by_fact (merged sheet reports).facts (mentions sheet reports)
 
--- the identifier of the fact in the canonical text, the number of the report, and its own identifier as a JSON string
+-- the canonical identifier of the fact, the number of the report, and the object's own identifier as a JSON string
 abbrev pub source_line : List Fact → Mention → List ℕ
 source_line facts m = identifier facts m.fact ++ 32 ∷ (decimal m.report ++ 32 ∷ (compact_text (string m.identifier) ++ 10 ∷ []))
 
--- the lines of all fact objects of accepted reports, in the order of facts, then reports, then identifiers
+-- the lines of all fact objects in accepted reports, in the order of facts, then reports, then identifiers
 abbrev pub sources : Sheet → List (List ℕ) → List ℕ
 sources sheet reports = flat_map (source_line (merged sheet reports).facts) (mentions_by_fact sheet reports)
 
--- ---- what these come to
+-- ---- laws
 
--- each fact of the body has a line
+-- the fact of the body has a line
 pub record IsSaid (sheet : Sheet) (reports : List (List ℕ)) (f : Fact) : Type 0 where
   pub mention : Mention
   pub there : Contains (mentions_by_fact sheet reports) mention
@@ -75,23 +76,23 @@ pub record IsSaid (sheet : Sheet) (reports : List (List ℕ)) (f : Fact) : Type 
 abbrev pub EachFactIsSaid : Type 0
 EachFactIsSaid = (sheet : Sheet) (reports : List (List ℕ)) (f : Fact) → Contains (merged sheet reports).facts f → IsSaid sheet reports f
 
--- each fact object of an accepted report has one line, and there are no others
+-- each fact object of an accepted report has one line, and there are no other lines
 abbrev pub EachMentionIsTold : Type 0
 EachMentionIsTold = (sheet : Sheet) (reports : List (List ℕ)) → IsPermutation (mentions sheet reports) (mentions_by_fact sheet reports)
 
--- the mention of a fact object with its identifier, in the report of a number: with the fact that the object says
+-- the mention has the number of the report, the identifier of the object, and the fact that the object reports
 pub record IsMentionOf (sheet : Sheet) (bs : List Binding) (n : ℕ) (object : List ℕ × Data) (m : Mention) : Type 0 where
   pub report : m.report ≡ n
   pub identifier : m.identifier ≡ object.0
   pub says : ObjectSays sheet bs object.1 m.fact
 
--- an accepted report has one mention for each fact object in its bytes, in byte order of the identifiers
+-- an accepted report has one mention for each fact object, in byte order of the identifiers
 abbrev pub EachObjectIsMentioned : Type 0
 EachObjectIsMentioned =
     (sheet : Sheet) (n : ℕ) (bytes : List ℕ) (d : Document) (tree : Data) → outcome sheet bytes ≡ Ok d → json bytes ≡ Some tree →
     AllZip (IsMentionOf sheet (bindings_of tree) n) (keyed (facts_of tree)) (mentions_of n (identifiers bytes) (outcome sheet bytes))
 
--- what a mention says, with the bytes of its report in place of the number
+-- a mention with the bytes of its report in place of the number
 pub record Saying : Type 0 where
   pub bytes : List ℕ
   pub identifier : List ℕ
@@ -100,11 +101,11 @@ pub record Saying : Type 0 where
 abbrev pub saying : List (List ℕ) → Mention → Saying
 saying reports m = record { bytes = get_or reports (m.report - 1) []; identifier = m.identifier; fact = m.fact }
 
--- the same facts and the same mentions of them, except for the numbers of the reports
+-- two lists of reports have the same facts and the same mentions, except for the report numbers
 pub record TellTheSame (sheet : Sheet) (reports others : List (List ℕ)) : Type 0 where
   pub facts : (merged sheet reports).facts ≡ (merged sheet others).facts
   pub sayings : IsPermutation (map (saying reports) (mentions_by_fact sheet reports)) (map (saying others) (mentions_by_fact sheet others))
 
--- reports in any two orders have these
+-- this holds for any two orders of the same reports
 abbrev pub SourcesIgnoreOrder : Type 0
 SourcesIgnoreOrder = (sheet : Sheet) (reports others : List (List ℕ)) → IsPermutation reports others → TellTheSame sheet reports others

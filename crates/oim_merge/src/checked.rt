@@ -18,15 +18,16 @@ use std::alloc::{AllocError, Global};
 pub struct Checked {
     /// The number of its facts, repeats counted.
     pub facts: u64,
-    /// The strictest level of duplicates that allows its facts.
+    /// The strictest level of duplicates that its facts satisfy.
     pub level: Level,
-    /// Whether its bytes are the canonical text of what it says.
+    /// True if its bytes are the canonical text of its facts.
     pub canonical: bool,
 }
 
-/// Reads a report under a sheet, counts its facts, and compares its bytes with the canonical text
-/// of what it says (xBRL-JSON 1.0; the levels are those of OIM Common 1.0; the canonical text is
-/// own). For that it may hold the whole text beside the report.
+/// Reads a report under a sheet, counts its facts, and compares its bytes with its canonical text
+/// (xBRL-JSON 1.0; the levels are those of OIM Common 1.0; the canonical text is own). The
+/// canonical
+/// text may be held in memory beside the report.
 ///
 /// Errors: the report's first refusal, with its place; `OutOfMemory`, at the document.
 pub fn check_report(alloc: Global, sheet: &Sheet, bytes: &[u8]) -> Result<Checked, Refusal>
@@ -48,8 +49,8 @@ pub fn check_report(alloc: Global, sheet: &Sheet, bytes: &[u8]) -> Result<Checke
     })
 }
 
-/// Whether the bytes are the canonical text of the report that they say. A text always has rising
-/// facts, so a report without them needs no text to compare.
+/// True if the bytes are the canonical text of the report. The facts of a canonical text rise, so
+/// reports with other facts are not compared.
 fn is_canonical(
     alloc: Global,
     sheet: &Sheet,
@@ -69,7 +70,7 @@ fn is_canonical(
     Ok(text.as_bytes() == bytes)
 }
 
-/// Whether each fact is below the next one.
+/// True if each fact is less than the next one.
 fn rise(facts: &[Fact]) -> bool
     ensures { IsTrue result ↔ IsSet fact_cmp facts.now }
 {

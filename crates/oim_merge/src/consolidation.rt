@@ -11,9 +11,9 @@ use oim_value::Level;
 use oim_write::{Encoded, Sink, write_to};
 use std::alloc::Global;
 
-/// Merges reports that are read under a sheet: writes the canonical text of the accepted ones to
-/// the sink (xBRL-JSON 1.0; the choice of prefixes and identifiers is own), and returns the
-/// refusals of the others by their numbers from 1.
+/// Merges reports under a sheet: writes the canonical text of the accepted ones to the sink
+/// (xBRL-JSON 1.0; the choice of prefixes and identifiers is own), and returns the refusals of the
+/// others by their numbers from 1.
 ///
 /// Errors: `TooLoose` if a dimension set has duplicates above `allow`, with nothing written;
 /// `Device` if the sink failed; `OutOfMemory`.
@@ -68,7 +68,7 @@ fn first_above(base: &Base<'_>, allow: Level) -> Option<u64>
     if allow == Level::All {
         return None;
     }
-    // there are no more rows than this number can count
+    // a base has no more rows than this number can count
     let _most = base.row_count();
     let mut number = 0;
     for row in base.rows() {

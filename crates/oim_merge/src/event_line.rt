@@ -6,7 +6,8 @@ use crate::event::Event;
 use std::str;
 
 /// Reads a line without its line end: `take I R`, `join I J`, `send I`, `receive I K` or
-/// `restart I`, with single spaces, and whole numbers from 1 to 4294967295 without leading zeros.
+/// `restart I`. Words and numbers are separated by single spaces. Numbers are whole, from 1 to
+/// 4294967295, without leading zeros.
 pub(crate) fn read_event(line: &[u8]) -> Option<Event>
     ensures { MatchOption result (IsBadLine line.now) (IsEventLine line.now) }
 {
@@ -45,7 +46,7 @@ fn first_space(text: &[u8]) -> Option<usize>
 fn read_number(text: &[u8]) -> Option<u32>
     ensures { MatchOption result ((n : ℕ) → ¬ (IsNumberText text.now n)) (IsNumberText text.now) }
 {
-    // `parse` also takes a plus, and zeros, before the digits
+    // `parse` would also accept a plus or zeros before the digits
     if text.is_empty() || text[0] == b'+' || text[0] == b'0' {
         return None;
     }

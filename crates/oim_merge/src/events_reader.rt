@@ -8,8 +8,8 @@ use crate::replay_fault::ReplayFault;
 use std::alloc::Global;
 
 /// Reads a schedule. Each line is an event: `take I R`, `join I J`, `send I`, `receive I K` or
-/// `restart I`, with single spaces, and for each letter a whole number from 1 to 4294967295 without
-/// leading zeros. The line end of the last line may be missing, and no bytes are no lines.
+/// `restart I`. Words and numbers are separated by single spaces. Numbers are whole, from 1 to
+/// 4294967295, without leading zeros. The last line end may be missing. An empty file has no lines.
 ///
 /// Errors: `BadEvent` with the number, from 1, of the first line without this form; `OutOfMemory`.
 pub fn read_events(alloc: Global, bytes: &[u8]) -> Result<Events, ReplayFault>
@@ -21,7 +21,7 @@ pub fn read_events(alloc: Global, bytes: &[u8]) -> Result<Events, ReplayFault>
     while !rest.is_empty() {
         let (line, behind) = cut_line(rest);
         let Some(event) = read_event(line) else {
-            // each line before is an event
+            // each earlier line is an event
             return Err(ReplayFault::BadEvent(events.as_slice().len() as u64 + 1));
         };
         events.push(event)?;

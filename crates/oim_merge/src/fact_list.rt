@@ -11,12 +11,10 @@ use oim_value::Value;
 use std::alloc::{AllocError, Global};
 use std::cmp::Ordering;
 
-/// A fact of a base, which is not copied.
+/// A borrowed fact of a base.
 #[derive(Clone, Copy, Debug)]
 pub(crate) struct LentFact<'b> {
-    /// Its dimension set.
     pub dimensions: &'b Dimensions,
-    /// Its value.
     pub value: &'b Value,
 }
 

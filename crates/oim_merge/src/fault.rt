@@ -4,15 +4,15 @@ use crate::refusals::Refusals;
 use oim_names::Reason;
 use oim_write::WriteFault;
 
-/// Why reports were not consolidated. A length counts the bytes written so far; at the greatest u64
-/// it stays.
+/// Why reports were not merged. A length counts the bytes written so far; it stays at the greatest
+/// u64.
 #[derive(Debug, Drop)]
 pub enum Fault {
     /// Memory was refused.
     OutOfMemory(u64),
     /// The sink failed.
     Device(u64),
-    /// A dimension set has duplicates above the level that is allowed, so nothing is written.
+    /// A dimension set has duplicates above the allowed level, so nothing is written.
     TooLoose {
         /// The number, from 1, of the first such dimension set in order.
         row: u64,

@@ -11,12 +11,12 @@ use oim_report::{Refusal, Sheet};
 use oim_write::Encoded;
 use std::alloc::{AllocError, Global};
 
-/// A text that may be read several times under a sheet: not read yet, or the base of what it says,
-/// or its refusal. A base and not a report is kept: to take a report is to copy its facts, while to
-/// join a base is to copy only what is new.
+/// A text that may be read several times under a sheet: not read yet, a base with its facts, or its
+/// refusal. It caches a base and not a report: taking a report copies all its facts, while joining
+/// a base copies only new ones.
 pub(crate) type Kept<'s> = Option<Result<Base<'s>, Refusal>>;
 
-/// So many texts that are not read yet.
+/// A list of texts that are not read yet.
 pub(crate) fn none_kept<'s>(alloc: Global, texts: usize) -> Result<Vec<Kept<'s>>, AllocError>
     ensures { IfOk result (λ made. made.items ≡ replicate texts None) }
 {
@@ -27,8 +27,8 @@ pub(crate) fn none_kept<'s>(alloc: Global, texts: usize) -> Result<Vec<Kept<'s>>
     Ok(kept)
 }
 
-/// Adds to a base what the text at a place says. A text is read the first time, and the result is
-/// kept. A refused text adds nothing, and its refusal is returned.
+/// Adds the text at an index to a base. The text is read the first time, and the result is cached.
+/// A refused text adds nothing, and its refusal is returned.
 ///
 /// Errors: out of memory.
 pub(crate) fn take_at<'s>(
@@ -57,7 +57,7 @@ pub(crate) fn take_at<'s>(
     Ok(told)
 }
 
-/// A base of what the bytes say under the sheet, or their refusal.
+/// Reads the bytes into a base under the sheet, or returns their refusal.
 fn read_base<'s>(
     alloc: Global,
     sheet: &'s Sheet,
@@ -75,7 +75,7 @@ fn read_base<'s>(
     }
 }
 
-/// Adds to a base what was read from a text, or returns the refusal of the text.
+/// Adds a reading to a base, or returns the refusal of the text.
 fn take_read(
     base: &mut Base<'_>,
     read: &Result<Base<'_>, Refusal>,
@@ -93,7 +93,7 @@ fn take_read(
     }
 }
 
-/// Joins another base. If both have the same, this looks at each row once and takes no memory.
+/// Joins another base. If both are equal, this compares each row once and takes no memory.
 pub(crate) fn join_new(base: &mut Base<'_>, other: &Base<'_>) -> Result<(), AllocError>
     requires { other.now.sheet ≡ base.old.sheet }
     ensures { OnOk result (base.new ≡ joined_with base.old other.now) }

@@ -1,4 +1,4 @@
-//! Laws of the definitions, each the contract of a function that does nothing.
+//! Laws of the definitions. Each is the contract of a function that does nothing.
 ghost use Rattle.oim_write.specs.Bytes.{canonical};
 ghost use Rattle.oim_merge.specs.Above.{AllowedIsDeclared};
 ghost use Rattle.oim_merge.specs.Added.{StepsAreList};
@@ -12,48 +12,52 @@ ghost use Rattle.oim_merge.specs.Sources.{EachFactIsSaid, EachMentionIsTold, Eac
 
 use fact_base::Base;
 
-/// Reports under one sheet of which the accepted ones say the same documents, in any order and each
-/// as often as one likes, are written by the same bytes.
+/// Two lists of reports have the same canonical text if their accepted reports contain the same
+/// documents, whatever the order and repetition.
 pub fn reports_ignore_order()
     ensures { ReportsIgnoreOrder }
 {}
 
-/// Adding reports one at a time gives what `consolidate` gives for their list: the body that it
-/// writes, and the refusals that it returns.
+/// Adding reports one at a time gives what `consolidate` gives for their list: the same body and
+/// the
+/// same refusals.
 pub fn steps_are_list()
     ensures { StepsAreList }
 {}
 
-/// The text of a body that fits a sheet is read as its facts and its references, both in order,
-/// with the level of its facts.
+/// The text of a body that fits a sheet is read as the same facts and references, in order, with
+/// the
+/// level of its facts.
 pub fn canonical_reads_back()
     ensures { CanonicalReadsBack }
 {}
 
-/// So is its text from before levels were declared, with all duplicates allowed.
+/// Its text in the earlier form, without a level, is read with all duplicates allowed.
 pub fn earlier_reads_back()
     ensures { EarlierReadsBack }
 {}
 
-/// The level that a text declares is the strictest: with a lower one in its place the text is
-/// refused, with a higher one it is accepted.
+/// A text declares the strictest level. With a stricter one in its place the text is refused; with
+/// a
+/// looser one it is accepted.
 pub fn least_level_is_declared()
     ensures { LeastLevelIsDeclared }
 {}
 
-/// No dimension set is above a level exactly if the level that the text declares is not.
+/// No dimension set is above a level if and only if the level that the text declares is not.
 pub fn allowed_is_declared()
     ensures { AllowedIsDeclared }
 {}
 
-/// A new base that takes the report read from a text, of today or from before levels, has the same
-/// body.
+/// A new base that takes the report read from a text, in the present or the earlier form, has the
+/// same body.
 pub fn texts_give_bodies()
     ensures present { TextsGiveBodies }
     ensures earlier { EarlierTextsGiveBodies }
 {}
 
-/// The text of a base is accepted under the base's sheet, as a document with just the base's facts
+/// The text of a base is accepted under the base's sheet, as a document with exactly the base's
+/// facts
 /// and references.
 pub fn bases_read_back(base: &Base<'_>)
     ensures { IsReadAsBody base.now.sheet (canonical base.now.body) base.now.body }
@@ -61,19 +65,19 @@ pub fn bases_read_back(base: &Base<'_>)
     base.known();
 }
 
-/// Each text is the canonical text of the document which it is read as.
+/// The text of a body is the canonical text of the document that is read from it.
 pub fn merged_texts_are_canonical()
     ensures { MergedTextsAreCanonical }
 {}
 
-/// No text from before levels is canonical today.
+/// No text in the earlier form is canonical.
 pub fn earlier_is_not_canonical()
     ensures { EarlierIsNotCanonical }
 {}
 
 /// A base has the body of the documents that reached it, directly or through bases that it joined.
-/// So bases that the same accepted reports reached, in any order, grouping and repetition, write
-/// the same bytes and have the same verdicts, level and references.
+/// So bases that the same accepted reports reached, in any order, grouping and repetition, have
+/// the same bytes, verdicts, level and references.
 pub fn histories_are_forgotten()
     ensures body { HistoriesGiveBodies }
     ensures bytes { HistoriesAreForgotten }
@@ -82,7 +86,7 @@ pub fn histories_are_forgotten()
     ensures references { ReferencesAreForgotten }
 {}
 
-/// Merging a merged text with itself, and with any reports that went into it, writes it again.
+/// Merging a merged text with itself and with any of its reports gives the same text.
 pub fn merged_texts_merge()
     ensures { MergedTextsMerge }
 {}
@@ -92,16 +96,16 @@ pub fn lines_are_one()
     ensures { LinesAreOne }
 {}
 
-/// The evidence in a line shows the verdict on its dimension set, and begins with the word for that
+/// The evidence in a line shows the verdict on its dimension set and begins with the word for that
 /// verdict.
 pub fn lines_tell_verdicts()
     ensures verdict { LinesTellVerdicts }
     ensures word { WordsShowVerdicts }
 {}
 
-/// An accepted report has one mention for each fact object in its bytes, with the fact that the
-/// object says. The lines of `sources` list each mention once and nothing else, and each fact of
-/// the merged reports has a line.
+/// An accepted report has one mention for each fact object, with the fact that the object reports.
+/// The lines of `sources` list each mention once and nothing else. Each fact of the merged reports
+/// has a line.
 pub fn sources_are_whole()
     ensures objects { EachObjectIsMentioned }
     ensures told { EachMentionIsTold }
@@ -113,24 +117,24 @@ pub fn sources_ignore_order()
     ensures { SourcesIgnoreOrder }
 {}
 
-/// After every schedule without a bad event, replicas that exchange texts have the bases of the
-/// documents that reached them. Every text that they sent is accepted, whichever version wrote it.
+/// Replicas that exchange texts have the bases of the documents that reached them, after every
+/// schedule without a bad event. Each text that they sent is accepted, whichever version wrote it.
 pub fn wire_agrees()
     ensures agrees { WireAgrees }
     ensures stay { ReplicasStay }
 {}
 
-/// So such a replica has what a new merge of the reports that reached it has.
+/// Such a replica has what a new merge of the reports that reached it has.
 pub fn replicas_say_as_afresh()
     ensures { ReplicasSayAsAfresh }
 {}
 
-/// So two replicas that the same reports reached write the same bytes.
+/// Two such replicas that the same reports reached write the same bytes.
 pub fn equal_sets_write_the_same()
     ensures { EqualSetsWriteTheSame }
 {}
 
-/// A line of a schedule is at most one event.
+/// A line of a schedule spells at most one event.
 pub fn lines_say_one_event()
     ensures { LinesSayOneEvent }
 {}

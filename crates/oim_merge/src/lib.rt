@@ -1,5 +1,5 @@
-//! Merges xBRL-JSON reports: bytes in to bytes out. Reports that are read under a sheet become one
-//! canonical text, the verdicts on their duplicates, or the texts of replicas that exchange them.
+//! Merges xBRL-JSON reports, from bytes to bytes. Reports are read under a sheet. The result is one
+//! canonical text, the verdicts on duplicates, or replicas that exchange texts.
 #![tactic(auto)]
 
 mod bundle;
@@ -61,5 +61,5 @@ pub use read_fault::ReadFault;
 pub use source::{Source, SourceError};
 pub use source_reader::read_all;
 pub use std_source::StdSource;
-// what the project promises of a text
+// round trips
 pub use round_trip::read_back;

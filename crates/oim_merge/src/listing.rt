@@ -16,9 +16,9 @@ use oim_report::Sheet;
 use oim_write::{Encoded, Sink, SinkBuffer, WriteFault};
 use std::alloc::{AllocError, Global};
 
-/// Merges reports that are read under a sheet, and appends one line for each dimension set to the
-/// sink, in order: its number from 1, the identifiers of its first and last fact, and the verdict
-/// with its evidence (own). Returns the refusals by the numbers of the reports, from 1.
+/// Merges reports under a sheet and appends one line for each dimension set to the sink, in order:
+/// its number from 1, the identifiers of its first and last fact, and the verdict with its evidence
+/// (own). Returns the refusals by the numbers of the reports, from 1.
 ///
 /// Errors: `Device` if the sink failed; `OutOfMemory`.
 pub fn verdict_lines<S: Sink>(
@@ -56,8 +56,8 @@ pub(crate) fn write_verdicts<S: Sink>(
     }
 }
 
-/// Appends the lines of a base. On a fault the sink has the first part of them, with the length in
-/// the fault.
+/// Appends the lines of a base. On a fault the sink has a first part of them; the fault carries its
+/// length.
 fn write_lines<S: Sink>(alloc: Global, base: &Base<'_>, out: &mut S) -> Result<(), WriteFault>
     requires { S.failures out.old < 2 ^ 64 - 1 }
     ensures ok { OnOk result (AppendsLines base.now.body (S.told out.old) (S.told out.new)) }
@@ -88,7 +88,7 @@ fn push_lines<S: Sink>(
         before: 0,
         count: base.fact_count(),
     };
-    // there are no more rows than this number can count
+    // a base has no more rows than this number can count
     let _most = base.row_count();
     let mut number = 0;
     for row in base.rows() {
@@ -102,7 +102,7 @@ fn push_lines<S: Sink>(
     Ok(())
 }
 
-/// The line of a row of the base.
+/// The line for a row of the base.
 fn row_line(
     alloc: Global,
     base: &Base<'_>,

@@ -17,8 +17,9 @@ use oim_report::Sheet;
 use oim_write::Encoded;
 use std::alloc::{AllocError, Global};
 
-/// The mentions of the facts of a base in the reports that it was merged from, fact by fact, and
-/// those of a fact in the order of the reports and of the identifiers.
+/// Finds the mentions of a base's facts in the reports that it was merged from. They are in the
+/// order
+/// of facts, then reports, then identifiers.
 ///
 /// Errors: out of memory.
 pub fn mentions_by_fact(
@@ -37,7 +38,7 @@ pub fn mentions_by_fact(
     Ok(mentions)
 }
 
-/// The mentions of these facts in the reports, in the order of the reports and of the identifiers.
+/// The mentions of these facts in the reports, in the order of reports, then identifiers.
 fn mentions_of(
     alloc: Global,
     sheet: &Sheet,
@@ -64,7 +65,7 @@ fn mentions_of(
     Ok(mentions)
 }
 
-/// Adds those of a report with this number; a refused one has none.
+/// Adds the mentions in the report with this number. A refused report has none.
 fn add_report(
     alloc: Global,
     sheet: &Sheet,
@@ -90,7 +91,7 @@ fn add_report(
     )
 }
 
-/// Adds those of a report whose identifiers and facts these are.
+/// Adds the mentions in a report with these identifiers and facts.
 fn add_facts(
     alloc: Global,
     facts: &[LentFact<'_>],

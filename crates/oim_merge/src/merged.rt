@@ -9,12 +9,12 @@ use oim_report::Sheet;
 use oim_write::Encoded;
 use std::alloc::{AllocError, Global};
 
-/// What reports came to: the accepted ones as one base, and the refused ones.
+/// Merged reports: the accepted ones as one base, and the refusals of the others.
 #[derive(Drop)]
 pub struct Merged<'s> {
-    /// What the accepted ones say in all.
+    /// The base of the accepted reports.
     pub base: Base<'s>,
-    /// The refused ones, by their numbers from 1.
+    /// The refusals of the others, by report numbers from 1.
     pub refusals: Refusals,
 }
 

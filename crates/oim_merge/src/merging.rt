@@ -17,9 +17,8 @@ use std::alloc::{AllocError, Global};
 use std::marker::Model;
 use std::mem;
 
-/// Reports that are merged one at a time: what the accepted ones say in all, the refused ones, and
-/// how many came. Of the bytes of a report it keeps nothing. It borrows the sheet under which the
-/// reports are read.
+/// Reports that are merged one at a time: the accepted ones as one base, the refused ones, and the
+/// count of all. It keeps no bytes of a report. It borrows the sheet under which reports are read.
 #[derive(Drop)]
 pub struct Consolidation<'s> {
     alloc: Global,
@@ -41,8 +40,9 @@ impl<'s> Model for Consolidation<'s> {
 }
 
 impl<'s> Consolidation<'s> {
-    /// No report yet. Those that come are read under the sheet. Later calls take their memory from
-    /// `alloc`.
+    /// Starts a merge without reports. Reports are read under the sheet. Later calls take their
+    /// memory
+    /// from `alloc`.
     pub fn new(alloc: Global, sheet: &'s Sheet) -> Consolidation<'s>
         ensures { result ≡ begun sheet.now }
     {
@@ -54,7 +54,7 @@ impl<'s> Consolidation<'s> {
         }
     }
 
-    /// What a list of reports comes to.
+    /// Adds a list of reports.
     pub(crate) fn of(
         alloc: Global,
         sheet: &'s Sheet,
@@ -69,10 +69,11 @@ impl<'s> Consolidation<'s> {
         Ok(consolidation)
     }
 
-    /// Reads one more report under the sheet, and takes what it says, or keeps its refusal with its
-    /// number from 1.
+    /// Reads one more report under the sheet and takes its facts, or keeps its refusal with its
+    /// number
+    /// from 1.
     ///
-    /// Errors: out of memory; all is then unchanged, so that the report can be added again.
+    /// Errors: out of memory; nothing is changed then, so the report can be added again.
     pub fn add(&mut self, bytes: &[u8]) -> Result<(), AllocError>
         requires { self.old.reports + 1 < 2 ^ 64 }
         ensures ok { OnOk result (self.new ≡ with_report self.old bytes.now) }
@@ -88,11 +89,11 @@ impl<'s> Consolidation<'s> {
         Ok(())
     }
 
-    /// Writes the canonical text of what the accepted reports say to the sink, as `consolidate` does,
-    /// and answers the refused ones.
+    /// Writes the canonical text of the accepted reports to the sink, as `consolidate` does, and returns
+    /// the refusals.
     ///
-    /// Errors: `TooLoose` where a dimension set has duplicates above `allow`, and then nothing is
-    /// written; `Device` where the sink failed; `OutOfMemory`.
+    /// Errors: `TooLoose` if a dimension set has duplicates above `allow`, with nothing written;
+    /// `Device` if the sink failed; `OutOfMemory`.
     pub fn finish<S: Sink>(self, allow: Level, out: &mut S) -> Result<Refusals, Fault>
         requires { S.failures out.old < 2 ^ 64 - 1 }
         ensures ok { IfOk result (Writes allow self.entry.body self.entry.refusals (S.told out.old) (S.told out.new)) }
@@ -106,8 +107,8 @@ impl<'s> Consolidation<'s> {
         write_within(alloc, &base, refusals, allow, out)
     }
 
-    /// The same for a program that ends behind it: what the reports say is left in memory, since to
-    /// give back each piece takes time and serves nobody.
+    /// The same for a program that exits afterwards: the facts are not freed, since freeing them
+    /// takes time and has no use then.
     ///
     /// Errors: as of `finish`.
     pub fn finish_last<S: Sink>(self, allow: Level, out: &mut S) -> Result<Refusals, Fault>
@@ -125,10 +126,11 @@ impl<'s> Consolidation<'s> {
         written
     }
 
-    /// Appends one line for each dimension set of what the accepted reports say to the sink, as
-    /// `verdict_lines` does, and answers the refused ones.
+    /// Appends one line for each dimension set of the accepted reports to the sink, as
+    /// `verdict_lines`
+    /// does, and returns the refusals.
     ///
-    /// Errors: `Device` where the sink failed; `OutOfMemory`.
+    /// Errors: `Device` if the sink failed; `OutOfMemory`.
     pub fn finish_lines<S: Sink>(self, out: &mut S) -> Result<Refusals, Fault>
         requires { S.failures out.old < 2 ^ 64 - 1 }
         ensures ok { IfOk result (Lists self.entry.body self.entry.refusals (S.told out.old) (S.told out.new)) }
@@ -142,7 +144,7 @@ impl<'s> Consolidation<'s> {
         write_verdicts(alloc, &base, refusals, out)
     }
 
-    /// The same for a program that ends behind it, as `finish_last` is.
+    /// The same for a program that exits afterwards, as in `finish_last`.
     ///
     /// Errors: as of `finish_lines`.
     pub fn finish_lines_last<S: Sink>(self, out: &mut S) -> Result<Refusals, Fault>
@@ -160,7 +162,7 @@ impl<'s> Consolidation<'s> {
         written
     }
 
-    /// Makes a base of all that came.
+    /// Returns the base of the accepted reports, and the refusals.
     ///
     /// Errors: out of memory.
     pub fn into_merged(self) -> Result<Merged<'s>, AllocError>

@@ -13,22 +13,23 @@ use oim_write::{Encoded, text};
 use std::alloc::{AllocError, Global};
 use std::cmp::Ordering;
 
-/// The sent texts in order. Equal ones are held and read once. Contracts say that a text found here
-/// is equal, not that every equal text is found: missing one costs memory only.
+/// The sent texts in order. Equal texts are stored and read once. The contracts guarantee that a
+/// text
+/// found here is equal, not that each equal text is found: a miss only costs memory.
 #[derive(Drop)]
 pub(crate) struct Messages<'s> {
-    /// The different texts, as each was first sent.
+    /// The distinct texts, in the order of first sending.
     pub texts: Vec<Encoded>,
     /// The result of reading each text.
     pub kept: Vec<Kept<'s>>,
-    /// Their places, from 0, in byte order of the texts.
+    /// The indices of the texts, in byte order of the texts.
     pub order: Vec<usize>,
-    /// For each sent text, its place among the different ones.
+    /// For each sent text, its index among the distinct texts.
     pub sent: Vec<usize>,
 }
 
 impl<'s> Messages<'s> {
-    /// No sent text yet. It takes no memory.
+    /// No sent text yet. Takes no memory.
     pub(crate) fn new(alloc: Global) -> Messages<'s>
         ensures sent { sent_texts result ≡ [] }
         ensures held { (sheet : SheetSeen) → AreHeld sheet result }
@@ -41,7 +42,8 @@ impl<'s> Messages<'s> {
         }
     }
 
-    /// Sends the text of a base, and stores its place as the current one. If there is a current
+    /// Sends the text of a base, and stores its index as the current one. If there already is a
+    /// current
     /// one, the text is not written again.
     ///
     /// Errors: out of memory.
@@ -64,7 +66,7 @@ impl<'s> Messages<'s> {
         Ok(())
     }
 
-    /// The place of the text of a base, which is written unless there is a current one.
+    /// The index of the text of a base, which is written unless there is a current one.
     fn place_of(
         &mut self,
         alloc: Global,
@@ -95,7 +97,7 @@ impl<'s> Messages<'s> {
         }
     }
 
-    /// The place of an equal text, or where a new one belongs in the order.
+    /// The index of an equal text, or the index at which a new text keeps the order.
     fn find(&self, text: &Encoded) -> Result<usize, usize>
         ensures { MatchResult result
             (IsTextAt self.now.texts.items text.now)
@@ -115,7 +117,7 @@ impl<'s> Messages<'s> {
         }
     }
 
-    /// Compares the text at a place with another, by bytes.
+    /// Compares the text at an index with another, by bytes.
     fn compare(&self, place: usize, text: &Encoded) -> Ordering {
         match self.texts.get(place) {
             Some(known) => known.as_bytes().cmp(text.as_bytes()),
@@ -123,7 +125,7 @@ impl<'s> Messages<'s> {
         }
     }
 
-    /// Adds to a base the sent text of a number, from 0, which is read the first time.
+    /// Adds the sent text with a number, from 0, to a base. A text is read the first time.
     ///
     /// Errors: out of memory.
     pub(crate) fn give(

@@ -8,18 +8,18 @@ use oim_write::identifier;
 use serde_json::Value;
 use std::alloc::{AllocError, Global};
 
-/// That a report says a fact of a base.
+/// A mention: a report reports a fact of a base.
 #[derive(Debug, Drop)]
 pub struct PlacedMention {
-    /// How many facts of the base come before it.
+    /// The number of facts in the base that come before the fact.
     pub place: usize,
     /// The number of the report, from 1.
     pub report: u64,
-    /// The identifier that the report gives it.
+    /// The identifier of the fact in the report.
     pub identifier: Text,
 }
 
-/// The line of a mention, and its line end, where the base has so many facts.
+/// The line of a mention with its line end, for a base with `count` facts.
 pub(crate) fn line_of(
     alloc: Global,
     count: u128,
@@ -34,7 +34,6 @@ pub(crate) fn line_of(
     format!(in alloc; "{fact} {report} {own}\n")
 }
 
-/// A text as a JSON string.
 fn json_string(alloc: Global, text: &Text) -> Result<String, AllocError>
     ensures { IfOk result (λ json. string_bytes json ≡ compact_text (string text.now)) }
 {

@@ -6,9 +6,9 @@ use oim_names::{Reason, Text};
 use oim_report::{Refusal, Report, Sheet, read_identified, read_report};
 use std::alloc::{AllocError, Global};
 
-/// The report that the bytes say under the sheet, or its refusal.
+/// Reads a report under the sheet, or returns its refusal.
 ///
-/// Errors: out of memory, which is no refusal here.
+/// Errors: out of memory, which is not a refusal here.
 pub(crate) fn read<'s>(
     alloc: Global,
     sheet: &'s Sheet,
@@ -25,9 +25,9 @@ pub(crate) fn read<'s>(
     }
 }
 
-/// The report that the bytes say under the sheet, with the identifiers of its facts, or its refusal.
+/// Reads a report under the sheet with the identifiers of its facts, or returns its refusal.
 ///
-/// Errors: out of memory, which is no refusal here.
+/// Errors: out of memory, which is not a refusal here.
 pub(crate) fn read_with_identifiers<'s>(
     alloc: Global,
     sheet: &'s Sheet,

@@ -20,7 +20,7 @@ impl Model for Refusals {
 }
 
 impl Refusals {
-    /// No refused report. It takes no memory.
+    /// No refused report. Takes no memory.
     pub fn new(alloc: Global) -> Refusals
         ensures { result ≡ [] }
     {
@@ -31,7 +31,7 @@ impl Refusals {
 
     /// Appends the refusal of the report with this number, from 1.
     ///
-    /// Errors: out of memory; the list is then as it was.
+    /// Errors: out of memory; the list is unchanged then.
     pub fn push(&mut self, report: u64, refusal: Refusal) -> Result<(), AllocError>
         ensures ok { OnOk result (self.new ≡ self.old ++ (report, refusal) ∷ []) }
         ensures err { OnErr result (self.new ≡ self.old) }
@@ -40,7 +40,7 @@ impl Refusals {
         Ok(())
     }
 
-    /// The numbers and refusals.
+    /// The report numbers and their refusals.
     pub fn as_slice(&self) -> &[(u64, Refusal)]
         ensures { result.now ≡ self.now }
     {

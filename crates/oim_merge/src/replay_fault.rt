@@ -4,14 +4,15 @@ ghost use Rattle.oim_merge.specs.declared.replay_fault.ReplayFault.TheVariants.{
 use std::alloc::AllocError;
 use thiserror::Error;
 
-/// Why a schedule was not read, or not run to its end.
+/// Why a schedule was not read, or was not run to its end.
 #[derive(Clone, Copy, Debug, PartialEq, Eq, Error)]
 pub enum ReplayFault {
     /// Memory was refused.
     #[error("out of memory")]
     OutOfMemory,
-    /// The line with this number, from 1, is the first that is not an event, or the first whose
-    /// event names something that does not exist.
+    /// The line with this number, from 1, is the first that is not an event, or that names
+    /// something
+    /// that does not exist.
     #[error("line {0} is refused")]
     BadEvent(u64),
 }

@@ -55,7 +55,7 @@ impl<'s> Replayed<'s> {
         }
     }
 
-    /// The replicas, from the first to the last.
+    /// The replicas in order.
     pub fn replicas(&self) -> &[Base<'s>]
         ensures { result.now ≡ self.now.world.replicas }
     {
@@ -88,7 +88,7 @@ impl<'s> Replayed<'s> {
         &self.refused
     }
 
-    /// The same, giving up the replicas.
+    /// The refused takes; the replicas are dropped.
     pub fn into_refused(self) -> Refusals
         ensures { result ≡ self.entry.refused }
     {
@@ -96,7 +96,7 @@ impl<'s> Replayed<'s> {
     }
 }
 
-/// The text whose place is at this number, from 1, among the places.
+/// The text of the message with this number, from 1; `places` has the index of each message's text.
 fn text_numbered<'t>(texts: &'t [Encoded], places: &[usize], number: usize) -> Option<&'t Encoded>
     requires { AreWithin texts.now places.now }
     ensures { MatchOption result (numbered (texts_at texts.now places.now) number ≡ None)

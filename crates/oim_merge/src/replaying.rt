@@ -9,14 +9,15 @@ use oim_report::Sheet;
 use oim_write::Encoded;
 use std::alloc::Global;
 
-/// Runs a schedule on so many replicas, which begin empty. Replicas, reports and sent texts have
-/// numbers from 1; the line of an event is its place among the events, from 1. A report that is
-/// taken, and a sent text that is received, is read under the sheet, once. A refused one changes
-/// nothing, and a refused take is reported. So each replica has what the reports say that reached
-/// it since its last restart, directly or through others.
+/// Runs a schedule on replicas that begin empty. Replicas, reports and sent texts have numbers from
+/// 1. The line of an event is its number among the events, from 1. Each report that is taken and
+/// each
+/// sent text that is received is read under the sheet once. A refused one changes nothing, and a
+/// refused take is listed. So each replica has the facts of the reports that reached it since its
+/// last restart, directly or through others.
 ///
-/// A received text is read although its sender had what it says: so a run does what offices do, who
-/// have only the text.
+/// A received text is parsed although its sender's facts are in memory: real replicas have only the
+/// text.
 ///
 /// Errors: `BadEvent` with the line of the first event that names a replica, a report or a sent
 /// text that does not exist; `OutOfMemory`.

@@ -16,12 +16,14 @@ use oim_write::Encoded;
 use std::alloc::{AllocError, Global};
 
 /// Replicas while a schedule runs, with the texts that they sent, the refused takes, and the
-/// reports that were read.
+/// reports
+/// read so far.
 #[derive(Drop)]
 pub(crate) struct Replicas<'s> {
     pub bases: Vec<Base<'s>>,
-    /// For each replica, the place of its text among the messages, if it was sent and no later
-    /// event can have changed its base.
+    /// For each replica, the index of its text among the messages. It is None if the replica sent
+    /// none,
+    /// or if a later event may have changed its base.
     pub current: Vec<Option<usize>>,
     pub messages: Messages<'s>,
     pub refused: Refusals,
@@ -29,7 +31,7 @@ pub(crate) struct Replicas<'s> {
 }
 
 impl<'s> Replicas<'s> {
-    /// So many empty replicas, with nothing sent and none of these reports read.
+    /// This many empty replicas. No text is sent, and no report is read.
     pub(crate) fn new(
         alloc: Global,
         sheet: &'s Sheet,
@@ -55,7 +57,7 @@ impl<'s> Replicas<'s> {
         })
     }
 
-    /// Whether everything that the event names exists, with so many reports.
+    /// True if everything that the event names exists.
     pub(crate) fn has_named(&self, event: Event, reports: usize) -> bool
         ensures { IsTrue result ↔ (names_none (length self.now.bases.items) reports
             (length (sent_texts self.now.messages)) event ≡ false) }
@@ -115,7 +117,7 @@ impl<'s> Replicas<'s> {
         Ok(())
     }
 
-    /// The replica takes the report, or its refusal is recorded.
+    /// Takes the report, or records its refusal.
     fn take(
         &mut self,
         alloc: Global,
@@ -151,7 +153,7 @@ fn is_there(number: u32, greatest: usize) -> bool
     number >= 1 && number as usize <= greatest
 }
 
-/// Forgets the current text of a replica, since its base can change.
+/// Forgets the current text of a replica, since its base may change.
 fn forget(current: &mut Vec<Option<usize>>, place: usize)
     ensures { current.new.items ≡ slice_set current.old.items place None }
 {
@@ -160,7 +162,7 @@ fn forget(current: &mut Vec<Option<usize>>, place: usize)
     }
 }
 
-/// Joins the base at one place to the base at the other.
+/// Joins the base at one index to the base at another.
 fn join_at<'s>(
     alloc: Global,
     sheet: &'s Sheet,
@@ -176,7 +178,7 @@ fn join_at<'s>(
         (slice_index_or bases.old.items other (base_of sheet.now [])))) }
 {
     if place == other {
-        // it has all that it joins
+        // a base that joins itself does not change
         bases[place].known();
         return Ok(());
     }

@@ -6,16 +6,17 @@ ghost use Rattle.std.specs.Io.KnownBytes.{ReadConsumes};
 #[derive(Clone, Copy, Debug, PartialEq, Eq)]
 pub struct SourceError;
 
-/// Gives bytes, and counts its failures.
+/// Gives bytes and counts its failures.
 pub trait Source {
     /// The bytes that it has still to give, if contracts can see them.
     ghost told: { Self → Option (List ℕ) };
 
-    /// How often it has failed.
+    /// The number of failures so far.
     ghost failures: { Self → ℕ };
 
-    /// Writes its next bytes to the front of the buffer and returns their number. That is 0 only at
-    /// the end or if the buffer is empty. On an error it gives no bytes, and counts one more
+    /// Writes its next bytes to the start of the buffer and returns their number. The number is 0
+    /// only at
+    /// the end, or if the buffer is empty. On an error it gives no bytes and counts one more
     /// failure.
     fn get(&mut self, buffer: &mut [u8]) -> Result<usize, SourceError>
         requires { failures self.old < 2 ^ 64 - 1 }
@@ -24,7 +25,7 @@ pub trait Source {
         ensures failures { failures self.new ≡
             (if is_ok result then failures self.old else failures self.old + 1) };
 
-    /// How often it has failed.
+    /// The number of failures so far.
     fn failures(&self) -> u64
         ensures { result ≡ failures self.now };
 }

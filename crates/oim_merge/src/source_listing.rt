@@ -15,13 +15,13 @@ use oim_report::Sheet;
 use oim_write::{Encoded, Sink, SinkBuffer, WriteFault};
 use std::alloc::Global;
 
-/// Merges reports that are read under a sheet, and appends one line for each fact object in an
-/// accepted report to the sink: the identifier of its fact in the canonical text, the number of the
-/// report from 1, and the object's own identifier as a JSON string (own). The lines are in the
-/// order of these three. Returns the refusals by the numbers of the reports.
+/// Merges reports under a sheet and appends one line for each fact object in an accepted report to
+/// the sink: the identifier of its fact in the canonical text, the number of the report from 1, and
+/// the object's own identifier as a JSON string (own). The lines are sorted by these three. Returns
+/// the refusals by the numbers of the reports.
 ///
-/// Each report is read again once all are merged, so that a merge keeps no identifiers and does not
-/// pay for them.
+/// Each report is read a second time once all are merged. So a plain merge need not keep
+/// identifiers.
 ///
 /// Errors: `Device` if the sink failed; `OutOfMemory`.
 pub fn source_lines<S: Sink>(
@@ -47,8 +47,8 @@ pub fn source_lines<S: Sink>(
     }
 }
 
-/// Appends the lines of mentions of a base with so many facts. On a fault the sink has the first
-/// part of them, with the length in the fault.
+/// Appends the lines of mentions, given the count of facts in the base. On a fault the sink has a
+/// first part of them; the fault carries its length.
 fn write_lines<S: Sink>(
     alloc: Global,
     count: u128,

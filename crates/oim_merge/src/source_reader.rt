@@ -7,15 +7,15 @@ use crate::source::{Source, SourceError};
 use oim_write::Encoded;
 use std::alloc::{AllocError, Global};
 
-/// How many bytes a source is asked for at once: first the fewest, then as many as it has given, up to
-/// the most, so that what a small file leaves empty is small.
+/// The number of bytes requested from a source at once. It starts at the fewest and grows with the
+/// bytes read, up to the most, so a small file leaves little unused memory.
 const FEWEST: usize = 1 << 12;
 
 const MOST: usize = 1 << 16;
 
-/// Reads a source to its end, as long as it gives at most `limit` bytes, and gives back what memory
-/// these do not fill. It asks the source at most `limit` + 1 times, since each answer but the last
-/// has at least one byte.
+/// Reads a source to its end, if it gives at most `limit` bytes, and releases unused memory. It
+/// asks
+/// the source at most `limit` + 1 times, since each answer but the last has at least one byte.
 pub fn read_all<S: Source>(alloc: Global, source: &mut S, limit: u32) -> Result<Encoded, ReadFault>
     requires { S.failures source.old < 2 ^ 64 - 1 }
     ensures ok { IfOk result (λ bytes. Consumes (S.told source.old) (S.told source.new) bytes
@@ -44,7 +44,7 @@ pub fn read_all<S: Source>(alloc: Global, source: &mut S, limit: u32) -> Result<
     Err(ReadFault::TooLong)
 }
 
-/// Makes the bytes longer than those that are filled, by zeros, and keeps these.
+/// Extends the buffer by zeros and keeps the filled bytes.
 fn make_room(bytes: &mut Vec<u8>, filled: usize, most: usize) -> Result<(), AllocError>
     requires filled { filled ≤ vec_len bytes.old }
     requires room { filled < most }
@@ -62,7 +62,7 @@ fn make_room(bytes: &mut Vec<u8>, filled: usize, most: usize) -> Result<(), Allo
     Ok(())
 }
 
-/// Asks the source for bytes, to stand behind those that are filled.
+/// Asks the source for bytes that follow the filled ones.
 fn get_behind<S: Source>(
     source: &mut S,
     bytes: &mut [u8],

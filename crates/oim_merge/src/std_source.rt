@@ -11,7 +11,7 @@ pub struct StdSource<R: Read> {
 }
 
 impl<R: Read> StdSource<R> {
-    /// A source over this reader, without failures so far.
+    /// A source over this reader, with no failures yet.
     pub fn new(reader: R) -> StdSource<R>
         ensures reader { result.reader ≡ reader }
         ensures failures { result.failures ≡ 0 }

@@ -9,14 +9,14 @@ use oim_value::{Interval, write_units};
 use oim_write::identifier;
 use std::alloc::{AllocError, Global};
 
-/// The identifiers of the facts of a dimension set, from the number of facts before it and in all.
+/// The identifiers of the facts in a dimension set, from the count before it and the count of all.
 #[derive(Clone, Copy, Debug)]
 pub(crate) struct Identifiers {
     pub before: u128,
     pub count: u128,
 }
 
-/// The identifier of the fact at a place, from 0.
+/// The identifier of the fact at an index, from 0.
 fn name(alloc: Global, identifiers: &Identifiers, place: usize) -> Result<Text, AllocError>
     requires { identifiers.now.before + place < identifiers.now.count }
     ensures { IfOk result (λ text. text ≡ named identifiers.now.before identifiers.now.count place) }

@@ -1,18 +1,18 @@
 use std::alloc::{AllocError, Global};
 
-// After a refused request for memory the call is made once more. The line on standard error reports
-// it to `tests/refused_memory`, with whether the request was the test's own.
+// Repeats a call after a refused request for memory. The line on standard error reports it to
+// `tests/refused_memory`, and says if the test itself made the request.
 
 const ROOM: usize = 1 << 12;
 
-/// A sheet of every kind of concept and dimension.
+/// A sheet with every kind of concept and dimension.
 pub(crate) const SHEET: &str =
     r#"{"namespaces":{"eg":"http://example.org/t"},"concepts":{"eg:A":"numeric","eg:B":"numeric","eg:T":"text","eg:Q":"name"},"dimensions":{"eg:Reg":"explicit","eg:Sku":"typed"}}"#;
 
 pub(crate) const INFO: &str =
     r#"{"documentInfo":{"documentType":"https://xbrl.org/2021/xbrl-json","namespaces":{"eg":"http://example.org/t","x":"http://example.org/u","xbrli":"http://www.xbrl.org/2003/instance","xbrl":"https://xbrl.org/2021"}},"facts":{"#;
 
-/// The beginning of a report, up to the other members of `documentInfo`.
+/// The beginning of a report, up to the further members of `documentInfo`.
 pub(crate) const OPEN_INFO: &str =
     r#"{"documentInfo":{"documentType":"https://xbrl.org/2021/xbrl-json""#;
 
@@ -24,7 +24,7 @@ pub(crate) fn tell_refused_here(rt: &HostRuntime) {
     let _ = eprintln!(rt; "refused here");
 }
 
-/// Whether a call returns true.
+/// True if a call returns true.
 pub(crate) fn holds<F: Fn(Global) -> Result<bool, AllocError>>(rt: &HostRuntime, call: F) -> bool
     requires { F.IsAlwaysCallable call }
 {
@@ -36,7 +36,7 @@ pub(crate) fn holds<F: Fn(Global) -> Result<bool, AllocError>>(rt: &HostRuntime,
     answer == Ok(true)
 }
 
-/// The parts, one after another.
+/// Concatenates the parts.
 pub(crate) fn joined(rt: &HostRuntime, parts: &[&str]) -> Result<Vec<u8>, AllocError> {
     let mut all = match Vec::with_capacity(rt.alloc(), ROOM) {
         Ok(made) => made,

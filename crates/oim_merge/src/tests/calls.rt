@@ -14,8 +14,7 @@ use oim_write::{Encoded, StdSink};
 use std::alloc::{AllocError, Global};
 use std::test::Fail;
 
-// The calls of the library. Where a request for memory is refused, the next one is not: the call is
-// made again.
+// The calls of the library. After a refused request for memory the call is repeated.
 
 pub(crate) const HUNDRED: &str =
     r#""a":{"value":"100","decimals":0,"dimensions":{"concept":"eg:A"}}"#;
@@ -45,7 +44,7 @@ fn report(alloc: Global, facts: &str) -> Result<Encoded, AllocError> {
     Encoded::new(alloc, text.as_bytes())
 }
 
-/// A report for each of these texts.
+/// One report for each of these texts.
 pub(crate) fn reports(alloc: Global, each: &[&str]) -> Result<Vec<Encoded>, AllocError> {
     let mut reports = Vec::with_capacity(alloc, each.len())?;
     for facts in each {
@@ -54,7 +53,7 @@ pub(crate) fn reports(alloc: Global, each: &[&str]) -> Result<Vec<Encoded>, Allo
     Ok(reports)
 }
 
-/// Whether the second report alone is refused, at its first fact.
+/// True if only the second report is refused, at its first fact.
 fn tells_second(refused: &Refusals) -> bool {
     let mut refused = refused.as_slice().iter();
     let told = match refused.next() {
@@ -64,7 +63,7 @@ fn tells_second(refused: &Refusals) -> bool {
     told && refused.next().is_none()
 }
 
-/// Whether row 1 is above the level, and nothing is written.
+/// True if row 1 is above the level and nothing is written.
 fn are_too_loose(alloc: Global, sheet: &Sheet, reports: &[Encoded]) -> Result<bool, AllocError> {
     let mut sink = StdSink::new(Expecting::just(b""));
     match consolidate(alloc, sheet, reports, Level::Consistent, &mut sink) {
@@ -82,7 +81,8 @@ fn is_too_loose(alloc: Global) -> Result<bool, AllocError> {
     are_too_loose(alloc, &sheet, &reports)
 }
 
-/// Whether the verdicts on the reports have this line. The second report is refused, or none is.
+/// True if the verdicts on the reports have this line, and none or only the second report is
+/// refused.
 fn have_line(
     alloc: Global,
     sheet: &Sheet,
@@ -104,7 +104,7 @@ fn have_line(
     Ok(is_told && sink.into_inner().is_met())
 }
 
-/// Whether the ends of the common interval are written.
+/// True if the ends of the common interval are written.
 fn tells_ends(alloc: Global) -> Result<bool, AllocError> {
     let sheet = sheet(alloc)?;
     let facts = [TWELVE_DECIMALS, UNBOUND, ELEVEN_DECIMALS];
@@ -112,7 +112,7 @@ fn tells_ends(alloc: Global) -> Result<bool, AllocError> {
     have_line(alloc, &sheet, &reports, true, COMMON)
 }
 
-/// Two facts with the greatest or the least decimals, and the line on them.
+/// Two facts with the greatest or the least decimals, and their line.
 const FARTHEST: [([&str; 2], &[u8]); 4] = [
     (
         [
@@ -144,7 +144,7 @@ const FARTHEST: [([&str; 2], &[u8]); 4] = [
     ),
 ];
 
-/// Whether the verdict on these facts has this line.
+/// True if the verdict on these facts has this line.
 fn has_line(alloc: Global, facts: &[&str], line: &[u8]) -> Result<bool, AllocError> {
     let sheet = sheet(alloc)?;
     let reports = reports(alloc, facts)?;
@@ -164,7 +164,7 @@ fn verdicts_are_exact_at_either_end_of_the_decimals(rt: HostRuntime) -> Result<(
     Ok(())
 }
 
-/// Whether both facts are counted.
+/// True if both facts are counted.
 fn counts_repeats(alloc: Global) -> Result<bool, AllocError> {
     let sheet = sheet(alloc)?;
     let report = report(alloc, TWICE)?;

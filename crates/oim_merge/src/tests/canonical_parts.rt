@@ -1,14 +1,14 @@
-// Parts of canonical texts that tests compare with.
+// Parts of canonical texts with which tests compare.
 
 /// The text before the namespaces if no two facts have the same dimensions.
 pub(crate) const HEAD: &str =
     r#"{"documentInfo":{"documentType":"https://xbrl.org/2021/xbrl-json","features":{"xbrl:allowedDuplicates":"none"},"namespaces":{"#;
 
-/// The same if some do, and each two of them meet.
+/// The same if some facts have the same dimensions, and all such facts meet.
 pub(crate) const CONSISTENT_HEAD: &str =
     r#"{"documentInfo":{"documentType":"https://xbrl.org/2021/xbrl-json","features":{"xbrl:allowedDuplicates":"consistent"},"namespaces":{"#;
 
-/// The same if some do not meet.
+/// The same if some such facts do not meet.
 pub(crate) const CONTRADICTING_HEAD: &str =
     r#"{"documentInfo":{"documentType":"https://xbrl.org/2021/xbrl-json","features":{"xbrl:allowedDuplicates":"all"},"namespaces":{"#;
 
@@ -21,10 +21,10 @@ pub(crate) const MIDDLE_ALONE: &str = r#""xbrl":"https://xbrl.org/2021"},"taxono
 /// The text after the facts, which also ends a report.
 pub(crate) const END: &str = "}}";
 
-/// The namespaces of one concept.
+/// The namespace of one concept.
 pub(crate) const ONE_URI: &str = r#""n1":"http://example.org/t""#;
 
-/// Its fact, 100 with no decimals.
+/// Its fact, 100 with `decimals` 0.
 pub(crate) const WRITTEN_HUNDRED: &str =
     r#""f1":{"decimals":0,"dimensions":{"concept":"n1:A"},"value":"100"}"#;
 
@@ -32,9 +32,9 @@ pub(crate) const WRITTEN_HUNDRED: &str =
 pub(crate) const WRITTEN_BOTH: &str =
     r#""f1":{"decimals":0,"dimensions":{"concept":"n1:A"},"value":"100"},"f2":{"decimals":0,"dimensions":{"concept":"n1:A"},"value":"101"}"#;
 
-/// The text before the namespaces, as it was before levels were declared.
+/// The text before the namespaces in the earlier form.
 pub(crate) const EARLIER_HEAD: &str =
     r#"{"documentInfo":{"documentType":"https://xbrl.org/2021/xbrl-json","namespaces":{"#;
 
-/// The text between the namespaces and the facts, as it was then.
+/// The text between the namespaces and the facts in the earlier form.
 pub(crate) const EARLIER_MIDDLE: &str = r#"},"taxonomy":[]},"facts":{"#;

@@ -11,12 +11,12 @@ use oim_value::Level;
 use std::alloc::{AllocError, Global};
 use std::test::Fail;
 
-// What `check_report` returns. After a refused request for memory the call is made once more.
+// The results of `check_report`. A call is repeated after a refused request for memory.
 
-/// A report in parts, how many facts it has, their level, and whether it is canonical.
+/// A report in parts, the number of its facts, their level, and true if it is canonical.
 type Row = (&'static [&'static str], u64, Level, bool);
 
-/// Texts of today, texts of before, and reports of whose facts none is spelled otherwise.
+/// Texts in both forms, and reports whose facts are spelled as in a canonical text.
 const ROWS: [Row; 9] = [
     (&[HEAD, MIDDLE_ALONE, END], 0, Level::Unique, true),
     (
@@ -64,7 +64,7 @@ const ROWS: [Row; 9] = [
     ),
 ];
 
-/// What else says 100, each otherwise than the text does.
+/// Other spellings of the fact 100.
 const SPELLED: [&[&str]; 9] = [
     // members in another order
     &[
@@ -82,7 +82,7 @@ const SPELLED: [&[&str]; 9] = [
         r#""f1":{"decimals":0,"dimensions":{"concept":"n1:\u0041"},"value":"100"}"#,
         END,
     ],
-    // a zero that does not count
+    // an insignificant zero
     &[
         HEAD,
         ONE_URI,
@@ -108,7 +108,7 @@ const SPELLED: [&[&str]; 9] = [
     ],
     // the prefix of the feature is not bound
     &[HEAD, ONE_URI, EARLIER_MIDDLE, WRITTEN_HUNDRED, END],
-    // a reference is kept otherwise
+    // another reference
     &[
         HEAD,
         ONE_URI,
@@ -116,7 +116,7 @@ const SPELLED: [&[&str]; 9] = [
         WRITTEN_HUNDRED,
         END,
     ],
-    // a report of somebody else, whose facts rise
+    // another writer's report, whose facts rise
     &[
         INFO,
         r#""a":{"value":"100","decimals":0,"dimensions":{"concept":"eg:A"}}"#,
@@ -124,7 +124,7 @@ const SPELLED: [&[&str]; 9] = [
     ],
 ];
 
-/// A sheet that lists more, by another prefix.
+/// A sheet that lists more concepts, with another prefix.
 const MORE: &str =
     r#"{"namespaces":{"q":"http://example.org/t","z":"http://example.org/z"},"concepts":{"q:A":"numeric","q:B":"numeric","z:C":"text","q:Q":"name"}}"#;
 
@@ -140,7 +140,7 @@ fn checked(
     }
 }
 
-/// Whether the report of these parts comes to this under the sheet.
+/// True if checking the report under the sheet gives this result.
 fn comes_to(
     rt: &HostRuntime,
     sheet_text: &str,

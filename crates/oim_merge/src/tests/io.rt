@@ -10,10 +10,10 @@ use oim_write::Encoded;
 use std::io::{self, Read};
 use std::test::Fail;
 
-// After a refused request for memory the call is made once more, on a new device. The line on
-// standard error reports it.
+// A call is repeated after a refused request for memory, on a new device. A line on standard error
+// reports it.
 
-/// What `read_all` returns, how often it asked, and how often the source failed.
+/// The result of `read_all`, the number of its requests, and the failures of the source.
 fn read(
     rt: &HostRuntime,
     reader: TestReader<'_>,
@@ -30,7 +30,7 @@ fn read(
     (answer, source.into_inner().calls, failures)
 }
 
-/// Whether `read_all` answers so, after few calls, and a source that failed has failed once.
+/// True if `read_all` returns this after few calls, and a failing source failed once.
 fn answers(
     rt: &HostRuntime,
     reader: TestReader<'_>,
@@ -47,8 +47,8 @@ fn answers(
     same && calls <= u64::from(limit) + 2 && failures == u64::from(is_device)
 }
 
-/// Whether a source that fails after these bytes gives a fault with their number, at each step, and
-/// one that ends there gives the bytes.
+/// True if a source that fails after these bytes gives a fault with their number, and one that ends
+/// there gives the bytes, at each step.
 fn stops_behind(rt: &HostRuntime, front: &[u8], limit: u32) -> bool {
     let fault = ReadFault::Device(front.len() as u64);
     for step in STEPS {
@@ -77,7 +77,7 @@ fn stops_behind(rt: &HostRuntime, front: &[u8], limit: u32) -> bool {
     true
 }
 
-/// Whether sources that never end are too long, at each step.
+/// True if endless sources are too long, at each step.
 fn never_ends(rt: &HostRuntime, limit: u32) -> bool {
     for step in STEPS {
         let reader = TestReader::new(b"ab", step, Then::GoesOn);
@@ -152,7 +152,7 @@ fn sources_are_read_to_their_end(rt: HostRuntime) -> Result<(), Fail> {
 
 const LONG: u32 = 200_000;
 
-/// How often an endless source is asked that gives some bytes a time; none where it is read.
+/// The number of requests to an endless source; None if the read succeeds.
 fn calls_of_endless(rt: &HostRuntime) -> Option<u64> {
     let reader = TestReader::new(b"", Step::Few(30_000), Then::GoesOn);
     let (answer, calls, _) = read(rt, reader, LONG);
@@ -163,7 +163,7 @@ fn calls_of_endless(rt: &HostRuntime) -> Option<u64> {
     }
 }
 
-/// What is read of a source that gives one byte so many times, and how often it failed.
+/// Reads a source that gives one byte at a time; also returns the number of its failures.
 fn read_repeated(rt: &HostRuntime) -> (Result<Encoded, ReadFault>, u64) {
     let mut source = StdSource::new(io::repeat(7).take(u64::from(LONG)));
     let mut answer = read_all(rt.alloc(), &mut source, LONG);

@@ -13,8 +13,8 @@ use oim_write::{Encoded, Sink, StdSink, WriteFault, prefixes, text, write_to};
 use std::alloc::AllocError;
 use std::test::Fail;
 
-// After a refused request for memory each call is made once more by itself. Its sink holds as much
-// of the text as the fault says. The lines on standard error report both to `tests/refused_memory`.
+// Each call is repeated after a refused request for memory. Its sink holds as much of the text as
+// the fault says. Lines on standard error report both to `tests/refused_memory`.
 
 fn read_sheet(rt: &HostRuntime) -> Result<Sheet, Reason> {
     match Sheet::read(rt.alloc(), SHEET.as_bytes()) {
@@ -69,12 +69,12 @@ fn base_of<'s>(rt: &HostRuntime, sheet: &'s Sheet, report: &[u8]) -> Option<Base
     take_first(rt, &report)
 }
 
-/// Whether the sink holds so much of the text and no more.
+/// True if the sink holds exactly the first `written` bytes of the text.
 fn holds(sink: &StdSink<Expecting<'_>>, text: &[u8], written: u64) -> bool {
     sink.taken() == written && sink.failures() == 0 && written <= text.len() as u64
 }
 
-/// The result of a call that was refused memory: none yet, if the sink holds what the fault says.
+/// The result of a call that was refused memory: None, if the sink holds what the fault says.
 fn wanted_memory(
     rt: &HostRuntime,
     sink: StdSink<Expecting<'_>>,
@@ -94,7 +94,7 @@ fn wanted_memory(
     None
 }
 
-/// Whether the base is written as the text; none where memory was refused.
+/// True if the base is written as the text; None if memory was refused.
 fn writes_once(rt: &HostRuntime, base: &Base<'_>, text: &[u8]) -> Option<bool> {
     let mut sink = StdSink::new(Expecting::just(text));
     match write_to(rt.alloc(), base, &mut sink) {
@@ -197,13 +197,13 @@ fn a_refused_base_comes_back(rt: HostRuntime) -> Result<(), Fail> {
 /// Fifty letters.
 const LETTERS: &str = "abcdefghijklmnopqrstuvwxyzabcdefghijklmnopqrstuvwx";
 
-// The last text is longer, so that it asks for memory when the sink has been given the others.
+// The last text is longer, so memory is requested for it after the sink took the others.
 
 const MANY: usize = 400;
 
 const MORE: usize = 1_200;
 
-/// The text before and after the digit that makes a long text different.
+/// The text before and after the digit in which long texts differ.
 const OPEN_TEXT: [&str; 2] = [r#"":{"value":""#, r#"","dimensions":{"concept":"eg:T"}}"#];
 
 const LONG_ROOM: usize = 1 << 18;
@@ -245,7 +245,7 @@ fn long_report(rt: &HostRuntime) -> Result<String, AllocError> {
     Ok(text)
 }
 
-/// Whether the base is written as its own text, of more bytes than a sink is given at once.
+/// True if the base is written as its own text, which is longer than a chunk.
 fn writes_long(rt: &HostRuntime, base: &Base<'_>) -> bool {
     match text_of(rt, base) {
         Ok(text) => text.as_bytes().len() > 100_000 && writes(rt, base, text.as_bytes()),

@@ -12,17 +12,17 @@ use oim_report::Sheet;
 use oim_write::text;
 use std::alloc::{AllocError, Global};
 
-// Replicas and the schedules that they run. Where a request for memory is refused, the next one is
-// not: what asked for it is asked again.
+// Replicas and the schedules that they run. After a refused request for memory the call is
+// repeated.
 
-/// The fact of a report beside those of `calls`.
+/// One more fact besides those of `calls`.
 const HUNDRED_ONE: &str = r#""a":{"value":"101","decimals":0,"dimensions":{"concept":"eg:A"}}"#;
 
-/// A schedule of three replicas, which take a report each, exchange texts and join.
+/// Three replicas each take a report, exchange texts and join.
 const NINE_EVENTS: &str =
     "take 1 1\nsend 1\ntake 2 2\nreceive 2 1\nsend 2\ntake 3 3\nreceive 3 2\nreceive 3 1\njoin 1 2\n";
 
-/// What the events of these lines leave among so many replicas; reports of these facts are there.
+/// Runs the events of these lines on replicas, with one report for each of these facts.
 fn played<'s>(
     alloc: Global,
     sheet: &'s Sheet,
@@ -35,7 +35,7 @@ fn played<'s>(
     replay(alloc, sheet, n, &reports, &events)
 }
 
-/// The answer, where memory was not refused.
+/// The result, if memory was not refused.
 fn with_memory<T: Drop>(
     answer: Result<T, ReplayFault>,
 ) -> Result<Result<T, ReplayFault>, AllocError> {
@@ -45,7 +45,7 @@ fn with_memory<T: Drop>(
     }
 }
 
-/// Whether the bytes are these parts, one after another.
+/// True if the bytes are the concatenation of these parts.
 fn are_parts(bytes: &[u8], parts: &[&str]) -> bool {
     let mut left = bytes;
     for part in parts {
@@ -57,7 +57,7 @@ fn are_parts(bytes: &[u8], parts: &[&str]) -> bool {
     left.is_empty()
 }
 
-/// Whether the base writes these parts.
+/// True if the base is written as these parts.
 fn writes(alloc: Global, base: &Base<'_>, parts: &[&str]) -> Result<bool, AllocError> {
     let text = text(alloc, base)?;
     Ok(are_parts(text.as_bytes(), parts))

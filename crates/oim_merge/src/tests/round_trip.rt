@@ -7,9 +7,9 @@ use oim_report::Sheet;
 use oim_write::text;
 use std::alloc::{AllocError, Global};
 
-// Where a request for memory is refused, the next one is not: what asked for it is asked again.
+// A call is repeated after a refused request for memory.
 
-/// Whether the base that its text is read as is the same, and writes the same text.
+/// True if the base read from the text equals the base and writes the same text.
 fn comes_back(alloc: Global, base: &Base<'_>) -> Result<bool, AllocError> {
     let first = text(alloc, base)?;
     let back = read_back(alloc, base)?;

@@ -7,7 +7,7 @@ use oim_write::{StdSink, WriteFault, prefixes, write_to};
 use std::alloc::{AllocError, Global};
 use std::test::Fail;
 
-// Where a request for memory is refused, the next one is not: what asked for it is asked again.
+// A call is repeated after a refused request for memory.
 
 /// Two numbers whose rounding intervals touch.
 pub(crate) const TOUCHING: &str =
@@ -17,7 +17,7 @@ pub(crate) const TOUCHING: &str =
 pub(crate) const EVERY_DIMENSION: &str =
     r#"{"documentInfo":{"documentType":"https://xbrl.org/2021/xbrl-json","namespaces":{"eg":"http://example.org/t","x":"http://example.org/u"}},"facts":{"a":{"value":"Blue","dimensions":{"concept":"eg:T","entity":"x:529900:A1","period":"2020-01-01T00:00:00/2020-12-31T24:00:00","language":"en-GB","eg:Reg":"eg:North","eg:Sku":"a b"}}}}"#;
 
-/// The sheet of a text that is accepted.
+/// Reads a sheet that is accepted.
 pub(crate) fn sheet_of(alloc: Global, text: &str) -> Result<Sheet, AllocError> {
     match Sheet::read(alloc, text.as_bytes()) {
         Ok(sheet) => Ok(sheet),
@@ -29,7 +29,7 @@ pub(crate) fn sheet(alloc: Global) -> Result<Sheet, AllocError> {
     sheet_of(alloc, SHEET)
 }
 
-/// The base of one report, which is accepted.
+/// The base of one report that is accepted.
 pub(crate) fn base_of<'s>(
     alloc: Global,
     sheet: &'s Sheet,
@@ -43,8 +43,8 @@ pub(crate) fn base_of<'s>(
     Ok(base)
 }
 
-/// Whether a sink that takes seven bytes, and then does this, holds the first seven, and the fault
-/// says so.
+/// True if a sink that takes seven bytes and then does this holds the first seven, as the fault
+/// says.
 fn takes_seven(alloc: Global, then: Then) -> Result<bool, AllocError> {
     let sheet = sheet(alloc)?;
     let base = Base::new(alloc, &sheet);

@@ -10,15 +10,15 @@ use oim_write::{Encoded, StdSink};
 use std::alloc::{AllocError, Global};
 use std::test::Fail;
 
-// When a request for memory is refused, the next one succeeds: the call is repeated.
+// A call is repeated after a refused request for memory.
 
-/// Identifiers in another order than the facts, and one that JSON escapes.
+/// Identifiers in another order than their facts, and one that JSON escapes.
 const TWO: &str =
     r#""\n":{"value":"102","decimals":0,"dimensions":{"concept":"eg:A"}},"b":{"value":"100","decimals":0,"dimensions":{"concept":"eg:A"}}"#;
 
 const LINES: &[u8] = b"f1 1 \"b\"\nf1 3 \"a\"\nf2 1 \"\\n\"\n";
 
-/// Whether each fact object of the accepted reports has its line, and the other report is refused.
+/// True if each fact object of the accepted reports has its line, and the other report is refused.
 fn are_told(alloc: Global, sheet: &Sheet, reports: &[Encoded]) -> Result<bool, AllocError> {
     let mut sink = StdSink::new(Expecting::just(LINES));
     match source_lines(alloc, sheet, reports, &mut sink) {
@@ -36,7 +36,7 @@ fn tells_each_source(alloc: Global) -> Result<bool, AllocError> {
     are_told(alloc, &sheet, &reports)
 }
 
-/// Whether a sink that takes so many bytes holds exactly these of the lines, and the fault says so.
+/// True if a sink with room for this many bytes holds exactly the first bytes, as the fault says.
 fn holds_front(
     alloc: Global,
     sheet: &Sheet,

@@ -12,14 +12,14 @@ use crate::tests::expecting::Expecting;
 use oim_write::StdSink;
 use std::test::Fail;
 
-// After a refused request for memory the call is made once more. The line on standard error reports
-// it to `tests/refused_memory`.
+// A call is repeated after a refused request for memory. A line on standard error reports it to
+// `tests/refused_memory`.
 
 const LINE: &str = "\n";
 
 const TWO_URIS: &str = r#""n1":"http://example.org/t","n2":"http://example.org/u""#;
 
-/// Whether the bundle is merged to the text; none where memory was refused.
+/// True if the bundle is merged to the text; None if memory was refused.
 fn merges(rt: &HostRuntime, bundle: &[u8], text: &[u8]) -> Option<bool> {
     let mut sink = StdSink::new(Expecting::just(text));
     let accepted = match consolidate_bundle(rt.alloc(), bundle, &mut sink) {
@@ -35,7 +35,7 @@ fn merges(rt: &HostRuntime, bundle: &[u8], text: &[u8]) -> Option<bool> {
     Some(same)
 }
 
-/// Whether these parts of a bundle are merged to these parts of a text.
+/// True if a bundle of these parts is merged to a text of these parts.
 fn gives(rt: &HostRuntime, bundle: &[&str], text: &[&str]) -> Result<bool, Fail> {
     let bundle = joined(rt, bundle)?;
     let text = joined(rt, text)?;
@@ -48,7 +48,7 @@ fn gives(rt: &HostRuntime, bundle: &[&str], text: &[&str]) -> Result<bool, Fail>
     }
 }
 
-/// Whether these facts of one report are written so, by these namespaces.
+/// True if these facts of one report are written as this text, with these namespaces.
 fn writes(rt: &HostRuntime, facts: &str, namespaces: &str, text: &str) -> Result<bool, Fail> {
     let bundle = [SHEET, LINE, INFO, facts, END];
     gives(rt, &bundle, &[HEAD, namespaces, MIDDLE, text, END])

@@ -17,10 +17,10 @@ use oim_write::{Encoded, Sink, StdSink, write_to};
 use std::alloc::{AllocError, Global};
 use std::test::Fail;
 
-// Each call over writers that stop at each place of its text. Where a request for memory is refused,
-// the next one is not: the table is tried again.
+// Each call, over writers that stop at each byte of its text. After a refused request for memory
+// the table is tried again.
 
-/// What writes a text.
+/// The call that writes a text.
 #[derive(Clone, Copy)]
 enum Call<'a, 's> {
     Base(&'a Base<'s>),
@@ -29,12 +29,12 @@ enum Call<'a, 's> {
     Verdicts(&'a Sheet, &'a [Encoded]),
 }
 
-/// How it ended.
+/// The result of a call.
 #[derive(Clone, Copy, PartialEq, Eq)]
 enum Ended {
-    /// With its text, and no report was refused.
+    /// The whole text was written, and no report was refused.
     Whole,
-    /// At a writer that had taken so many bytes.
+    /// The writer failed after this many bytes.
     Device(u64),
     Otherwise,
 }
@@ -56,8 +56,8 @@ fn whole(refusals: &Refusals) -> Ended {
     }
 }
 
-/// Makes the call on a new sink over the writer; returns how it ended, how often the sink failed, and
-/// whether it took the text.
+/// Makes the call on a new sink over the writer. Returns its result, the failures of the sink, and
+/// true if the sink took the text.
 fn called(
     alloc: Global,
     call: Call<'_, '_>,
@@ -80,8 +80,8 @@ fn called(
     Ok((ended, failures, sink.into_inner().is_met()))
 }
 
-/// Whether a writer that takes so many bytes, a step at a time, and then does this, holds exactly
-/// these of the text, and the call says so.
+/// True if a writer of this size, which takes bytes in steps and then does this, holds exactly the
+/// first bytes of the text, and the call says so.
 fn holds_the_front(
     alloc: Global,
     call: Call<'_, '_>,
@@ -152,7 +152,7 @@ fn reports_hold(
     holds_each_front(alloc, call, text)
 }
 
-/// Which call is made.
+/// The call to make.
 #[derive(Clone, Copy)]
 enum Kind {
     Base,
@@ -187,7 +187,7 @@ const APART: Row = (
     33,
 );
 
-/// Whether the call holds each front of the row's text.
+/// True if the call leaves each first part of the row's text in a writer of that size.
 fn holds(rt: &HostRuntime, kind: Kind, row: &Row) -> Result<bool, Fail> {
     let (facts, parts, length) = row;
     let text = joined(rt, parts)?;

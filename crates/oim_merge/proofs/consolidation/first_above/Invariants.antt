@@ -5,7 +5,7 @@ use Rattle.fact_base.specs.Shown.{rows_left, shown}
 use Rattle.oim_merge.specs.Above.{row_is_above}
 use Rattle.oim_merge.proofs.consolidation.first_above.Given as goal
 
--- the rows so far are not above the level, and were counted
+-- the rows so far are counted, and none is above the level
 abbrev pub invariant-loop-row : goal.invariant-loop-row
 invariant-loop-row l = record {
   rows : map shown l.yielded ++ rows_left l.row-iterator ≡ rows_of l.base.body.facts;

@@ -5,7 +5,7 @@ use Rattle.oim_write.proofs.NumberedFacts.{rows_facts}
 use Rattle.oim_merge.specs.Mentions.{lent}
 use Rattle.oim_merge.proofs.fact_list.facts_of.Given as goal
 
--- the facts of the rows so far
+-- the facts of the rows so far are listed
 abbrev pub invariant-loop-row : goal.invariant-loop-row
 invariant-loop-row l = record {
   rows : map shown l.yielded ++ rows_left l.row-iterator ≡ rows_of l.base.body.facts;

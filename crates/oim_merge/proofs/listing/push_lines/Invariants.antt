@@ -5,7 +5,7 @@ use Rattle.oim_write.proofs.NumberedFacts.{rows_facts}
 use Rattle.oim_merge.proofs.LineLists.{HasPassed}
 use Rattle.oim_merge.proofs.listing.push_lines.Given as goal
 
--- the lines of the rows so far passed, and their facts were counted
+-- the lines of the rows so far were pushed, and their facts are counted
 abbrev pub invariant-loop-row : goal.invariant-loop-row
 invariant-loop-row g l = record {
   rows : map shown l.yielded ++ rows_left l.row-iterator ≡ rows_of l.base.body.facts;

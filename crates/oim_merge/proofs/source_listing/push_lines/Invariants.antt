@@ -4,7 +4,7 @@ use Rattle.oim_write.specs.SinkBuffer.{Passes}
 use Rattle.oim_merge.specs.Mentions.{placed_line}
 use Rattle.oim_merge.proofs.source_listing.push_lines.Given as goal
 
--- the lines so far passed
+-- the lines so far were pushed
 abbrev pub invariant-loop-mention : goal.invariant-loop-mention
 invariant-loop-mention g l = record {
   passed : Passes (g.S.Sink.told l.initial.out) (g.S.Sink.told l.out) l.initial.buffer l.buffer

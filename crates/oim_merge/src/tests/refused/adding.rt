@@ -12,8 +12,8 @@ use oim_write::StdSink;
 use std::alloc::AllocError;
 use std::test::Fail;
 
-// Reports that are added one at a time. Where a request for memory is refused, the report is added
-// again: it is counted, and what it says is there, once.
+// Reports that are added one at a time. After a refused request for memory the report is added
+// again. It is then counted once, and its facts are taken once.
 
 /// One of the facts of `THREE_SETS`.
 const ONE_OF_THREE: &str =
@@ -36,7 +36,7 @@ fn add(
     }
 }
 
-/// What is no report, and two that are.
+/// Bytes that are not a report, and two reports.
 fn three<'s>(
     rt: &HostRuntime,
     sheet: &'s Sheet,

@@ -16,7 +16,7 @@ use oim_write::{Encoded, StdSink};
 use std::alloc::AllocError;
 use std::test::Fail;
 
-// The calls that take reports, made again where a request for memory is refused.
+// The calls that take reports. Each is repeated after a refused request for memory.
 
 fn encoded(rt: &HostRuntime, bytes: &[u8]) -> Result<Encoded, AllocError> {
     match Encoded::new(rt.alloc(), bytes) {
@@ -38,7 +38,7 @@ fn room_for_reports(rt: &HostRuntime) -> Result<Vec<Encoded>, AllocError> {
     }
 }
 
-/// What is no report, one that is, and the same again.
+/// Bytes that are not a report, and one report twice.
 fn reports(rt: &HostRuntime, report: &str) -> Result<Vec<Encoded>, AllocError> {
     let mut reports = room_for_reports(rt)?;
     for report in ["", report, report] {
@@ -47,7 +47,7 @@ fn reports(rt: &HostRuntime, report: &str) -> Result<Vec<Encoded>, AllocError> {
     Ok(reports)
 }
 
-/// Whether the first report alone is refused, since it is no JSON.
+/// True if only the first report is refused, since it is not JSON.
 fn tells_first(refused: &Refusals) -> bool {
     match refused.as_slice() {
         [(report, refusal)] => *report == 1 && refusal.reason == Reason::NotJson,
@@ -55,7 +55,7 @@ fn tells_first(refused: &Refusals) -> bool {
     }
 }
 
-/// What a call came to; none where memory was refused.
+/// The result of a call; None if memory was refused.
 pub(crate) fn came_to(
     rt: &HostRuntime,
     answer: Result<Refusals, Fault>,
@@ -106,7 +106,7 @@ fn a_refused_merge_has_its_front_in_the_sink(rt: HostRuntime) -> Result<(), Fail
 pub(crate) const THREE_SETS: &str =
     r#"{"documentInfo":{"documentType":"https://xbrl.org/2021/xbrl-json","namespaces":{"eg":"http://example.org/t"}},"facts":{"a":{"value":"100","decimals":0,"dimensions":{"concept":"eg:A"}},"b":{"value":"101","decimals":0,"dimensions":{"concept":"eg:A"}},"c":{"value":"1","decimals":0,"dimensions":{"concept":"eg:B"}},"d":{"value":"3","decimals":0,"dimensions":{"concept":"eg:B"}},"e":{"value":"Blue","dimensions":{"concept":"eg:T"}}}}"#;
 
-// Memory is wanted for each line, so that a refusal in a later one leaves those before it in the sink.
+// Memory is requested for each line, so a later refusal leaves the earlier lines in the sink.
 pub(crate) const THREE_LINES: &[u8] =
     b"1 f1 f2 consistent common 100.5 100.5\n2 f3 f4 inconsistent apart f3 f4\n3 f5 f5 complete\n";
 
@@ -156,7 +156,7 @@ fn refused_sources_have_their_front_in_the_sink(rt: HostRuntime) -> Result<(), F
     Ok(())
 }
 
-/// A sheet, and behind it what is no report and one twice.
+/// A bundle: a sheet, bytes that are not a report, and one report twice.
 const BUNDLE: [&str; 7] = [SHEET, "\n", "{\n\n", TOUCHING, "\n", TOUCHING, "\n"];
 
 fn consolidates_bundle_once(rt: &HostRuntime, bundle: &[u8], text: &[u8]) -> Option<bool> {

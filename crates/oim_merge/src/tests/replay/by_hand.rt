@@ -15,14 +15,14 @@ use oim_write::{Encoded, text};
 use std::alloc::{AllocError, Global};
 use std::test::Fail;
 
-// The nine events, driven by the calls that read reports, take, join and write.
+// The nine events, run by the calls that read reports, take, join and write.
 
 const THREE: &[&str] = &[HUNDRED, HUNDRED_ONE, ABOVE];
 
 /// One replica takes two reports, the second one first.
 const NEWER_FIRST: &str = "take 1 2\ntake 1 1\n";
 
-/// The base takes a report that is accepted.
+/// Takes a report that is accepted.
 fn take(alloc: Global, base: &mut Base<'_>, report: &[u8]) -> Result<(), AllocError> {
     let Ok(report) = read_report(alloc, base.sheet(), report) else {
         return Err(AllocError);
@@ -30,7 +30,7 @@ fn take(alloc: Global, base: &mut Base<'_>, report: &[u8]) -> Result<(), AllocEr
     base.take(&report)
 }
 
-/// What took these reports.
+/// A base that took these reports.
 fn base_of<'s>(alloc: Global, sheet: &'s Sheet, reports: &[&[u8]]) -> Result<Base<'s>, AllocError> {
     let mut base = Base::new(alloc, sheet);
     for report in reports {
@@ -39,7 +39,7 @@ fn base_of<'s>(alloc: Global, sheet: &'s Sheet, reports: &[&[u8]]) -> Result<Bas
     Ok(base)
 }
 
-/// Whether the replica of this number has what the base has, and writes its text.
+/// True if the replica with this number equals the base and writes its text.
 fn is_alike(
     alloc: Global,
     replayed: &Replayed<'_>,
@@ -53,7 +53,7 @@ fn is_alike(
     Ok(ours.as_bytes() == theirs.as_bytes() && replica.same_as(base))
 }
 
-/// Whether the replica of this number is as one that took these reports.
+/// True if the replica with this number equals a base that took these reports.
 fn took(
     alloc: Global,
     replayed: &Replayed<'_>,
@@ -67,7 +67,8 @@ fn took(
     is_alike(alloc, replayed, number, &base)
 }
 
-/// Whether the replica of this number is as one that took a report and joined one that took others.
+/// True if the replica with this number equals a base that took a report and joined a base of
+/// others.
 fn joined(
     alloc: Global,
     replayed: &Replayed<'_>,
@@ -87,7 +88,7 @@ fn joined(
     is_alike(alloc, replayed, number, &base)
 }
 
-/// Whether this sent text is the text of a base that took these reports.
+/// True if this sent text is the text of a base that took these reports.
 fn was_sent(
     alloc: Global,
     sheet: &Sheet,
@@ -98,7 +99,7 @@ fn was_sent(
     Ok(text(alloc, &base)?.as_bytes() == sent)
 }
 
-/// Whether the nine events left what the calls leave.
+/// True if the nine events have the results of the calls.
 fn are_driven(
     alloc: Global,
     sheet: &Sheet,
@@ -122,12 +123,12 @@ fn are_driven(
     )
 }
 
-/// The two sent texts as a program of before would have written them.
+/// The two sent texts as the earlier form spells them.
 const EARLIER_ONE: &[&str] = &[EARLIER_HEAD, ONE_URI, EARLIER_MIDDLE, WRITTEN_HUNDRED, END];
 
 const EARLIER_BOTH: &[&str] = &[EARLIER_HEAD, ONE_URI, EARLIER_MIDDLE, WRITTEN_BOTH, END];
 
-/// Whether the replicas have what they would have if an earlier program had sent these two texts.
+/// True if the replicas have the same facts when these two texts in the earlier form are sent.
 fn have_the_same(
     alloc: Global,
     replayed: &Replayed<'_>,
@@ -166,7 +167,7 @@ fn earlier_texts_serve(alloc: Global, one: &[u8], two: &[u8]) -> Result<bool, Al
     serve(alloc, &sheet, &reports, one, two)
 }
 
-/// Whether an earlier writer's texts serve; it is asked once more where memory was refused.
+/// True if texts in the earlier form give the same; it is repeated after a refused request.
 fn do_serve(rt: &HostRuntime, one: &[u8], two: &[u8]) -> bool {
     let mut answer = earlier_texts_serve(rt.alloc(), one, two);
     if answer.is_err() {
@@ -197,7 +198,7 @@ fn encoded(alloc: Global, texts: &[&[u8]]) -> Result<Vec<Encoded>, AllocError> {
     Ok(all)
 }
 
-/// What one replica has that takes reports by these lines.
+/// A replica that takes reports by these lines.
 fn taken_by<'s>(
     alloc: Global,
     sheet: &'s Sheet,
@@ -208,7 +209,7 @@ fn taken_by<'s>(
     replay(alloc, sheet, 1, reports, &events)
 }
 
-/// Whether a replica that takes the two sent texts as reports writes the second one.
+/// True if a replica that takes the two sent texts as reports writes the second one.
 fn are_taken(alloc: Global, sheet: &Sheet, replayed: &Replayed<'_>) -> Result<bool, AllocError> {
     let (Some(one), Some(two)) = (replayed.sent(1), replayed.sent(2)) else {
         return Ok(false);
@@ -220,7 +221,7 @@ fn are_taken(alloc: Global, sheet: &Sheet, replayed: &Replayed<'_>) -> Result<bo
     }
 }
 
-/// Whether the one replica writes this text.
+/// True if the only replica writes this text.
 fn writes_text(alloc: Global, replayed: &Replayed<'_>, sent: &[u8]) -> Result<bool, AllocError> {
     match replayed.replica(1) {
         Some(base) => Ok(text(alloc, base)?.as_bytes() == sent),

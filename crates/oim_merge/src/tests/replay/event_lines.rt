@@ -5,9 +5,9 @@ use crate::replay_fault::ReplayFault;
 use crate::tests::asked_again::holds;
 use std::alloc::{AllocError, Global};
 
-/// Bytes, and the first of their lines that is no event.
+/// Bytes, and the number of their first line that is not an event.
 const BAD: &[(&[u8], u64)] = &[
-    // leading zeros, and numbers that are none or too great
+    // leading zeros, missing numbers and too great numbers
     (b"take 01 1", 1),
     (b"take 1 01\n", 1),
     (b"take 0 1\n", 1),
@@ -38,7 +38,7 @@ const BAD: &[(&[u8], u64)] = &[
     (b"send1\n", 1),
     (b"# send 1\n", 1),
     (b"1 send\n", 1),
-    // too few, and too many
+    // too few or too many numbers
     (b"take\n", 1),
     (b"take 1\n", 1),
     (b"take 1 \n", 1),
@@ -52,7 +52,7 @@ const BAD: &[(&[u8], u64)] = &[
     (b"send 1 1\n", 1),
     (b"restart 1 1\n", 1),
     (b"receive 1 1 1\n", 1),
-    // empty lines, and a line end alone
+    // empty lines, and a single line end
     (b"\n", 1),
     (b"\n\n", 1),
     (b"\nsend 1\n", 1),
@@ -63,12 +63,12 @@ const BAD: &[(&[u8], u64)] = &[
     (b"\xff\n", 1),
     (b"send 1\0\n", 1),
     (b"\0", 1),
-    // the first of several
+    // the first of several bad lines
     (b"send 1\nsend 2\nsend 03\nsend", 3),
     (b"send 1\nsend", 2),
 ];
 
-/// Bytes, and the events that their lines are.
+/// Bytes, and the events in their lines.
 const GOOD: &[(&[u8], &[Event])] = &[
     (b"", &[]),
     (b"send 1", &[Event::Send(1)]),
@@ -92,7 +92,7 @@ const GOOD: &[(&[u8], &[Event])] = &[
     ),
 ];
 
-/// Whether each of the bad ones is refused, at its line.
+/// True if each bad file is refused at its line.
 fn are_refused(alloc: Global) -> Result<bool, AllocError> {
     for (bytes, line) in BAD {
         let read = with_memory(read_events(alloc, bytes))?;
@@ -103,7 +103,7 @@ fn are_refused(alloc: Global) -> Result<bool, AllocError> {
     Ok(true)
 }
 
-/// Whether each of the good ones is its events.
+/// True if each good file is read as its events.
 fn are_read(alloc: Global) -> Result<bool, AllocError> {
     for (bytes, expected) in GOOD {
         let read = with_memory(read_events(alloc, bytes))?;

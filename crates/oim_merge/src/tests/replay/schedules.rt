@@ -32,8 +32,8 @@ const ALL_THREE: Parts = &[
 
 const THREE: &[&str] = &[HUNDRED, HUNDRED_ONE, ABOVE];
 
-/// A schedule: the facts of the reports, the lines of the events; and what it leaves: the texts of the
-/// replicas, the sent texts, and the reports of the refused takes.
+/// A schedule and its result. The schedule has the facts of the reports and the lines of the events.
+/// The result has the texts of the replicas, the sent texts, and the reports of the refused takes.
 #[derive(Clone, Copy)]
 struct Schedule {
     reports: &'static [&'static str],
@@ -44,7 +44,7 @@ struct Schedule {
 }
 
 const SCHEDULES: &[Schedule] = &[
-    // what comes twice, and by two ways
+    // reports that arrive twice, and by two routes
     Schedule {
         reports: THREE,
         lines: "take 1 1\nsend 1\ntake 2 2\nreceive 2 1\nreceive 2 1\njoin 1 2\n",
@@ -97,7 +97,7 @@ const SCHEDULES: &[Schedule] = &[
         sent: &[],
         refused: &[],
     },
-    // a replica that joins itself, and takes its own text
+    // a replica joins itself and takes its own text
     Schedule {
         reports: THREE,
         lines: "take 1 1\njoin 1 1\nsend 1\nreceive 1 1\njoin 2 2\n",
@@ -121,7 +121,7 @@ const SCHEDULES: &[Schedule] = &[
         sent: &[ONE, NOTHING],
         refused: &[],
     },
-    // a replica that joins keeps what it had, when the other begins anew
+    // a replica that joined another keeps its facts after the other restarts
     Schedule {
         reports: THREE,
         lines: "take 1 1\ntake 2 2\njoin 2 1\nrestart 1\njoin 1 2\nrestart 2",
@@ -131,7 +131,7 @@ const SCHEDULES: &[Schedule] = &[
     },
 ];
 
-/// Whether the replicas write the texts of the schedule, and there are no others.
+/// True if the replicas write exactly the texts of the schedule.
 fn have_texts(alloc: Global, replayed: &Replayed<'_>, texts: &[Parts]) -> Result<bool, AllocError> {
     for (place, parts) in texts.iter().enumerate() {
         let Some(base) = replayed.replica(place + 1) else {
@@ -148,7 +148,7 @@ fn have_texts(alloc: Global, replayed: &Replayed<'_>, texts: &[Parts]) -> Result
     )
 }
 
-/// Whether these texts were sent, and no others.
+/// True if exactly these texts were sent.
 fn were_sent(replayed: &Replayed<'_>, texts: &[Parts]) -> bool {
     for (place, parts) in texts.iter().enumerate() {
         match replayed.sent(place + 1) {
@@ -159,7 +159,7 @@ fn were_sent(replayed: &Replayed<'_>, texts: &[Parts]) -> bool {
     replayed.sent(0).is_none() && replayed.sent(texts.len() + 1).is_none()
 }
 
-/// Whether just the takes of these reports were refused, in this order, each at its first fact.
+/// True if exactly the takes of these reports were refused, in this order, each at its first fact.
 fn were_refused(replayed: &Replayed<'_>, reports: &[u64]) -> bool {
     let mut left = reports;
     for (report, refusal) in replayed.refused().as_slice() {
@@ -193,7 +193,7 @@ fn all_leave_their_texts(alloc: Global) -> Result<bool, AllocError> {
     Ok(true)
 }
 
-/// What shows the verdict on the first row of a base.
+/// The evidence for the verdict on the first row of a base.
 fn evidence(base: &Base<'_>) -> Option<Evidence> {
     let row = base.rows().next()?;
     base.evidence(row.dimensions)
@@ -209,8 +209,9 @@ fn tells_what_is_apart(alloc: Global) -> Result<bool, AllocError> {
     )
 }
 
-/// How many replicas, the lines of events, and the first that names what is not there. There are
-/// two reports.
+/// The number of replicas, event lines, and the first line that names something that does not
+/// exist.
+/// There are two reports.
 const MISSING: &[(usize, &str, u64)] = &[
     (2, "receive 1 1", 1),
     (2, "take 3 1", 1),

@@ -24,7 +24,7 @@ const ONE: &str = r#""a":{"value":"100","decimals":0,"dimensions":{"concept":"eg
 
 const OTHER: &str = r#""a":{"value":"100","decimals":0,"dimensions":{"concept":"zz:A"}}}}"#;
 
-/// What bundles with that fact alone say, by whatever prefix and how often.
+/// Bundles whose only fact is that one, with any prefix and any repetition.
 const SAME: [&[&str]; 5] = [
     &[SHEET, LINE, INFO, ONE],
     &[SHEET, LINE, OTHER_INFO, OTHER, LINE],
@@ -75,10 +75,10 @@ fn every_dimension_is_written(rt: HostRuntime) -> Result<(), Fail> {
     Ok(())
 }
 
-/// The text after the members of `documentInfo` if there are no facts.
+/// The text after `documentInfo` if there are no facts.
 const NO_FACTS: &str = r#"},"facts":{}}"#;
 
-/// Whether these members of `documentInfo` leave exactly these references.
+/// True if these members of `documentInfo` give exactly these references.
 fn keeps(rt: &HostRuntime, members: &str, references: &str) -> Result<bool, Fail> {
     gives(
         rt,

@@ -10,7 +10,7 @@ use oim_report::{Place, Refusal, Sheet, read_report};
 use std::alloc::{AllocError, Global};
 use std::test::Fail;
 
-// The level that a text declares, and texts of before, which declare none.
+// The level that a text declares, and texts in the earlier form, which declare none.
 
 /// The text before and after the declared level.
 const BEFORE_LEVEL: &str =
@@ -26,7 +26,7 @@ const WITH_NIL: &str =
 const WIDE: &str =
     r#""f1":{"decimals":0,"dimensions":{"concept":"n1:A"},"value":"100"},"f2":{"decimals":0,"dimensions":{"concept":"n1:A"},"value":"102"}"#;
 
-/// The sheet of these texts; where a request is refused it is asked for again.
+/// Reads the sheet of these texts. The call is repeated after a refused request for memory.
 fn sheet_told(rt: &HostRuntime) -> Result<Sheet, Fail> {
     if let Ok(made) = sheet(rt.alloc()) {
         return Ok(made);
@@ -35,7 +35,7 @@ fn sheet_told(rt: &HostRuntime) -> Result<Sheet, Fail> {
     Ok(sheet(rt.alloc())?)
 }
 
-/// Why the text of these facts with this level in place of its own is refused; none where it is not.
+/// The refusal of the text of these facts with another level declared; None if it is accepted.
 fn refusal(
     alloc: Global,
     rt: &HostRuntime,
@@ -66,7 +66,7 @@ const NO_MEMORY: Option<Refusal> = Some(Refusal {
     place: Place::Document,
 });
 
-/// Whether just a level that is below that of the facts is refused, and at the document.
+/// True if the text is refused, at the document, exactly when `refused` is set.
 fn is_held(rt: &HostRuntime, level: &str, facts: &str, refused: bool) -> Result<bool, Fail> {
     let expected = if refused { TOO_LOW } else { None };
     let mut found = refusal(rt.alloc(), rt, level, facts)?;
@@ -120,12 +120,12 @@ fn a_raised_level_is_written_again_as_the_least(rt: HostRuntime) -> Result<(), F
     Ok(())
 }
 
-/// The text of one fact of the value that follows, and what ends it.
+/// The text of one fact before and after its value.
 const ONE_VALUE: &str = r#""f1":{"decimals":0,"dimensions":{"concept":"n1:A"},"value":""#;
 
 const VALUE_END: &str = r#""}}}"#;
 
-/// Whether texts of these two values, which both declare `none`, merge to this text.
+/// True if the texts of these two values, which both declare `none`, merge to this text.
 fn merge_to(rt: &HostRuntime, one: &str, other: &str, text: &[&str]) -> Result<bool, Fail> {
     let bundle = [
         SHEET, LINE, HEAD, ONE_URI, MIDDLE, ONE_VALUE, one, VALUE_END, LINE, HEAD, ONE_URI, MIDDLE,
@@ -158,7 +158,7 @@ fn another_uri_of_the_prefix_is_no_fault(rt: HostRuntime) -> Result<(), Fail> {
     Ok(())
 }
 
-/// A text of before, its length, what it is written as, and the length of that.
+/// A text in the earlier form and its length, and its text in the present form and that length.
 type Earlier = (
     &'static [&'static str],
     usize,
@@ -191,7 +191,7 @@ fn length(rt: &HostRuntime, parts: &[&str]) -> Result<usize, AllocError> {
     Ok(joined(rt, parts)?.len())
 }
 
-/// Whether the earlier text is read, and written as one of today.
+/// True if the earlier text is read and written in the present form.
 fn is_renewed(rt: &HostRuntime, earlier: &[&str], text: &[&str]) -> Result<bool, Fail> {
     let earlier = joined(rt, earlier)?;
     match std::str::from_utf8(&earlier) {

@@ -3,7 +3,7 @@ use crate::tests::asked_again::OPEN_INFO;
 use crate::tests::canonical_parts::{END, HEAD, MIDDLE};
 use std::test::Fail;
 
-// Prefixes are numbered by the bytes of their URIs, whatever comes first.
+// Prefixes are numbered by the bytes of their URIs, not by first use.
 
 #[test]
 fn prefixes_follow_the_bytes_of_uris(rt: HostRuntime) -> Result<(), Fail> {
@@ -26,7 +26,7 @@ fn prefixes_follow_the_bytes_of_uris(rt: HostRuntime) -> Result<(), Fail> {
     Ok(())
 }
 
-// One fact uses all URIs: that of its concept, and those of its measures.
+// One fact uses all URIs: in its concept and in its measures.
 
 const BOUND: &str = r#","namespaces":{"eg":"http://example.org/t","#;
 
@@ -83,7 +83,7 @@ fn ten_prefixes_have_two_digits(rt: HostRuntime) -> Result<(), Fail> {
     Ok(())
 }
 
-/// A fact whose unit has a name in each of 99 namespaces, beside the namespace of its concept.
+/// A fact whose unit has one name in each of 99 namespaces, besides the namespace of its concept.
 const NINETY_NINE: &[&str] = &[
     SHEET,
     LINE,
