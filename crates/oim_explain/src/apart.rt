@@ -7,7 +7,7 @@ use serde_json::{Map, Value};
 use std::alloc::{AllocError, Global};
 
 /// Finds two facts with the same dimensions that the report's declared level does not allow, and
-/// returns their places, from 0. The report is accepted otherwise.
+/// returns their indices, from 0. The report must be acceptable otherwise.
 ///
 /// Errors: out of memory.
 pub(crate) fn two_apart(
@@ -25,7 +25,7 @@ pub(crate) fn two_apart(
     }
 }
 
-/// The level that is declared.
+/// The declared level.
 fn declared(tree: &Value) -> Level {
     let Some(features) = info(tree, "features").and_then(Value::as_object) else {
         return Level::All;
@@ -43,7 +43,7 @@ fn declaration<'t>(tree: &Value, features: &'t Map<String, Value>) -> Option<&'t
     None
 }
 
-/// The level that the text names, or else the one that allows all duplicates.
+/// The level with this name, or the level that allows all duplicates.
 fn level_of(value: Option<&Value>) -> Level {
     value
         .and_then(Value::as_str)
@@ -51,7 +51,7 @@ fn level_of(value: Option<&Value>) -> Level {
         .unwrap_or(Level::All)
 }
 
-/// Without its features a report allows all duplicates.
+/// Removes the features; a report without them allows all duplicates.
 fn drop_features(tree: &mut Value) {
     if let Some(info) = tree.get_mut("documentInfo") {
         if let Some(members) = info.as_object_mut() {
@@ -60,7 +60,8 @@ fn drop_features(tree: &mut Value) {
     }
 }
 
-/// The first fact in order that the level does not allow beside an earlier one, and that one.
+/// The first fact in order that the level does not allow beside an earlier one, and that earlier
+/// one.
 fn first_apart(facts: &[Fact], order: &[usize], level: Level) -> Option<(usize, usize)> {
     let mut group: Option<Group<'_>> = None;
     for place in order {
@@ -78,7 +79,7 @@ fn first_apart(facts: &[Fact], order: &[usize], level: Level) -> Option<(usize, 
     None
 }
 
-/// Two facts with the same dimensions and their places: the one whose interval ends first, and the
+/// Two facts with the same dimensions and their indices: the one whose interval ends first, and the
 /// one whose interval begins last.
 #[derive(Clone, Copy)]
 struct Group<'f> {
@@ -94,7 +95,7 @@ impl<'f> Group<'f> {
         }
     }
 
-    /// The place of an earlier fact that the level does not allow beside this one.
+    /// The index of an earlier fact that the level does not allow beside this one.
     fn apart_from(&self, fact: &Fact, level: Level) -> Option<usize> {
         if !allows(level, self.lowest.1, fact) {
             Some(self.lowest.0)
@@ -135,7 +136,7 @@ fn high(fact: &Fact) -> Option<i128> {
     }
 }
 
-/// Whether a level allows two facts with the same dimensions.
+/// True if a level allows two facts with the same dimensions.
 fn allows(level: Level, fact: &Fact, other: &Fact) -> bool {
     match level {
         Level::Unique => false,

@@ -1,17 +1,18 @@
 use std::fmt;
 
-/// How many characters of a text at fault are shown.
+/// The most characters of a text that are shown.
 const MOST_CHARACTERS: usize = 80;
 
-/// A text that is safe to print on a terminal. Control characters, and those that are hidden, turn
-/// the direction or end the line, are written as JSON escapes: a prefix behind a byte order mark
-/// would otherwise look bound, and a file's name could imitate a line.
+/// A text that is safe to print on a terminal. Control characters, invisible characters, and those
+/// that end the line or change its direction are written as JSON escapes. Otherwise a prefix after
+/// a
+/// byte order mark would look bound, and the name of a file could imitate a line.
 #[derive(Clone, Copy)]
 pub struct Escaped<'t>(pub &'t str);
 
 impl fmt::Display for Escaped<'_> {
     fn fmt<W: fmt::Write>(&self, f: &mut fmt::Formatter<W>) -> fmt::Result {
-        // the text between two escapes is written at once, so an ordinary text in one piece
+        // the text between two escapes is written at once, so a plain text in one piece
         let mut from = 0;
         for (place, character) in self.0.char_indices() {
             if !is_shown(character) {
@@ -24,7 +25,7 @@ impl fmt::Display for Escaped<'_> {
     }
 }
 
-/// Writes a character as one JSON escape of 16 bits, or two.
+/// Writes a character as one or two JSON escapes of 16 bits.
 fn write_escape<W: fmt::Write>(f: &mut fmt::Formatter<W>, character: char) -> fmt::Result {
     let number = character as u32;
     if number < 0x1_0000 {
@@ -56,7 +57,7 @@ fn is_shown(character: char) -> bool {
         )
 }
 
-/// The first `MOST_CHARACTERS` characters of a text, or all of a shorter one.
+/// The first `MOST_CHARACTERS` characters of a text, or a shorter text as it is.
 pub(crate) fn front_of(text: &str) -> &str {
     for (count, (place, _)) in text.char_indices().enumerate() {
         if count >= MOST_CHARACTERS {

@@ -14,12 +14,12 @@ use oim_report::{Place, Refusal, Sheet, faults};
 use serde_json::{Error, Value};
 use std::alloc::{AllocError, Global};
 
-/// The lines of what is wrong with a report, read under a sheet: each fault that `faults` of
-/// `oim_report` tells, in its order, and then each member that stands twice in an object (RFC 8259,
-/// section 4), of which only the last one is read. A text begins with the name of the file, and shows
-/// 80 characters of a text in it. No character of a line turns or ends a terminal's line.
+/// Returns one line for each fault of a report that is read under a sheet. The faults that `faults`
+/// of `oim_report` finds come first, in its order. Then come members that are repeated in an object,
+/// of which only the last is read (RFC 8259, section 4). A line begins with the name of the file,
+/// shows at most 80 characters of a text, and contains nothing that changes a terminal.
 ///
-/// A file that is not JSON has one line, on that fault.
+/// If a file is not JSON, that is its only line.
 ///
 /// Errors: out of memory.
 pub fn explain(
@@ -39,8 +39,8 @@ pub fn explain(
     Ok(lines.explained())
 }
 
-/// Whether the file is not JSON. Then no member of it is read, although `json`, which accepts numbers of
-/// any size, may find repeated ones.
+/// True if the file is not JSON. Its repeated members are then not listed, although `json`, which
+/// accepts numbers of any size, may find some.
 fn is_unread(found: &[Refusal]) -> bool {
     matches!(
         found.first(),
@@ -67,7 +67,7 @@ fn push_faults(
     }
 }
 
-/// What `serde_json` says of a file that is no JSON text.
+/// The message of `serde_json` for a file that is not JSON.
 ///
 /// Errors: out of memory.
 pub(crate) fn words_of(alloc: Global, error: &Error) -> Result<String, AllocError> {
@@ -75,12 +75,12 @@ pub(crate) fn words_of(alloc: Global, error: &Error) -> Result<String, AllocErro
     format!(in alloc; "{}", Escaped(words.as_str()))
 }
 
-/// The fault of a file that is no JSON text for the reason that these words tell.
+/// The fault of a file that is not JSON, with the message of `serde_json`.
 pub(crate) fn unread<'w>(words: &'w str, bytes: &[u8]) -> Finding<'w> {
     Finding::of_document(Reason::NotJson, Found::Words(words)).with_kind(kind_of_bytes(bytes))
 }
 
-/// The bytes behind a byte order mark.
+/// The bytes after a byte order mark.
 pub(crate) fn without_mark(bytes: &[u8]) -> &[u8] {
     match bytes.strip_prefix(b"\xef\xbb\xbf") {
         Some(rest) => rest,
@@ -151,7 +151,7 @@ fn push_of_facts(
     Ok(())
 }
 
-/// The line of two facts that the declared level does not allow.
+/// Adds the line for two facts that the declared level does not allow.
 fn push_apart(lines: &mut Lines<'_>, sheet: &Sheet, tree: &mut Value) -> Result<(), AllocError> {
     let two = two_apart(lines.alloc, sheet, tree)?;
     let facts = facts_of(lines.alloc, tree)?;
@@ -159,7 +159,7 @@ fn push_apart(lines: &mut Lines<'_>, sheet: &Sheet, tree: &mut Value) -> Result<
     lines.push(&Finding::of_document(Reason::DisallowedDuplicates, found))
 }
 
-/// The identifiers at two places.
+/// The identifiers at two indices.
 fn two_of<'a>(
     facts: &[(&'a str, &'a Value)],
     two: Option<(usize, usize)>,
@@ -168,7 +168,7 @@ fn two_of<'a>(
     Some((facts.get(one)?.0, facts.get(other)?.0))
 }
 
-/// The facts, in byte order of their identifiers.
+/// The facts in byte order of their identifiers.
 fn facts_of(alloc: Global, tree: &Value) -> Result<Vec<(&str, &Value)>, AllocError> {
     let mut facts = Vec::new(alloc);
     if let Some(members) = tree.get("facts").and_then(Value::as_object) {

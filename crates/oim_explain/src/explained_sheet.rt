@@ -10,8 +10,9 @@ use oim_names::Reason;
 use serde_json::Value;
 use std::alloc::{AllocError, Global};
 
-/// The line of why a sheet is refused, read from the file of this name: with what is at fault, and
-/// with what the file is where its first bytes or members show it (own).
+/// Returns the line that says why a sheet is refused. It shows the text at fault, and says what
+/// kind
+/// of file it is if the first bytes or members show that (own).
 ///
 /// Errors: out of memory.
 pub fn explain_sheet(
@@ -35,8 +36,8 @@ fn sentence_of_sheet(alloc: Global, tree: &Value, reason: Reason) -> Result<Stri
         .sentence(alloc)
 }
 
-/// The lines of members that stand twice in an object of a sheet: of these only the last one is
-/// read (own).
+/// Returns one line for each member that is repeated in an object of a sheet. Only the last such
+/// member is read (own).
 ///
 /// Errors: out of memory.
 pub fn explain_repeated(

@@ -3,7 +3,7 @@ use serde_json::Value;
 
 const UTF_16: [&[u8]; 6] = [b"\xfe\xff", b"\xff\xfe", b"{\0", b"\0{", b"<\0", b"\0<"];
 
-/// What a file that is not JSON seems to be, by its first bytes.
+/// Guesses the kind of a file that is not JSON from its first bytes.
 pub(crate) fn kind_of_bytes(bytes: &[u8]) -> Option<&'static str> {
     if bytes.starts_with(b"\x1f\x8b") {
         return Some("a gzip file: unpack it first");
@@ -17,7 +17,7 @@ pub(crate) fn kind_of_bytes(bytes: &[u8]) -> Option<&'static str> {
     kind_of_text(text_of(bytes))
 }
 
-/// Whether the first bytes are a byte order mark of UTF-16, or JSON or XML in it without one.
+/// True for a byte order mark of UTF-16, and for JSON or XML in UTF-16 without one.
 fn is_utf16(bytes: &[u8]) -> bool {
     for start in UTF_16 {
         if bytes.starts_with(start) {
@@ -27,7 +27,7 @@ fn is_utf16(bytes: &[u8]) -> bool {
     false
 }
 
-/// The text of the first bytes, after byte order marks and white space, as far as it is UTF-8.
+/// The longest first part that is UTF-8, after byte order marks and white space.
 fn text_of(bytes: &[u8]) -> &str {
     match bytes.utf8_chunks().next() {
         Some(chunk) => chunk.valid().trim_start_matches('\u{feff}').trim_start(),
@@ -53,7 +53,7 @@ fn kind_of_text(text: &str) -> Option<&'static str> {
     }
 }
 
-/// Whether a line belongs to a table: it has a separator, but no braces and colons as in JSON, and
+/// True if a line belongs to a table: it has a separator, but no braces and colons as in JSON, and
 /// no white space after its separators as in prose.
 fn is_row(line: &str) -> bool {
     line.contains([',', ';', '\t'])
@@ -64,7 +64,7 @@ fn is_row(line: &str) -> bool {
         && !line.contains("; ")
 }
 
-/// What a JSON file that is not a report seems to be.
+/// Guesses the kind of a JSON file that is not a report.
 pub(crate) fn kind_of_tree(tree: &Value) -> Option<&'static str> {
     if is_csv(tree) {
         Some("the metadata of an xBRL-CSV report: another program has to write it as xBRL-JSON")
@@ -83,7 +83,7 @@ fn is_csv(tree: &Value) -> bool {
     of_csv || tree.get("tableTemplates").is_some()
 }
 
-/// What a file that is given as a sheet, and is none, seems to be.
+/// Guesses the kind of a file that was given as a sheet but is not one.
 pub(crate) fn kind_of_sheet(tree: &Value) -> Option<&'static str> {
     if is_csv(tree) {
         Some("the metadata of an xBRL-CSV report, and no concept sheet")

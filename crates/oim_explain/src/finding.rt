@@ -2,20 +2,20 @@ use super::found::Found;
 use oim_names::Reason;
 use std::alloc::{AllocError, Global};
 
-/// A refusal of a file, with what is shown of it.
+/// A refusal of a file, with the text to show.
 #[derive(Clone, Copy)]
 pub(crate) struct Finding<'a> {
-    /// The number and the identifier of the fact that is refused; None for the document.
+    /// The number and the identifier of the refused fact; None for the document.
     pub fact: Option<(u64, &'a str)>,
     pub reason: Reason,
-    /// What is at fault.
+    /// The part at fault.
     pub found: Found<'a>,
-    /// What the file seems to be.
+    /// The kind of file, if it could be guessed.
     pub kind: Option<&'static str>,
 }
 
 impl<'a> Finding<'a> {
-    /// A refusal of a document.
+    /// A refusal of the document.
     pub(crate) fn of_document(reason: Reason, found: Found<'a>) -> Finding<'a> {
         Finding {
             fact: None,
@@ -25,7 +25,7 @@ impl<'a> Finding<'a> {
         }
     }
 
-    /// With what the file seems to be.
+    /// Adds the kind of file.
     pub(crate) fn with_kind(self, kind: Option<&'static str>) -> Finding<'a> {
         Finding { kind, ..self }
     }

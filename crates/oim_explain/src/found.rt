@@ -4,31 +4,31 @@ use oim_names::Reason;
 use serde_json::{Map, Value};
 use std::alloc::{AllocError, Global};
 
-/// What is at fault.
+/// The part at fault.
 #[derive(Clone, Copy)]
 pub(crate) enum Found<'a> {
-    /// Nothing that can be shown.
+    /// Nothing can be shown.
     Nothing,
-    /// What these words tell.
+    /// A message.
     Words(&'a str),
-    /// The member of this key, with what is wrong with it.
+    /// The member with this key, and what is wrong with it.
     Quoted(&'static str, &'static str),
-    /// This text.
+    /// A text.
     Text(&'a str),
-    /// This text in the place that these words tell.
+    /// A text, and the place in which it was found.
     Within(&'a str, &'static str),
-    /// This text of an entity.
+    /// The text of an entity.
     Entity(&'a str),
-    /// These two texts.
+    /// Two texts.
     Pair(&'a str, &'a str),
-    /// This value.
+    /// A value.
     Value(&'a Value),
-    /// The member of this key.
+    /// The member with this key.
     Member(&'a str, &'a Value),
 }
 
 impl<'a> Found<'a> {
-    /// A value, where it is there.
+    /// A value, if there is one.
     pub(crate) fn of(value: Option<&'a Value>) -> Found<'a> {
         match value {
             Some(value) => Found::Value(value),
@@ -36,7 +36,7 @@ impl<'a> Found<'a> {
         }
     }
 
-    /// A text, where it is there.
+    /// A text, if there is one.
     pub(crate) fn of_text(text: Option<&'a str>) -> Found<'a> {
         match text {
             Some(text) => Found::Text(text),
@@ -44,7 +44,7 @@ impl<'a> Found<'a> {
         }
     }
 
-    /// Two texts, where they are there.
+    /// Two texts, if there are any.
     pub(crate) fn of_two(two: Option<(&'a str, &'a str)>) -> Found<'a> {
         match two {
             Some((one, other)) => Found::Pair(one, other),
@@ -52,7 +52,7 @@ impl<'a> Found<'a> {
         }
     }
 
-    /// What is said of it.
+    /// The sentence about this part.
     fn said(self, reason: Reason) -> Sentence {
         match self {
             Found::Entity(_) => of_entity(reason),
@@ -61,7 +61,7 @@ impl<'a> Found<'a> {
         }
     }
 
-    /// Appends what is said of it, with what is at fault.
+    /// Appends the sentence with the part at fault.
     ///
     /// Errors: out of memory.
     pub(crate) fn push_said(
@@ -81,7 +81,7 @@ impl<'a> Found<'a> {
         }
     }
 
-    /// Appends it as JSON, cut.
+    /// Appends the part as JSON, cut.
     fn push_to(self, alloc: Global, line: &mut String) -> Result<(), AllocError> {
         match self {
             Found::Nothing => Ok(()),
@@ -107,7 +107,7 @@ impl<'a> Found<'a> {
     }
 }
 
-/// Appends a text as JSON. Of a long one it is the first characters, with no quote behind them.
+/// Appends a text as JSON. A long text is cut after its first characters and has no closing quote.
 ///
 /// Errors: out of memory.
 pub(crate) fn push_text(alloc: Global, line: &mut String, text: &str) -> Result<(), AllocError> {
@@ -134,7 +134,7 @@ fn push_json(line: &mut String, json: &str) -> Result<(), AllocError> {
     write!(line, "{}{end}", Escaped(front))
 }
 
-/// The first key that is none of these and has no colon.
+/// The first unknown key without a colon.
 pub(crate) fn unknown_key<'a>(
     members: Option<&'a Map<String, Value>>,
     known: &[&str],
@@ -148,7 +148,7 @@ pub(crate) fn unknown_key<'a>(
     None
 }
 
-/// Whether a text is one of these.
+/// True if the text is in the list.
 pub(crate) fn is_one_of(key: &str, known: &[&str]) -> bool {
     for name in known {
         if *name == key {

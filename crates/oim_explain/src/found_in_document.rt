@@ -25,7 +25,7 @@ pub(crate) fn info<'a>(tree: &'a Value, key: &str) -> Option<&'a Value> {
     tree.get(INFO)?.get(key)
 }
 
-/// What is at fault in a document, apart from its facts.
+/// Finds the part at fault in a document, apart from its facts.
 ///
 /// Errors: out of memory.
 pub(crate) fn found_in_document(
@@ -66,7 +66,7 @@ fn misshapen(tree: &Value) -> &'static str {
     "\"taxonomy\" is no array"
 }
 
-/// Whether there is a value that is not an object.
+/// True for a value that is not an object.
 pub(crate) fn is_no_object(value: Option<&Value>) -> bool {
     match value {
         Some(value) => !value.is_object(),
@@ -84,7 +84,7 @@ fn unknown(tree: &Value) -> Found<'_> {
     }
 }
 
-/// The first entry of `namespaces` that binds nothing.
+/// The first entry of `namespaces` that binds no prefix.
 pub(crate) fn unbound(entries: Option<&Map<String, Value>>) -> Found<'_> {
     let Some(entries) = entries else {
         return Found::Nothing;
@@ -112,7 +112,8 @@ fn is_uri(value: &Value) -> bool {
     }
 }
 
-/// The first declaration that names no level; else all features, since two of them declare one.
+/// The first declaration that names no level. If there is none, all features: two of them declare a
+/// level.
 fn misdeclared(tree: &Value) -> Found<'_> {
     let features = info(tree, "features");
     if let Some(entries) = features.and_then(Value::as_object) {
@@ -129,7 +130,7 @@ fn is_level(value: &Value) -> bool {
     value.as_str().and_then(Level::read).is_some()
 }
 
-/// Whether a feature with this key declares the level of duplicates.
+/// True if a feature with this key declares the level of duplicates.
 pub(crate) fn is_declaration(tree: &Value, key: &str) -> bool {
     match key.split_once(':') {
         Some((prefix, local)) => local == "allowedDuplicates"

@@ -5,14 +5,14 @@ use oim_report::{Part, Sheet, fact_part};
 use serde_json::Value;
 use std::alloc::{AllocError, Global};
 
-/// What the names of a report stand for.
+/// The tables that resolve the names in a report.
 #[derive(Clone, Copy)]
 pub(crate) struct Names<'n> {
     pub sheet: &'n Sheet,
     pub aliases: &'n Aliases,
 }
 
-/// What is at fault in a fact object.
+/// Finds the part at fault in a fact object.
 ///
 /// Errors: out of memory.
 pub(crate) fn found_in_fact<'a>(
@@ -39,14 +39,14 @@ fn found_as<'a>(aliases: &Aliases, part: Part<'a>, reason: Reason) -> Found<'a> 
         Part::DimensionKey(key) => Found::Within(key, "\"dimensions\""),
         Part::Entity(text) => Found::Entity(text),
         Part::Piece(unit) => Found::of_text(found_in_unit(aliases, unit, reason)),
-        // A number that is not whole, as it was read, would be shown otherwise than it stands in the file.
+        // Decimal fractions would be printed differently than they are spelled in the file.
         Part::Value(value) if value.is_f64() && reason >= Reason::ValueForm => Found::Nothing,
         Part::Value(value) => Found::Value(value),
         Part::Member(key, value) => Found::Member(key, value),
     }
 }
 
-/// The first piece of a unit that is no name for this reason.
+/// The first piece of a unit that is not a name for this reason.
 fn found_in_unit<'a>(aliases: &Aliases, unit: &'a str, reason: Reason) -> Option<&'a str> {
     for piece in unit.split(['*', '/', '(', ')']) {
         if !piece.is_empty() && aliases.name_refusal(piece) == Some(reason) {
@@ -56,7 +56,7 @@ fn found_in_unit<'a>(aliases: &Aliases, unit: &'a str, reason: Reason) -> Option
     None
 }
 
-/// Two keys of one dimension.
+/// Two keys for one dimension.
 fn two_keys<'a>(
     alloc: Global,
     aliases: &Aliases,
@@ -67,7 +67,7 @@ fn two_keys<'a>(
     };
     let mut keys: Vec<(&'a str, &'a str)> = Vec::new(alloc);
     for (key, _value) in members.iter() {
-        // no two keys are the same, so that each may stand for its kind
+        // all keys differ, so each can serve as its own kind
         keys.push((key.as_str(), key.as_str()))?;
     }
     Ok(Found::of_two(two_of_one_name(alloc, aliases, keys.as_slice())?))

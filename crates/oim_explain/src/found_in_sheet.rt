@@ -9,7 +9,7 @@ const CONCEPTS: &str = "concepts";
 
 const DIMENSIONS: &str = "dimensions";
 
-/// What is at fault in a concept sheet.
+/// Finds the part at fault in a concept sheet.
 ///
 /// Errors: out of memory.
 pub(crate) fn found_in_sheet(
@@ -54,7 +54,7 @@ fn listed<'t>(tree: &'t Value, part: &str) -> Option<&'t Map<String, Value>> {
     tree.get(part)?.as_object()
 }
 
-/// The first concept, or else the first dimension, whose key is not a name for this reason.
+/// The first concept whose key is not a name for this reason, or else the first such dimension.
 fn refused_name<'t>(aliases: &Aliases, tree: &'t Value, reason: Reason) -> Option<&'t str> {
     let of_concepts = first_refused(aliases, listed(tree, CONCEPTS), reason);
     if of_concepts.is_some() {
@@ -76,7 +76,7 @@ fn first_refused<'t>(
     None
 }
 
-/// The first entry without a valid kind; else two entries of one name with two kinds.
+/// The first entry without a valid kind; else two entries for one name with different kinds.
 fn found_kind(alloc: Global, tree: &Value) -> Result<Found<'_>, AllocError> {
     let (concepts, dimensions) = (listed(tree, CONCEPTS), listed(tree, DIMENSIONS));
     if let Some((key, value)) = first_unkind(concepts, &["numeric", "text", "name"]) {
@@ -92,7 +92,7 @@ fn found_kind(alloc: Global, tree: &Value) -> Result<Found<'_>, AllocError> {
     }
 }
 
-/// The first entry whose value is not one of these.
+/// The first entry whose value is not in the list.
 fn first_unkind<'t>(
     members: Option<&'t Map<String, Value>>,
     kinds: &[&str],
@@ -105,7 +105,7 @@ fn first_unkind<'t>(
     None
 }
 
-/// Two keys of one name with two kinds.
+/// Two keys for one name with different kinds.
 fn two_kinds<'t>(
     alloc: Global,
     aliases: &Aliases,

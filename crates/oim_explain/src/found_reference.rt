@@ -4,10 +4,10 @@ use serde_json::Value;
 use std::alloc::{AllocError, Global};
 use url::{ParseError, ParseResult, Url};
 
-/// How many bytes a reference may have.
+/// The most bytes in a reference.
 const MOST_BYTES: usize = 65_536;
 
-/// The first reference of `taxonomy` that cannot be kept.
+/// The first reference in `taxonomy` that is refused.
 ///
 /// Errors: out of memory.
 pub(crate) fn lost_reference(alloc: Global, tree: &Value) -> Result<Found<'_>, AllocError> {
@@ -22,7 +22,7 @@ pub(crate) fn lost_reference(alloc: Global, tree: &Value) -> Result<Found<'_>, A
     Ok(Found::Nothing)
 }
 
-/// The URL that references are resolved against, if the report has one that is accepted.
+/// The URL against which references are resolved, if the report has a valid one.
 fn base_of(alloc: Global, tree: &Value) -> Result<Option<Url>, AllocError> {
     match info(tree, "baseURL").and_then(Value::as_str) {
         Some(text) if text.len() <= MOST_BYTES => {
@@ -45,7 +45,8 @@ fn is_web(url: &Url) -> bool {
     matches!(url.scheme(), "http" | "https")
 }
 
-/// Whether a reference is kept, within the limit: as a URL by itself, as a web address resolved
+/// True if a reference is accepted, within the limit: as a URL of its own, as a web address
+/// resolved
 /// against the base, or as spelled if there is no base.
 fn is_kept(alloc: Global, base: Option<&Url>, reference: &Value) -> Result<bool, AllocError> {
     let Some(text) = reference.as_str() else {

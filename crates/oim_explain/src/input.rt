@@ -7,10 +7,10 @@ pub enum Format {
     Json,
 }
 
-/// A file that is explained.
+/// A file to explain.
 #[derive(Clone, Copy)]
 pub struct Input<'n> {
-    /// The number of the report, from 1. The sheet has none.
+    /// The number of the report, from 1; None for a sheet.
     pub report: Option<u64>,
     /// The name of the file.
     pub name: &'n str,

@@ -1,10 +1,9 @@
-//! Sentences about all faults of a report or a sheet, with the text at fault. This crate judges
-//! nothing: `oim_report` finds the faults.
+//! Sentences about all faults of a report or a sheet, with the text at fault. This crate finds no
+//! faults itself; `oim_report` does.
 //!
-//! A sentence may change; the numbers, the names and their order may not. Of a text at most 80
-//! characters are shown, counted before they are escaped, so that no escape is cut in two.
-//! Identifiers are cut too: each begins the lines of its fact, so a short file could print
-//! gigabytes.
+//! Sentences may change between versions; numbers, names and their order may not. At most 80
+//! characters of a text are shown, counted before escaping, so no escape is cut in two. Identifiers
+//! are cut too: each is repeated in all lines for its fact, so a short file could print gigabytes.
 #![tactic(auto)]
 
 mod apart;

@@ -6,14 +6,14 @@ use super::object::Object;
 use oim_report::Place;
 use std::alloc::{AllocError, Global};
 
-/// What is printed of the faults of a file, each with its line end, and how many they are (own).
+/// The printed faults of a file, each with its line end, and their count (own).
 #[derive(Drop)]
 pub struct Explained {
     pub text: String,
     pub faults: u64,
 }
 
-/// The lines of a file's faults while they are found.
+/// Collects the lines for a file's faults.
 #[derive(Drop)]
 pub(crate) struct Lines<'n> {
     pub alloc: Global,
@@ -76,7 +76,7 @@ impl<'n> Lines<'n> {
         object.push_to(self.alloc, &mut self.text, &self.input)
     }
 
-    /// Adds a member that stands twice, of which only the last one is read.
+    /// Adds a repeated member. Only the last of them is read.
     ///
     /// Errors: out of memory.
     pub(crate) fn push_repeated(&mut self, key: &str, sentence: &str) -> Result<(), AllocError> {
@@ -84,7 +84,7 @@ impl<'n> Lines<'n> {
         if let Format::Text = self.input.format {
             return write!(self.text, "{}: {sentence}\n", Escaped(self.input.name));
         }
-        // the identifier of its fact would be printed once for each of many members
+        // a fact may have many repeated members, and each line would repeat its identifier
         let object = Object {
             place: None,
             reason: None,

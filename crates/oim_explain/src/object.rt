@@ -7,7 +7,7 @@ use oim_report::Place;
 use serde_json::Value;
 use std::alloc::{AllocError, Global};
 
-/// A fault as a JSON object. A member that stands twice is no refusal, and has the last two alone.
+/// A fault as a JSON object. A repeated member is not a refusal and has only the last two members.
 #[derive(Clone, Copy)]
 pub(crate) struct Object<'f, 's> {
     pub place: Option<Place>,
@@ -18,7 +18,8 @@ pub(crate) struct Object<'f, 's> {
 }
 
 impl Object<'_, '_> {
-    /// Appends the object on a line. What a terminal does not show is escaped, as in a text.
+    /// Appends the object on a line. Characters that a terminal does not show are escaped, as in a
+    /// text.
     ///
     /// Errors: out of memory.
     pub(crate) fn push_to(
@@ -63,7 +64,7 @@ fn put_text(writer: &mut Writer, key: &str, text: Option<&str>) -> Result<(), Al
     }
 }
 
-/// Puts a place in the words of the other commands.
+/// Writes a place in the words that the other commands use.
 fn put_place(alloc: Global, writer: &mut Writer, place: Option<Place>) -> Result<(), AllocError> {
     match place {
         Some(Place::Document) => writer.string("document"),
@@ -72,7 +73,7 @@ fn put_place(alloc: Global, writer: &mut Writer, place: Option<Place>) -> Result
     }
 }
 
-/// Puts what is at fault, whole: a text, a value, a member, or an array of two texts.
+/// Writes the part at fault in full: a text, a value, a member, or an array of two texts.
 fn put_part(alloc: Global, writer: &mut Writer, part: Found<'_>) -> Result<(), AllocError> {
     match part {
         Found::Nothing | Found::Words(_) | Found::Quoted(_, _) => writer.null(),
@@ -93,7 +94,7 @@ fn put_part(alloc: Global, writer: &mut Writer, part: Found<'_>) -> Result<(), A
     }
 }
 
-/// Puts a value of `serde_json`, read again, since `json` writes its own values alone.
+/// Writes a value of `serde_json`. It is parsed again, since `json` writes only its own values.
 fn put_value(alloc: Global, writer: &mut Writer, value: &Value) -> Result<(), AllocError> {
     let text = value.to_string(alloc)?;
     let mut scratch = Scratch::new(alloc);

@@ -4,14 +4,14 @@ use super::lines::Lines;
 use json::{Error, Scratch, Value};
 use std::alloc::{AllocError, Global};
 
-/// What a file is read as.
+/// The kind of document that a file is read as.
 #[derive(Clone, Copy)]
 pub(crate) enum Role {
     Report,
     Sheet,
 }
 
-/// Adds the members that stand twice in what is read of a file. A file that is no JSON text has none.
+/// Adds the repeated members in the parts that are read. A file that is not JSON has none.
 ///
 /// Errors: out of memory.
 pub(crate) fn push_repeated(
@@ -65,8 +65,9 @@ fn push_facts(lines: &mut Lines<'_>, facts: &Value<'_>) -> Result<(), AllocError
     Ok(())
 }
 
-/// Adds the members of an object that stand twice, in this fact or in the document. The object's
-/// place follows in their lines.
+/// Adds the repeated members of an object, in this fact or in the document. Their lines end with
+/// the
+/// place of the object.
 fn push_of(
     lines: &mut Lines<'_>,
     fact: Option<&str>,
@@ -88,7 +89,7 @@ fn push_of(
     Ok(())
 }
 
-/// Adds a member that stands twice, with what stands before and behind it in its sentence.
+/// Adds a repeated member, with the words before and after it in its sentence.
 fn push_member(
     lines: &mut Lines<'_>,
     before: &str,
@@ -104,7 +105,7 @@ fn push_member(
     lines.push_repeated(key, sentence.as_str())
 }
 
-/// The keys that come more than once, each once, by their bytes.
+/// The repeated keys, each once, in byte order.
 fn repeated_keys<'a>(
     alloc: Global,
     members: &[(&'a str, Value<'a>)],

@@ -1,7 +1,8 @@
 use oim_names::Reason;
 
-/// The sentence on a fault: its words before and after the text at fault, or the whole sentence if
-/// there is no such text.
+/// The sentence about a fault: the words before and after the text at fault, or the whole sentence
+/// if
+/// no text is shown.
 #[derive(Clone, Copy)]
 pub(crate) struct Sentence {
     pub before: &'static str,
