@@ -39,7 +39,7 @@ fn found_as<'a>(aliases: &Aliases, part: Part<'a>, reason: Reason) -> Found<'a> 
         Part::DimensionKey(key) => Found::Within(key, "\"dimensions\""),
         Part::Entity(text) => Found::Entity(text),
         Part::Piece(unit) => Found::of_text(found_in_unit(aliases, unit, reason)),
-        // Decimal fractions would be printed differently than they are spelled in the file.
+        // A parsed fraction would not be printed as the file spells it.
         Part::Value(value) if value.is_f64() && reason >= Reason::ValueForm => Found::Nothing,
         Part::Value(value) => Found::Value(value),
         Part::Member(key, value) => Found::Member(key, value),

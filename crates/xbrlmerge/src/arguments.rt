@@ -1,27 +1,26 @@
 use clap::{Arg, ArgAction, Command};
 use std::alloc::{AllocError, Global};
 
-// What several commands are told.
+// Arguments of several commands.
 
-/// The option that names the sheet.
+/// The option for the sheet.
 pub(crate) const SHEET: &str = "sheet";
 
-/// The words that name reports.
+/// The name of the report arguments.
 pub(crate) const REPORT: &str = "REPORT";
 
-/// The option that names a file of names.
+/// The option for a file of report names.
 pub(crate) const LIST: &str = "reports-from";
 
-/// The option by which these names end with NUL.
+/// The option that separates these names by NUL.
 pub(crate) const NULL: &str = "null";
 
-/// The option that leaves out the line of progress.
+/// The option that suppresses the progress line.
 pub(crate) const QUIET: &str = "quiet";
 
-/// The option that names the file that is written.
+/// The option for the output file.
 pub(crate) const OUTPUT: &str = "output";
 
-/// The option that names the file that is written.
 pub(crate) fn output_argument<'w>(alloc: Global) -> Arg<'w> {
     Arg::new(alloc, OUTPUT)
         .short('o')
@@ -30,7 +29,7 @@ pub(crate) fn output_argument<'w>(alloc: Global) -> Arg<'w> {
         .help("Write to FILE, whole or not at all")
 }
 
-/// A command of this name under a sheet, with its help.
+/// A command with this name and help, and the option for a sheet.
 pub(crate) fn command<'w>(
     alloc: Global,
     name: &'w str,
@@ -43,7 +42,7 @@ pub(crate) fn command<'w>(
         .arg(sheet_argument(alloc))
 }
 
-/// The option that names the sheet, required.
+/// The required option for the sheet.
 fn sheet_argument<'w>(alloc: Global) -> Arg<'w> {
     Arg::new(alloc, SHEET)
         .long(SHEET)
@@ -52,7 +51,7 @@ fn sheet_argument<'w>(alloc: Global) -> Arg<'w> {
         .help("The sheet: a file that lists the concepts and dimensions of the reports")
 }
 
-/// A command that reads any number of reports and writes a text, with the words for both.
+/// A command that reads any number of reports and writes a text.
 pub(crate) fn with_reports<'w>(
     alloc: Global,
     command: Command<'w>,
@@ -68,14 +67,12 @@ pub(crate) fn with_reports<'w>(
     command.args(arguments)
 }
 
-/// The option that names a file of names.
 fn list_argument<'w>(alloc: Global) -> Arg<'w> {
     Arg::new(alloc, LIST).long(LIST).value_name("FILE").help(
         "Also read the reports named in FILE, one a line; - is standard input",
     )
 }
 
-/// The option by which these names end with NUL.
 fn null_argument<'w>(alloc: Global) -> Result<Arg<'w>, AllocError> {
     Arg::new(alloc, NULL)
         .short('0')
@@ -85,7 +82,6 @@ fn null_argument<'w>(alloc: Global) -> Result<Arg<'w>, AllocError> {
         .requires_arg(LIST)
 }
 
-/// The option that leaves out the line of progress.
 fn quiet_argument<'w>(alloc: Global) -> Arg<'w> {
     Arg::new(alloc, QUIET)
         .long(QUIET)
@@ -93,14 +89,14 @@ fn quiet_argument<'w>(alloc: Global) -> Arg<'w> {
         .help("Do not show on a terminal how many reports were read")
 }
 
-/// The names of any number of reports.
+/// The arguments for any number of reports.
 fn reports_argument<'w>(alloc: Global) -> Arg<'w> {
     Arg::new(alloc, REPORT)
         .num_args(0..)
         .help("The report files, in this order")
 }
 
-/// The name of one report, required.
+/// The required argument for one report.
 pub(crate) fn report_argument<'w>(alloc: Global) -> Arg<'w> {
     Arg::new(alloc, REPORT)
         .required(true)

@@ -1,4 +1,4 @@
-//! The commands, each in a file of its own: its words and help, and what it does.
+//! The commands. Each file has the arguments, the help and the work of one command.
 
 ghost use Rattle.std.specs.Prelude.{◌-◌, ◌^◌, ◌<◌};
 
@@ -20,7 +20,7 @@ use std::alloc::Global;
 use std::io::Write;
 use std::rt::Files;
 
-/// Does what is asked for, and writes its text to `out`.
+/// Runs the request and writes its text to `out`.
 pub(crate) fn execute<'n, F: Files, E: Write, S: Sink>(
     request: &Request<'n>,
     inputs: &mut Inputs<'n, F, E>,
@@ -39,7 +39,7 @@ pub(crate) fn execute<'n, F: Files, E: Write, S: Sink>(
     }
 }
 
-/// The same for a command under a sheet that is read.
+/// Runs a command under the sheet, once it is read.
 fn execute_under<'n, F: Files, E: Write, S: Sink>(
     sheet: &Sheet,
     subcommand: Subcommand<'n>,

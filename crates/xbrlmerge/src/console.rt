@@ -2,7 +2,7 @@ use crate::error::{Error, Success};
 use crate::lines::{print_awaited, print_error, print_refusals};
 use std::io::Write;
 
-// The statuses with which the program ends.
+// The exit statuses.
 const DONE: u8 = 0;
 
 const REFUSED: u8 = 1;
@@ -11,19 +11,19 @@ const TOO_LOOSE: u8 = 2;
 
 const FAILED: u8 = 3;
 
-// What begins the line of a terminal anew, and what also takes off what stands there.
+// Terminal codes: go to the start of the line, and erase it.
 
 const BACK: &str = "\r";
 
 const CLEARED: &str = "\r\x1b[K";
 
-/// Standard error. On a terminal one line shows how many reports were read. A fault in writing is
-/// passed over.
+/// Standard error. On a terminal one line shows how many reports were read. A failed write is
+/// ignored.
 #[derive(Drop)]
 pub(crate) struct Console<E> {
     err: E,
     is_terminal: bool,
-    /// The line is left out.
+    /// The progress line is suppressed.
     pub is_quiet: bool,
     is_shown: bool,
     read: usize,
@@ -42,18 +42,18 @@ impl<E: Write> Console<E> {
         }
     }
 
-    /// Tells that a bundle is awaited on a terminal.
+    /// On a terminal, says that a bundle is expected.
     pub(crate) fn tell_awaited(&mut self) {
         print_awaited(&mut self.err);
     }
 
-    /// Counts a report of so many bytes.
+    /// Counts a report and its bytes.
     pub(crate) fn add(&mut self, bytes: usize) {
         self.read = self.read.saturating_add(1);
         self.bytes = self.bytes.saturating_add(bytes as u64);
     }
 
-    /// Writes the line over: so many reports were read of all, with so many bytes.
+    /// Prints the progress line again, with the reports and bytes read so far.
     pub(crate) fn show(&mut self, all: usize) {
         if self.is_terminal && !self.is_quiet {
             let (read, megabytes) = (self.read, self.bytes / 1_000_000);
@@ -62,7 +62,7 @@ impl<E: Write> Console<E> {
         }
     }
 
-    /// Takes the line off, if one is shown.
+    /// Erases the progress line if one is shown.
     pub(crate) fn clear(&mut self) {
         if self.is_shown {
             let _ = write!(self.err, "{CLEARED}");
@@ -70,7 +70,7 @@ impl<E: Write> Console<E> {
         }
     }
 
-    /// Prints the lines of how the program ended, and returns its status.
+    /// Prints how the program ended and returns its exit status.
     pub(crate) fn tell(&mut self, done: &Result<Success, Error<'_>>) -> u8 {
         self.clear();
         match done {

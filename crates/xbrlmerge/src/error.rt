@@ -4,16 +4,16 @@ use oim_names::Reason;
 use oim_write::WriteFault;
 use std::alloc::{AllocError, AllocFailed};
 
-/// What a command that did its work found.
+/// The result of a command that ran to its end.
 #[derive(Drop)]
 pub(crate) enum Success {
-    /// These reports were refused.
+    /// The refused reports.
     Refusals(Refusals),
-    /// There are so many faults, and a line was written for each.
+    /// The number of faults; a line was written for each.
     Faults(u64),
 }
 
-/// How a command ended whose last call returned this.
+/// The result of a command whose last call returned this.
 pub(crate) fn ended<'n>(answer: Result<Refusals, Fault>) -> Result<Success, Error<'n>> {
     match answer {
         Ok(refusals) => Ok(Success::Refusals(refusals)),
@@ -21,24 +21,25 @@ pub(crate) fn ended<'n>(answer: Result<Refusals, Fault>) -> Result<Success, Erro
     }
 }
 
-/// Why the program stopped before its work was done.
+/// Why the program stopped early.
 #[derive(Drop)]
 pub(crate) enum Error<'n> {
-    /// The words are not those of a command. The error has clap's text for the user.
+    /// The arguments are not valid. The error has clap's message.
     Usage(clap::Error),
-    /// The file of this name was not read, or standard input as `-`; why, if that is known.
+    /// The file with this name, or standard input as `-`, was not read, with the cause if it is
+    /// known.
     Unread(&'n str, ReadFault, Option<&'static str>),
-    /// The file of this name has to name reports, and none is named.
+    /// The file with this name should list reports but lists none.
     NoNames(&'n str),
-    /// The file of this name cannot be written.
+    /// The file with this name cannot be written.
     Unwritten(&'n str),
-    /// This line, from 1, is no event, or its event names what is not there.
+    /// The line with this number, from 1, is not an event, or names something that does not exist.
     Event(u64),
-    /// The sheet is refused, with lines that `explain` adds.
+    /// The sheet is refused, with the lines that `explain` adds.
     Sheet(Reason, Option<String>),
-    /// A row is above the level that is allowed.
+    /// The row with this number is above the allowed level.
     TooLoose(u64, Refusals),
-    /// Standard output failed after so many bytes.
+    /// Standard output failed after this many bytes.
     Device(u64),
     OutOfMemory,
 }

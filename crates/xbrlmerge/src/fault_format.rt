@@ -9,10 +9,8 @@ const JSON: &str = "json";
 
 const TEXT: &str = "text";
 
-/// The texts of the formats.
 static FORMATS: [&str; 2] = [TEXT, JSON];
 
-/// The option that names the format of faults.
 pub(crate) fn format_argument<'w>(alloc: Global) -> Arg<'w> {
     Arg::new(alloc, FORMAT)
         .long(FORMAT)
@@ -22,7 +20,7 @@ pub(crate) fn format_argument<'w>(alloc: Global) -> Arg<'w> {
         .help("How faults are printed")
 }
 
-/// The format that the words ask for.
+/// The format given by the arguments.
 pub(crate) fn format_of(found: &ArgMatches<'_>) -> Format {
     match found.get_str(FORMAT) {
         Some(JSON) => Format::Json,

@@ -11,19 +11,20 @@ use std::fs::{self, File};
 use std::io::{ErrorKind, Read, Write};
 use std::rt::Files;
 
-/// How many bytes a file may have.
+/// The most bytes in a file.
 const MOST_BYTES: u32 = 2_147_483_648;
 
-/// What standard input is called in words and in a line.
+/// The name of standard input, in arguments and in printed lines.
 pub(crate) const STANDARD_INPUT: &str = "-";
 
-/// What a command reads, and how far it is. The sink that it writes to stands beside: if it were a
-/// field, each method would have to say that it leaves the sink as it is.
+/// The inputs of a command, and its progress. The sink is not a field: otherwise the contract of
+/// each
+/// method would have to say that the sink is unchanged.
 #[derive(Drop)]
 pub(crate) struct Inputs<'n, F, E> {
     pub alloc: Global,
     pub files: &'n F,
-    /// The bundle; empty if there are words.
+    /// The bundle; empty if there are arguments.
     pub bundle: &'n [u8],
     /// The names of the reports.
     pub names: &'n [&'n str],
@@ -31,14 +32,14 @@ pub(crate) struct Inputs<'n, F, E> {
 }
 
 impl<'n, F: Files, E: Write> Inputs<'n, F, E> {
-    /// Reads the file of this name.
+    /// Reads the file with this name.
     ///
     /// Errors: `Unread`.
     pub(crate) fn read(&self, name: &'n str) -> Result<Encoded, Error<'n>> {
         read_file(self.alloc, self.files, name)
     }
 
-    /// Reads the concept sheet in the file of this name.
+    /// Reads the concept sheet in the file with this name.
     ///
     /// Errors: `Unread`; `Sheet` if the sheet is refused; out of memory.
     pub(crate) fn read_sheet(&self, name: &'n str) -> Result<Sheet, Error<'n>> {
@@ -46,7 +47,7 @@ impl<'n, F: Files, E: Write> Inputs<'n, F, E> {
         sheet_of(self.alloc, bytes.as_bytes())
     }
 
-    /// Reads the next report, which has this name, and shows how many were read before.
+    /// Reads the report with this name, and shows the number of reports read before.
     ///
     /// Errors: `Unread`.
     pub(crate) fn read_report(&mut self, name: &'n str) -> Result<Encoded, Error<'n>> {
@@ -56,7 +57,7 @@ impl<'n, F: Files, E: Write> Inputs<'n, F, E> {
         Ok(report)
     }
 
-    /// Reads all reports, in their order. The first that is not read ends it.
+    /// Reads all reports in order, up to the first that cannot be read.
     ///
     /// Errors: `Unread`, and out of memory.
     pub(crate) fn read_reports(&mut self) -> Result<Vec<Encoded>, Error<'n>> {
@@ -69,8 +70,9 @@ impl<'n, F: Files, E: Write> Inputs<'n, F, E> {
         Ok(all)
     }
 
-    /// Reads all reports under a sheet, in their order, adds each and lets it go. The first that is
-    /// not read ends it.
+    /// Reads all reports under a sheet in order, up to the first that cannot be read. The bytes of
+    /// each
+    /// are dropped once it is added.
     ///
     /// Errors: `Unread`, and out of memory.
     pub(crate) fn consolidate<'s>(
@@ -95,7 +97,7 @@ impl<'n, F: Files, E: Write> Inputs<'n, F, E> {
     }
 }
 
-/// The concept sheet that these bytes say.
+/// Reads a concept sheet from these bytes.
 ///
 /// Errors: `Sheet`, and out of memory.
 pub(crate) fn sheet_of<'n>(alloc: Global, bytes: &[u8]) -> Result<Sheet, Error<'n>> {
@@ -119,7 +121,7 @@ pub(crate) fn read_input<'n, R: Read + Drop>(
     }
 }
 
-/// Opens the file of this name and reads it.
+/// Opens and reads the file with this name.
 ///
 /// Errors: `Unread`.
 pub(crate) fn read_file<'n, F: Files>(
@@ -150,7 +152,7 @@ fn read_bytes<R: Read + Drop>(alloc: Global, reader: R) -> Result<Encoded, ReadF
     read_all(alloc, &mut source, MOST_BYTES)
 }
 
-/// Why the file of this name cannot be read, if that is known.
+/// Why the file with this name cannot be read, if the cause is known.
 fn why_unread<F: Files>(files: &F, name: &str) -> Option<&'static str> {
     match fs::metadata(files, name) {
         Ok(found) if found.is_dir() => return Some("It is a folder."),

@@ -7,12 +7,12 @@ use oim_report::{Place, Refusal};
 use oim_write::{Sink, WriteFault, put_all};
 use std::io::Write;
 
-// What is printed. On standard error a fault in writing is passed over, and a file's name is escaped:
-// with a line end in it, it could feign a line of its own.
+// Printed lines. On standard error a failed write is ignored. The name of a file is escaped, since a
+// line end in it could imitate a line.
 
-/// Puts a text on standard output.
+/// Prints a text on standard output.
 ///
-/// Errors: `Device`, with how many of its bytes were taken.
+/// Errors: `Device`, with the number of bytes taken.
 pub(crate) fn put_text<S: Sink>(out: &mut S, text: &str) -> Result<(), WriteFault>
     requires { S.failures out.old < 2 ^ 64 - 1 }
     ensures { OnOk result (S.failures out.new ≡ S.failures out.old) }
@@ -23,7 +23,7 @@ pub(crate) fn put_text<S: Sink>(out: &mut S, text: &str) -> Result<(), WriteFaul
     }
 }
 
-/// The line that is shown to who gave no words on a terminal.
+/// Prints the line for users who gave no arguments on a terminal.
 pub(crate) fn print_awaited<E: Write>(err: &mut E) {
     let _ = writeln!(
         err,
@@ -31,7 +31,7 @@ pub(crate) fn print_awaited<E: Write>(err: &mut E) {
     );
 }
 
-/// The lines of refused reports.
+/// Prints the lines for refused reports.
 pub(crate) fn print_refusals<E: Write>(err: &mut E, refusals: &Refusals) {
     for (report, refusal) in refusals.as_slice() {
         print_refusal(err, *report, refusal);
@@ -47,7 +47,7 @@ fn print_refusal<E: Write>(err: &mut E, report: u64, refusal: &Refusal) {
     };
 }
 
-/// The lines of what stopped the program, on a terminal also why a file was not read.
+/// Prints why the program stopped; on a terminal also why a file was not read.
 pub(crate) fn print_error<E: Write>(err: &mut E, is_terminal: bool, error: &Error<'_>) {
     let _ = match error {
         Error::Usage(error) => write!(err, "{error}"),
@@ -78,7 +78,7 @@ pub(crate) fn print_error<E: Write>(err: &mut E, is_terminal: bool, error: &Erro
     };
 }
 
-/// The line of a file that is not read.
+/// Prints the line for a file that was not read.
 pub(crate) fn print_read_fault<E: Write>(err: &mut E, file: &str, fault: ReadFault) {
     let _ = match fault {
         ReadFault::OutOfMemory => writeln!(err, "out of memory"),

@@ -1,5 +1,6 @@
-//! The command over `oim_merge`: words, files, printed lines and statuses. It holds no rule of
-//! merging.
+//! The command line of `oim_merge`: arguments, files, printed lines and exit statuses. Merging
+//! itself is
+//! in the libraries.
 #![tactic(auto)]
 
 mod arguments;
@@ -25,7 +26,7 @@ use std::process::ExitCode;
 use std::{env, io};
 use streams::Streams;
 
-/// The words after the program's name.
+/// The arguments after the program's name.
 fn given(rt: &HostRuntime) -> io::Result<Vec<String>> {
     let mut words = Vec::new(rt.alloc());
     for word in env::args(rt)?.skip(1) {

@@ -9,12 +9,13 @@ use std::io::{self, ErrorKind, Write};
 use std::os::unix::fs::PermissionsExt;
 use std::rt::Files;
 
-/// The bits of a mode that are kept. The new file belongs to who runs the program, so one that runs
-/// as its owner or group would run as another one than before.
+/// The bits of a mode that are kept. The new file belongs to the user who runs the program, so
+/// setuid
+/// and setgid would then apply to another user.
 const KEPT_BITS: u32 = 0o777;
 
-/// Writes the text of what is asked for to standard output, which is then flushed unless the program
-/// stopped. A fault of standard output tells all that it took in this run.
+/// Writes the text of the request to standard output, and flushes it unless the program stopped. If
+/// standard output fails, the fault carries the number of bytes it took in this run.
 pub(crate) fn write_out<'n, F: Files, E: Write, O: Write + Drop>(
     request: &Request<'n>,
     inputs: &mut Inputs<'n, F, E>,
@@ -40,7 +41,7 @@ fn flush<'n, O: Write + Drop>(
     }
 }
 
-/// Writes the text of what is asked for to the file of this name, whole or not at all.
+/// Writes the text of the request to the file with this name, completely or not at all.
 pub(crate) fn write_file<'n, F: Files, E: Write>(
     request: &Request<'n>,
     inputs: &mut Inputs<'n, F, E>,
@@ -57,7 +58,7 @@ pub(crate) fn write_file<'n, F: Files, E: Write>(
     done
 }
 
-/// Puts the file beside another in its place, unless the program stopped.
+/// Renames the new file to its final name, unless the program stopped.
 fn settle<'n, F: Files>(
     files: &F,
     done: Result<Success, Error<'n>>,
@@ -78,11 +79,11 @@ fn settle<'n, F: Files>(
 /// A new file, with its name.
 type Named<F> = (String, F);
 
-/// Makes a new file in the folder of the file of this name, to be put in its place, and with its
-/// mode where that is there.
+/// Creates a new file in the folder of the file with this name, which it will replace. It gets the
+/// mode of that file, if there is one.
 ///
-/// Errors: `Unwritten` where there can be none, or where the name is of a symbolic link, or of
-/// what is no regular file; out of memory.
+/// Errors: `Unwritten` if it cannot be created, or if the name belongs to a symbolic link or to
+/// anything but a regular file; out of memory.
 fn new_beside<'w, F: Files>(
     alloc: Global,
     files: &F,
@@ -101,7 +102,7 @@ fn new_beside<'w, F: Files>(
     Ok((beside, file))
 }
 
-/// Puts the file that has this name, and is written, in the place of another.
+/// Renames the written file to the name of the file that it replaces.
 fn put_in_place<F: Files>(
     files: &F,
     mut file: F::File,
@@ -113,14 +114,14 @@ fn put_in_place<F: Files>(
     fs::rename(files, beside, name)
 }
 
-/// Removes a file, if that can be done.
+/// Removes a file, if possible.
 fn remove<F: Files>(files: &F, name: &str) {
     let _ = fs::remove_file(files, name);
 }
 
-/// The mode of the regular file of this name, if there is one, without setuid, setgid and sticky.
+/// The mode of the regular file with this name, if there is one, without setuid, setgid and sticky.
 ///
-/// Errors: `Unwritten` where something else has that name, or none can have it.
+/// Errors: `Unwritten` if the name is invalid or belongs to anything else.
 fn old_mode<'w, F: Files>(files: &F, name: &'w str) -> Result<Option<Permissions>, Error<'w>> {
     match fs::symlink_metadata(files, name) {
         Ok(old) if old.is_file() => {
@@ -132,8 +133,8 @@ fn old_mode<'w, F: Files>(files: &F, name: &'w str) -> Result<Option<Permissions
     }
 }
 
-/// The first file that can be made new beside this one, by a number in its name. Runs that go on in
-/// the folder have the names before it, and files that runs left which a signal ended.
+/// Creates the first file beside this one whose numbered name is free. Earlier numbers belong to
+/// running programs, and to programs that a signal ended.
 fn first_new<F: Files>(
     alloc: Global,
     files: &F,

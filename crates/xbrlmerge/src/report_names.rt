@@ -5,19 +5,18 @@ use oim_merge::ReadFault;
 use oim_write::Encoded;
 use std::alloc::{AllocError, Global};
 
-/// Which reports are named.
+/// The names of the reports.
 #[derive(Drop)]
 pub(crate) struct ReportNames<'w> {
-    /// Those that words name, which come first.
+    /// The names in the arguments, which come first.
     words: Vec<&'w str>,
-    /// The file that names more, which may be standard input.
+    /// The file that lists more names; it may be standard input.
     pub list: Option<&'w str>,
-    /// What each name in the file ends with; behind the last one it may be missing.
+    /// The end of each name in the file. It may be missing after the last one.
     end: char,
 }
 
 impl<'w> ReportNames<'w> {
-    /// No report.
     pub(crate) fn none(alloc: Global) -> ReportNames<'w> {
         ReportNames {
             words: Vec::new(alloc),
@@ -26,7 +25,7 @@ impl<'w> ReportNames<'w> {
         }
     }
 
-    /// What a command's words name.
+    /// The names in a command's arguments.
     pub(crate) fn of(
         alloc: Global,
         matches: &ArgMatches<'w>,
@@ -40,9 +39,9 @@ impl<'w> ReportNames<'w> {
         Ok(ReportNames { words, list, end })
     }
 
-    /// The names of all reports, if the file of names has these bytes. Empty names are passed over.
+    /// The names of all reports, given the bytes of the file of names. Empty names are skipped.
     ///
-    /// Errors: `Unread` if the names are not UTF-8; `NoNames` if there is such a file and nothing is
+    /// Errors: `Unread` if the names are not UTF-8; `NoNames` if there is such a file and no report is
     /// named; out of memory.
     pub(crate) fn names<'n>(
         &'n self,
@@ -64,7 +63,7 @@ impl<'w> ReportNames<'w> {
     }
 }
 
-/// Adds the names of a text, each of which ends with this.
+/// Adds the names in a text, each of which ends with `end`.
 fn push_names<'n>(all: &mut Vec<&'n str>, text: &'n str, end: char) -> Result<(), AllocError> {
     for name in text.split(end) {
         if !name.is_empty() {

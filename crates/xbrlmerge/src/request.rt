@@ -9,19 +9,19 @@ use std::alloc::Global;
 use std::io::Read;
 use std::rt::Files;
 
-/// What the words ask for.
+/// The parsed arguments.
 #[derive(Drop)]
 pub(crate) struct Args<'w> {
     pub request: Request<'w>,
     pub reports: ReportNames<'w>,
-    /// The name of the file that is written, else it is standard output.
+    /// The name of the output file; None for standard output.
     pub output: Option<&'w str>,
-    /// That the line of progress is left out.
+    /// The progress line is suppressed.
     pub is_quiet: bool,
 }
 
 impl<'w> Args<'w> {
-    /// The bytes of the bundle, or of the file of names; none if neither is read.
+    /// The bytes of the bundle, or of the file of names; empty if neither is read.
     ///
     /// Errors: `Unread`.
     pub(crate) fn read_input<F: Files, R: Read + Drop>(
@@ -42,27 +42,27 @@ impl<'w> Args<'w> {
     }
 }
 
-/// What is to be done.
+/// What the program should do.
 #[derive(Drop)]
 pub(crate) enum Request<'w> {
-    /// To merge the bundle on standard input.
+    /// Merge the bundle on standard input.
     Bundle,
-    /// To print help or the version: the text that the error has.
+    /// Print help or the version, which is the text of the error.
     Help(clap::Error),
-    /// To explain reports under the sheet of this file, and the sheet.
+    /// Explain the sheet in this file and the reports.
     Explain(&'w str, Format),
-    /// Another command, under the sheet of this file.
+    /// Run another command under the sheet in this file.
     Under(&'w str, Subcommand<'w>),
 }
 
-/// A command that only needs the sheet that its file says, with the words that are its own.
+/// A command that needs an accepted sheet, with its own arguments.
 #[derive(Clone, Copy)]
 pub(crate) enum Subcommand<'w> {
     Merge(Level),
     Verdicts(PrintFormat),
     Sources(PrintFormat),
-    /// The report of this file is checked.
+    /// Check the report in this file.
     Check(&'w str),
-    /// So many replicas run the schedule of this file.
+    /// Run the schedule in this file on this many replicas.
     Replay(usize, &'w str),
 }

@@ -3,25 +3,23 @@ use clap::{Arg, ArgAction, ArgMatches, Command};
 use row_formats::RowFormat;
 use std::alloc::{AllocError, Global};
 
-/// How rows are printed.
+/// The format of printed rows.
 #[derive(Clone, Copy, Debug)]
 pub(crate) enum PrintFormat {
-    /// As lines for people.
+    /// Lines for people.
     Lines,
-    /// For other programs.
+    /// Rows for other programs.
     Rows(RowFormat),
 }
 
-/// The option that names the format.
 const FORMAT: &str = "format";
 
-/// The option for texts that a spreadsheet would take for formulas.
+/// The option for texts that a spreadsheet would read as formulas.
 const SPREADSHEET: &str = "spreadsheet";
 
-/// The names of the formats.
 static FORMATS: [&str; 3] = ["lines", "json", "csv"];
 
-/// A command that prints rows, with the words for their format.
+/// Adds the options for the format of rows to a command.
 pub(crate) fn with_format<'w>(
     alloc: Global,
     command: Command<'w>,
@@ -40,7 +38,7 @@ pub(crate) fn with_format<'w>(
     command.arg(format)?.arg(spreadsheet)
 }
 
-/// The format that the words ask for.
+/// The format given by the arguments.
 pub(crate) fn print_format_of(found: &ArgMatches<'_>) -> Option<PrintFormat> {
     match (found.get_str(FORMAT)?, found.get_flag(SPREADSHEET)) {
         ("lines", _) => Some(PrintFormat::Lines),

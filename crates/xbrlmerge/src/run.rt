@@ -9,14 +9,14 @@ use std::convert::AsStr;
 use std::io::{Read, Write};
 use std::rt::Files;
 
-// `run` is four functions. Each owns few values at a time and passes on what it borrows, hence the many
-// parameters: one function that owns them all is dear to prove, since each may be alive at each exit.
+// `run` is split into four functions, each of which owns few values and borrows the rest, so they have
+// many parameters. One function that owns all values is slow to prove: each may be alive at each exit.
 
-/// The program: it does what the words after its name ask for. With none it merges the bundle on
-/// standard input. Standard error has a line for each refused report, or for what stopped it. If a
-/// stream is a terminal, standard error has more: that the bundle is awaited, how many reports were
-/// read, and why a file cannot be read. It returns the status: 0; 1 if a report was refused or has a
-/// fault; 2 if a row is above the level that is allowed; 3 if it stopped.
+/// Runs the program with the arguments after its name. Without arguments it merges the bundle on
+/// standard input. Standard error gets a line for each refused report, or one that says why the program
+/// stopped. On terminals it also says that a bundle is expected, how many reports were read, and why a
+/// file cannot be read. Returns the exit status: 0; 1 if a report was refused or has a fault; 2 if a
+/// row is above the allowed level; 3 if the program stopped early.
 pub fn run<F, W, R, O, E>(alloc: Global, files: &F, words: &[W], streams: Streams<R, O, E>) -> u8
 where
     F: Files,
@@ -45,7 +45,7 @@ where
     }
 }
 
-/// Reads what names the reports, or the bundle, and does what is asked for.
+/// Reads the file of names or the bundle, if one is needed, and runs the request.
 fn run_args<F: Files, R: Read + Drop, O: Write + Drop, E: Write>(
     alloc: Global,
     files: &F,
@@ -60,7 +60,7 @@ fn run_args<F: Files, R: Read + Drop, O: Write + Drop, E: Write>(
     }
 }
 
-/// Does what is asked for, if the file of names or the bundle has these bytes.
+/// Runs the request, given the bytes of the file of names or of the bundle.
 fn run_named<F: Files, O: Write + Drop, E: Write>(
     alloc: Global,
     files: &F,
@@ -75,7 +75,7 @@ fn run_named<F: Files, O: Write + Drop, E: Write>(
     }
 }
 
-/// The same, if the reports have these names.
+/// Runs the request, given the names of the reports.
 fn run_inputs<'n, F: Files, O: Write + Drop, E: Write>(
     alloc: Global,
     files: &'n F,

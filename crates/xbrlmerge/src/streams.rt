@@ -1,4 +1,4 @@
-/// The standard streams, and which of them are a terminal.
+/// The standard streams; the flags say which are terminals.
 pub struct Streams<R, O, E> {
     pub input: R,
     pub out: O,

@@ -13,7 +13,8 @@ use std::convert::AsStr;
 
 const PROGRAM: &str = "xbrlmerge";
 
-// Between releases it is the next one with `-dev`. tests/tools compares it with the other places.
+// Between releases this is the next version with `-dev`. tests/tools compares all places that state
+// it.
 const VERSION: &str = "0.3.0-dev";
 
 const ABOUT: &str = "Merges xBRL-JSON reports, and finds where they contradict each other";
@@ -42,9 +43,9 @@ const COMMANDS: [&str; 6] = [
     replay::NAME,
 ];
 
-/// Reads what the words ask for, those after the program's name.
+/// Parses the arguments after the program's name.
 ///
-/// Errors: `Usage` if they are not those of a command, and out of memory.
+/// Errors: `Usage` if they are not valid, and out of memory.
 pub(crate) fn read_words<W: AsStr>(alloc: Global, words: &[W]) -> Result<Args<'_>, Error<'_>> {
     if words.is_empty() {
         return Ok(alone(alloc, Request::Bundle));
@@ -61,7 +62,7 @@ pub(crate) fn read_words<W: AsStr>(alloc: Global, words: &[W]) -> Result<Args<'_
     }
 }
 
-/// The error of these words where they are escaped, since clap's text has them as they are.
+/// The error for these arguments with their texts escaped, since clap prints them unescaped.
 fn error_shown<W: AsStr>(
     alloc: Global,
     words: &[W],
@@ -83,7 +84,7 @@ fn escape_each<W: AsStr>(alloc: Global, words: &[W]) -> Result<Vec<String>, Allo
     Ok(escaped)
 }
 
-/// A request with no report and no file.
+/// A request without reports and files.
 fn alone(alloc: Global, request: Request<'_>) -> Args<'_> {
     Args {
         request,
@@ -110,7 +111,7 @@ fn match_words<'w, W: AsStr>(
     Ok(args_of(alloc, &matches)?)
 }
 
-/// What the words have; None if they name no command.
+/// The parsed arguments, or None if they name no command.
 fn args_of<'w>(alloc: Global, matches: &ArgMatches<'w>) -> Result<Option<Args<'w>>, AllocError> {
     let Some((name, matches)) = matches.subcommand() else {
         return Ok(None);
@@ -126,7 +127,7 @@ fn args_of<'w>(alloc: Global, matches: &ArgMatches<'w>) -> Result<Option<Args<'w
     }))
 }
 
-/// What a command is to do; None if there is no such command.
+/// The request for a command, or None if there is no such command.
 fn request_of<'w>(name: &str, matches: &ArgMatches<'w>) -> Option<Request<'w>> {
     let sheet = matches.get_str(SHEET)?;
     let subcommand = match name {
@@ -141,7 +142,7 @@ fn request_of<'w>(name: &str, matches: &ArgMatches<'w>) -> Option<Request<'w>> {
     Some(Request::Under(sheet, subcommand))
 }
 
-/// The program with its help, and no command yet.
+/// The program with its help, without commands.
 fn described<'w>(alloc: Global) -> Result<Command<'w>, AllocError> {
     let program = Command::new(alloc, PROGRAM)
         .no_binary_name(true)
@@ -160,7 +161,7 @@ fn program<'w>(alloc: Global) -> Result<Command<'w>, AllocError> {
     Ok(program)
 }
 
-/// The words of the command of this name.
+/// The arguments of the command with this name.
 fn words_of<'w>(alloc: Global, name: &str) -> Result<Command<'w>, AllocError> {
     match name {
         merge::NAME => merge::words(alloc),

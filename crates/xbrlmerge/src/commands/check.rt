@@ -14,7 +14,6 @@ use std::alloc::{AllocError, Global};
 use std::io::Write;
 use std::rt::Files;
 
-/// The word of this command.
 pub(crate) const NAME: &str = "check";
 
 const ABOUT: &str = "Counts the facts of one report and classifies its duplicates";
@@ -44,19 +43,20 @@ Status:
   3  not checked: invalid arguments, a refused sheet, a file or device that failed, or out of
      memory";
 
-/// The words of this command, with its help.
+/// The arguments of this command, with its help.
 pub(crate) fn words<'w>(alloc: Global) -> Result<Command<'w>, AllocError> {
     command(alloc, NAME, ABOUT, MORE)?
         .arg(output_argument(alloc))?
         .arg(report_argument(alloc))
 }
 
-/// The command, if its words have all that it needs.
+/// The command, or None if a required argument is missing.
 pub(crate) fn of<'w>(matches: &ArgMatches<'w>) -> Option<Subcommand<'w>> {
     matches.get_str(REPORT).map(Subcommand::Check)
 }
 
-/// Reads the report of this name and writes the line of an accepted one to `out`. A refused one is
+/// Reads the report with this name and writes a line to `out` if it is accepted. A refused report
+/// is
 /// returned, as report 1.
 ///
 /// Errors: those of the file, out of memory, and `Device`.
@@ -73,7 +73,7 @@ pub(crate) fn run<'n, F: Files, E: Write, S: Sink>(
     ended(put_checked(inputs.alloc, out, checked))
 }
 
-/// Puts the line of an accepted report on standard output, and returns a refused one as report 1.
+/// Prints the line of an accepted report, and returns a refused one as report 1.
 fn put_checked<S: Sink>(
     alloc: Global,
     out: &mut S,
@@ -93,7 +93,7 @@ fn put_checked<S: Sink>(
     Ok(refusals)
 }
 
-/// Puts the line of an accepted report on standard output.
+/// Prints the line of an accepted report.
 fn put_accepted<S: Sink>(alloc: Global, out: &mut S, checked: &Checked) -> Result<(), WriteFault>
     requires { S.failures out.old < 2 ^ 64 - 1 }
 {

@@ -13,7 +13,6 @@ use std::alloc::{AllocError, Global};
 use std::io::Write;
 use std::rt::Files;
 
-/// The word of this command.
 pub(crate) const NAME: &str = "explain";
 
 const ABOUT: &str = "Explains what is wrong with reports, in plain words";
@@ -55,14 +54,13 @@ Status:
   3  not every report was read: invalid arguments, a refused sheet, a file or device that failed,
      or out of memory";
 
-/// The words of this command, with its help.
+/// The arguments of this command, with its help.
 pub(crate) fn words<'w>(alloc: Global) -> Result<Command<'w>, AllocError> {
     let command = command(alloc, NAME, ABOUT, MORE)?;
     with_reports(alloc, command.arg(format_argument(alloc))?)
 }
 
-/// Reads the sheet of this name and the reports, one after another, and writes the lines of each to
-/// `out`.
+/// Reads the sheet and the reports, one after another, and writes the lines for each file to `out`.
 ///
 /// Errors: those of the files and of the sheet, out of memory, and `Device`.
 pub(crate) fn run<'n, F: Files, E: Write, S: Sink>(
@@ -81,7 +79,7 @@ pub(crate) fn run<'n, F: Files, E: Write, S: Sink>(
     Ok(Success::Faults(counts.faults))
 }
 
-/// Puts the last line, of so many reports.
+/// Prints the last line, with the counts.
 ///
 /// Errors: out of memory, and `Device`.
 fn put_counts<S: Sink>(
@@ -99,7 +97,7 @@ fn put_counts<S: Sink>(
     }
 }
 
-/// Puts the lines of the sheet with this name and these bytes, and of the reports.
+/// Prints the lines for the sheet with this name and these bytes, and for the reports.
 ///
 /// Errors: those of the reports and of the sheet, out of memory, and `Device`.
 fn put_under<'n, F: Files, E: Write, S: Sink>(
@@ -122,9 +120,9 @@ fn put_under<'n, F: Files, E: Write, S: Sink>(
     put_each(&sheet, format, inputs, out, repeated)
 }
 
-/// The sheet with this name and these bytes.
+/// Reads the sheet with this name from these bytes.
 ///
-/// Errors: `Sheet` with what is said of it; out of memory.
+/// Errors: `Sheet` with the lines that explain it; out of memory.
 fn read_sheet<'n>(alloc: Global, name: &str, bytes: &[u8]) -> Result<Sheet, Error<'n>> {
     match sheet_of(alloc, bytes) {
         Err(Error::Sheet(reason, _)) => {
@@ -135,7 +133,7 @@ fn read_sheet<'n>(alloc: Global, name: &str, bytes: &[u8]) -> Result<Sheet, Erro
     }
 }
 
-/// How many reports have a fault, and how many faults there are.
+/// The number of reports with faults, and the number of faults.
 #[derive(Clone, Copy)]
 struct Counts {
     faulty: u64,
@@ -143,7 +141,7 @@ struct Counts {
 }
 
 impl Counts {
-    /// With one more report.
+    /// Counts one more report.
     fn with(self, faults: u64) -> Counts {
         Counts {
             faulty: self.faulty.saturating_add(u64::from(faults > 0)),
@@ -152,7 +150,7 @@ impl Counts {
     }
 }
 
-/// Puts lines on standard output, and returns how many they are.
+/// Prints the lines and returns their number.
 ///
 /// Errors: out of memory, and `Device`.
 fn put_explained<S: Sink>(
@@ -171,8 +169,8 @@ fn put_explained<S: Sink>(
     }
 }
 
-/// Reads the reports, one after another, and puts the lines of each on standard output, after so many
-/// faults.
+/// Reads the reports, one after another, and prints the lines for each. `faults` counts those printed
+/// before.
 ///
 /// Errors: those of the reports, out of memory, and `Device`.
 fn put_each<'n, F: Files, E: Write, S: Sink>(

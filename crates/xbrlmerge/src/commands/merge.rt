@@ -13,12 +13,10 @@ use std::alloc::{AllocError, Global};
 use std::io::Write;
 use std::rt::Files;
 
-/// The word of this command.
 pub(crate) const NAME: &str = "merge";
 
 const ALLOW: &str = "allow";
 
-/// The texts of the levels.
 static LEVELS: [&str; 4] = ["none", "complete", "consistent", "all"];
 
 const ABOUT: &str = "Writes one canonical report with the facts of all reports";
@@ -44,7 +42,7 @@ Status:
   3  not done, or not to the end: invalid arguments, a refused sheet, a file or device that
      failed, or out of memory";
 
-/// The words of this command, with its help.
+/// The arguments of this command, with its help.
 pub(crate) fn words<'w>(alloc: Global) -> Result<Command<'w>, AllocError> {
     let allow = Arg::new(alloc, ALLOW)
         .long(ALLOW)
@@ -55,14 +53,14 @@ pub(crate) fn words<'w>(alloc: Global) -> Result<Command<'w>, AllocError> {
     with_reports(alloc, command(alloc, NAME, ABOUT, MORE)?.arg(allow)?)
 }
 
-/// The command, if its words have all that it needs.
+/// The command, or None if a required argument is missing.
 pub(crate) fn of<'w>(matches: &ArgMatches<'w>) -> Option<Subcommand<'w>> {
     let allow = matches.get_str(ALLOW).and_then(Level::read)?;
     Some(Subcommand::Merge(allow))
 }
 
-/// Reads the reports, adds each as it is read, and writes the merged text to `out`. It returns the
-/// refused reports, by their places among the names, from 1.
+/// Reads and adds the reports, and writes the merged text to `out`. Returns the refused reports by
+/// their numbers, from 1.
 ///
 /// Errors: those of the reports and of `Consolidation::finish_last`.
 pub(crate) fn run<'n, F: Files, E: Write, S: Sink>(

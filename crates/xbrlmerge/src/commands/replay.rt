@@ -15,14 +15,13 @@ use std::alloc::{AllocError, Global};
 use std::io::Write;
 use std::rt::Files;
 
-/// The word of this command.
 pub(crate) const NAME: &str = "replay";
 
 const REPLICAS: &str = "replicas";
 
 const EVENTS: &str = "events";
 
-/// How many replicas there may be.
+/// The most replicas.
 const MOST_REPLICAS: i64 = 64;
 
 const ABOUT: &str = "Runs a schedule on replicas that exchange merged reports";
@@ -54,7 +53,7 @@ Status:
      an event or names something that does not exist, a file or device that failed, or out of
      memory";
 
-/// The words of this command, with its help.
+/// The arguments of this command, with its help.
 pub(crate) fn words<'w>(alloc: Global) -> Result<Command<'w>, AllocError> {
     let command = command(alloc, NAME, ABOUT, MORE)?
         .arg(replicas_argument(alloc))?
@@ -62,18 +61,19 @@ pub(crate) fn words<'w>(alloc: Global) -> Result<Command<'w>, AllocError> {
     with_reports(alloc, command)
 }
 
-/// The command, if its words have all that it needs.
+/// The command, or None if a required argument is missing.
 pub(crate) fn of<'w>(matches: &ArgMatches<'w>) -> Option<Subcommand<'w>> {
     let replicas = matches.get_one(REPLICAS)?;
     let events = matches.get_str(EVENTS)?;
     Some(Subcommand::Replay(replicas, events))
 }
 
-/// Reads the schedule and the reports, runs it on so many replicas and writes the text of each to
-/// `out`. It returns the refused takes, by the places of their reports among the names, from 1.
+/// Reads the schedule and the reports, runs the schedule on the replicas and writes the text of
+/// each
+/// replica to `out`. Returns the refused takes by the numbers of their reports, from 1.
 ///
-/// Errors: those of the files; `Event` if a line is no event, which comes before any report is read,
-/// or if it names what is not there; out of memory; `Device`.
+/// Errors: those of the files; `Event` if a line is not an event, before any report is read, or if it
+/// names something that does not exist; out of memory; `Device`.
 pub(crate) fn run<'n, F: Files, E: Write, S: Sink>(
     replicas: usize,
     schedule: &'n str,
@@ -88,7 +88,7 @@ pub(crate) fn run<'n, F: Files, E: Write, S: Sink>(
     ended(put_replayed(inputs.alloc, out, replayed))
 }
 
-/// The events of the schedule in the file of this name.
+/// The events in the schedule file with this name.
 fn read_schedule<'n, F: Files, E: Write>(
     name: &'n str,
     inputs: &Inputs<'n, F, E>,
@@ -108,7 +108,7 @@ fn replay_reports<'n, 's, F: Files, E: Write>(
     Ok(replay(inputs.alloc, sheet, replicas, reports.as_slice(), events)?)
 }
 
-/// Puts the text of each replica on standard output, and returns the refused takes.
+/// Prints the text of each replica and returns the refused takes.
 ///
 /// Errors: those of `put_replicas`.
 fn put_replayed<S: Sink>(
@@ -124,7 +124,7 @@ fn put_replayed<S: Sink>(
     Ok(refused)
 }
 
-/// How many replicas there are, required.
+/// The required option for the number of replicas.
 fn replicas_argument<'w>(alloc: Global) -> Arg<'w> {
     Arg::new(alloc, REPLICAS)
         .long(REPLICAS)
@@ -134,7 +134,7 @@ fn replicas_argument<'w>(alloc: Global) -> Arg<'w> {
         .help("The number of replicas, from 1 to 64")
 }
 
-/// The option that names the schedule, required.
+/// The required option for the schedule.
 fn events_argument<'w>(alloc: Global) -> Arg<'w> {
     Arg::new(alloc, EVENTS)
         .long(EVENTS)
@@ -143,9 +143,9 @@ fn events_argument<'w>(alloc: Global) -> Arg<'w> {
         .help("The file of the schedule, one event a line")
 }
 
-/// Puts the text of each replica on standard output.
+/// Prints the text of each replica.
 ///
-/// Errors: out of memory, and `Device`. How many bytes were taken of all texts, `run` tells.
+/// Errors: out of memory, and `Device`. `run` reports the number of bytes over all texts.
 fn put_replicas<S: Sink>(
     alloc: Global,
     out: &mut S,
@@ -159,9 +159,9 @@ fn put_replicas<S: Sink>(
     Ok(())
 }
 
-/// Puts the text of a replica on standard output, with a line end behind it.
+/// Prints the text of a replica and a line end.
 ///
-/// Errors: out of memory, and `Device`, with how many bytes were taken of the text or the line end.
+/// Errors: out of memory, and `Device`, with the number of bytes taken.
 fn put_replica<S: Sink>(alloc: Global, out: &mut S, base: &Base<'_>) -> Result<(), WriteFault>
     requires { S.failures out.old < 2 ^ 64 - 1 }
     ensures { OnOk result (S.failures out.new ≡ S.failures out.old) }

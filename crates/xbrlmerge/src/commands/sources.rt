@@ -13,7 +13,6 @@ use std::alloc::{AllocError, Global};
 use std::io::Write;
 use std::rt::Files;
 
-/// The word of this command.
 pub(crate) const NAME: &str = "sources";
 
 const ABOUT: &str = "Lists the report that each fact comes from, and its identifier there";
@@ -45,14 +44,15 @@ Status:
   3  not done, or not to the end: invalid arguments, a refused sheet, a file or device that
      failed, or out of memory";
 
-/// The words of this command, with its help.
+/// The arguments of this command, with its help.
 pub(crate) fn words<'w>(alloc: Global) -> Result<Command<'w>, AllocError> {
     let command = command(alloc, NAME, ABOUT, MORE)?;
     with_reports(alloc, with_format(alloc, command)?)
 }
 
-/// Reads the reports and writes the line of each fact object to `out`. It returns the refused
-/// reports, by their places among the names, from 1.
+/// Reads the reports and writes the line of each fact object to `out`. Returns the refused reports
+/// by
+/// their numbers, from 1.
 ///
 /// Errors: those of the reports, of `source_lines` and of `source_rows`.
 pub(crate) fn run<'n, F: Files, E: Write, S: Sink>(

@@ -12,7 +12,6 @@ use std::alloc::{AllocError, Global};
 use std::io::Write;
 use std::rt::Files;
 
-/// The word of this command.
 pub(crate) const NAME: &str = "verdicts";
 
 const ABOUT: &str = "Prints a verdict for each set of facts with the same dimensions";
@@ -47,14 +46,15 @@ Status:
   3  not done, or not to the end: invalid arguments, a refused sheet, a file or device that
      failed, or out of memory";
 
-/// The words of this command, with its help.
+/// The arguments of this command, with its help.
 pub(crate) fn words<'w>(alloc: Global) -> Result<Command<'w>, AllocError> {
     let command = command(alloc, NAME, ABOUT, MORE)?;
     with_reports(alloc, with_format(alloc, command)?)
 }
 
-/// Reads the reports, adds each as it is read, and writes the line of each row to `out`. It returns
-/// the refused reports, by their places among the names, from 1.
+/// Reads and adds the reports, and writes the line of each row to `out`. Returns the refused
+/// reports
+/// by their numbers, from 1.
 ///
 /// Errors: those of the reports, of `Consolidation::finish_lines_last` and of `finish_rows_last`.
 pub(crate) fn run<'n, F: Files, E: Write, S: Sink>(

@@ -1,18 +1,19 @@
 use std::alloc::AllocError;
 
-// Where a request for memory is refused, the next one is not: what asked for it is asked again. The
-// line on standard error tells of it, and whether the request was the test's own.
+// Repeats a call after a refused request for memory. The line on standard error reports it, and
+// says
+// if the test itself made the request.
 
 const ROOM: usize = 1 << 12;
 
-/// A sheet of every kind of concept and dimension.
+/// A sheet with every kind of concept and dimension.
 pub(crate) const SHEET: &str =
     r#"{"namespaces":{"eg":"http://example.org/t"},"concepts":{"eg:A":"numeric","eg:B":"numeric","eg:T":"text","eg:Q":"name"},"dimensions":{"eg:Reg":"explicit","eg:Sku":"typed"}}"#;
 
 pub(crate) const INFO: &str =
     r#"{"documentInfo":{"documentType":"https://xbrl.org/2021/xbrl-json","namespaces":{"eg":"http://example.org/t","x":"http://example.org/u","xbrli":"http://www.xbrl.org/2003/instance","xbrl":"https://xbrl.org/2021"}},"facts":{"#;
 
-/// The same up to what else stands in `documentInfo`.
+/// The beginning of a report, up to the further members of `documentInfo`.
 pub(crate) const OPEN_INFO: &str =
     r#"{"documentInfo":{"documentType":"https://xbrl.org/2021/xbrl-json""#;
 
@@ -24,7 +25,7 @@ pub(crate) fn tell_refused_here(rt: &HostRuntime) {
     let _ = eprintln!(rt; "refused here");
 }
 
-/// The parts, one after another.
+/// Concatenates the parts.
 pub(crate) fn joined(rt: &HostRuntime, parts: &[&str]) -> Result<Vec<u8>, AllocError> {
     let mut all = match Vec::with_capacity(rt.alloc(), ROOM) {
         Ok(made) => made,

@@ -2,7 +2,7 @@
 use std::alloc::{AllocError, Global};
 use std::io::{self, ErrorKind, Read, Write};
 
-/// What a device does once its bytes are given, or its room is taken.
+/// How a reader behaves at its end, or a writer when it is full.
 #[derive(Clone, Copy, Debug, PartialEq, Eq)]
 pub enum Then {
     /// It gives or takes nothing.
@@ -11,18 +11,18 @@ pub enum Then {
     Fails,
     /// It is interrupted.
     IsInterrupted,
-    /// It gives zeros for ever; a writer has no more room and fails.
+    /// A reader gives zeros for ever; a writer fails.
     GoesOn,
 }
 
-/// How much a device gives or takes at once of what it is asked for.
+/// How much of a request a device satisfies at once.
 #[derive(Clone, Copy, Debug, PartialEq, Eq)]
 pub enum Step {
     /// All of it.
     All,
-    /// Half of it, and one byte at least.
+    /// Half of it, and at least one byte.
     Half,
-    /// So many bytes at most.
+    /// At most this many bytes.
     Few(usize),
 }
 
@@ -36,7 +36,7 @@ impl Step {
     }
 }
 
-/// Each step that tables go by.
+/// The steps that tables use.
 pub const STEPS: [Step; 3] = [Step::All, Step::Half, Step::Few(1)];
 
 fn fault(then: Then) -> io::Error {
@@ -47,7 +47,7 @@ fn fault(then: Then) -> io::Error {
     io::Error::from(kind)
 }
 
-/// Gives the bytes that are left, a step at a time, and counts the calls.
+/// Gives its remaining bytes in steps and counts the calls.
 #[derive(Clone, Copy)]
 pub struct TestReader<'a> {
     left: &'a [u8],
@@ -88,7 +88,7 @@ impl Read for TestReader<'_> {
     }
 }
 
-/// Takes bytes, a step at a time, until it holds `room` of them.
+/// Takes bytes in steps until it holds `room` of them.
 #[derive(Drop)]
 pub struct TestWriter {
     held: Vec<u8>,
@@ -98,7 +98,7 @@ pub struct TestWriter {
 }
 
 impl TestWriter {
-    /// Memory for `room` bytes is had at once, so that a write asks for none.
+    /// Reserves memory for `room` bytes, so that a write requests none.
     pub fn new(
         alloc: Global,
         step: Step,
@@ -137,7 +137,7 @@ impl Write for TestWriter {
     }
 }
 
-/// Takes bytes as the one above does, and in place of holding them compares them with a text.
+/// Takes bytes like the writer above, but compares them with a text instead of keeping them.
 #[derive(Clone, Copy)]
 pub struct ComparingWriter<'a> {
     left: &'a [u8],
@@ -158,7 +158,7 @@ impl<'a> ComparingWriter<'a> {
         }
     }
 
-    /// Whether it took just the text.
+    /// True if it took exactly the text.
     pub fn is_met(&self) -> bool {
         self.left.is_empty() && !self.differs
     }
@@ -200,7 +200,7 @@ impl Write for NeverFlushed {
     }
 }
 
-/// Takes so many bytes, and then fails.
+/// Takes this many bytes and then fails.
 #[derive(Clone, Copy)]
 pub struct FullAfter(pub usize);
 
@@ -219,7 +219,7 @@ impl Write for FullAfter {
     }
 }
 
-/// Takes so many bytes and then fails, and counts how often it is flushed.
+/// Takes this many bytes, then fails, and counts its flushes.
 #[derive(Clone, Copy)]
 pub struct CountsFlushes {
     pub room: usize,

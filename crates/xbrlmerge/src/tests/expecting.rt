@@ -1,6 +1,6 @@
 use std::io::{self, Write};
 
-/// Compares what is written with a text.
+/// Compares written bytes with a text.
 #[derive(Clone, Copy)]
 pub(crate) struct Expecting<'a> {
     left: &'a [u8],
@@ -9,7 +9,7 @@ pub(crate) struct Expecting<'a> {
 }
 
 impl<'a> Expecting<'a> {
-    /// Just this text.
+    /// Expects exactly this text.
     pub(crate) fn just(text: &'a [u8]) -> Expecting<'a> {
         Expecting {
             left: text,
@@ -18,7 +18,7 @@ impl<'a> Expecting<'a> {
         }
     }
 
-    /// This text, and then any other.
+    /// Expects this text and then any other.
     pub(crate) fn front(text: &'a [u8]) -> Expecting<'a> {
         Expecting {
             left: text,
@@ -27,12 +27,12 @@ impl<'a> Expecting<'a> {
         }
     }
 
-    /// Whether what was written is as expected.
+    /// True if all written bytes are as expected, and none is missing.
     pub(crate) fn is_met(&self) -> bool {
         self.left.is_empty() && !self.differs
     }
 
-    /// How many bytes are still to come.
+    /// The number of bytes still expected.
     pub(crate) fn left(&self) -> usize {
         self.left.len()
     }
@@ -54,7 +54,7 @@ impl Write for Expecting<'_> {
     }
 }
 
-/// Compares what is written with two texts.
+/// Compares written bytes with two texts.
 #[derive(Clone, Copy)]
 pub(crate) struct Either<'a>(pub Expecting<'a>, pub Expecting<'a>);
 

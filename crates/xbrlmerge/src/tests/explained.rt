@@ -5,16 +5,16 @@ use oim_report::Sheet;
 use std::alloc::AllocError;
 use std::test::Fail;
 
-// What is said of each fault. Where a request for memory is refused, the next one is not.
+// The sentence for each fault. The program is run again after a refused request for memory.
 
 const SHEET: &str =
     r#"{"namespaces":{"eg":"http://example.org/t"},"concepts":{"eg:A":"numeric","eg:T":"text","eg:Q":"name"},"dimensions":{"eg:Reg":"explicit","eg:Sku":"typed"}}"#;
 
-// A report up to its facts, which may not be duplicates.
+// The beginning of a report, up to its facts; duplicates are not allowed.
 const START: &str =
     r#"{"documentInfo":{"documentType":"https://xbrl.org/2021/xbrl-json","namespaces":{"eg":"http://example.org/t","x":"http://example.org/u","zz":"http://example.org/t","xbrl":"https://xbrl.org/2021"},"features":{"xbrl:allowedDuplicates":"consistent"}},"facts":{"#;
 
-// A report up to what else stands in `documentInfo`.
+// The beginning of a report, up to the further members of `documentInfo`.
 const TYPED: &str = r#"{"documentInfo":{"documentType":"https://xbrl.org/2021/xbrl-json""#;
 
 struct Table<'t> {
@@ -23,7 +23,7 @@ struct Table<'t> {
     end: &'t str,
 }
 
-// 1 to 8, and what a file is
+// refusals 1 to 8, and the kind of a file
 const DOCUMENTS: [Table<'static>; 2] = [
     Table {
         start: "",
@@ -48,7 +48,7 @@ const DOCUMENTS: [Table<'static>; 2] = [
                 "\"concept\";\"value\"\n",
                 "r: 1 NotJson: the file is no JSON text, or nests deeper than 127: invalid JSON at line 1 column 10; the file looks like CSV: another program has to write it as xBRL-JSON\n",
             ),
-            // neither prose nor a part of JSON nor a comment before it is CSV
+            // prose, parts of JSON and JSON after a comment are not CSV
             (
                 "//a,b\n{}",
                 "r: 1 NotJson: the file is no JSON text, or nests deeper than 127: invalid JSON at line 1 column 1\n",
@@ -69,7 +69,7 @@ const DOCUMENTS: [Table<'static>; 2] = [
                 "{\0\"\0",
                 "r: 1 NotJson: the file is no JSON text, or nests deeper than 127: invalid JSON at line 1 column 2; the file looks like a text in UTF-16: write it as UTF-8\n",
             ),
-            // the file has repeated members, but none of them is read
+            // the repeated members of this file are not read
             (
                 r#"{"documentInfo":{},"facts":{"a":1,"a":2},"x:y":1e999}"#,
                 "r: 1 NotJson: the file is no JSON text, or nests deeper than 127: number out of range at line 1 column 53\n",
@@ -112,7 +112,7 @@ const DOCUMENTS: [Table<'static>; 2] = [
                 r#","namespaces":{"xbrl":"https://xbrl.org/2021"},"features":{"xbrl:allowedDuplicates":"some"}}}"#,
                 "r: 8 Feature: \"allowedDuplicates\" must stand once in \"features\", as \"none\", \"complete\", \"consistent\" or \"all\": not as \"xbrl:allowedDuplicates\": \"some\"\n",
             ),
-            // what is refused of many is shown, and all of them where two do not go together
+            // the refused one of many members is shown; if two contradict each other, all are
             (
                 r#","baseURL":"http://example.org/","taxonomy":["a.xsd","mailto:x","//["]}}"#,
                 "r: 7 TaxonomyUrl: the reference \"//[\" of \"taxonomy\" is no text, has more than 65,536 bytes itself or as a URL, or is no http or https URL against \"baseURL\"\n",
@@ -125,7 +125,7 @@ const DOCUMENTS: [Table<'static>; 2] = [
                 r#","namespaces":{"a":"https://xbrl.org/2021","b":"https://xbrl.org/2021"},"features":{"a:allowedDuplicates":"all","b:allowedDuplicates":"none"}}}"#,
                 "r: 8 Feature: \"allowedDuplicates\" must stand once in \"features\", as \"none\", \"complete\", \"consistent\" or \"all\": not as {\"a:allowedDuplicates\":\"all\",\"b:allowedDuplicates\":\"none\"}\n",
             ),
-            // what stands twice is told with its place
+            // a repeated member is shown with its place
             (
                 r#","namespaces":{"eg":"http://a","eg":"http://b"}},"facts":{},"facts":{}}"#,
                 "r: \"facts\" stands twice in the report, and only the last one is read\nr: \"eg\" stands twice in \"namespaces\", and only the last one is read\n",
@@ -150,7 +150,7 @@ r: fact \"f09\": 26 NumberForm: the value \"1,000\" is no plain number such as -
 r: fact \"f10\": 29 DecimalsRange: the decimals 20 are not from -18 to 18
 ";
 
-// 2, 3 and 9 to 31
+// refusals 2, 3 and 9 to 31
 const FACTS: [Table<'static>; 1] = [Table {
     start: START,
     rows: &[
@@ -179,7 +179,7 @@ const FACTS: [Table<'static>; 1] = [Table {
             r#""a":{"value":"1","dimensions":{"concept":"eg:A","eg:Sku":"b","zz:Sku":"b"}}"#,
             "r: fact \"a\": 18 DimensionValue: the keys \"eg:Sku\" and \"zz:Sku\" are one dimension\n",
         ),
-        // a number is shown as it stands in the file, or not at all
+        // a number is shown as the file spells it, or not at all
         (
             r#""a":{"value":"1","decimals":1e23,"dimensions":{"concept":"eg:A","scenario":"s"}}"#,
             "r: fact \"a\": 3 UnknownMember: the format has no member \"scenario\" in \"dimensions\"\nr: fact \"a\": 28 DecimalsForm: the decimals are no whole number without quotes, point or exponent\n",
@@ -200,19 +200,19 @@ const FACTS: [Table<'static>; 1] = [Table {
             r#""p":{"value":"1","decimals":0,"dimensions":{"concept":"eg:A"}},"q":{"value":"1.2","decimals":1,"dimensions":{"concept":"eg:A"}},"r":{"value":"3","dimensions":{"concept":"eg:A"}}"#,
             "r: 31 DisallowedDuplicates: the facts \"q\" and \"r\" have the same dimensions, and the report's own \"allowedDuplicates\" does not allow both\n",
         ),
-        // ten faults of ten kinds
+        // ten different faults
         (TEN, TOLD),
-        // what stands twice is told, and nothing goes to a terminal that it would do
+        // repeated members are shown, and nothing in a line changes a terminal
         (
             r#""a":{"value":"1","value":"2","dimensions":{"concept":"eg:A"}},"\u001b[2J":7,"a":{"value":"1","dimensions":{"concept":"eg:A","concept":"eg:A"}}"#,
             "r: fact \"\\u001b[2J\": 2 MemberForm: the fact is no object\nr: fact \"a\" stands twice, and only the last one is read\nr: fact \"a\": \"value\" stands twice, and only the last one is read\nr: fact \"a\": \"concept\" stands twice in \"dimensions\", and only the last one is read\n",
         ),
-        // what is not seen, or turns the direction, is written as an escape
+        // invisible characters, and those that change the direction, are escaped
         (
             "\"a\\u061c\u{200b}\u{feff}\u{85}\u{202e}\u{ad}\u{e0001}\":7",
             "r: fact \"a\\u061c\\u200b\\ufeff\\u0085\\u202e\\u00ad\\udb40\\udc01\": 2 MemberForm: the fact is no object\n",
         ),
-        // a text and an identifier are cut behind 80 characters
+        // a text and an identifier are cut after 80 characters
         (
             r#""yyyyyyyyyyyyyyyyyyyyyyyyyyyyyyyyyyyyyyyyyyyyyyyyyyyyyyyyyyyyyyyyyyyyyyyyyyyyyyyb":{"value":"ä\n9xxxxxxxxxxxxxxxxxxxxxxxxxxxxxxxxxxxxxxxxxxxxxxxxxxxxxxxxxxxxxxxxxxxxxxxxxxxxx","dimensions":{"concept":"eg:A"}},"yyyyyyyyyyyyyyyyyyyyyyyyyyyyyyyyyyyyyyyyyyyyyyyyyyyyyyyyyyyyyyyyyyyyyyyyyyyyyyyyc":{"value":"ä\n9xxxxxxxxxxxxxxxxxxxxxxxxxxxxxxxxxxxxxxxxxxxxxxxxxxxxxxxxxxxxxxxxxxxxxxxxxxxxx+","dimensions":{"concept":"eg:A"}}"#,
             "r: fact \"yyyyyyyyyyyyyyyyyyyyyyyyyyyyyyyyyyyyyyyyyyyyyyyyyyyyyyyyyyyyyyyyyyyyyyyyyyyyyyyb\": 26 NumberForm: the value \"ä\\n9xxxxxxxxxxxxxxxxxxxxxxxxxxxxxxxxxxxxxxxxxxxxxxxxxxxxxxxxxxxxxxxxxxxxxxxxxxxxx\" is no plain number such as -1234.5, without exponent, thousands separator or white space, and by the sheet the values of the concept are numbers\nr: fact \"yyyyyyyyyyyyyyyyyyyyyyyyyyyyyyyyyyyyyyyyyyyyyyyyyyyyyyyyyyyyyyyyyyyyyyyyyyyyyyyy..: 26 NumberForm: the value \"ä\\n9xxxxxxxxxxxxxxxxxxxxxxxxxxxxxxxxxxxxxxxxxxxxxxxxxxxxxxxxxxxxxxxxxxxxxxxxxxxxx.. is no plain number such as -1234.5, without exponent, thousands separator or white space, and by the sheet the values of the concept are numbers\n",
@@ -221,7 +221,7 @@ const FACTS: [Table<'static>; 1] = [Table {
     end: "}}",
 }];
 
-// Files that are no UTF-8, with what they are.
+// Files that are not UTF-8, and their kinds.
 const BYTES: [(&[u8], &str); 5] = [
     (
         b"\xff\xfe{\0",

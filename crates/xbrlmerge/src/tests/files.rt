@@ -18,9 +18,9 @@ use rows::{
 use std::test::Fail;
 use std::{env, fs};
 
-// Where a request for memory is refused, the next one is not: the program is run again.
+// The program is run again after a refused request for memory.
 
-/// Whether the program leaves what each row says.
+/// True if the program has the results in each row.
 fn are_met(rt: &HostRuntime, rows: &[Row]) -> Result<bool, Fail> {
     let mut all = true;
     for (line, status, out, err) in rows {
@@ -50,7 +50,7 @@ fn stop_unflushed(rt: &HostRuntime, rows: &[(&str, &str)]) -> Result<bool, Fail>
     Ok(all)
 }
 
-/// Whether the program ends so where standard error takes three bytes.
+/// True if the program ends like this when standard error takes only three bytes.
 fn ends_unheard(rt: &HostRuntime, words: &[&str], status: u8, out: &[u8]) -> bool {
     let input = TestReader::new(b"", Step::All, Then::Fails);
     let mut out = Expecting::just(out);
@@ -71,7 +71,7 @@ fn are_unheard(rt: &HostRuntime, rows: &[Row]) -> Result<bool, Fail> {
     Ok(all)
 }
 
-/// The bytes of a file; the test's own request for memory may be refused once.
+/// The bytes of a file. The test's own request for memory may be refused once.
 fn content(rt: &HostRuntime, name: &str) -> Result<Vec<u8>, Fail> {
     if let Ok(held) = fs::read(rt, name) {
         return Ok(held);
@@ -86,7 +86,7 @@ fn holds(rt: &HostRuntime, name: &str, parts: &[&str]) -> Result<bool, Fail> {
     Ok(held.as_slice() == text.as_slice())
 }
 
-/// Whether the program ends well, with this on a standard error that is a terminal.
+/// True if the program ends with status 0 and prints this on a terminal.
 fn shows_once(rt: &HostRuntime, words: &[&str], shown: &str) -> bool {
     let mut err = Expecting::just(shown.as_bytes());
     let mut streams = piped(
@@ -111,7 +111,7 @@ fn show(rt: &HostRuntime, rows: &[(&str, &str)]) -> Result<bool, Fail> {
     Ok(all)
 }
 
-// One test makes the files, since tests may run side by side.
+// One test makes the files, since tests may run in parallel.
 #[test]
 fn files_are_read_and_answered(rt: HostRuntime) -> Result<(), Fail> {
     made(&rt)?;

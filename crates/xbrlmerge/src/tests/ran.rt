@@ -6,16 +6,16 @@ use crate::tests::expecting::{Either, Expecting};
 use std::alloc::AllocError;
 use std::io::Write;
 
-// The program, run on words for tests. Where a request for memory is refused, the next one is not:
-// the program says so, and is run again. The line on standard error tells of it.
+// Runs the program on arguments. After a refused request for memory the program says so and is run
+// again. The line on standard error reports it.
 
-/// No words, for a bundle on standard input.
+/// No arguments, for a bundle on standard input.
 pub(crate) const NO_WORDS: &[&str] = &[];
 
-/// How many words a line has at most.
+/// The most arguments in a line.
 const MOST_WORDS: usize = 16;
 
-/// Streams of which none is a terminal.
+/// Streams none of which is a terminal.
 pub(crate) fn piped<R, O, E>(input: R, out: O, err: E) -> Streams<R, O, E> {
     Streams {
         input,
@@ -26,7 +26,7 @@ pub(crate) fn piped<R, O, E>(input: R, out: O, err: E) -> Streams<R, O, E> {
     }
 }
 
-/// The words of a line, with one space between them.
+/// The arguments in a line, separated by single spaces.
 pub(crate) fn words_of<'t>(rt: &HostRuntime, line: &'t str) -> Result<Vec<&'t str>, AllocError> {
     let mut words = match Vec::with_capacity(rt.alloc(), MOST_WORDS) {
         Ok(made) => made,
@@ -41,8 +41,8 @@ pub(crate) fn words_of<'t>(rt: &HostRuntime, line: &'t str) -> Result<Vec<&'t st
     Ok(words)
 }
 
-/// Whether the program ends with this status and writes this, without reading standard input.
-/// What it left is told where it does not.
+/// True if the program ends with this status and writes this, without reading standard input. If
+/// not, the actual results are printed.
 pub(crate) fn ends(
     rt: &HostRuntime,
     words: &[&str],
@@ -59,7 +59,7 @@ pub(crate) fn ends(
     }
 }
 
-/// The same, or None where memory was refused.
+/// The same, or None if memory was refused.
 fn ends_once(
     rt: &HostRuntime,
     words: &[&str],
@@ -81,7 +81,7 @@ fn ends_once(
     Some(same)
 }
 
-/// Whether the program, with this standard output, stops with this line.
+/// True if the program, with this standard output, stops with this line.
 pub(crate) fn stops<O: Write + Copy + Drop>(
     rt: &HostRuntime,
     words: &[&str],
@@ -97,7 +97,7 @@ pub(crate) fn stops<O: Write + Copy + Drop>(
     }
 }
 
-/// The same, or None where memory was refused.
+/// The same, or None if memory was refused.
 fn stops_once<O: Write + Drop>(
     rt: &HostRuntime,
     words: &[&str],
@@ -116,7 +116,8 @@ fn stops_once<O: Write + Drop>(
     Some(same)
 }
 
-/// The status, and what was heard on standard error against the text and the line of memory.
+/// The status, and standard error compared with the expected text and with the line for refused
+/// memory.
 fn heard<'a, O: Write + Drop>(
     rt: &HostRuntime,
     words: &[&str],

@@ -11,8 +11,9 @@ use oim_merge::ReadFault;
 use std::alloc::AllocError;
 use std::test::Fail;
 
-// Where a request for memory is refused, the next one is not: the program says so, and is run
-// again. The line on standard error tells of it.
+// After a refused request for memory the program says so and is run again. The line on standard
+// error
+// reports it.
 
 const ROOM: usize = 1 << 16;
 
@@ -28,7 +29,7 @@ fn writer(rt: &HostRuntime, room: usize) -> Result<TestWriter, AllocError> {
     }
 }
 
-/// What the program left.
+/// The results of the program.
 #[derive(Drop)]
 struct Ran {
     status: u8,
@@ -43,7 +44,7 @@ fn run_once(rt: &HostRuntime, input: TestReader<'_>, room: usize) -> Result<Ran,
     Ok(Ran { status, out, err })
 }
 
-/// Runs the program on standard input, with room for so many bytes on standard output.
+/// Runs the program on standard input, with this much room on standard output.
 fn run_in(rt: &HostRuntime, input: TestReader<'_>, room: usize) -> Result<Ran, AllocError> {
     let ran = run_once(rt, input, room)?;
     if ran.status == 3 && ran.err.held() == b"out of memory\n".as_slice() {
@@ -53,7 +54,7 @@ fn run_in(rt: &HostRuntime, input: TestReader<'_>, room: usize) -> Result<Ran, A
     Ok(ran)
 }
 
-/// Whether the program answers so. What it left is shown where it does not.
+/// True if the program has these results. If not, the actual ones are printed.
 fn gives(
     rt: &HostRuntime,
     parts: &[&str],
@@ -83,14 +84,14 @@ fn no_report_gives_the_empty_text(rt: HostRuntime) -> Result<(), Fail> {
     Ok(())
 }
 
-/// The text of the one fact.
+/// The text of the only fact.
 const HUNDRED_TEXT: &[&str] = &[HEAD, ONE_URI, MIDDLE, WRITTEN_HUNDRED, END];
 
-/// Three facts, the second one with a prefix that is not bound.
+/// Three facts. The prefix of the second is not bound.
 const SECOND_UNBOUND: &str =
     r#""a":{"value":"1","dimensions":{"concept":"eg:A"}},"b":{"value":"1","dimensions":{"concept":"q:A"}},"c":{"value":"2","dimensions":{"concept":"eg:A"}}"#;
 
-/// A report with these facts before one that is accepted, and one behind it that is refused.
+/// An accepted report with these facts, between others that are refused.
 const BETWEEN_REFUSED: &[&str] = &[
     SHEET,
     "\n\n",
@@ -114,7 +115,7 @@ fn a_refused_report_changes_nothing(rt: HostRuntime) -> Result<(), Fail> {
     Ok(())
 }
 
-/// Bundles whose sheet is refused, with the line that tells it.
+/// Bundles with a refused sheet, and the line that reports it.
 const REFUSED_SHEETS: [(&str, &str); 5] = [
     ("", "sheet: 1 NotJson\n"),
     ("\n{}", "sheet: 1 NotJson\n"),
@@ -129,7 +130,7 @@ const REFUSED_SHEETS: [(&str, &str); 5] = [
     ),
 ];
 
-/// Whether each bundle ends the run with its line.
+/// True if each bundle ends the run with its line.
 fn all_end(rt: &HostRuntime, rows: &[(&str, &str)]) -> Result<bool, Fail> {
     let mut all = true;
     for (bundle, line) in rows {
@@ -145,8 +146,9 @@ fn a_refused_sheet_ends_the_run(rt: HostRuntime) -> Result<(), Fail> {
     Ok(())
 }
 
-/// Whether the run stops with this line, where standard output has room for so many bytes and then
-/// holds these of the text.
+/// True if the run stops with this line when standard output has this much room, and standard
+/// output
+/// then holds the first part of the text.
 fn stops(
     rt: &HostRuntime,
     input: TestReader<'_>,
@@ -169,8 +171,8 @@ fn a_full_device_ends_the_run(rt: HostRuntime) -> Result<(), Fail> {
     Ok(())
 }
 
-/// Whether the run stops and says that its input cannot be read, and writes nothing else; none where
-/// memory was refused.
+/// True if the run stops, says that its input cannot be read, and writes nothing else; None if memory
+/// was refused.
 fn is_unread(rt: &HostRuntime, input: TestReader<'_>) -> Option<bool> {
     let mut out = Expecting::just(b"");
     let mut err = Either(
@@ -184,7 +186,7 @@ fn is_unread(rt: &HostRuntime, input: TestReader<'_>) -> Option<bool> {
     Some(status == 3 && out.is_met() && err.0.is_met())
 }
 
-/// Whether inputs that stop behind these bytes are not read, at each step.
+/// True if inputs that fail after these bytes are reported as unread, at each step.
 fn are_unread(rt: &HostRuntime, front: &[u8]) -> bool {
     for step in STEPS {
         for then in [Then::Fails, Then::IsInterrupted] {
@@ -239,8 +241,8 @@ fn a_text_that_is_not_flushed_is_a_fault(rt: HostRuntime) -> Result<(), Fail> {
     Ok(())
 }
 
-/// The status, and how often standard output is flushed where it has room for so many bytes; none
-/// where memory was refused.
+/// The status and the number of flushes when standard output has this much room; None if memory was
+/// refused.
 fn flushed(rt: &HostRuntime, bundle: &[u8], room: usize) -> Option<(u8, u64)> {
     let mut out = CountsFlushes { room, flushes: 0 };
     let mut err = Expecting::just(b"out of memory\n");
@@ -266,7 +268,7 @@ fn an_output_that_failed_is_not_flushed(rt: HostRuntime) -> Result<(), Fail> {
     Ok(())
 }
 
-/// The status with which the program ends on a bundle.
+/// The exit status for a bundle.
 fn status_of(rt: &HostRuntime, bundle: &[u8], out: &mut TestWriter, err: &mut TestWriter) -> u8 {
     let input = TestReader::new(bundle, Step::All, Then::Ends);
     run(rt.alloc(), rt, NO_WORDS, piped(input, out, err))

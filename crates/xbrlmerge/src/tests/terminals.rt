@@ -6,8 +6,7 @@ use crate::tests::expecting::Expecting;
 use crate::tests::ran::NO_WORDS;
 use std::test::Fail;
 
-/// Whether the program stops with these lines where its input, which is this, and its errors are a
-/// terminal.
+/// True if the program stops with these lines when its input and standard error are terminals.
 fn shows_once(rt: &HostRuntime, words: &[&str], input: &str, lines: &str) -> bool {
     let mut err = Expecting::just(lines.as_bytes());
     let streams = Streams {
@@ -21,7 +20,7 @@ fn shows_once(rt: &HostRuntime, words: &[&str], input: &str, lines: &str) -> boo
     status == 3 && err.is_met()
 }
 
-// Where a request for memory is refused, the next one is not: the program is run again.
+// The program is run again after a refused request for memory.
 fn shows(rt: &HostRuntime, words: &[&str], input: &str, lines: &str) -> bool {
     if shows_once(rt, words, input, lines) {
         return true;

@@ -3,15 +3,15 @@ use crate::tests::expecting::Expecting;
 use crate::tests::ran::{ends, stops, words_of};
 use std::test::Fail;
 
-// The text of help and usage is clap's.
+// Help and usage are printed by clap.
 
-/// Whether the words are refused, with clap's text on standard error alone.
+/// True if the arguments are refused, with clap's text on standard error only.
 fn is_usage(rt: &HostRuntime, words: &[&str]) -> bool {
     let out = Expecting::just(b"");
     ends(rt, words, 3, out, Expecting::front(b"error: "))
 }
 
-/// Whether the words are answered by a text with this front, on standard output alone.
+/// True if a text that begins like this is printed on standard output only.
 fn is_answered(rt: &HostRuntime, words: &[&str], front: &str) -> bool {
     let out = Expecting::front(front.as_bytes());
     ends(rt, words, 0, out, Expecting::just(b""))
@@ -196,7 +196,7 @@ fn help_is_answered(rt: HostRuntime) -> Result<(), Fail> {
     Ok(())
 }
 
-/// How many replicas there are, in words that are right.
+/// Valid spellings of the number of replicas.
 const COUNTS: [&str; 5] = [
     "replay --sheet none --replicas 1 --events e",
     "replay --sheet none --replicas 64 --events e",

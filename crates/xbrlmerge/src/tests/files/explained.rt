@@ -64,7 +64,7 @@ pub(super) const EXPLAINED: [Row; 13] = [
         ],
         "",
     ),
-    // an object of one member, an escaped text, another value, and two texts
+    // an object with one member, an escaped text, another value, and two texts
     (
         "explain --sheet sheet --format json wrong apart",
         1,
@@ -92,7 +92,7 @@ pub(super) const EXPLAINED: [Row; 13] = [
     ("explain --sheet sheet unbound -o said", 1, &[], ""),
 ];
 
-/// What stands in the file that is written last.
+/// The content of the file that is written last.
 pub(super) const SAID: &[&str] = &[
     "unbound: fact \"a\": 13 UnboundPrefix: the prefix of \"q:A\" is not bound\n",
     "reports: 1, with faults: 1, faults: 1\n",

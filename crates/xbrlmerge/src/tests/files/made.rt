@@ -3,13 +3,14 @@ use std::alloc::AllocError;
 use std::test::Fail;
 use std::{env, fs};
 
-/// The folder of the files. It is not of the repository.
+/// The folder for the files, which is not under version control.
 pub(super) const FOLDER: &str = "out/made";
 
 const OTHER_INFO: &str =
     r#"{"documentInfo":{"documentType":"https://xbrl.org/2021/xbrl-json","namespaces":{"zz":"http://example.org/t"}},"facts":{"#;
 
-/// Each file's name and text, which is in two parts. `zz` says what `100` says, by another prefix.
+/// The name of each file, and its text in two parts. `zz` has the facts of `100` with another
+/// prefix.
 const FILES: [(&str, &str, &str); 24] = [
     ("sheet", "", SHEET),
     (
@@ -110,7 +111,7 @@ fn make_all(rt: &HostRuntime, files: &[(&str, &str, &str)]) -> Result<(), Fail> 
     Ok(())
 }
 
-/// Makes the folder and the files, and goes there.
+/// Creates the folder and the files, and changes into the folder.
 pub(super) fn made(rt: &HostRuntime) -> Result<(), Fail> {
     fs::create_dir_all(rt, FOLDER)?;
     env::set_current_dir(rt, FOLDER)?;

@@ -5,7 +5,7 @@ use crate::tests::canonical_parts::{
 
 const LINE_END: &str = "\n";
 
-/// The texts of two replicas with no fact.
+/// The texts of two replicas without facts.
 const NOTHING_TWICE: &[&str] = &[
     HEAD,
     MIDDLE_ALONE,
@@ -35,7 +35,7 @@ const BOTH_TWICE: &[&str] = &[
     LINE_END,
 ];
 
-/// The texts of one replica with 100, and of one with nothing.
+/// The texts of one replica with 100 and one without facts.
 const ONE_AND_NOTHING: &[&str] = &[
     HEAD,
     ONE_URI,
@@ -86,7 +86,7 @@ pub(super) const REPLAYED: [Row; 10] = [
         &[HEAD, MIDDLE_ALONE, END, LINE_END],
         "",
     ),
-    // a report that no event takes is read as a file alone
+    // a report that no event takes is only read as a file
     (
         "replay --sheet sheet --replicas 2 --events empty unbound empty",
         0,
@@ -132,9 +132,9 @@ pub(super) const REPLAYED: [Row; 10] = [
     ),
 ];
 
-/// A line, a file or the sheet stops the program, and nothing else is said.
+/// A line, a file or the sheet stops the program, and nothing else is printed.
 pub(super) const STOPPED: [Row; 15] = [
-    // a line that is no event, before any report is opened
+    // a line that is not an event, before any report is opened
     (
         "replay --sheet sheet --replicas 2 --events spaced none",
         3,
@@ -153,7 +153,7 @@ pub(super) const STOPPED: [Row; 15] = [
         &[],
         "event 1: refused\n",
     ),
-    // what is not there, after all reports are read
+    // names of things that do not exist, after all reports are read
     (
         "replay --sheet sheet --replicas 2 --events late 100",
         3,
@@ -190,7 +190,7 @@ pub(super) const STOPPED: [Row; 15] = [
         &[],
         "event 1: refused\n",
     ),
-    // the sheet comes before the events, and these before the reports
+    // the sheet is read before the events, and these before the reports
     (
         "replay --sheet sheet --replicas 2 --events missing none",
         3,
@@ -229,7 +229,7 @@ pub(super) const STOPPED: [Row; 15] = [
     ),
 ];
 
-/// Standard output is full in a text, behind one, and in a later one: all bytes are counted.
+/// Standard output is full in a text, after one, and in a later one. All bytes are counted.
 pub(super) const FULL: [Full; 6] = [
     (
         "replay --sheet sheet --replicas 2 --events empty",
@@ -263,7 +263,7 @@ pub(super) const FULL: [Full; 6] = [
     ),
 ];
 
-/// Standard output takes all and is not flushed.
+/// Standard output takes all bytes, but the flush fails.
 pub(super) const UNFLUSHED: [(&str, &str); 2] = [
     (
         "replay --sheet sheet --replicas 2 --events once unbound",
@@ -275,7 +275,7 @@ pub(super) const UNFLUSHED: [(&str, &str); 2] = [
     ),
 ];
 
-/// Where standard error fails, the status and standard output are these.
+/// The status and standard output when standard error fails.
 pub(super) const UNHEARD: [Row; 2] = [
     (
         "replay --sheet sheet --replicas 2 --events once unbound",

@@ -2,11 +2,12 @@ use crate::tests::canonical_parts::{
     CONSISTENT_HEAD, CONTRADICTING_HEAD, END, HEAD, MIDDLE, MIDDLE_ALONE, ONE_URI, WRITTEN_HUNDRED,
 };
 
-/// Words, and what the program leaves: the status, the text on standard output in parts, the lines
-/// on standard error.
+/// Arguments and the results: the status, the parts of the text on standard output, and the lines
+/// on
+/// standard error.
 pub(super) type Row = (&'static str, u8, &'static [&'static str], &'static str);
 
-/// Words, how many bytes standard output takes, and the line that tells it.
+/// Arguments, the number of bytes that standard output takes, and the line that reports it.
 pub(super) type Full = (&'static str, usize, &'static str);
 
 pub(super) const SECOND: &str = "report 2: 13 UnboundPrefix at fact 1\n";
@@ -19,7 +20,7 @@ pub(super) const NOT_READ: &str = "file none: cannot be read\n";
 
 const A_FOLDER: &str = "file .: cannot be read\n";
 
-/// The text of no fact.
+/// The text without facts.
 const EMPTY: &[&str] = &[HEAD, MIDDLE_ALONE, END];
 
 /// The text of 100.
@@ -99,7 +100,7 @@ pub(super) const MERGED: [Row; 17] = [
     ),
 ];
 
-/// The line of row 1 where it is 100 and 101.
+/// The line for row 1 if it has 100 and 101.
 const TOUCHING: &[&str] = &["1 f1 f2 consistent common 100.5 100.5\n"];
 
 const APART: &[&str] = &["1 f1 f2 inconsistent apart f1 f2\n"];
@@ -180,7 +181,7 @@ pub(super) const CHECKED: [Row; 7] = [
     ("check --sheet sheet empty", 1, &[], NOT_JSON),
 ];
 
-/// The words name a file in place of standard output. Those that end with status 2 or 3 leave it.
+/// The arguments name an output file. Runs that end with status 2 or 3 leave it unchanged.
 pub(super) const WRITTEN: [Row; 6] = [
     ("merge --sheet sheet empty 100 -o out", 1, &[], NOT_JSON),
     (
@@ -205,7 +206,7 @@ pub(super) const WRITTEN: [Row; 6] = [
     ),
 ];
 
-/// What a terminal shows of reports that are read.
+/// The progress that a terminal shows.
 pub(super) const SHOWN: [(&str, &str); 2] = [
     (
         "verdicts --sheet sheet 100 101",
@@ -214,7 +215,7 @@ pub(super) const SHOWN: [(&str, &str); 2] = [
     ("merge --sheet sheet 100 --quiet", ""),
 ];
 
-/// A file names reports, which come behind those of the words.
+/// A file lists reports, which come after those in the arguments.
 pub(super) const LISTED: [Row; 8] = [
     ("merge --sheet sheet --reports-from names", 0, BOTH, ""),
     ("merge --sheet sheet -0 --reports-from ended", 0, BOTH, ""),
@@ -256,7 +257,7 @@ pub(super) const LISTED: [Row; 8] = [
     ),
 ];
 
-/// A file or the sheet stops the program, and nothing else is said.
+/// A file or the sheet stops the program, and nothing else is printed.
 pub(super) const STOPPED: [Row; 13] = [
     ("merge --sheet none", 3, &[], NOT_READ),
     ("verdicts --sheet none list", 3, &[], NOT_READ),
@@ -278,7 +279,7 @@ pub(super) const STOPPED: [Row; 13] = [
     ("verdicts --sheet empty none", 3, &[], "sheet: 1 NotJson\n"),
 ];
 
-/// Where standard error fails, the status and standard output are these.
+/// The status and standard output when standard error fails.
 pub(super) const UNHEARD: [Row; 4] = [
     (
         "merge --sheet sheet --allow none 100 unbound 101",
@@ -291,7 +292,7 @@ pub(super) const UNHEARD: [Row; 4] = [
     ("verdicts --sheet sheet unbound 100", 1, ALIKE, ""),
 ];
 
-/// Standard output takes so many bytes, and the line tells how many.
+/// Standard output takes this many bytes, and the line reports their number.
 pub(super) const FULL: [Full; 4] = [
     ("merge --sheet sheet 100", 0, "device: 0 bytes written\n"),
     (
@@ -311,7 +312,7 @@ pub(super) const FULL: [Full; 4] = [
     ),
 ];
 
-/// Standard output takes all and is not flushed. A run that stops before does not flush it.
+/// Standard output takes all bytes, but the flush fails. A run that stops earlier does not flush.
 pub(super) const UNFLUSHED: [(&str, &str); 7] = [
     ("merge --sheet sheet 100", "device: 276 bytes written\n"),
     (
