@@ -11,7 +11,7 @@ use Rattle.std.specs.Cmp.{IsTotalOrder, Equal-is, eq_by_cmp_equiv, tied_itself}
 use Rattle.std.proofs.lemmas.Map.Views.{Contains-from_any, list_any-from_Contains}
 use Rattle.merge_laws.specs.Sorted.{IsSet, item_at, has_key, itself, entry_key, value_at, IsRising}
 use Rattle.merge_laws.specs.Union.{either_or_both, older, merged_entries, set_with, set_union, IsSetOfBoth, SetUnionHasBoth, SetWithHasItem, MapTellsEntry, MapUnionHasBoth, MapWithMerges, SetTellsItem}
-use Rattle.merge_laws.specs.Items.{alone, rises_with, rises_union, item_at-with, item_at-union}
+use Rattle.merge_laws.specs.code.Items.{alone, rises_with, rises_union, item_at-with, item_at-union}
 use Rattle.merge_laws.proofs.Edits.{item_found}
 use Rattle.merge_laws.proofs.Places.{found_here}
 

@@ -8,10 +8,10 @@ use Rattle.std.specs.Cmp.{IsTotalOrder, tied_back}
 use Rattle.std.specs.List.{insert}
 use Rattle.std.specs.List.Sorted.{IsStrictlySortedBy}
 use mathlib.Core.Bool.{true≢false}
-use Rattle.merge_laws.specs.Insertions.{found_at, new_item, new_value, shared_value}
-use Rattle.merge_laws.specs.Sorted.{IsRising, item_at, has_key, place_of, entry_key}
+use Rattle.merge_laws.specs.code.Insertions.{found_at, new_item, new_value, shared_value, place_of}
+use Rattle.merge_laws.specs.Sorted.{IsRising, item_at, has_key, entry_key}
 use Rattle.merge_laws.specs.Union.{with_item}
-use Rattle.merge_laws.specs.Items.{Below, none_below, turned_less, turned_greater}
+use Rattle.merge_laws.specs.code.Items.{Below, none_below, turned_less, turned_greater}
 
 -- the meaning of a search's result
 pub tells_ok : (b : Bool) (p i : ℕ) → ◌≡◌ {A = Result ℕ ℕ} (Ok i) (cond b (Ok p) (Err p)) → (b ≡ true) × (p ≡ i)

@@ -11,10 +11,10 @@ use mathlib.Core.Bool.{◌||◌}
 use Rattle.oim_value.specs.Interval.{common_part}
 use Rattle.oim_value.specs.declared.value.Value.{Value}
 use Rattle.merge_laws.specs.Ends.{Summarised, summary_of, both_summaries, summary_of_all}
-use Rattle.merge_laws.specs.Items.{alone, same_items}
+use Rattle.merge_laws.specs.code.Items.{alone, same_items}
 use Rattle.merge_laws.specs.Members.{SetIsItsMembers, MapIsItsValues, MapUnionKeeps, MapWithKeeps, SummaryOfOne, SummaryOfBoth, SummaryOfUnion, SummaryOfMembers}
 use Rattle.merge_laws.specs.Sorted.{item_at, has_key, itself, entry_key, value_at}
-use Rattle.merge_laws.specs.SummaryLaws.{summary_associates, summary_commutes, summary_idempotent}
+use Rattle.merge_laws.specs.code.SummaryLaws.{summary_associates, summary_commutes, summary_idempotent}
 use Rattle.merge_laws.specs.Union.{merged_entries, map_with, map_union, set_with, set_union}
 use Rattle.merge_laws.proofs.Both.{set_tells_item}
 

@@ -13,9 +13,9 @@ use Rattle.std.proofs.lemmas.List.{get_or_default}
 use Rattle.std.proofs.lemmas.List.Sums.{position_or_len_is}
 use Rattle.std.proofs.lemmas.List.Sorted.{searchable_from_sorted}
 use Rattle.std.proofs.lemmas.Map.Keys.{Less-from_sorted}
-use Rattle.merge_laws.specs.Insertions.{found_at}
-use Rattle.merge_laws.specs.Sorted.{IsRising, item_at, has_key, place_of}
-use Rattle.merge_laws.specs.Items.{turned_less, turned_greater}
+use Rattle.merge_laws.specs.code.Insertions.{found_at, place_of}
+use Rattle.merge_laws.specs.Sorted.{IsRising, item_at, has_key}
+use Rattle.merge_laws.specs.code.Items.{turned_less, turned_greater}
 
 pub less : (r : Ordering) → true ≡ is_lt r → r ≡ Less
 less Less t = refl

@@ -12,9 +12,9 @@ use mathlib.Core.Bool.{true≢false}
 use Rattle.std.proofs.lemmas.Grind.{flat_map-append}
 use Rattle.std.proofs.lemmas.List.{reverse-append}
 use Rattle.std.proofs.lemmas.List.Folds.{find-append}
-use Rattle.merge_laws.specs.Insertions.{IsFirstLeast, inserted, new_item, new_items}
-use Rattle.merge_laws.specs.Sorted.{IsRising, item_at, has_key, place_of}
-use Rattle.merge_laws.specs.Items.{Below, none_below, none_tied, below_less, same_found, turned_less, turned_greater}
+use Rattle.merge_laws.specs.code.Insertions.{IsFirstLeast, inserted, new_item, new_items, place_of}
+use Rattle.merge_laws.specs.Sorted.{IsRising, item_at, has_key}
+use Rattle.merge_laws.specs.code.Items.{Below, none_below, none_tied, below_less, same_found, turned_less, turned_greater}
 use Rattle.merge_laws.proofs.Edits.{place_behind, place_here, not_here, below_rest, rest_rises}
 use Rattle.merge_laws.proofs.Lists.{AllBelow, from_end, all_both, all_front, all_back, or_none, rises_front, rises_back, below_last, rises_around}
 

@@ -5,11 +5,11 @@ use Rattle.std.specs.Option.{option_or}
 use Rattle.std.specs.declared.cmp.Ordering.{Ordering}
 use Rattle.std.specs.declared.cmp.Ordering.TheVariants.{Equal}
 use Rattle.std.specs.Cmp.{IsTotalOrder}
-use Rattle.merge_laws.specs.Insertions.{inserted, new_items, new_values, with_values}
+use Rattle.merge_laws.specs.code.Insertions.{inserted, new_items, new_values, with_values}
 use Rattle.merge_laws.specs.Sorted.{IsRising, IsSet, IsMap, item_at, itself, entry_key}
 use Rattle.merge_laws.specs.Union.{either_or_both, older, merged_entries, set_union, map_union}
-use Rattle.merge_laws.specs.Items.{same_items, rises_union, item_at-union}
-use Rattle.merge_laws.specs.UnionLaws.{set_closed, set_commutes, map_closed, map_commutes}
+use Rattle.merge_laws.specs.code.Items.{same_items, rises_union, item_at-union}
+use Rattle.merge_laws.specs.code.UnionLaws.{set_closed, set_commutes, map_closed, map_commutes}
 use Rattle.merge_laws.proofs.Edits.{nothing_rises}
 use Rattle.merge_laws.proofs.Taking.{takes_all}
 use Rattle.merge_laws.proofs.Values.{revalued, IsRevalued, revalues_all}

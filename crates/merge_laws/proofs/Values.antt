@@ -11,9 +11,9 @@ use Rattle.std.specs.List.Sorted.{IsStrictlySortedBy}
 use mathlib.Core.Bool.{true≢false}
 use Rattle.std.proofs.lemmas.Grind.{flat_map-append}
 use Rattle.std.proofs.lemmas.List.Folds.{find-append}
-use Rattle.merge_laws.specs.Insertions.{new_value, new_values, shared_value, with_value, with_values}
-use Rattle.merge_laws.specs.Sorted.{IsRising, item_at, has_key, place_of, entry_key}
-use Rattle.merge_laws.specs.Items.{Below, none_below, same_found}
+use Rattle.merge_laws.specs.code.Insertions.{new_value, new_values, shared_value, with_value, with_values, place_of}
+use Rattle.merge_laws.specs.Sorted.{IsRising, item_at, has_key, entry_key}
+use Rattle.merge_laws.specs.code.Items.{Below, none_below, same_found}
 use Rattle.merge_laws.proofs.Edits.{place_behind, place_here, not_here, below_rest, rest_rises}
 use Rattle.merge_laws.proofs.Lists.{AllBelow, from_end, or_none, rises_front, below_last}
 

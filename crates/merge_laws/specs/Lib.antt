@@ -1,9 +1,5 @@
 pub mod Ends
-pub mod Few
-pub mod Insertions
-pub mod Items
 pub mod Members
 pub mod Sorted
-pub mod SummaryLaws
 pub mod Union
-pub mod UnionLaws
+pub mod code

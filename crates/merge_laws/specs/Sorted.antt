@@ -1,11 +1,11 @@
 -- Lists of items in the strict order of their keys (own). The items of a set are their own keys. The items of a map have a key
 -- and a value.
-use Rattle.std.specs.Prelude.{Bool, not, ℕ, List, Option, is_some}
-use Rattle.std.specs.List.{AllByRecursion, find, position_or_len}
+use Rattle.std.specs.Prelude.{Bool, List, Option, is_some}
+use Rattle.std.specs.List.{AllByRecursion, find}
 use Rattle.std.specs.List.Sorted.{IsStrictlySortedBy}
 use Rattle.std.specs.Option.{option_map}
 use Rattle.std.specs.declared.cmp.Ordering.{Ordering}
-use Rattle.std.specs.Ordering.{is_eq, is_lt}
+use Rattle.std.specs.Ordering.{is_eq}
 
 module _ {K E : Type 0} (R : K → K → Ordering) (key : E → K) where
   -- each key is below all keys after it
@@ -19,10 +19,6 @@ module _ {K E : Type 0} (R : K → K → Ordering) (key : E → K) where
   -- there is an item with the key
   abbrev pub has_key : K → List E → Bool
   has_key k es = is_some (item_at k es)
-
-  -- the index of the first item whose key is not below k, or the length if there is none
-  abbrev pub place_of : K → List E → ℕ
-  place_of k es = position_or_len (λ e. not (is_lt (R (key e) k))) es
 
 -- an item of a set is its own key
 abbrev pub itself : {K : Type 0} → K → K

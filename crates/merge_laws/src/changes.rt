@@ -1,8 +1,8 @@
 ghost use Rattle.std.specs.Prelude.{◌≡◌, ◌<◌, ◌≤◌, ◌++◌, length, reverse, vec_len, vec_capacity, IfOk, OnOk, OnErr};
 ghost use Rattle.std.specs.List.{AllByRecursion, AllWithin};
 ghost use Rattle.std.specs.declared.cmp.Ordering.TheVariants.{Less as Below};
-ghost use Rattle.merge_laws.specs.Insertions.{IsFirstLeast, inserted, new_item, new_items, new_value, new_values, with_values};
-ghost use Rattle.merge_laws.specs.Sorted.{IsRising, entry_key, place_of};
+ghost use Rattle.merge_laws.specs.code.Insertions.{IsFirstLeast, inserted, new_item, new_items, new_value, new_values, with_values, place_of};
+ghost use Rattle.merge_laws.specs.Sorted.{IsRising, entry_key};
 
 use crate::insertion::{insert_all, room_for};
 use crate::merge::Merge;

@@ -1,6 +1,6 @@
 ghost use Rattle.std.specs.Prelude.{◌≡◌, ◌≤◌, [], ◌∷◌, length, reverse, IfOk, OnOk, OnErr};
 ghost use Rattle.std.specs.List.{insert};
-ghost use Rattle.merge_laws.specs.Insertions.{IsFirstLeast, inserted};
+ghost use Rattle.merge_laws.specs.code.Insertions.{IsFirstLeast, inserted};
 
 use crate::insertion::insert_new;
 use oim_names::{Copied, Key};
@@ -22,7 +22,7 @@ pub(crate) enum Room<T: Key> {
 
 impl<T: Key> Model for Few<T> {
     ghost use Rattle.std.specs.Prelude.{List};
-    ghost use Rattle.merge_laws.specs.Few.{items_of};
+    ghost use Rattle.merge_laws.specs.code.Few.{items_of};
 
     ghost Value = { List T };
 

@@ -1,5 +1,5 @@
 ghost use Rattle.std.specs.Prelude.{◌≡◌, ◌+◌, ◌-◌, ◌<◌, ◌≤◌, [], ◌++◌, take, drop, length, reverse, vec_len, vec_capacity, IfOk, OnOk, OnErr};
-ghost use Rattle.merge_laws.specs.Insertions.{IsFirstLeast, first_place, inserted};
+ghost use Rattle.merge_laws.specs.code.Insertions.{IsFirstLeast, first_place, inserted};
 
 use std::alloc::AllocError;
 

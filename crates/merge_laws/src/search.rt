@@ -2,7 +2,7 @@ ghost use Rattle.std.specs.Prelude.{◌≡◌, ◌≤◌, length};
 ghost use Rattle.std.specs.List.{AllWithin};
 ghost use Rattle.std.specs.List.Sorted.{IsSearchInRange};
 ghost use Rattle.std.specs.declared.cmp.Ordering.TheVariants.{Less as Below, Greater as Above};
-ghost use Rattle.merge_laws.specs.Insertions.{found_at};
+ghost use Rattle.merge_laws.specs.code.Insertions.{found_at};
 ghost use Rattle.merge_laws.specs.Sorted.{IsRising};
 
 use oim_names::Key;

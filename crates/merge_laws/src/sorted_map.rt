@@ -149,7 +149,7 @@ fn copies_of<K: Copied, V: Copied>(
 impl<K: Key, V: Merge> Merge for SortedMap<K, V> {
     ghost use Rattle.merge_laws.specs.Sorted.{IsMap};
     ghost use Rattle.merge_laws.specs.Union.{map_union};
-    ghost use Rattle.merge_laws.specs.UnionLaws.{map_closed, map_associates, map_commutes, map_idempotent};
+    ghost use Rattle.merge_laws.specs.code.UnionLaws.{map_closed, map_associates, map_commutes, map_idempotent};
 
     ghost is_known = { IsMap K.cmp V.is_known };
 

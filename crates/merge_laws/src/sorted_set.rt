@@ -1,5 +1,5 @@
 ghost use Rattle.std.specs.Prelude.{◌≡◌, [], ◌∷◌, not, IfOk, OnOk, OnErr};
-ghost use Rattle.merge_laws.specs.Insertions.{new_items};
+ghost use Rattle.merge_laws.specs.code.Insertions.{new_items};
 ghost use Rattle.merge_laws.specs.Sorted.{IsSet, has_key, itself};
 ghost use Rattle.merge_laws.specs.Union.{set_union, set_with};
 
@@ -156,7 +156,7 @@ fn new_of<T: Key>(alloc: Global, items: &[T], others: Vec<T>) -> Result<Vec<(usi
 impl<T: Key> Merge for SortedSet<T> {
     ghost use Rattle.merge_laws.specs.Sorted.{IsSet};
     ghost use Rattle.merge_laws.specs.Union.{set_union};
-    ghost use Rattle.merge_laws.specs.UnionLaws.{set_closed, set_associates, set_commutes, set_idempotent};
+    ghost use Rattle.merge_laws.specs.code.UnionLaws.{set_closed, set_associates, set_commutes, set_idempotent};
 
     ghost is_known = { IsSet T.cmp };
 

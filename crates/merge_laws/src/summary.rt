@@ -69,7 +69,7 @@ impl Copied for Summary {
 impl Merge for Summary {
     ghost use Rattle.std.specs.Prelude.{◌≡◌, IsOk};
     ghost use Rattle.merge_laws.specs.Ends.{both_summaries};
-    ghost use Rattle.merge_laws.specs.SummaryLaws.{summary_associates, summary_commutes, summary_idempotent};
+    ghost use Rattle.merge_laws.specs.code.SummaryLaws.{summary_associates, summary_commutes, summary_idempotent};
 
     ghost is_known = { λ _. Unit {0} };
 

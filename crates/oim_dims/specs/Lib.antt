@@ -3,7 +3,7 @@ pub mod DateTime
 pub mod Period
 pub mod Language
 pub mod Unit
-pub mod Ties
 pub mod DimensionSet
 pub mod FactOrder
 pub mod Limits
+pub mod code

@@ -229,10 +229,10 @@ impl Copied for Dimensions {
 impl Key for Dimensions {
     ghost use Rattle.std.specs.FinMap.{slice_cmp-IsAntisymmetric};
     ghost use Rattle.std.proofs.lemmas.Map.Lookups.{exact_pairs, exact_bytes};
-    ghost use Rattle.oim_names.specs.Exact.{exact_option};
+    ghost use Rattle.oim_names.specs.code.Exact.{exact_option};
     ghost use Rattle.oim_names.specs.QName.{exact_name};
-    ghost use Rattle.oim_value.specs.Ties.{both_tie};
-    ghost use Rattle.oim_dims.specs.Ties.{exact_measures};
+    ghost use Rattle.oim_value.specs.code.Ties.{both_tie};
+    ghost use Rattle.oim_dims.specs.code.Ties.{exact_measures};
     ghost use Rattle.oim_dims.specs.contracts.period.PeriodKey.TheImpl.Laws.{exact-law as exact_period};
     ghost use Rattle.oim_dims.specs.contracts.member.MemberKey.TheImpl.Laws.{exact-law as exact_member};
 

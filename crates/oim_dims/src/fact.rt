@@ -24,7 +24,7 @@ impl Copied for Fact {
 }
 
 impl Key for Fact {
-    ghost use Rattle.oim_value.specs.Ties.{both_tie};
+    ghost use Rattle.oim_value.specs.code.Ties.{both_tie};
     ghost use Rattle.oim_value.specs.contracts.value.ValueKey.TheImpl.Laws.{exact-law as exact_value};
     ghost use Rattle.oim_dims.specs.contracts.dimensions.DimensionsKey.TheImpl.Laws.{exact-law as exact_dimensions};
 

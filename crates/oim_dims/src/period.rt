@@ -97,7 +97,7 @@ impl Key for Period {
     ghost use Rattle.std.specs.Prelude.{refl};
     ghost use Rattle.std.proofs.Common.{ap};
     ghost use Rattle.std.proofs.lemmas.Map.Lookups.{exact_signed};
-    ghost use Rattle.oim_value.specs.Ties.{both_tie};
+    ghost use Rattle.oim_value.specs.code.Ties.{both_tie};
     ghost use Rattle.oim_dims.specs.declared.period.Period.TheVariants.{Forever, Instant, Duration};
 
     ghost exact = { elim [

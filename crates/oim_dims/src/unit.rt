@@ -78,7 +78,7 @@ impl Copied for Unit {
 }
 
 impl Key for Unit {
-    ghost use Rattle.oim_dims.specs.Ties.{exact_measures};
+    ghost use Rattle.oim_dims.specs.code.Ties.{exact_measures};
 
     ghost exact = { exact_measures };
 }

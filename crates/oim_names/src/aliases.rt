@@ -31,7 +31,8 @@ pub struct Aliases {
 
 impl Model for Aliases {
     ghost use Rattle.std.specs.Prelude.{List};
-    ghost use Rattle.oim_names.specs.Bindings.{Binding as Bound, AreIndexed};
+    ghost use Rattle.oim_names.specs.Bindings.{Binding as Bound};
+    ghost use Rattle.oim_names.specs.code.Indexed.{AreIndexed};
 
     ghost Value = { List Bound };
 

@@ -3,9 +3,9 @@ use Rattle.std.proofs.Common.{◌≡◌, ℕ, List, [], ◌∷◌, map, Bool, No
 use Rattle.std.specs.List.{AllZip}
 use Rattle.oim_names.specs.QName.{QName, is_name}
 use Rattle.oim_names.specs.Bindings.{Binding}
-use Rattle.oim_names.specs.Expansion.{ExpandsAs, Expands}
+use Rattle.oim_names.specs.Expansion.{ExpandsAs, Expands, a_name}
 use Rattle.oim_names.proofs.Refusals.{named_kept}
-use Rattle.oim_report.specs.Names.{a_name, names_refusal}
+use Rattle.oim_report.specs.Names.{names_refusal}
 use Rattle.oim_report.proofs.NameRefusals.{name_more}
 
 pub one_name : (has_form : List ℕ → Bool) (bs : List Binding) (t : List ℕ) (n : QName) → ExpandsAs has_form bs t n → names_refusal bs (record { has_form = has_form; text = t } ∷ []) ≡ None

@@ -10,14 +10,14 @@ use Rattle.std.proofs.lemmas.List.Folds.{list_any-append}
 use Rattle.std.proofs.lemmas.Str.{is_utf8-from_IsUtf8}
 use Rattle.oim_names.specs.QName.{QName, is_name}
 use Rattle.oim_names.specs.Bindings.{Binding}
-use Rattle.oim_names.specs.Expansion.{Expands, name_refusal}
+use Rattle.oim_names.specs.Expansion.{Expands, name_refusal, Spelled, a_name, an_entity, refuses}
 use Rattle.oim_names.specs.declared.reason.Reason.{Reason}
 use Rattle.oim_names.specs.declared.reason.Reason.TheVariants.{OutOfMemory}
 use Rattle.serde_json.specs.Data.{Data, Members, no_members, member}
 use Rattle.oim_report.specs.declared.concept_kind.ConceptKind.TheVariants.{Name}
 use Rattle.oim_report.specs.Holds.{concept, entries, explicit_text, is_some_and, names, pieces, text_at, value_text}
 use Rattle.oim_report.specs.Json.{has_colon}
-use Rattle.oim_report.specs.Names.{Spelled, a_name, an_entity, named, refuses_name, refuses_some}
+use Rattle.oim_report.specs.Names.{named, refuses_some}
 use Rattle.oim_report.specs.Rows.{any_defined, defined_name, defined_names, is_defined, refuses_in}
 use Rattle.oim_report.specs.Sheet.{Sheet, same_concept_kind}
 use Rattle.oim_report.proofs.ComesAgain.{read_none}
@@ -76,7 +76,7 @@ module _ (sheet : Sheet) (bs : List Binding) (fact : Data) (ms : Members) (r : R
   of_value = map a_name (if is_some_and (same_concept_kind Name) (option_and_then (map.get sheet.concepts) (concept sheet bs fact ms)) then option_to_list (value_text sheet bs fact ms) else [])
 
   abbrev test : Spelled → Bool
-  test = refuses_name r bs
+  test = refuses r bs
 
   abbrev of_concept : List Spelled
   of_concept = map a_name (option_to_list (text_at sheet bs fact ms (codes "concept")))

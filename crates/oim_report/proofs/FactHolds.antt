@@ -10,7 +10,7 @@ use Rattle.std.specs.Str.{bytes_eq}
 use Rattle.std.proofs.lemmas.Bool.{or_parts}
 use Rattle.oim_names.specs.QName.{QName, is_name, local_part, prefix_part}
 use Rattle.oim_names.specs.Bindings.{Binding, uri_of}
-use Rattle.oim_names.specs.Expansion.{prefix_refusal, reserved_uri}
+use Rattle.oim_names.specs.Expansion.{prefix_refusal, reserved_uri, a_name, an_entity}
 use Rattle.oim_names.specs.Reasons.{reasons}
 use Rattle.oim_names.specs.declared.reason.Reason.{Reason}
 use Rattle.oim_names.specs.declared.reason.Reason.TheVariants.{MemberForm, UnknownMember, Links, Notes, DimensionsMissing, NameForm, UnboundPrefix, ReservedNamespace, MissingConcept, UnknownConcept, UnknownDimension, DimensionValue, PeriodForm, PeriodOrder, UnitForm, UnitOnOther, LanguageForm, LanguageOnNumeric, ValueForm, NumberForm, NumberDigits, DecimalsForm, DecimalsRange, DecimalsOnOther}
@@ -31,7 +31,7 @@ use Rattle.oim_report.specs.declared.dimension_kind.DimensionKind.TheVariants.{E
 use Rattle.oim_report.specs.Conditions.{comes_again, concept_kind, decimals_refusal, defined_names, dimension_kind, dimension_names, fact_refusal, has_misshapen_core, in_dimensions, is_misfit, is_numeric, is_other_kind, language_refusal, member_names, names_of, period_refusal, unit_names, unit_refusal, value_names, value_refusal}
 use Rattle.oim_report.specs.Faults.{when}
 use Rattle.oim_report.specs.Json.{text, any_member, given, given_of, is_absent, is_no_object, is_unknown, members, object_at}
-use Rattle.oim_report.specs.Names.{a_name, an_entity, in_namespace, named, refuses_some}
+use Rattle.oim_report.specs.Names.{in_namespace, named, refuses_some}
 use Rattle.oim_report.specs.Parts.{DimensionParts, core_keys, dimension_parts, parts_of}
 use Rattle.oim_report.specs.Refusal.{first_refusal, or_refusal}
 use Rattle.oim_report.specs.Sheet.{Sheet, same_concept_kind, same_dimension_kind}

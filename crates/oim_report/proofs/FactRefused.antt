@@ -7,7 +7,8 @@ use Rattle.oim_names.specs.declared.reason.Reason.{Reason}
 use Rattle.oim_report.specs.declared.concept_kind.ConceptKind.{ConceptKind}
 use Rattle.oim_report.specs.Conditions.{concept_kind, concept_refusal, content_refusal, defined_names, dimension_refusals, names_of, spelled_in, unit_names, value_names, value_refusals}
 use Rattle.oim_report.specs.Json.{Given, absent, nil, text, whole, other}
-use Rattle.oim_report.specs.Names.{a_name, an_entity, names_refusal}
+use Rattle.oim_report.specs.Names.{names_refusal}
+use Rattle.oim_names.specs.Expansion.{a_name, an_entity}
 use Rattle.oim_report.specs.Parts.{DimensionParts, FactParts}
 use Rattle.oim_report.specs.Refusal.{first_refusal, or_refusal}
 use Rattle.oim_report.specs.Sheet.{Sheet}

@@ -5,7 +5,7 @@ use Rattle.std.specs.Option.{option_map_or}
 use Rattle.std.specs.List.{flat_map, list_any}
 use Rattle.std.proofs.lemmas.Bool.{or_parts}
 use Rattle.oim_names.specs.Bindings.{Binding}
-use Rattle.oim_names.specs.Expansion.{name_refusal}
+use Rattle.oim_names.specs.Expansion.{name_refusal, Spelled, a_name, an_entity}
 use Rattle.oim_names.specs.declared.reason.Reason.{Reason}
 use Rattle.oim_names.specs.declared.reason.Reason.TheVariants.{MemberForm, UnknownMember, Links, Notes, DimensionsMissing, NameForm, UnboundPrefix, ReservedNamespace, UnknownConcept, UnknownDimension, DimensionValue, UnitForm, UnitOnOther, LanguageForm, LanguageOnNumeric, DecimalsRange, DecimalsOnOther}
 use Rattle.oim_value.specs.Decimals.{is_finite_decimals}
@@ -18,7 +18,7 @@ use Rattle.oim_report.specs.declared.dimension_kind.DimensionKind.{DimensionKind
 use Rattle.oim_report.specs.Conditions.{comes_again, concept_kind, concept_refusal, content_refusal, decimals_refusal, defined_names, defined_refusal, dimension_kind, dimension_names, fact_refusal, form_refusal, has_misshapen_core, in_dimensions, is_faulty, is_misfit, is_numeric, is_other_kind, language_refusal, lists_unknown, member_names, names_of, period_refusal, spelled_in, unit_names, unit_refusal, value_names, value_refusal, value_refusals as first_value_refusals}
 use Rattle.oim_report.specs.Faults.{when}
 use Rattle.oim_report.specs.Json.{Given, absent, nil, text, whole, other, is_absent, is_no_object, is_no_text}
-use Rattle.oim_report.specs.Names.{Spelled, a_name, an_entity, names_refusal, refuses_some}
+use Rattle.oim_report.specs.Names.{names_refusal, refuses_some}
 use Rattle.oim_report.specs.Parts.{DimensionParts, FactParts, dimension_parts, parts_of}
 use Rattle.oim_report.specs.Refusal.{first_refusal, or_refusal}
 use Rattle.oim_report.specs.Sheet.{Sheet}

@@ -4,7 +4,7 @@ use Rattle.std.specs.Prelude.{if◌then◌else◌, Option, None, is_none, is_som
 use Rattle.std.specs.Option.{option_map_or}
 use Rattle.std.specs.List.{list_any}
 use Rattle.oim_names.specs.Bindings.{Binding}
-use Rattle.oim_names.specs.Expansion.{name_refusal}
+use Rattle.oim_names.specs.Expansion.{name_refusal, Spelled}
 use Rattle.oim_names.specs.declared.reason.Reason.{Reason}
 use Rattle.oim_names.specs.declared.reason.Reason.TheVariants.{MemberForm, UnknownMember, Links, Notes, DimensionsMissing, NameForm, UnboundPrefix, ReservedNamespace, MissingConcept, UnknownConcept, UnknownDimension, DimensionValue, UnitOnOther, LanguageOnNumeric, DecimalsOnOther}
 use Rattle.serde_json.specs.Data.{Data}
@@ -12,7 +12,7 @@ use Rattle.oim_report.specs.declared.concept_kind.ConceptKind.{ConceptKind}
 use Rattle.oim_report.specs.Conditions.{concept_kind, comes_again, decimals_refusal, dimension_kind, dimension_names, has_misshapen_core, in_dimensions, is_misfit, is_numeric, is_other_kind, language_refusal, names_of, period_refusal, unit_refusal, value_refusal}
 use Rattle.oim_report.specs.Faults.{when}
 use Rattle.oim_report.specs.Json.{Given, is_absent, text_of}
-use Rattle.oim_report.specs.Names.{Spelled, refuses_some}
+use Rattle.oim_report.specs.Names.{refuses_some}
 use Rattle.oim_report.specs.Parts.{DimensionParts, FactParts}
 use Rattle.oim_report.specs.Sheet.{Sheet}
 

@@ -4,10 +4,10 @@ use Rattle.std.specs.Prelude.{Option, Some, None, if◌then◌else◌}
 use Rattle.std.proofs.lemmas.Bool.{or_parts}
 use Rattle.std.proofs.lemmas.List.Folds.{list_any-append}
 use Rattle.oim_names.specs.Bindings.{Binding}
-use Rattle.oim_names.specs.Expansion.{is_reserved, is_unbound, refusal_as}
+use Rattle.oim_names.specs.Expansion.{is_reserved, is_unbound, refusal_as, Spelled, refuses}
 use Rattle.oim_names.specs.declared.reason.Reason.{Reason}
 use Rattle.oim_names.specs.declared.reason.Reason.TheVariants.{NameForm, UnboundPrefix, ReservedNamespace}
-use Rattle.oim_report.specs.Names.{Spelled, names_refusal, refuses_name, refuses_some}
+use Rattle.oim_report.specs.Names.{names_refusal, refuses_some}
 
 -- the first of three that some name has
 abbrev pub by_any : Bool → Bool → Bool → Option Reason
@@ -55,9 +55,9 @@ none_refused bs ns free = λ i. by_any (free.form i) (free.prefix i) (free.names
 pub first_free : (bs : List Binding) (n : Spelled) (ns : List Spelled) → names_refusal bs (n ∷ ns) ≡ None → (refusal_as n.has_form bs n.text ≡ None) × (names_refusal bs ns ≡ None)
 first_free bs n ns e =
     let free = are_free bs (n ∷ ns) e in
-    let form = or_parts (refuses_name NameForm bs n) (refuses_some NameForm bs ns) free.form in
-    let prefix = or_parts (refuses_name UnboundPrefix bs n) (refuses_some UnboundPrefix bs ns) free.prefix in
-    let namespace = or_parts (refuses_name ReservedNamespace bs n) (refuses_some ReservedNamespace bs ns) free.namespace in (
+    let form = or_parts (refuses NameForm bs n) (refuses_some NameForm bs ns) free.form in
+    let prefix = or_parts (refuses UnboundPrefix bs n) (refuses_some UnboundPrefix bs ns) free.prefix in
+    let namespace = or_parts (refuses ReservedNamespace bs n) (refuses_some ReservedNamespace bs ns) free.namespace in (
       free_one (n.has_form n.text) (is_unbound bs n.text) (is_reserved bs n.text) form.0 prefix.0 namespace.0,
       none_refused bs ns (record { form = form.1; prefix = prefix.1; namespace = namespace.1 }),
     )
@@ -71,7 +71,7 @@ name_more bs n ns here there =
 -- ---- two lists
 
 refused_in : (r : Reason) (bs : List Binding) (xs ys : List Spelled) → refuses_some r bs (xs ++ ys) ≡ false → (refuses_some r bs xs ≡ false) × (refuses_some r bs ys ≡ false)
-refused_in r bs xs ys e = or_parts (refuses_some r bs xs) (refuses_some r bs ys) (sym (list_any-append (refuses_name r bs) xs ys) ∙ e)
+refused_in r bs xs ys e = or_parts (refuses_some r bs xs) (refuses_some r bs ys) (sym (list_any-append (refuses r bs) xs ys) ∙ e)
 
 pub names-parts : (bs : List Binding) (xs ys : List Spelled) → names_refusal bs (xs ++ ys) ≡ None → (names_refusal bs xs ≡ None) × (names_refusal bs ys ≡ None)
 names-parts bs xs ys e =

@@ -6,13 +6,13 @@ use Rattle.std.specs.Str.{bytes_eq}
 use Rattle.std.specs.List.{list_any}
 use Rattle.oim_names.specs.QName.{prefix_part}
 use Rattle.oim_names.specs.Bindings.{Binding, uri_of}
-use Rattle.oim_names.specs.Expansion.{prefix_refusal, refusal_as, reserved_uri}
+use Rattle.oim_names.specs.Expansion.{prefix_refusal, refusal_as, reserved_uri, Spelled, a_name, refuses}
 use Rattle.oim_names.specs.contracts.reason.ReasonPartialEq.TheImpl.{eq-value as same_reason}
 use Rattle.oim_names.specs.declared.reason.Reason.{Reason}
 use Rattle.oim_names.specs.declared.reason.Reason.TheVariants.{NameForm, UnboundPrefix, ReservedNamespace}
 use Rattle.oim_dims.specs.Unit.{denominator_pieces, is_unit_text, numerator_pieces, refuses, some_piece}
 use Rattle.oim_report.specs.Holds.{pieces}
-use Rattle.oim_report.specs.Names.{Spelled, a_name, refuses_name, refuses_some}
+use Rattle.oim_report.specs.Names.{refuses_some}
 
 -- by whether it has the form, and what its prefix is bound to
 abbrev refuses_so : Reason → Bool → Option (List ℕ) → Bool
@@ -36,7 +36,7 @@ told_so ReservedNamespace true (Some u) = elim (bytes_eq u reserved_uri) as (λ 
 told_so r true (Some u) = elim (bytes_eq u reserved_uri) as (λ b. option_eq same_reason.it (if b then Some ReservedNamespace else None) (Some r) ≡ false) [ true ↦ refl | false ↦ refl ]
 
 -- a refusal is this one where the test holds
-pub told : (r : Reason) (bs : List Binding) (n : Spelled) → option_eq same_reason.it (refusal_as n.has_form bs n.text) (Some r) ≡ refuses_name r bs n
+pub told : (r : Reason) (bs : List Binding) (n : Spelled) → option_eq same_reason.it (refusal_as n.has_form bs n.text) (Some r) ≡ refuses r bs n
 told NameForm bs n = told_so NameForm (n.has_form n.text) (uri_of bs (prefix_part n.text))
 told UnboundPrefix bs n = told_so UnboundPrefix (n.has_form n.text) (uri_of bs (prefix_part n.text))
 told ReservedNamespace bs n = told_so ReservedNamespace (n.has_form n.text) (uri_of bs (prefix_part n.text))
@@ -44,7 +44,7 @@ told r bs n = told_so r (n.has_form n.text) (uri_of bs (prefix_part n.text))
 
 -- ---- a unit
 
-piece_same : (r : Reason) (bs : List Binding) (t : List ℕ) → refuses r bs t ≡ refuses_name r bs (a_name t)
+piece_same : (r : Reason) (bs : List Binding) (t : List ℕ) → refuses r bs t ≡ refuses r bs (a_name t)
 piece_same NameForm bs t = refl
 piece_same UnboundPrefix bs t = refl
 piece_same ReservedNamespace bs t = refl

@@ -15,7 +15,8 @@ use Rattle.oim_dims.specs.declared.period.Period.{Period}
 use Rattle.oim_dims.specs.declared.period.Period.TheVariants.{Forever, Instant, Duration}
 use Rattle.oim_report.specs.declared.concept_kind.ConceptKind.{ConceptKind}
 use Rattle.oim_report.specs.Json.{is_absent, is_no_text}
-use Rattle.oim_report.specs.Names.{Spelled, a_name, an_entity, names_refusal}
+use Rattle.oim_report.specs.Names.{names_refusal}
+use Rattle.oim_names.specs.Expansion.{Spelled, a_name, an_entity}
 use Rattle.oim_report.specs.Parts.{DimensionParts, FactParts}
 use Rattle.oim_report.specs.Refusal.{or_refusal, first_refusal}
 use Rattle.oim_report.specs.Conditions.{form_refusal, spelled_in, concept_kind, defined_names, names_of, unit_names, value_names, unit_refusal, language_refusal, value_refusal, decimals_refusal, content_refusal, fact_refusal}

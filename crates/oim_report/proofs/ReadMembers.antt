@@ -19,7 +19,8 @@ use Rattle.oim_dims.specs.DimensionSet.{is_below, rises, with_member}
 use Rattle.oim_report.specs.declared.dimension_kind.DimensionKind.{DimensionKind}
 use Rattle.oim_report.specs.declared.dimension_kind.DimensionKind.TheVariants.{Explicit, Typed}
 use Rattle.oim_report.specs.Json.{Given}
-use Rattle.oim_report.specs.Names.{named, a_name, names_refusal}
+use Rattle.oim_report.specs.Names.{named, names_refusal}
+use Rattle.oim_names.specs.Expansion.{a_name}
 use Rattle.oim_report.specs.Conditions.{dimension_kind, member_names, defined_names, is_misfit, dimension_names, comes_again, defined_refusal}
 use Rattle.oim_report.specs.Fact.{SaysMember, SaysDimension}
 use Rattle.oim_report.specs.FactFits.{MemberFits, DimensionFits}

@@ -12,7 +12,7 @@ use Rattle.std.proofs.lemmas.List.Folds.{list_any-append}
 use Rattle.std.proofs.lemmas.List.Sorted.{IsPermutation-refl, IsPermutation-sym, IsPermutation-trans, IsPermutation-cons, IsPermutation-middle}
 use Rattle.oim_names.specs.QName.{QName, is_name, exact_name}
 use Rattle.oim_names.specs.Bindings.{Binding}
-use Rattle.oim_names.specs.Expansion.{Expands}
+use Rattle.oim_names.specs.Expansion.{Expands, a_name}
 use Rattle.oim_names.specs.contracts.name.NameOrd.TheImpl.Laws.{total-law as name_total}
 use Rattle.oim_value.specs.ValueOrder.{name_cmp}
 use Rattle.oim_dims.specs.Unit.{Measures, IsMeasure, IsUnit, NamesEach, HasMeasures, Spells, SpellsEach, is_mark, is_piece, is_unit_text, numerator_pieces, denominator_pieces, unit_text, pure_name, pure_alone}
@@ -20,7 +20,7 @@ use Rattle.oim_dims.proofs.SortedOnce.{sorted_once}
 use Rattle.oim_dims.proofs.UnitText.{unit_back}
 use Rattle.oim_report.specs.Conditions.{is_other_kind, piece_names}
 use Rattle.oim_report.specs.FactFits.{FitsName}
-use Rattle.oim_report.specs.Names.{a_name, names_refusal}
+use Rattle.oim_report.specs.Names.{names_refusal}
 use Rattle.oim_report.specs.Said.{all_named, with_name, in_order, side_of, unit_with, unit_of}
 use Rattle.oim_report.specs.ReadBack.{SpellsName, UnitsReadBack}
 use Rattle.oim_report.proofs.MemberOrder.{other_way}

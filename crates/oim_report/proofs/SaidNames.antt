@@ -4,7 +4,7 @@ use Rattle.std.specs.Prelude.{if◌then◌else◌, option_map, option_and_then}
 use Rattle.std.specs.List.{flat_map}
 use Rattle.oim_names.specs.QName.{QName, is_name, is_entity}
 use Rattle.oim_names.specs.Bindings.{Binding}
-use Rattle.oim_names.specs.Expansion.{refusal_as}
+use Rattle.oim_names.specs.Expansion.{refusal_as, a_name, an_entity}
 use Rattle.oim_names.proofs.Refusals.{named_kept}
 use Rattle.oim_value.specs.declared.value.Value.{Value}
 use Rattle.oim_value.specs.declared.value.Value.TheVariants.{Name as AName}
@@ -19,7 +19,7 @@ use Rattle.oim_report.specs.declared.dimension_kind.DimensionKind.{DimensionKind
 use Rattle.oim_report.specs.declared.dimension_kind.DimensionKind.TheVariants.{Explicit, Typed}
 use Rattle.oim_report.specs.Conditions.{concept_kind, defined_names, dimension_kind, member_names, names_of, spelled_in, unit_names, value_names}
 use Rattle.oim_report.specs.Json.{Given, absent, nil, text, whole, other}
-use Rattle.oim_report.specs.Names.{a_name, an_entity, entity_named, named, named_as, names_refusal}
+use Rattle.oim_report.specs.Names.{entity_named, named, named_as, names_refusal}
 use Rattle.oim_report.specs.Parts.{DimensionParts, FactParts}
 use Rattle.oim_report.specs.Said.{all_named, fact_of, in_order, members_with, said_concept, said_dimensions, said_entity, said_language, said_member, said_members, said_period, said_unit, said_value, side_of, unit_with}
 use Rattle.oim_report.specs.Sheet.{Sheet}

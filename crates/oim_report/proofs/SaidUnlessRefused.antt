@@ -9,7 +9,7 @@ use Rattle.std.specs.FinMap as map_of
 use Rattle.std.proofs.lemmas.Bool.{or_parts}
 use Rattle.oim_names.specs.QName.{QName, is_name, is_entity}
 use Rattle.oim_names.specs.Bindings.{Binding}
-use Rattle.oim_names.specs.Expansion.{refusal_as}
+use Rattle.oim_names.specs.Expansion.{refusal_as, a_name, an_entity}
 use Rattle.oim_names.specs.declared.reason.Reason.{Reason}
 use Rattle.oim_names.specs.declared.reason.Reason.TheVariants.{MissingConcept, UnknownConcept, UnknownDimension, DimensionValue, MemberForm, UnknownMember, Links, Notes, DimensionsMissing, UnitForm, LanguageForm}
 use Rattle.oim_names.proofs.Refusals.{kept_named}
@@ -31,7 +31,7 @@ use Rattle.oim_report.specs.declared.dimension_kind.DimensionKind.{DimensionKind
 use Rattle.oim_report.specs.declared.dimension_kind.DimensionKind.TheVariants.{Explicit, Typed}
 use Rattle.oim_report.specs.Conditions.{concept_kind, concept_refusal, content_refusal, defined_names, defined_refusal, dimension_kind, dimension_names, comes_again, form_refusal, has_misshapen_core, is_misfit, language_refusal, lists_unknown, is_faulty, member_names, names_of, period_refusal, spelled_in, unit_names, unit_refusal, value_names, value_refusal}
 use Rattle.oim_report.specs.Json.{Given, absent, nil, text, whole, other, text_of, is_absent, is_no_text}
-use Rattle.oim_report.specs.Names.{a_name, an_entity, named_as, names_refusal}
+use Rattle.oim_report.specs.Names.{named_as, names_refusal}
 use Rattle.oim_report.specs.Parts.{DimensionParts, FactParts}
 use Rattle.oim_report.specs.Refusal.{or_refusal}
 use Rattle.oim_report.specs.Said.{all_named, fact_of, in_order, members_with, said_concept, said_decimals, said_dimensions, said_entity, said_language, said_member, said_period, said_unit, said_value, side_of, unit_with}

@@ -9,12 +9,12 @@ use Rattle.std.specs.FinMap as map
 use Rattle.std.specs.FinMap.{FinMap, find, same_map, get-empty, get-insert, get-from_entries}
 use Rattle.oim_names.specs.QName.{QName, name_cmp, exact_name, is_name}
 use Rattle.oim_names.specs.Bindings.{Binding}
-use Rattle.oim_names.specs.Expansion.{refusal_as}
+use Rattle.oim_names.specs.Expansion.{refusal_as, a_name}
 use Rattle.serde_json.specs.Data.{Data, Members, no_members, member}
 use Rattle.serde_json.specs.View.{view, members_view}
 use Rattle.serde_json.proofs.Views.{Entry}
 use Rattle.oim_report.specs.Json.{any_member}
-use Rattle.oim_report.specs.Names.{a_name, named, names_refusal}
+use Rattle.oim_report.specs.Names.{named, names_refusal}
 use Rattle.oim_report.specs.Sheet.{key_names, kind_in, entries_in, listed, names_no_kind, has_other_kind, has_two_kinds, has_bad_kind}
 use Rattle.oim_report.proofs.NameRefusals.{first_free}
 use Rattle.oim_report.proofs.RisingNames.{name_total}

@@ -9,7 +9,7 @@ use Rattle.serde_json.specs.Data.{Data, Members, no_members, member, null, boole
 use Rattle.serde_json.specs.Find.{as_null}
 use Rattle.oim_report.specs.Faults.{when}
 use Rattle.oim_report.specs.Json.{Given, nil, text, whole, other, given, given_of, has_colon, is_absent, is_no_text, text_of}
-use Rattle.oim_report.specs.Names.{Spelled}
+use Rattle.oim_names.specs.Expansion.{Spelled}
 use Rattle.oim_report.specs.Conditions.{spelled_in}
 use Rattle.oim_report.specs.Parts.{defined_in}
 use Rattle.oim_report.specs.Refusal.{first_refusal, or_refusal}

@@ -21,7 +21,8 @@ use Rattle.oim_report.specs.declared.concept_kind.ConceptKind.TheVariants.{Numer
 use Rattle.oim_report.specs.declared.dimension_kind.DimensionKind.{DimensionKind}
 use Rattle.oim_report.specs.declared.dimension_kind.DimensionKind.TheVariants.{Explicit, Typed}
 use Rattle.oim_report.specs.Json.{Given, absent, nil, text, whole, other, text_of, is_absent, is_no_text}
-use Rattle.oim_report.specs.Names.{Spelled, a_name, an_entity, named, names_refusal}
+use Rattle.oim_report.specs.Names.{named, names_refusal}
+use Rattle.oim_names.specs.Expansion.{Spelled, a_name, an_entity}
 use Rattle.oim_report.specs.Parts.{DimensionParts, FactParts}
 use Rattle.oim_report.specs.Refusal.{first_holding, first_refusal}
 use Rattle.oim_report.specs.Sheet.{Sheet}

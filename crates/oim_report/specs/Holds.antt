@@ -7,7 +7,7 @@ use Rattle.std.specs.FinMap as map
 use Rattle.std.specs.Str.{is_utf8}
 use Rattle.oim_names.specs.QName.{QName}
 use Rattle.oim_names.specs.Bindings.{Binding}
-use Rattle.oim_names.specs.Expansion.{lacks_binding, lacks_form, lies_in_reserved}
+use Rattle.oim_names.specs.Expansion.{lacks_binding, lacks_form, lies_in_reserved, Spelled, a_name, an_entity}
 use Rattle.oim_names.specs.declared.reason.Reason.{Reason}
 use Rattle.oim_names.specs.declared.reason.Reason.TheVariants.{MemberForm, UnknownMember, DocumentType, Namespace, BaseUrl, TaxonomyUrl, Feature, Links, Notes, DimensionsMissing, NameForm, UnboundPrefix, ReservedNamespace, MissingConcept, UnknownConcept, UnknownDimension, DimensionValue, PeriodForm, PeriodOrder, UnitForm, UnitOnOther, LanguageForm, LanguageOnNumeric, ValueForm, NumberForm, NumberDigits, DecimalsForm, DecimalsRange, DecimalsOnOther}
 use Rattle.oim_value.specs.Decimals.{is_finite_decimals}
@@ -29,7 +29,7 @@ use Rattle.oim_report.specs.Info.{bindings_of, document_type, features_of, info,
 use Rattle.oim_report.specs.Json.{any_in, any_member, has_colon, has_member, is_no_array, is_no_object, is_object, is_unknown, members, object_at}
 use Rattle.oim_report.specs.Kept.{base_url, is_reference_refused}
 use Rattle.oim_report.specs.Least.{least}
-use Rattle.oim_report.specs.Names.{Spelled, a_name, an_entity, named}
+use Rattle.oim_report.specs.Names.{named}
 use Rattle.oim_report.specs.Namespaces.{binds_nothing}
 use Rattle.oim_report.specs.Parts.{core_keys, fact_keys}
 use Rattle.oim_report.specs.Sheet.{Sheet, same_concept_kind, same_dimension_kind}

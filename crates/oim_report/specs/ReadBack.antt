@@ -1,13 +1,13 @@
 -- A written fact is read as itself.
 use Rattle.std.specs.Prelude.{◌≡◌, ◌≢◌, ⊤, ℕ, List, [], ◌∷◌, ◌++◌, All, IsTrue, Option, Some, None, Ok, IfSome, false}
-use Rattle.std.specs.List.{list_all}
+use Rattle.std.specs.List.{list_all, flat_map}
 use Rattle.std.specs.Char.{is_ascii_alphanumeric}
 use Rattle.std.specs.Ordering.{nat_cmp, match_ordering}
 use Rattle.std.specs.Cmp.Lexicographic.{slice_cmp}
 use Rattle.std.specs.FinMap as map
 use Rattle.oim_names.specs.QName.{QName}
 use Rattle.oim_names.specs.Bindings.{Binding, uri_of}
-use Rattle.oim_names.specs.Expansion.{Expands}
+use Rattle.oim_names.specs.Expansion.{Expands, a_name, an_entity}
 use Rattle.oim_value.specs.Plain.{plain}
 use Rattle.oim_value.specs.declared.value.Value.{Value}
 use Rattle.oim_value.specs.declared.value.Value.TheVariants.{Nil, Number, Text as AText, Name as AName}
@@ -21,7 +21,7 @@ use Rattle.oim_dims.specs.declared.period.Period.{Period}
 use Rattle.serde_json.specs.Data.{Data}
 use Rattle.oim_report.specs.declared.concept_kind.ConceptKind.{ConceptKind}
 use Rattle.oim_report.specs.Json.{Given, absent, nil, text, whole}
-use Rattle.oim_report.specs.Names.{a_name, an_entity, names_refusal}
+use Rattle.oim_report.specs.Names.{names_refusal}
 use Rattle.oim_report.specs.Parts.{DimensionParts, FactParts, fact_parts}
 use Rattle.oim_report.specs.Conditions.{form_refusal, spelled_in, concept_kind, defined_names, names_of, unit_names, value_names, concept_refusal, defined_refusal, period_refusal, unit_refusal, language_refusal, value_refusal, decimals_refusal, fact_refusal}
 use Rattle.oim_report.specs.Fact.{SaysEntity, SaysPeriod, SaysUnit, SaysLanguage, SaysMembers, SaysValue, SaysFact}
@@ -31,7 +31,6 @@ use Rattle.oim_report.specs.Outcome.{fact_outcome}
 use Rattle.oim_report.specs.PlainJson.{IsPlainJson}
 use Rattle.oim_report.specs.Said.{said_concept, said_entity, said_period, said_unit, said_language, said_members, said_value}
 use Rattle.oim_report.specs.Sheet.{Sheet}
-use Rattle.std.specs.List.{flat_map}
 
 -- ---- names that a function from names to texts spells
 

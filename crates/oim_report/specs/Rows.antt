@@ -11,7 +11,8 @@ use Rattle.serde_json.specs.Data.{Data, Members, null, no_members}
 use Rattle.serde_json.specs.Find.{get_member}
 use Rattle.oim_report.specs.Holds.{dimension_kind, entries, explicit_text, is_some_and, misfits, no_text}
 use Rattle.oim_report.specs.Json.{any_member, has_colon}
-use Rattle.oim_report.specs.Names.{a_name, named, refuses_some}
+use Rattle.oim_report.specs.Names.{named, refuses_some}
+use Rattle.oim_names.specs.Expansion.{a_name}
 use Rattle.oim_report.specs.Sheet.{Sheet}
 
 -- whether the value at a key is no text

@@ -6,7 +6,7 @@ use Rattle.std.specs.FinMap as map
 use Rattle.std.specs.FinMap.{FinMap}
 use Rattle.oim_names.specs.QName.{QName}
 use Rattle.oim_names.specs.Bindings.{Binding}
-use Rattle.oim_names.specs.Expansion.{lacks_binding, lacks_form, lies_in_reserved}
+use Rattle.oim_names.specs.Expansion.{lacks_binding, lacks_form, lies_in_reserved, Spelled, a_name}
 use Rattle.oim_names.specs.declared.reason.Reason.{Reason}
 use Rattle.oim_names.specs.declared.reason.Reason.TheVariants.{OutOfMemory, NotJson, MemberForm, UnknownMember, Namespace, NameForm, UnboundPrefix, ReservedNamespace, SheetKind}
 use Rattle.oim_value.specs.ValueOrder.{name_cmp}
@@ -18,7 +18,7 @@ use Rattle.oim_report.specs.declared.dimension_kind.DimensionKind.{DimensionKind
 use Rattle.oim_report.specs.declared.dimension_kind.DimensionKind.TheVariants.{Explicit, Typed}
 use Rattle.oim_report.specs.Json.{json, given, text_of, object_at, members, any_in, is_unknown, is_object, is_no_object}
 use Rattle.oim_report.specs.Least.{IsLeast, least}
-use Rattle.oim_report.specs.Names.{Spelled, a_name, named}
+use Rattle.oim_report.specs.Names.{named}
 use Rattle.oim_report.specs.Namespaces.{binds_nothing, bindings_in}
 use Rattle.oim_report.specs.Refusal.{unless}
 

@@ -8,6 +8,6 @@ pub mod Meets
 pub mod Number
 pub mod Plain
 pub mod SeveralMeet
-pub mod Ties
 pub mod ValueOrder
 pub mod Units
+pub mod code

@@ -37,7 +37,7 @@ impl Key for Value {
     ghost use Rattle.std.proofs.Common.{ap};
     ghost use Rattle.std.proofs.lemmas.Map.Lookups.{exact_signed, exact_bytes};
     ghost use Rattle.oim_names.specs.QName.{exact_name};
-    ghost use Rattle.oim_value.specs.Ties.{both_tie};
+    ghost use Rattle.oim_value.specs.code.Ties.{both_tie};
     ghost use Rattle.oim_value.specs.contracts.decimals.DecimalsKey.TheImpl.Laws.{exact-law as exact_decimals};
     ghost use Rattle.oim_value.specs.declared.value.Value.TheVariants.{Nil, Number, Text as AText, Name as AName};
 

@@ -5,7 +5,8 @@ ghost use Rattle.std.specs.Option.{option_map_or, option_to_list};
 ghost use Rattle.serde_json.specs.View.{view, members_view};
 ghost use Rattle.oim_report.specs.Holds.{as_text, is_kind, names, pieces, value_text};
 ghost use Rattle.oim_report.specs.Json.{members, object_at};
-ghost use Rattle.oim_report.specs.Names.{a_name, an_entity, refuses_name, refuses_some};
+ghost use Rattle.oim_report.specs.Names.{refuses_some};
+ghost use Rattle.oim_names.specs.Expansion.{a_name, an_entity, refuses};
 ghost use Rattle.oim_report.specs.Rows.{any_defined, is_defined, refuses_in};
 
 use crate::concept_kind::ConceptKind;
@@ -78,7 +79,7 @@ fn refused_text<'a>(aliases: &Aliases, value: Option<&'a Value>, reason: Reason)
 
 /// Whether this is why the text is no name.
 pub(crate) fn is_refused(aliases: &Aliases, text: &str, reason: Reason) -> bool
-    ensures { result ≡ refuses_name reason aliases.now (a_name text.now) }
+    ensures { result ≡ refuses reason aliases.now (a_name text.now) }
 {
     aliases.name_refusal(text) == Some(reason)
 }
@@ -99,7 +100,7 @@ fn refused_entity<'a>(
 
 // Whether this is why the text is no entity.
 fn is_refused_entity(aliases: &Aliases, text: &str, reason: Reason) -> bool
-    ensures { result ≡ refuses_name reason aliases.now (an_entity text.now) }
+    ensures { result ≡ refuses reason aliases.now (an_entity text.now) }
 {
     aliases.entity_refusal(text) == Some(reason)
 }

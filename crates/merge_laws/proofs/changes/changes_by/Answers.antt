@@ -1,5 +1,5 @@
 use Rattle.std.proofs.Common.{◌<◌, ◌≤◌, ◌++◌, length, sym, ap, subst, ◌∙◌}
-use Rattle.merge_laws.specs.Insertions.{new_item, new_items, new_value}
+use Rattle.merge_laws.specs.code.Insertions.{new_item, new_items, new_value}
 use Rattle.merge_laws.specs.Sorted.{entry_key}
 use Rattle.merge_laws.proofs.Lists.{flat_map_more, whole}
 use Rattle.merge_laws.proofs.Places.{passed_next, place_bound}

@@ -2,7 +2,7 @@ use Rattle.std.proofs.Common.{◌≤◌, ◌++◌, get_or, length, sym, ap, subs
 use Rattle.std.proofs.lemmas.Iterator.Adapters.{YieldsList-from_vec}
 use Rattle.std.proofs.lemmas.Iterator.Consumers.{YieldsList-turn, YieldsList-end}
 use Rattle.std.proofs.lemmas.List.{length_push}
-use Rattle.merge_laws.specs.Insertions.{new_item, new_items, new_value, new_values}
+use Rattle.merge_laws.specs.code.Insertions.{new_item, new_items, new_value, new_values}
 use Rattle.merge_laws.specs.Sorted.{entry_key}
 use Rattle.merge_laws.proofs.Lists.{flat_map_next, whole}
 use Rattle.merge_laws.proofs.Places.{passed_more, place_bound}

@@ -1,7 +1,7 @@
 use Rattle.std.proofs.Common.{◌≡◌, ◌<◌, ◌≤◌, get_or, length, take}
 use Rattle.std.specs.List.{AllWithin}
 use Rattle.std.specs.declared.cmp.Ordering.TheVariants.{Less}
-use Rattle.merge_laws.specs.Insertions.{new_items, new_values}
+use Rattle.merge_laws.specs.code.Insertions.{new_items, new_values}
 use Rattle.merge_laws.specs.Sorted.{entry_key}
 use Rattle.merge_laws.proofs.changes.changes_of.Given as goal
 

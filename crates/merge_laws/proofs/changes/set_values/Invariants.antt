@@ -1,5 +1,5 @@
 use Rattle.std.proofs.Common.{◌≡◌, vec_len, vec_capacity}
-use Rattle.merge_laws.specs.Insertions.{with_values}
+use Rattle.merge_laws.specs.code.Insertions.{with_values}
 use Rattle.merge_laws.proofs.changes.set_values.Given as goal
 
 abbrev pub invariant-loop-place : goal.invariant-loop-place

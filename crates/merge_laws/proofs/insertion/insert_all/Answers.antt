@@ -2,7 +2,7 @@ use Rattle.std.proofs.Common.{◌≡◌, ◌≤◌, ◌∷◌, ◌++◌, [], app
 use Rattle.std.specs.Prelude.{reverse}
 use Rattle.std.specs.List.{AllByRecursion}
 use Rattle.std.proofs.lemmas.List.{reverse-append}
-use Rattle.merge_laws.specs.Insertions.{first_place, inserted}
+use Rattle.merge_laws.specs.code.Insertions.{first_place, inserted}
 use Rattle.merge_laws.proofs.Lists.{all_front, all_back}
 use Rattle.merge_laws.proofs.insertion.insert_all.Goals as goal
 

@@ -1,7 +1,7 @@
 use Rattle.std.proofs.Common.{◌≡◌, ◌+◌, ◌<◌, ◌≤◌, ◌++◌, vec_len, vec_capacity}
 use Rattle.std.specs.Prelude.{reverse}
 use Rattle.std.specs.List.{AllByRecursion}
-use Rattle.merge_laws.specs.Insertions.{first_place, inserted}
+use Rattle.merge_laws.specs.code.Insertions.{first_place, inserted}
 use Rattle.merge_laws.proofs.insertion.insert_all.Given as goal
 
 abbrev pub invariant-loop-place : goal.invariant-loop-place

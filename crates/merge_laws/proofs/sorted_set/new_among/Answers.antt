@@ -1,8 +1,8 @@
 use Rattle.std.proofs.Common.{◌≡◌, ℕ, ◌<◌, ◌≤◌, ◌++◌, ◌∷◌, [], List, Ok, Err, append-nil, length, sym, ap, subst, ◌∙◌}
 use Rattle.std.specs.Cmp.{IsTotalOrder}
 use Rattle.std.specs.declared.cmp.Ordering.{Ordering}
-use Rattle.merge_laws.specs.Insertions.{found_at, new_item}
-use Rattle.merge_laws.specs.Sorted.{has_key, itself, place_of}
+use Rattle.merge_laws.specs.code.Insertions.{found_at, new_item, place_of}
+use Rattle.merge_laws.specs.Sorted.{has_key, itself}
 use Rattle.merge_laws.proofs.Edits.{not_new, is_new, tells_ok, tells_err}
 use Rattle.merge_laws.proofs.Lists.{flat_map_more}
 use Rattle.merge_laws.proofs.Places.{passed_next, place_bound}

@@ -2,8 +2,8 @@ use Rattle.std.proofs.Common.{◌≡◌, ◌≤◌, ◌++◌, append-nil, get_or
 use Rattle.std.proofs.lemmas.Iterator.Adapters.{YieldsList-from_vec}
 use Rattle.std.proofs.lemmas.Iterator.Consumers.{YieldsList-turn, YieldsList-end}
 use Rattle.std.proofs.lemmas.List.{length_push}
-use Rattle.merge_laws.specs.Insertions.{new_item, new_items}
-use Rattle.merge_laws.specs.Sorted.{has_key, itself, place_of}
+use Rattle.merge_laws.specs.code.Insertions.{new_item, new_items, place_of}
+use Rattle.merge_laws.specs.Sorted.{has_key, itself}
 use Rattle.merge_laws.proofs.Edits.{not_new, is_new, tells_ok, tells_err}
 use Rattle.merge_laws.proofs.Lists.{flat_map_next, whole}
 use Rattle.merge_laws.proofs.Places.{passed_more, place_bound}

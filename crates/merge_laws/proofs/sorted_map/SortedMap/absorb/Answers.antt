@@ -1,7 +1,7 @@
 use Rattle.std.proofs.Common.{◌≡◌, ◌<◌, OnOk, length, vec_len, arith, sym, subst, ◌∙◌}
 use Rattle.std.specs.Prelude.{reverse}
 use Rattle.std.specs.List.{AllByRecursion}
-use Rattle.merge_laws.specs.Insertions.{IsFirstLeast, inserted, new_items, new_values, with_values}
+use Rattle.merge_laws.specs.code.Insertions.{IsFirstLeast, inserted, new_items, new_values, with_values}
 use Rattle.merge_laws.specs.Sorted.{entry_key}
 use Rattle.merge_laws.specs.Union.{map_union}
 use Rattle.std.proofs.lemmas.Bool.Decides.{nat_tests}

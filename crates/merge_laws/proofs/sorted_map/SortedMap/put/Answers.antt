@@ -1,5 +1,5 @@
 use Rattle.std.proofs.Common.{◌≡◌, ◌<◌, length, sym, ap, subst, ◌∙◌, Ok, Err}
-use Rattle.merge_laws.specs.Insertions.{found_at}
+use Rattle.merge_laws.specs.code.Insertions.{found_at}
 use Rattle.merge_laws.specs.Sorted.{IsMap, entry_key}
 use Rattle.merge_laws.specs.Union.{map_with, merged_entries}
 use Rattle.merge_laws.proofs.Edits.{put_in}

@@ -1,8 +1,8 @@
 use Rattle.std.proofs.Common.{sym, ap, subst, ◌∙◌, refl, Err, Ok, ◌≡◌}
-use Rattle.merge_laws.specs.Insertions.{found_at}
+use Rattle.merge_laws.specs.code.Insertions.{found_at}
 use Rattle.merge_laws.specs.Sorted.{IsSet, itself}
 use Rattle.merge_laws.specs.Union.{set_with, older}
-use Rattle.merge_laws.specs.Items.{rises_with}
+use Rattle.merge_laws.specs.code.Items.{rises_with}
 use Rattle.merge_laws.proofs.Edits.{put_in, unchanged, tells_ok}
 use Rattle.merge_laws.proofs.sorted_set.SortedSet.insert.Goals as goal
 

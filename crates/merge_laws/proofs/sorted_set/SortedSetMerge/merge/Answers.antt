@@ -1,6 +1,6 @@
 use Rattle.std.proofs.Common.{rules, ◌≡◌, OnOk, length, sym, subst, ◌∙◌}
 use Rattle.std.specs.Prelude.{reverse}
-use Rattle.merge_laws.specs.Insertions.{IsFirstLeast, inserted, new_items}
+use Rattle.merge_laws.specs.code.Insertions.{IsFirstLeast, inserted, new_items}
 use Rattle.merge_laws.specs.Sorted.{itself}
 use Rattle.merge_laws.specs.Union.{set_union}
 use Rattle.merge_laws.proofs.Puts.{on_ok}

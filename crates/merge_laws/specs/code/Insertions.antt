@@ -1,9 +1,10 @@
 -- What one list takes from another (own): new items, each with the index before which it is inserted, and merged values. Private
 -- functions ensure these as steps towards a union, which Union defines.
-use Rattle.std.specs.Prelude.{ℕ, zero, suc, ◌≤◌, if◌then◌else◌, List, [], ◌∷◌, ◌++◌, take, drop, Option, Some, None, Result, Ok, Err}
-use Rattle.std.specs.List.{AllByRecursion, flat_map}
+use Rattle.std.specs.Prelude.{ℕ, zero, suc, ◌≤◌, if◌then◌else◌, List, [], ◌∷◌, ◌++◌, take, drop, Option, Some, None, Result, Ok, Err, not}
+use Rattle.std.specs.List.{AllByRecursion, flat_map, position_or_len}
 use Rattle.std.specs.declared.cmp.Ordering.{Ordering}
-use Rattle.merge_laws.specs.Sorted.{item_at, has_key, place_of, entry_key}
+use Rattle.std.specs.Ordering.{is_lt}
+use Rattle.merge_laws.specs.Sorted.{item_at, has_key, entry_key}
 
 -- the items after the new ones were inserted, the last one first
 abbrev pub inserted : {E : Type 0} → List E → List (ℕ × E) → List E
@@ -20,6 +21,10 @@ abbrev pub IsFirstLeast : {E : Type 0} → ℕ → List (ℕ × E) → Type 0
 IsFirstLeast end ns = AllByRecursion (λ n. first_place end ns ≤ n.0) ns
 
 module _ {K E : Type 0} (R : K → K → Ordering) (key : E → K) where
+  -- the index of the first item whose key is not below k, or the length if there is none
+  abbrev pub place_of : K → List E → ℕ
+  place_of k es = position_or_len (λ e. not (is_lt (R (key e) k))) es
+
   -- the index of a key, or the index at which to insert it
   abbrev pub found_at : K → List E → Result ℕ ℕ
   found_at k es = if has_key R key k es then Ok (place_of R key k es) else Err (place_of R key k es)

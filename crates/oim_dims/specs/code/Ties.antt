@@ -5,7 +5,7 @@ use Rattle.std.specs.declared.cmp.Ordering.TheVariants.{Equal}
 use Rattle.std.specs.Cmp.Lexicographic.{slice_cmp}
 use Rattle.std.specs.FinMap.{slice_cmp-IsAntisymmetric}
 use Rattle.oim_names.specs.QName.{exact_name}
-use Rattle.oim_value.specs.Ties.{both_tie}
+use Rattle.oim_value.specs.code.Ties.{both_tie}
 use Rattle.oim_value.specs.ValueOrder.{name_cmp}
 use Rattle.oim_dims.specs.Unit.{Measures}
 

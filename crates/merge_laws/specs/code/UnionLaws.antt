@@ -8,7 +8,7 @@ use Rattle.std.specs.List.{AllByRecursion}
 use Rattle.std.specs.Cmp.{IsTotalOrder, Equal-is}
 use Rattle.merge_laws.specs.Sorted.{IsRising, IsSet, IsMap, item_at, itself, entry_key}
 use Rattle.merge_laws.specs.Union.{with_item, union_of, either_or_both, older, merged_entries, set_union, map_union}
-use Rattle.merge_laws.specs.Items.{same_items, rises_union, item_at-union}
+use Rattle.merge_laws.specs.code.Items.{same_items, rises_union, item_at-union}
 
 module _ {K E : Type 0} {R : K → K → Ordering} (key : E → K) (o : IsTotalOrder R) (join : E → E → E) (keeps : (x y : E) → key (join x y) ≡ key x) (P : E → Type 0) where
   -- an item that was found has the key
