@@ -1,21 +1,18 @@
 -- The measures that the pieces of a unit name.
 use Rattle.std.proofs.Common.{◌≡◌, ◌≢◌, ◌⊎◌, inl, inr, ◌∙◌, ℕ, zero, suc, ◌<◌, Bool, true, false, cond, List, [], ◌∷◌, length, drop, get_or, refl, sym, ap, arith}
-use Rattle.std.specs.Prelude.{Option, Some, None, is_none, All, IsTrue, not, if◌then◌else◌, ◌&&◌, ◌==◌}
+use Rattle.std.specs.Prelude.{Option, Some, None, All, IsTrue, not, if◌then◌else◌, ◌&&◌, ◌==◌}
 use Rattle.std.proofs.lemmas.Bool.{and_parts, or_parts, not-true}
 use Rattle.std.proofs.lemmas.Bool.Decides.{nat_tests}
-use Rattle.std.specs.Option.{option_eq, option_map_or}
-use Rattle.std.specs.Str.{bytes_eq}
 use Rattle.std.specs.List.{AllZip, list_all, list_any, slice_split, onto_first}
 use Rattle.std.proofs.lemmas.List.Elements.{All-cons}
 use Rattle.oim_names.specs.QName.{QName, is_name, is_part, prefix_part, local_part}
-use Rattle.oim_names.specs.Bindings.{Binding, AreBindings, uri_of}
+use Rattle.oim_names.specs.Bindings.{Binding, AreBindings}
 use Rattle.oim_names.proofs.Lookups.{bound_filled}
-use Rattle.oim_names.specs.contracts.reason.ReasonPartialEq.TheImpl.{eq-value as same_reason}
-use Rattle.oim_names.specs.Expansion.{Expands, name_refusal, is_unbound, is_reserved, lacks_form, lacks_binding, lies_in_reserved, prefix_refusal, reserved_uri}
+use Rattle.oim_names.specs.Expansion.{Expands, name_refusal, is_unbound, is_reserved, lacks_form, lacks_binding, lies_in_reserved}
 use Rattle.oim_names.specs.declared.reason.Reason.{Reason}
 use Rattle.oim_names.specs.declared.reason.Reason.TheVariants.{OutOfMemory, NameForm, UnboundPrefix, ReservedNamespace, UnitForm}
 use Rattle.oim_dims.specs.Separators.{is_star}
-use Rattle.oim_dims.specs.Unit.{is_mark, is_piece, is_unit_text, refuses, some_piece, unit_refusal, numerator_pieces, denominator_pieces, IsMeasure}
+use Rattle.oim_dims.specs.Unit.{is_mark, is_piece, is_unit_text, some_piece, unit_refusal, numerator_pieces, denominator_pieces, IsMeasure}
 
 -- the refusal of a name in terms of its three tests
 abbrev first_of_three : Bool → Bool → Bool → Option Reason
@@ -40,34 +37,6 @@ all_named bs (p ∷ ps) h k l =
     let b = or_parts (lacks_binding is_name bs p) (list_any (lacks_binding is_name bs) ps) k in
     let c = or_parts (lies_in_reserved is_name bs p) (list_any (lies_in_reserved is_name bs) ps) l in
     All-cons (λ q. name_refusal bs q ≡ None) p ps (piece_named bs p a.0 b.0 c.0) (all_named bs ps a.1 b.1 c.1)
-
--- the same tests in terms of a piece's form and the URI of its prefix
-abbrev refuses_so : Reason → Bool → Option (List ℕ) → Bool
-refuses_so NameForm named uri = not named
-refuses_so UnboundPrefix named uri = named && is_none uri
-refuses_so ReservedNamespace named uri = named && option_map_or (λ u. bytes_eq u reserved_uri) uri false
-refuses_so r named uri = false
-
-told_so : (r : Reason) (named : Bool) (uri : Option (List ℕ)) → option_eq same_reason.it (if named then prefix_refusal uri else Some NameForm) (Some r) ≡ refuses_so r named uri
-told_so NameForm false uri = refl
-told_so UnboundPrefix false uri = refl
-told_so ReservedNamespace false uri = refl
-told_so r false uri = refl
-told_so NameForm true None = refl
-told_so UnboundPrefix true None = refl
-told_so ReservedNamespace true None = refl
-told_so r true None = refl
-told_so NameForm true (Some u) = elim (bytes_eq u reserved_uri) as (λ b. option_eq same_reason.it (if b then Some ReservedNamespace else None) (Some NameForm) ≡ false) [ true ↦ refl | false ↦ refl ]
-told_so UnboundPrefix true (Some u) = elim (bytes_eq u reserved_uri) as (λ b. option_eq same_reason.it (if b then Some ReservedNamespace else None) (Some UnboundPrefix) ≡ false) [ true ↦ refl | false ↦ refl ]
-told_so ReservedNamespace true (Some u) = elim (bytes_eq u reserved_uri) as (λ b. option_eq same_reason.it (if b then Some ReservedNamespace else None) (Some ReservedNamespace) ≡ b) [ true ↦ refl | false ↦ refl ]
-told_so r true (Some u) = elim (bytes_eq u reserved_uri) as (λ b. option_eq same_reason.it (if b then Some ReservedNamespace else None) (Some r) ≡ false) [ true ↦ refl | false ↦ refl ]
-
--- a refusal is returned if its test holds
-pub told : (r : Reason) (bs : List Binding) (p : List ℕ) → option_eq same_reason.it (name_refusal bs p) (Some r) ≡ refuses r bs p
-told NameForm bs p = told_so NameForm (is_name p) (uri_of bs (prefix_part p))
-told UnboundPrefix bs p = told_so UnboundPrefix (is_name p) (uri_of bs (prefix_part p))
-told ReservedNamespace bs p = told_so ReservedNamespace (is_name p) (uri_of bs (prefix_part p))
-told r bs p = told_so r (is_name p) (uri_of bs (prefix_part p))
 
 -- the measures of a text that is not refused
 pub record IsNamed (bs : List Binding) (t : List ℕ) : Type 0 where

@@ -74,13 +74,6 @@ abbrev pub UnitOf : List Binding → List ℕ → Option Measures → Type 0
 UnitOf bs t None = HasMeasures bs t pure_alone
 UnitOf bs t (Some m) = HasMeasures bs t m × (m ≢ pure_alone)
 
--- the test of each refusal of a name
-abbrev pub refuses : Reason → List Binding → List ℕ → Bool
-refuses NameForm bs p = lacks_form is_name p
-refuses UnboundPrefix bs p = lacks_binding is_name bs p
-refuses ReservedNamespace bs p = lies_in_reserved is_name bs p
-refuses r bs p = false
-
 -- why a text is refused as a unit: the form of the unit is tested first, then for all pieces the form of a name, the prefix and
 -- the namespace
 abbrev pub unit_refusal : List Binding → List ℕ → Option Reason

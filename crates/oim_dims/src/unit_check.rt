@@ -1,7 +1,8 @@
 ghost use Rattle.std.specs.Prelude.{◌≡◌, [], MatchOption};
 ghost use Rattle.std.specs.List.{list_all, list_any, slice_split};
+ghost use Rattle.oim_names.specs.Expansion.{a_name, refuses};
 ghost use Rattle.oim_dims.specs.Separators.{is_star};
-ghost use Rattle.oim_dims.specs.Unit.{inner, is_piece, is_mark, is_unit_text, refuses, some_piece, unit_refusal, numerator_pieces, denominator_pieces};
+ghost use Rattle.oim_dims.specs.Unit.{inner, is_piece, is_mark, is_unit_text, some_piece, unit_refusal, numerator_pieces, denominator_pieces};
 
 use oim_names::{Aliases, Reason};
 
@@ -83,7 +84,7 @@ pub(crate) fn has_mark(text: &[u8]) -> bool
 
 /// Returns whether some piece of a unit's text is refused for this reason. It takes no memory.
 pub fn refuses_some_piece(aliases: &Aliases, reason: Reason, text: &str) -> bool
-    ensures { result ≡ some_piece (refuses reason aliases.now) text.now }
+    ensures { result ≡ some_piece (λ p. refuses reason aliases.now (a_name p)) text.now }
 {
     let (numerator, denominator) = sides(text);
     if refuses_one_of(aliases, reason, numerator) {
@@ -96,14 +97,14 @@ pub fn refuses_some_piece(aliases: &Aliases, reason: Reason, text: &str) -> bool
 }
 
 fn refuses_one_of(aliases: &Aliases, reason: Reason, side: &str) -> bool
-    ensures { result ≡ list_any (refuses reason aliases.now) (slice_split is_star side.now) }
+    ensures { result ≡ list_any (λ p. refuses reason aliases.now (a_name p)) (slice_split is_star side.now) }
 {
     side.split('*').any(|piece| refuses(aliases, reason, piece))
 }
 
 // Returns whether the piece is refused for this reason.
 fn refuses(aliases: &Aliases, reason: Reason, piece: &str) -> bool
-    ensures { result ≡ refuses reason aliases.now piece.now }
+    ensures { result ≡ refuses reason aliases.now (a_name piece.now) }
 {
     aliases.name_refusal(piece) == Some(reason)
 }

@@ -1,67 +1,26 @@
--- Why a text is no name, by the test of each reason.
-use Rattle.std.proofs.Common.{◌≡◌, ℕ, List, [], ◌∷◌, ◌++◌, Bool, true, false, not, ◌||◌, ◌&&◌, refl, ◌∙◌}
-use Rattle.std.specs.Prelude.{Option, Some, None, is_none, if◌then◌else◌, map}
-use Rattle.std.specs.Option.{option_eq, option_map_or}
-use Rattle.std.specs.Str.{bytes_eq}
+-- Why a unit is refused for its names, by the test of each reason.
+use Rattle.std.proofs.Common.{◌≡◌, ℕ, List, [], ◌∷◌, ◌++◌, Bool, true, false, ◌||◌, refl, ◌∙◌}
+use Rattle.std.specs.Prelude.{if◌then◌else◌, map}
 use Rattle.std.specs.List.{list_any}
-use Rattle.oim_names.specs.QName.{prefix_part}
-use Rattle.oim_names.specs.Bindings.{Binding, uri_of}
-use Rattle.oim_names.specs.Expansion.{prefix_refusal, refusal_as, reserved_uri, Spelled, a_name, refuses}
-use Rattle.oim_names.specs.contracts.reason.ReasonPartialEq.TheImpl.{eq-value as same_reason}
+use Rattle.oim_names.specs.Bindings.{Binding}
+use Rattle.oim_names.specs.Expansion.{a_name, refuses}
 use Rattle.oim_names.specs.declared.reason.Reason.{Reason}
-use Rattle.oim_names.specs.declared.reason.Reason.TheVariants.{NameForm, UnboundPrefix, ReservedNamespace}
-use Rattle.oim_dims.specs.Unit.{denominator_pieces, is_unit_text, numerator_pieces, refuses, some_piece}
+use Rattle.oim_dims.specs.Unit.{denominator_pieces, is_unit_text, numerator_pieces, some_piece}
 use Rattle.oim_report.specs.Holds.{pieces}
 use Rattle.oim_report.specs.Names.{refuses_some}
-
--- by whether it has the form, and what its prefix is bound to
-abbrev refuses_so : Reason → Bool → Option (List ℕ) → Bool
-refuses_so NameForm form uri = not form
-refuses_so UnboundPrefix form uri = form && is_none uri
-refuses_so ReservedNamespace form uri = form && option_map_or (λ u. bytes_eq u reserved_uri) uri false
-refuses_so r form uri = false
-
-told_so : (r : Reason) (form : Bool) (uri : Option (List ℕ)) → option_eq same_reason.it (if form then prefix_refusal uri else Some NameForm) (Some r) ≡ refuses_so r form uri
-told_so NameForm false uri = refl
-told_so UnboundPrefix false uri = refl
-told_so ReservedNamespace false uri = refl
-told_so r false uri = refl
-told_so NameForm true None = refl
-told_so UnboundPrefix true None = refl
-told_so ReservedNamespace true None = refl
-told_so r true None = refl
-told_so NameForm true (Some u) = elim (bytes_eq u reserved_uri) as (λ b. option_eq same_reason.it (if b then Some ReservedNamespace else None) (Some NameForm) ≡ false) [ true ↦ refl | false ↦ refl ]
-told_so UnboundPrefix true (Some u) = elim (bytes_eq u reserved_uri) as (λ b. option_eq same_reason.it (if b then Some ReservedNamespace else None) (Some UnboundPrefix) ≡ false) [ true ↦ refl | false ↦ refl ]
-told_so ReservedNamespace true (Some u) = elim (bytes_eq u reserved_uri) as (λ b. option_eq same_reason.it (if b then Some ReservedNamespace else None) (Some ReservedNamespace) ≡ b) [ true ↦ refl | false ↦ refl ]
-told_so r true (Some u) = elim (bytes_eq u reserved_uri) as (λ b. option_eq same_reason.it (if b then Some ReservedNamespace else None) (Some r) ≡ false) [ true ↦ refl | false ↦ refl ]
-
--- a refusal is this one where the test holds
-pub told : (r : Reason) (bs : List Binding) (n : Spelled) → option_eq same_reason.it (refusal_as n.has_form bs n.text) (Some r) ≡ refuses r bs n
-told NameForm bs n = told_so NameForm (n.has_form n.text) (uri_of bs (prefix_part n.text))
-told UnboundPrefix bs n = told_so UnboundPrefix (n.has_form n.text) (uri_of bs (prefix_part n.text))
-told ReservedNamespace bs n = told_so ReservedNamespace (n.has_form n.text) (uri_of bs (prefix_part n.text))
-told r bs n = told_so r (n.has_form n.text) (uri_of bs (prefix_part n.text))
-
--- ---- a unit
-
-piece_same : (r : Reason) (bs : List Binding) (t : List ℕ) → refuses r bs t ≡ refuses r bs (a_name t)
-piece_same NameForm bs t = refl
-piece_same UnboundPrefix bs t = refl
-piece_same ReservedNamespace bs t = refl
-piece_same r bs t = refl
 
 grouped : (a b c : Bool) → ((a || b) || c) ≡ (a || (b || c))
 grouped true b c = refl
 grouped false b c = refl
 
-pieces_same : (r : Reason) (bs : List Binding) (ps qs : List (List ℕ)) → (list_any (refuses r bs) ps || list_any (refuses r bs) qs) ≡ refuses_some r bs (map a_name (ps ++ qs))
+pieces_same : (r : Reason) (bs : List Binding) (ps qs : List (List ℕ)) → (list_any (λ p. refuses r bs (a_name p)) ps || list_any (λ p. refuses r bs (a_name p)) qs) ≡ refuses_some r bs (map a_name (ps ++ qs))
 pieces_same r bs [] [] = refl
-pieces_same r bs [] (q ∷ qs) = λ i. piece_same r bs q i || pieces_same r bs [] qs i
-pieces_same r bs (p ∷ ps) qs = grouped (refuses r bs p) (list_any (refuses r bs) ps) (list_any (refuses r bs) qs) ∙ (λ i. piece_same r bs p i || pieces_same r bs ps qs i)
+pieces_same r bs [] (q ∷ qs) = λ i. refuses r bs (a_name q) || pieces_same r bs [] qs i
+pieces_same r bs (p ∷ ps) qs = grouped (refuses r bs (a_name p)) (list_any (λ t. refuses r bs (a_name t)) ps) (list_any (λ t. refuses r bs (a_name t)) qs) ∙ (λ i. refuses r bs (a_name p) || pieces_same r bs ps qs i)
 
 in_form : (form : Bool) (r : Reason) (bs : List Binding) (ps : List (List ℕ)) → form ≡ true → refuses_some r bs (map a_name ps) ≡ refuses_some r bs (map a_name (if form then ps else []))
 in_form true r bs ps h = refl
 in_form false r bs ps h = absurd (cc)
 
-pub table_pieces : (r : Reason) (bs : List Binding) (t : List ℕ) → is_unit_text t ≡ true → some_piece (refuses r bs) t ≡ refuses_some r bs (map a_name (pieces t))
+pub table_pieces : (r : Reason) (bs : List Binding) (t : List ℕ) → is_unit_text t ≡ true → some_piece (λ p. refuses r bs (a_name p)) t ≡ refuses_some r bs (map a_name (pieces t))
 table_pieces r bs t form = pieces_same r bs (numerator_pieces t) (denominator_pieces t) ∙ in_form (is_unit_text t) r bs (numerator_pieces t ++ denominator_pieces t) form

@@ -8,6 +8,7 @@ use Rattle.oim_names.specs.Expansion.{reserved_uri, Spelled, refuses}
 use Rattle.oim_names.specs.declared.reason.Reason.{Reason}
 use Rattle.oim_names.specs.declared.reason.Reason.TheVariants.{NameForm, UnboundPrefix, ReservedNamespace}
 
+-- whether one of several texts is no such name for this reason
 abbrev pub refuses_some : Reason → List Binding → List Spelled → Bool
 refuses_some reason bs names = list_any (refuses reason bs) names
 

@@ -2,7 +2,7 @@ use Rattle.std.proofs.Common.{◌∙◌, ap, Some}
 use Rattle.std.specs.Option.{option_eq}
 use Rattle.oim_names.specs.contracts.reason.ReasonPartialEq.TheImpl.{eq-value as same_reason}
 use Rattle.oim_names.specs.Expansion.{an_entity}
-use Rattle.oim_report.proofs.NameTests.{told}
+use Rattle.oim_names.proofs.NameTests.{told}
 use Rattle.oim_report.proofs.findings.name_rows.is_refused_entity.Goals as goal
 
 pub returns : goal.returns

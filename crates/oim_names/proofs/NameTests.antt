@@ -1,0 +1,39 @@
+-- Why a text is no name, by the test of each reason.
+use Rattle.std.proofs.Common.{◌≡◌, ℕ, List, Bool, true, false, not, ◌&&◌, refl}
+use Rattle.std.specs.Prelude.{Option, Some, None, is_none, if◌then◌else◌}
+use Rattle.std.specs.Option.{option_eq, option_map_or}
+use Rattle.std.specs.Str.{bytes_eq}
+use Rattle.oim_names.specs.QName.{prefix_part}
+use Rattle.oim_names.specs.Bindings.{Binding, uri_of}
+use Rattle.oim_names.specs.Expansion.{prefix_refusal, refusal_as, refuses, reserved_uri, Spelled}
+use Rattle.oim_names.specs.contracts.reason.ReasonPartialEq.TheImpl.{eq-value as same_reason}
+use Rattle.oim_names.specs.declared.reason.Reason.{Reason}
+use Rattle.oim_names.specs.declared.reason.Reason.TheVariants.{NameForm, UnboundPrefix, ReservedNamespace}
+
+-- by whether it has the form, and what its prefix is bound to
+abbrev refuses_so : Reason → Bool → Option (List ℕ) → Bool
+refuses_so NameForm form uri = not form
+refuses_so UnboundPrefix form uri = form && is_none uri
+refuses_so ReservedNamespace form uri = form && option_map_or (λ u. bytes_eq u reserved_uri) uri false
+refuses_so r form uri = false
+
+told_so : (r : Reason) (form : Bool) (uri : Option (List ℕ)) → option_eq same_reason.it (if form then prefix_refusal uri else Some NameForm) (Some r) ≡ refuses_so r form uri
+told_so NameForm false uri = refl
+told_so UnboundPrefix false uri = refl
+told_so ReservedNamespace false uri = refl
+told_so r false uri = refl
+told_so NameForm true None = refl
+told_so UnboundPrefix true None = refl
+told_so ReservedNamespace true None = refl
+told_so r true None = refl
+told_so NameForm true (Some u) = elim (bytes_eq u reserved_uri) as (λ b. option_eq same_reason.it (if b then Some ReservedNamespace else None) (Some NameForm) ≡ false) [ true ↦ refl | false ↦ refl ]
+told_so UnboundPrefix true (Some u) = elim (bytes_eq u reserved_uri) as (λ b. option_eq same_reason.it (if b then Some ReservedNamespace else None) (Some UnboundPrefix) ≡ false) [ true ↦ refl | false ↦ refl ]
+told_so ReservedNamespace true (Some u) = elim (bytes_eq u reserved_uri) as (λ b. option_eq same_reason.it (if b then Some ReservedNamespace else None) (Some ReservedNamespace) ≡ b) [ true ↦ refl | false ↦ refl ]
+told_so r true (Some u) = elim (bytes_eq u reserved_uri) as (λ b. option_eq same_reason.it (if b then Some ReservedNamespace else None) (Some r) ≡ false) [ true ↦ refl | false ↦ refl ]
+
+-- a refusal is this one where the test holds
+pub told : (r : Reason) (bs : List Binding) (n : Spelled) → option_eq same_reason.it (refusal_as n.has_form bs n.text) (Some r) ≡ refuses r bs n
+told NameForm bs n = told_so NameForm (n.has_form n.text) (uri_of bs (prefix_part n.text))
+told UnboundPrefix bs n = told_so UnboundPrefix (n.has_form n.text) (uri_of bs (prefix_part n.text))
+told ReservedNamespace bs n = told_so ReservedNamespace (n.has_form n.text) (uri_of bs (prefix_part n.text))
+told r bs n = told_so r (n.has_form n.text) (uri_of bs (prefix_part n.text))
