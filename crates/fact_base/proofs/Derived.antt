@@ -11,7 +11,8 @@ use Rattle.oim_dims.specs.contracts.dimensions.DimensionsOrd.TheImpl.{cmp-value 
 use Rattle.oim_dims.specs.DimensionSet.{DimensionSet}
 use Rattle.oim_dims.specs.FactOrder.{dimensions_cmp}
 use Rattle.oim_dims.proofs.Orders.{dimensions_agree}
-use Rattle.fact_base.specs.Entries.{Entry, Summed, summed_of_both}
+use Rattle.fact_base.specs.Entries.{Entry, Summed}
+use Rattle.fact_base.specs.code.Entries.{summed_of_both}
 
 abbrev derived_union : Summed → Summed → Summed
 derived_union p q = (set_union derived_values.it p.0 q.0, both_summaries p.1 q.1)

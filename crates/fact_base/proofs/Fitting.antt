@@ -13,8 +13,9 @@ use Rattle.oim_report.specs.FactFits.{FactFits, ValueFits}
 use Rattle.oim_report.specs.Sheet.{Sheet}
 use Rattle.oim_report.specs.declared.concept_kind.ConceptKind.{ConceptKind}
 use Rattle.oim_report.specs.declared.concept_kind.ConceptKind.TheVariants.{Numeric, Text, Name}
-use Rattle.fact_base.specs.Entries.{EntryFits, Summed, facts_with}
-use Rattle.fact_base.specs.Judged.{AreSummarised}
+use Rattle.fact_base.specs.Entries.{Summed, facts_with}
+use Rattle.fact_base.specs.code.Entries.{EntryFits}
+use Rattle.fact_base.specs.code.Judged.{AreSummarised}
 use Rattle.fact_base.proofs.EntryFacts.{in_facts_with}
 use Rattle.fact_base.proofs.Members.{each_by_there, each_there}
 

@@ -21,7 +21,8 @@ use Rattle.oim_report.specs.Kept.{IsKeptReference}
 use Rattle.oim_report.specs.Sheet.{Sheet}
 use Rattle.fact_base.specs.Body.{Body, body, text_cmp, union}
 use Rattle.fact_base.specs.BodyLaws.{IsBody}
-use Rattle.fact_base.specs.Entries.{AreEntriesOf, AreStored, Entry, facts_of_entries}
+use Rattle.fact_base.specs.Entries.{Entry, facts_of_entries}
+use Rattle.fact_base.specs.code.Entries.{AreEntriesOf, AreStored}
 use Rattle.fact_base.specs.Fits.{Fits}
 use Rattle.fact_base.specs.Gathered.{gathered}
 use Rattle.fact_base.specs.Sets.{set_of}

@@ -24,7 +24,7 @@ use Rattle.oim_dims.proofs.Orders.{dimensions_cmp_total}
 use Rattle.oim_report.specs.Duplicates.{allows, allows_each, allows_values, level_of}
 use Rattle.oim_report.proofs.Pairs.{complete_are_consistent, level_of_is, strictest, unique_are_complete}
 use Rattle.fact_base.specs.Entries.{Entry, facts_with, facts_of_entries, facts_of_entry}
-use Rattle.fact_base.specs.Judged.{level_at}
+use Rattle.fact_base.specs.code.Judged.{level_at}
 use Rattle.fact_base.specs.Verdict.{each_meet, verdict_of}
 use Rattle.fact_base.specs.declared.verdict.Verdict.{Verdict}
 use Rattle.fact_base.specs.declared.verdict.Verdict.TheVariants.{Complete as IsComplete, Consistent as IsConsistent, Inconsistent as IsInconsistent}

@@ -27,7 +27,8 @@ use Rattle.oim_report.specs.FactFits.{FactFits}
 use Rattle.oim_report.specs.Kept.{IsKeptReference}
 use Rattle.oim_report.specs.Sheet.{Sheet}
 use Rattle.fact_base.specs.Body.{Body, body, text_cmp, union}
-use Rattle.fact_base.specs.Entries.{AreEntriesOf, AreStored, Entry, EntryFits, facts_of_entries, facts_of_entry, summed_of_both}
+use Rattle.fact_base.specs.Entries.{Entry, facts_of_entries, facts_of_entry}
+use Rattle.fact_base.specs.code.Entries.{AreEntriesOf, AreStored, EntryFits, summed_of_both}
 use Rattle.fact_base.specs.Fits.{Fits}
 use Rattle.fact_base.specs.Sets.{set_of}
 use Rattle.fact_base.proofs.Members.{each_by_there, each_there, in_flat_map, in_one_of_both}

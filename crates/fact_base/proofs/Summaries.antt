@@ -24,7 +24,7 @@ use Rattle.oim_value.proofs.Ends.{ends_are_one, within_ends_is_within_each}
 use Rattle.oim_value.proofs.SeveralMeet.{crossed_ends_are_apart, different_meet_as_numbers, different_meet_between_ends}
 use Rattle.oim_report.specs.Duplicates.{values_meet}
 use Rattle.oim_report.proofs.ValuesMeet.{values_meet_is_meets}
-use Rattle.fact_base.specs.Judged.{AreSummarised, shared_by}
+use Rattle.fact_base.specs.code.Judged.{AreSummarised, shared_by}
 use Rattle.fact_base.specs.Verdict.{IsApartPair, IsCommonOf, IsPairOf, IsShownPair, begin_with_numbers, each_meet, verdict_of}
 use Rattle.fact_base.specs.declared.verdict.Verdict.TheVariants.{Complete, Consistent, Inconsistent}
 use Rattle.fact_base.proofs.Members.{each_there, first_there, first_or_later, later_there, none_there}

@@ -16,7 +16,8 @@ use Rattle.oim_dims.specs.declared.fact.Fact.{Fact}
 use Rattle.oim_dims.proofs.Orders.{dimensions_cmp_exact, dimensions_cmp_total, fact_cmp_exact, fact_cmp_total}
 use Rattle.oim_report.specs.FactFits.{FactFits}
 use Rattle.oim_report.specs.Sheet.{Sheet}
-use Rattle.fact_base.specs.Entries.{Entry, EntryFits, Summed, facts_with, facts_of_entries, summed_of_both}
+use Rattle.fact_base.specs.Entries.{Entry, Summed, facts_with, facts_of_entries}
+use Rattle.fact_base.specs.code.Entries.{EntryFits, summed_of_both}
 use Rattle.fact_base.specs.Sets.{set_of}
 use Rattle.fact_base.proofs.EntryFacts.{Holds, facts_rise, from_facts_with, in_facts_with, tells_fact}
 use Rattle.fact_base.proofs.Members.{each_by_there, each_there, first_there, in_one_of_both, none_there}

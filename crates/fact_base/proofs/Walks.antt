@@ -30,8 +30,9 @@ use Rattle.oim_dims.proofs.Orders.{dimensions_cmp_exact, dimensions_cmp_total}
 use Rattle.oim_report.specs.Duplicates.{level_of}
 use Rattle.oim_report.specs.Sheet.{Sheet}
 use Rattle.oim_report.proofs.Ties.{equal_dimensions_tie, equal_values_tie}
-use Rattle.fact_base.specs.Entries.{AreStored, Entry, EntryFits, Summed, facts_of_entries, facts_of_entry, facts_with}
-use Rattle.fact_base.specs.Judged.{AreSummarised}
+use Rattle.fact_base.specs.Entries.{Entry, Summed, facts_of_entries, facts_of_entry, facts_with}
+use Rattle.fact_base.specs.code.Entries.{AreStored, EntryFits}
+use Rattle.fact_base.specs.code.Judged.{AreSummarised}
 use Rattle.fact_base.specs.Rows.{Row, rows_of, values_at}
 use Rattle.fact_base.specs.Shown.{row_of}
 use Rattle.fact_base.proofs.Fitting.{entry_summarised}

@@ -5,10 +5,10 @@ pub mod Contradiction
 pub mod Entries
 pub mod Fits
 pub mod Gathered
-pub mod Judged
 pub mod Level
 pub mod Rows
 pub mod Sets
 pub mod Shown
 pub mod Verdict
 pub mod Passed
+pub mod code

@@ -1,6 +1,7 @@
 ghost use Rattle.std.specs.Prelude.{◌≡◌, ◌≢◌, ◌↔◌, [], ◌∷◌, length, is_some, IsTrue, IfSome, OnOk, OnErr};
 ghost use Rattle.fact_base.specs.Body.{body, union};
-ghost use Rattle.fact_base.specs.Entries.{AreStored, facts_of_entries};
+ghost use Rattle.fact_base.specs.Entries.{facts_of_entries};
+ghost use Rattle.fact_base.specs.code.Entries.{AreStored};
 ghost use Rattle.fact_base.specs.Fits.{Fits};
 ghost use Rattle.fact_base.specs.Rows.{rows_of, values_at};
 ghost use Rattle.fact_base.specs.Shown.{rows_left};
@@ -36,7 +37,8 @@ impl<'s> Model for Base<'s> {
     ghost use Rattle.std.specs.Coded.{codes};
     ghost use Rattle.oim_report.specs.SheetCode.{sheet_code};
     ghost use Rattle.fact_base.specs.Contents.{Contents};
-    ghost use Rattle.fact_base.specs.Entries.{AreStored, facts_of_entries};
+    ghost use Rattle.fact_base.specs.Entries.{facts_of_entries};
+    ghost use Rattle.fact_base.specs.code.Entries.{AreStored};
 
     ghost Value = { Contents };
 

@@ -2,8 +2,9 @@ ghost use Rattle.std.specs.Prelude.{map, ◌≡◌, ◌↔◌, length, IsTrue, I
 ghost use Rattle.std.specs.List.{All};
 ghost use Rattle.std.specs.List.Sorted.{IsSorted};
 ghost use Rattle.std.specs.Option.{option_map};
-ghost use Rattle.fact_base.specs.Entries.{AreEntriesOf, NoneAbove, entry_of, facts_of_entries, with_fact, with_value};
-ghost use Rattle.fact_base.specs.Judged.{AreSummarised, level_at};
+ghost use Rattle.fact_base.specs.Entries.{facts_of_entries};
+ghost use Rattle.fact_base.specs.code.Entries.{AreEntriesOf, NoneAbove, entry_of, with_fact, with_value};
+ghost use Rattle.fact_base.specs.code.Judged.{AreSummarised, level_at};
 ghost use Rattle.fact_base.specs.Shown.{row_of};
 ghost use Rattle.merge_laws.specs.Sorted.{IsRising, entry_key};
 ghost use Rattle.oim_dims.specs.FactOrder.{dimensions_cmp, fact_cmp};

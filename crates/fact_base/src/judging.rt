@@ -1,5 +1,5 @@
 ghost use Rattle.std.specs.Prelude.{◌≡◌, ◌≤◌, length, None, Some};
-ghost use Rattle.fact_base.specs.Judged.{AreSummarised, shared_by};
+ghost use Rattle.fact_base.specs.code.Judged.{AreSummarised, shared_by};
 ghost use Rattle.fact_base.specs.Verdict.{IsEvidence, verdict_of};
 ghost use Rattle.oim_value.specs.SeveralMeet.{has_high, has_low, place_of_greatest_low, place_of_least_high};
 

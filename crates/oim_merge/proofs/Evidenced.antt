@@ -20,9 +20,10 @@ use Rattle.oim_value.proofs.SeveralMeet.{each_two_meet_by_members}
 use Rattle.oim_dims.specs.DimensionSet.{DimensionSet}
 use Rattle.oim_dims.specs.declared.fact.Fact.{Fact}
 use Rattle.fact_base.specs.Body.{Body}
-use Rattle.fact_base.specs.Entries.{EntryFits, facts_with}
+use Rattle.fact_base.specs.Entries.{facts_with}
+use Rattle.fact_base.specs.code.Entries.{EntryFits}
 use Rattle.fact_base.specs.Fits.{Fits}
-use Rattle.fact_base.specs.Judged.{AreSummarised, shared_by}
+use Rattle.fact_base.specs.code.Judged.{AreSummarised, shared_by}
 use Rattle.fact_base.specs.Passed.{FactFits, IsSet, Sheet}
 use Rattle.fact_base.specs.Rows.{Row, rows_of, values_at}
 use Rattle.fact_base.specs.Verdict.{IsCommonOf, IsEvidence, IsPairOf, begin_with_numbers, each_meet, verdict, verdict_of}

@@ -2,7 +2,7 @@ use Rattle.std.proofs.Common.{◌+◌, ◌++◌, ◌∷◌, [], length, sym, sub
 use Rattle.std.proofs.lemmas.Iterator.Adapters.{YieldsList-from_vec}
 use Rattle.std.proofs.lemmas.Iterator.Consumers.{YieldsList-turn, YieldsList-end}
 use Rattle.std.proofs.lemmas.List.{length_push, map-id}
-use Rattle.fact_base.specs.Entries.{AreEntriesOf}
+use Rattle.fact_base.specs.code.Entries.{AreEntriesOf}
 use Rattle.fact_base.proofs.Derived.{rises_too}
 use Rattle.fact_base.proofs.Pushes.{ReachedIn, next_reached_in, none_reached_in}
 use Rattle.fact_base.proofs.Puts.{none_of_none, one_more}

@@ -1,5 +1,5 @@
 use Rattle.std.proofs.Common.{length}
-use Rattle.fact_base.specs.Entries.{AreEntriesOf}
+use Rattle.fact_base.specs.code.Entries.{AreEntriesOf}
 use Rattle.fact_base.proofs.Pushes.{ReachedIn}
 use Rattle.fact_base.proofs.entries.entries_in_order.Given as goal
 

@@ -1,7 +1,7 @@
 use Rattle.std.proofs.Common.{rules, ℕ, ◌+◌, [], get_or, subst, sym}
 use Rattle.std.proofs.lemmas.List.{get_or_default}
 use Rattle.oim_report.proofs.Places.{places_within}
-use Rattle.fact_base.specs.Entries.{AreEntriesOf}
+use Rattle.fact_base.specs.code.Entries.{AreEntriesOf}
 use Rattle.fact_base.proofs.Derived.{rises_too}
 use Rattle.fact_base.proofs.Members.{to_the_end}
 use Rattle.fact_base.proofs.Pushes.{Reached, next_reached, none_reached}

@@ -1,4 +1,4 @@
-use Rattle.fact_base.specs.Entries.{AreEntriesOf}
+use Rattle.fact_base.specs.code.Entries.{AreEntriesOf}
 use Rattle.std.proofs.Common.{take}
 use Rattle.fact_base.proofs.Puts.{facts_by}
 use Rattle.fact_base.proofs.Pushes.{Reached}

@@ -3,7 +3,8 @@ use Rattle.std.specs.Ordering.{is_eq}
 use Rattle.std.proofs.lemmas.List.{get_or_default}
 use Rattle.oim_dims.specs.FactOrder.{dimensions_cmp}
 use Rattle.oim_report.proofs.Ties.{equal_dimensions_tie}
-use Rattle.fact_base.specs.Entries.{Entry, with_fact}
+use Rattle.fact_base.specs.Entries.{Entry}
+use Rattle.fact_base.specs.code.Entries.{with_fact}
 use Rattle.fact_base.proofs.Derived.{on_ok}
 use Rattle.fact_base.proofs.Pushes.{AllBelow, all_below, none_below, put_behind, put_last}
 use Rattle.fact_base.proofs.Walks.{equal_dimensions}

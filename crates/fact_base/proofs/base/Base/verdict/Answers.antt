@@ -6,7 +6,7 @@ use Rattle.std.specs.Option.{option_copied}
 use Rattle.merge_laws.specs.Sorted.{value_at}
 use Rattle.oim_dims.specs.FactOrder.{dimensions_cmp}
 use Rattle.fact_base.specs.Contents.{Contents}
-use Rattle.fact_base.specs.Judged.{AreSummarised}
+use Rattle.fact_base.specs.code.Judged.{AreSummarised}
 use Rattle.fact_base.specs.Verdict.{verdict_of}
 use Rattle.fact_base.proofs.Derived.{value_at_is}
 use Rattle.fact_base.proofs.Walks.{found_entry, values_found}
