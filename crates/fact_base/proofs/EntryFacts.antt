@@ -81,7 +81,7 @@ tells_fact es f rise =
         ((map_tells_entry dimensions_cmp_total dimensions_cmp_exact (λ p q. p) es f.dimensions kept rise).0 is)
         (in_facts_with f.dimensions kept.0 f.value h)
 
--- -- the facts of ascending entries ascend
+-- ---- the facts of ascending entries ascend
 
 pub facts_rise : (es : List Entry) → IsRising dimensions_cmp entry_key es → AllByRecursion (λ e. IsSet value_cmp e.1.0) es → IsSet fact_cmp (facts_of_entries es)
 unfolding IsStrictlySortedBy

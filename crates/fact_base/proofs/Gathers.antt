@@ -31,7 +31,7 @@ use Rattle.fact_base.proofs.Sets.{is_set_of, same_sets, set_of-both, set_of_is_s
 use Rattle.fact_base.proofs.TextOrder.{text_cmp_exact, text_cmp_total}
 use Rattle.fact_base.proofs.Unions.{rises}
 
--- -- sorting without repeats
+-- ---- sorting without repeats
 
 module _ {K : Type 0} {R : K → K → Ordering} (o : IsTotalOrder R) (exact : (x y : K) → R x y ≡ Equal → x ≡ y) where
   -- the set of the items of a set is that set
@@ -47,7 +47,7 @@ module _ {K : Type 0} {R : K → K → Ordering} (o : IsTotalOrder R) (exact : (
         λ h. subst (λ ys. Contains ys x) (sym is) (Contains-dedup e (λ y z alike. exact y z ((Equal-is (R y z)).0 (sym (ties y z) ∙ alike))) sorted x (Contains-permutation xs sorted x moved h)),
       ))
 
-  -- -- sets of the items of several lists
+  -- ---- sets of the items of several lists
 
   in_set_of_both : (xs ys : List K) (x : K) → Contains (set_of R (xs ++ ys)) x ↔ (Contains xs x ⊎ Contains ys x)
   in_set_of_both xs ys x =
@@ -76,7 +76,7 @@ module _ {K : Type 0} {R : K → K → Ordering} (o : IsTotalOrder R) (exact : (
   pub sets_swap : (xs ys zs : List K) → set_of R (set_of R (xs ++ ys) ++ zs) ≡ set_of R (set_of R (xs ++ zs) ++ ys)
   sets_swap xs ys zs = sym (sets_associate xs ys zs) ∙ ap (λ s. set_of R (xs ++ s)) (sets_commute ys zs) ∙ sets_associate xs zs ys
 
--- -- the orders of the code's types are those of the definitions
+-- ---- the orders of the code's types are those of the definitions
 
 pub derived_set : (facts : List Fact) → set_of derived_fact.it facts ≡ set_of fact_cmp facts
 derived_set facts = λ i. set_of (λ (x y : Fact). facts_agree x y i) facts
@@ -88,7 +88,7 @@ pub always_ok : {A E P : Type 0} (r : Result A E) → P → OnOk r P
 always_ok (Ok a) p = p
 always_ok (Err e) p = tt
 
--- -- one more report
+-- ---- one more report
 
 -- the body of a document fits if its facts fit and its references are kept as they are
 pub document_fits : (sheet : Sheet) (d : Document) → All (FactFits sheet) d.facts → All IsKeptReference d.references → Fits sheet (body (d ∷ []))
@@ -133,7 +133,7 @@ with_nothing b rises = λ i. record {
   references = is_set_of text_cmp_total text_cmp_exact b.references (b.references ++ []) rises.references (λ r. (subst (λ rs. Contains rs r) (sym (append-nil b.references)), subst (λ rs. Contains rs r) (append-nil b.references))) i;
 }
 
--- -- unions when one body comes first
+-- ---- unions when one body comes first
 
 pub union_commutes : (a b : Body) → union a b ≡ union b a
 union_commutes a b = λ i. record {

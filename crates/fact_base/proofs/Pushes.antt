@@ -47,7 +47,7 @@ up_then_up r s t first second =
 turned : (r s : DimensionSet) → dimensions_cmp r s ≡ Less → dimensions_cmp s r ≡ Greater
 turned r s less = dimensions_cmp_total.antisymm s r ∙ ap ordering_reverse less
 
--- -- a fact with other dimensions is added after all entries
+-- ---- a fact with other dimensions is added after all entries
 
 abbrev pub AllBelow : DimensionSet → List Entry → Type 0
 AllBelow s = AllByRecursion (λ e. dimensions_cmp e.0 s ≡ Less)
@@ -75,7 +75,7 @@ put_behind (e ∷ es) f below =
     ap (λ ds. e ∷ ds) (put_behind es f below.1)
     ∙ sym (ap (λ r. match_ordering r (entry_of f ∷ e ∷ es) (merged_entries summed_of_both e (entry_of f) ∷ es) (e ∷ with_fact f es)) (turned e.0 f.dimensions below.0))
 
--- -- a fact with the dimensions of the last entry is added to it
+-- ---- a fact with the dimensions of the last entry is added to it
 
 pub put_last : (es : List Entry) (f : Fact) (n : ℕ) (x : Entry) (kept : Summed) → IsRising dimensions_cmp entry_key es → suc n ≡ length es → x ≡ get_or es n x → x.0 ≡ f.dimensions → kept ≡ with_value f.value x.1 → set es n (x.0, kept) ≡ with_fact f es
 unfolding IsStrictlySortedBy
@@ -93,7 +93,7 @@ put_last (e ∷ d ∷ es) f (suc n) x kept rise count is same made =
     ap (λ ds. e ∷ ds) (put_last (d ∷ es) f n x kept rise.1 (omega (arith, count)) is same made)
     ∙ sym (ap (λ r. match_ordering r (entry_of f ∷ e ∷ d ∷ es) (merged_entries summed_of_both e (entry_of f) ∷ d ∷ es) (e ∷ with_fact f (d ∷ es))) (turned e.0 f.dimensions less))
 
--- -- facts that do not descend
+-- ---- facts that do not descend
 
 -- if no entry is above a fact, none is above the next fact after it was added
 pub none_above_next : (es : List Entry) (f g : Fact) → NoneAbove f.dimensions es → is_gt (dimensions_cmp f.dimensions g.dimensions) ≡ false → NoneAbove g.dimensions (with_fact f es)
@@ -138,7 +138,7 @@ pub next_reached : (facts : List Fact) (places : List ℕ) (i : ℕ) (f : Fact) 
 next_reached facts places i f es order within is reached g further there =
     none_above_next es f g (reached f within is) (dimensions_rise facts places i f g order further is there)
 
--- -- a list of facts that do not descend
+-- ---- a list of facts that do not descend
 
 rise_in : (facts : List Fact) (i : ℕ) (f g : Fact) → IsSorted fact_cmp facts → i + 1 < length facts → f ≡ get_or facts i f → g ≡ get_or facts (i + 1) g → is_gt (dimensions_cmp f.dimensions g.dimensions) ≡ false
 rise_in facts i f g sorted within here there =

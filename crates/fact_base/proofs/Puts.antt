@@ -86,7 +86,7 @@ pub one_more : (fs : List Fact) (es : List Entry) (f : Fact) → AreEntriesOf fs
 unfolding entry_alone
 one_more fs es f are = of_both fs (f ∷ []) es (entry_alone f ∷ []) are (one_of_one f)
 
--- -- facts by their indices
+-- ---- facts by their indices
 
 -- the fact at an index, and the facts at several indices
 abbrev pub one_at : List Fact → ℕ → List Fact

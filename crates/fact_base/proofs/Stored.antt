@@ -93,7 +93,7 @@ taken sheet es ds references wider d stored are fit is =
       λ h. subst (λ rs. Contains rs r) (append-nil d.references) ((kept.members r).0 h),
     ))))
 
--- -- references that are added to others
+-- ---- references that are added to others
 
 pub all_there : (references others : List (List ℕ)) → IsSet text_cmp references → All (Contains references) others → references ≡ set_of text_cmp (references ++ others)
 all_there references others rise all = is_set_of text_cmp_total text_cmp_exact references (references ++ others) rise (λ r. (
@@ -125,13 +125,13 @@ sorted_set texts sorted once moved in_order is =
       λ h. subst (λ ts. Contains ts t) (sym is) (Contains-dedup nat_list_eq_equiv (λ x y same. same_bytes x y same) sorted t (Contains-permutation texts sorted t moved h)),
     ))
 
--- -- a text that is found
+-- ---- a text that is found
 
 pub found_there : (texts : List (List ℕ)) (text : List ℕ) (r : Result ℕ ℕ) → is_err r ≡ false → IsSearchInRange r (length texts) → IfOk r (HoldsAt (λ y. text_cmp y text ≡ Equal) texts) → Contains texts text
 found_there texts text (Ok i) found within holds = (i, within, text_cmp_exact (get_or texts i text) text (holds text))
 found_there texts text (Err i) found within holds = absurd (true≢false found)
 
--- -- the state after a call
+-- ---- the state after a call
 
 pub record Leaves (sheet : Sheet) (es : List Entry) (texts : List (List ℕ)) (b : Body) : Type 0 where
   pub stored : AreStored sheet es texts

@@ -50,7 +50,7 @@ each_meet_is (v ∷ vs) =
           ((each_meet_is vs).1 (λ i j d under within. h (suc i) (suc j) d (omega (arith, under)) (omega (arith, within)))),
     )
 
--- -- the contents of a summary
+-- ---- the contents of a summary
 
 no_intervals : (vs : List Value) → list_any has_interval vs ≡ false → intervals_of vs ≡ []
 no_intervals [] h = refl
@@ -292,7 +292,7 @@ pub no_number_is_apart : (vs : List Value) (s : Summarised) → AreSummarised vs
 no_number_is_apart vs s summed several none =
     first_are_apart vs several summed.different (begins_with_none vs (sym (summary_tells_all vs).number ∙ ap is_some (ap (λ (t : Summarised). t.ends) (sym summed.summary) ∙ none)))
 
--- -- by the common part
+-- ---- by the common part
 
 pub are_several : (vs : List Value) → vs ≢ [] → (length vs ≡ 1 → ⊥) → 2 ≤ length vs
 are_several [] some more = absurd (some refl)

@@ -31,7 +31,7 @@ some_there : (vs : List Value) → vs ≢ [] → (v : Value) × Contains vs v
 some_there [] h = absurd (h refl)
 some_there (v ∷ vs) h = (v, first_there v vs)
 
--- -- merged entries fit if both fit
+-- ---- merged entries fit if both fit
 
 pub fits_together : (sheet : Sheet) (s : DimensionSet) (p q : Summed) → EntryFits sheet s p → EntryFits sheet s q → EntryFits sheet s (summed_of_both p q)
 fits_together sheet s p q h g =
@@ -56,7 +56,7 @@ Fit sheet = All (λ e. EntryFits sheet e.0 e.1)
 pub all_fit_together : (sheet : Sheet) (es fs : List Entry) → Fit sheet es → Fit sheet fs → Fit sheet (map_union dimensions_cmp summed_of_both es fs)
 all_fit_together sheet = all_of_union dimensions_cmp_exact summed_of_both (EntryFits sheet) (fits_together sheet)
 
--- -- merged entries have the facts of both
+-- ---- merged entries have the facts of both
 
 abbrev pub InOrder : List Entry → Type 0
 InOrder = All (λ e. IsSet value_cmp e.1.0)

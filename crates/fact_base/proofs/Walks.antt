@@ -40,7 +40,7 @@ use Rattle.fact_base.proofs.Levels.{highest, highest_is, level_of_values}
 use Rattle.fact_base.proofs.Members.{each_there, to_the_end}
 use Rattle.fact_base.proofs.RowLists.{rows_of_entries, values_at_entries, values_in}
 
--- -- one step further
+-- ---- one step further
 
 drop_from : {A : Type 0} (xs : List A) (i : ℕ) (x : A) → slice_get xs i ≡ Some x → drop i xs ≡ x ∷ drop (suc i) xs
 drop_from [] i x is = absurd (true≢false (sym (ap is_some is)))
@@ -93,7 +93,7 @@ count_further es i e count more n at put known =
 pub count_ends : (es : List Entry) (i count n : ℕ) → length es ≤ i → count + length (facts_of_entries (drop i es)) ≡ n → count ≡ n
 count_ends es i count n past known = omega (arith, sym (ap (λ ds. count + length (facts_of_entries ds)) (none_left es i past)) ∙ known)
 
--- -- the values of a dimension set
+-- ---- the values of a dimension set
 
 pub found_entry : (sheet : Sheet) (es : List Entry) (texts : List (List ℕ)) (s : DimensionSet) (kept : Summed) → AreStored sheet es texts → value_at dimensions_cmp s es ≡ Some kept → AreSummarised kept.0 kept.1
 found_entry sheet es texts s kept stored is =
@@ -146,7 +146,7 @@ equal_dimensions s t h = dimensions_cmp_exact s t ((Equal-is (dimensions_cmp s t
 pub dimensions_equal : (s : DimensionSet) → dimensions_eq.it s s ≡ true
 dimensions_equal s = equal_dimensions_tie s s ∙ ap is_eq (tied_itself dimensions_cmp_total s)
 
--- -- the row at an index
+-- ---- the row at an index
 
 pub no_entry : {A P : Type 0} (xs : List A) (i : ℕ) → i < length xs → slice_get xs i ≡ None → P
 no_entry [] i within is = absurd (omega (arith, within))
