@@ -55,16 +55,14 @@ pub fn members_grow()
     ensures more { MembersGrow }
 {}
 
-/// Dimension sets are ordered part by part. The order is total, and only equal sets compare as
-/// equal.
+/// Dimension sets are totally ordered, part by part. Only equal sets compare as equal.
 pub fn dimensions_are_ordered()
     ensures derived { (x y : DimensionSet) → ⟦<Dimensions as Ord>⟧.cmp x y ≡ dimensions_cmp x y }
     ensures total { IsTotalOrder dimensions_cmp }
     ensures exact { (x y : DimensionSet) → dimensions_cmp x y ≡ Equal → x ≡ y }
 {}
 
-/// Facts are ordered by dimensions, then by value. The order is total, and only equal facts compare
-/// as equal.
+/// Facts are totally ordered by dimensions, then by value. Only equal facts compare as equal.
 pub fn facts_are_ordered()
     ensures derived { (x y : AFact) → ⟦<Fact as Ord>⟧.cmp x y ≡ fact_cmp x y }
     ensures total { IsTotalOrder fact_cmp }
