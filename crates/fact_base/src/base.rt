@@ -198,8 +198,7 @@ impl<'s> Base<'s> {
         same_rows(&self.entries, &other.entries) && self.taxonomy() == other.taxonomy()
     }
 
-    /// Returns whether the facts with these dimensions contradict each other, or None if there are
-    /// none.
+    /// Returns the verdict on the facts with these dimensions, or None if there are none.
     pub fn verdict(&self, dimensions: &Dimensions) -> Option<Verdict>
         ensures { result ≡ verdict self.now.body.facts dimensions.now }
     {
