@@ -1,4 +1,4 @@
--- A fact that an object says, where nothing refuses it, is said member by member, and fits the sheet.
+-- A fact that an object says and nothing refuses is said member by member, and fits the sheet.
 use Rattle.std.proofs.Common.{◌≡◌, ℕ, ◌+◌, List, [], ◌∷◌, map as each_of, Some, None, Result, Ok, Err, refl, subst, arith}
 use Rattle.std.specs.Prelude.{All}
 use Rattle.std.specs.List.{AllZip}
@@ -29,7 +29,7 @@ use Rattle.oim_report.proofs.UnitFits.{unit_fits, unit_is_one}
 use Rattle.oim_report.proofs.UnitSays.{unit_says}
 
 module _ (sheet : Sheet) (bs : List Binding) (are : AreNamespaces bs) (p : FactParts) (ds : DimensionParts) (f : Fact) (clean : AreClean p) (is : IsAccepted sheet bs p ds f) where
-  -- the kind of the concept
+  -- the concept has a kind
   kind_of_concept : (k : ConceptKind) × (concept_kind sheet bs ds.concept ≡ Some k) × (map.get sheet.concepts f.dimensions.concept ≡ Some k)
   kind_of_concept = concept_listed sheet bs ds.concept f.dimensions.concept is.none.concept is.each.concept
 
@@ -85,7 +85,7 @@ module _ (sheet : Sheet) (bs : List Binding) (are : AreNamespaces bs) (p : FactP
         value = value_fits bs kind_of_concept.0 p.value p.decimals f.value are clean.value value_is;
       }
 
--- ---- of an object
+-- ---- one object
 
 pub fact_said : (sheet : Sheet) (bs : List Binding) (d : Data) (f : Fact) → AreNamespaces bs → fact_outcome sheet bs d ≡ Ok f → ObjectSays sheet bs d f
 fact_said sheet bs d f are e =
@@ -97,7 +97,7 @@ fact_fits sheet bs d f are e =
     let has = accepted sheet bs d f e in
     accepted_fits sheet bs are has.parts has.dimensions f (are_clean d has.parts has.are) has.accepted
 
--- ---- of all objects
+-- ---- all objects
 
 pub ok_of : {A B : Type 0} (g : A → B) (r : Result A Refusal) (b : B) → map_ok g r ≡ Ok b → (a : A) × (r ≡ Ok a) × (g a ≡ b)
 ok_of g (Ok a) b e = (a, refl, cc)

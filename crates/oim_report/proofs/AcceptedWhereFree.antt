@@ -1,4 +1,4 @@
--- A report is accepted exactly if no condition holds and its level allows its facts.
+-- A report is accepted exactly if no condition applies and its level allows its facts.
 use Rattle.std.proofs.Common.{◌≡◌, ℕ, ◌+◌, List, [], ◌∷◌, map, Bool, true, false, cond, Option, Some, None, Ok, Err, refl, sym, ap, ◌∙◌}
 use Rattle.std.specs.List.{AllByRecursion}
 use Rattle.std.specs.Ordering.{is_lt}
@@ -23,7 +23,7 @@ use Rattle.oim_report.proofs.AcceptedFacts.{next, ok_of}
 use Rattle.oim_report.proofs.Documents.{document_is_said, document_said, is_allowed, not_refused}
 use Rattle.oim_report.proofs.OneDocument.{says_one_document}
 
--- ---- what is accepted is free
+-- ---- no condition applies to an accepted report
 
 pub one_free : (sheet : Sheet) (bs : List Binding) (d : Data) (f : Fact) → fact_outcome sheet bs d ≡ Ok f → IsFree sheet bs d
 one_free = said_is_free
@@ -57,7 +57,7 @@ some_accepts : (sheet : Sheet) (bytes : List ℕ) (o : Option Data) (d : Documen
 some_accepts sheet bytes None d read e = absurd (cc)
 some_accepts sheet bytes (Some tree) d read e = tree_accepts sheet bytes tree d read e
 
--- ---- what is free is accepted
+-- ---- a report to which no condition applies is accepted
 
 pub one_said : (sheet : Sheet) (bs : List Binding) (d : Data) → IsFree sheet bs d → (f : Fact) × (fact_outcome sheet bs d ≡ Ok f)
 one_said = free_is_said

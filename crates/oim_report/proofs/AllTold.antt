@@ -1,4 +1,4 @@
--- The faults are the conditions that hold, but those that another hides.
+-- The faults are the conditions that apply, except those that another condition hides.
 use Rattle.std.proofs.Common.{◌≡◌, List, [], ◌∷◌, map, Bool, true, false, not, ◌||◌, ◌&&◌, cond, refl, sym, ap, ◌∙◌}
 use Rattle.std.specs.Prelude.{Option, Some, None, codes, is_none, option_and_then, option_map}
 use Rattle.std.specs.List.{cons_option, filter, list_any}
@@ -20,7 +20,7 @@ use Rattle.oim_report.specs.Least.{hidden_by, told}
 use Rattle.oim_report.proofs.DocumentHolds.{base_same, feature_same, references_same}
 use Rattle.oim_report.proofs.ValueWords.{by_given}
 
--- ---- all of a list, where at most one of some holds
+-- ---- lists of conditions of which at most one applies
 
 one_kept : (b : Bool) (r : Reason) (later : List Reason) → cond b (r ∷ later) later ≡ cons_option (when b r) later
 one_kept true r later = refl
@@ -41,15 +41,15 @@ fact_told sheet bs d = refl
 
 -- ---- the document
 
--- which references are kept depends on the base: where that is refused, they are looked at as without one
+-- the references are refused; if the base is refused, they are tested as if there were none
 abbrev pub refuses_references : Data → Bool
 refuses_references tree = is_none (said_references (unwrap_or (base_said tree) None) (taxonomy_of tree))
 
--- which key is the feature depends on the prefixes: where an entry binds nothing, it is not told
+-- the level is refused; if an entry binds nothing, it is not tested
 abbrev pub refuses_level : Data → Bool
 refuses_level tree = not (any_in binds_nothing (namespaces_of tree)) && is_none (level_said tree)
 
--- and the type is not, where there is no `documentInfo` to have one
+-- the conditions of a document; without `documentInfo` its type is not tested
 abbrev pub document_refusals : Data → List (Option Reason)
 document_refusals tree =
     when (document_holds tree MemberForm) MemberForm
@@ -65,7 +65,7 @@ mapped_or : (o : Option Parts) → unwrap_or (option_map Some o) None ≡ o
 mapped_or None = refl
 mapped_or (Some p) = refl
 
--- a base that is refused is none
+-- a base that is refused counts as no base
 base_or : (o : Option Data) → unwrap_or (said_base (given_of o)) None ≡ option_and_then base_url (option_and_then as_text o)
 base_or None = refl
 base_or (Some d) = by_given (λ g t w n. unwrap_or (said_base g) None ≡ option_and_then base_url t) refl (λ t. mapped_or (base_url t)) (λ n. refl) refl d

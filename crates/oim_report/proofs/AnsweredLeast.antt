@@ -1,4 +1,4 @@
--- A fact object is refused for the least of the conditions that hold.
+-- A fact object is refused for the least condition that applies.
 use Rattle.std.proofs.Common.{◌≡◌, List, false, Result, Ok, Err, refl, sym, ap, ◌∙◌}
 use Rattle.std.specs.Prelude.{◌↔◌, Option, Some, None, option_and_then}
 use Rattle.std.specs.Result.{result_err}
@@ -17,7 +17,7 @@ use Rattle.oim_report.proofs.LeastOf.{least_is, none_is}
 use Rattle.oim_report.proofs.SaidUnlessRefused.{facts_are_said}
 use Rattle.oim_report.proofs.ByParts.{by_parts, no_object, parts_outcome, refused_same}
 
--- an object of which no condition holds says a fact
+-- an object to which no condition applies says a fact
 says_of : (sheet : Sheet) (bs : List Binding) (d : Data) (o : Option FactParts) → fact_parts d ≡ o → least (holds sheet bs d) ≡ None → (f : Fact) × (parts_outcome sheet bs o ≡ Ok f)
 says_of sheet bs d None is none = let no : Some MemberForm ≡ None = sym (no_object sheet bs d is) ∙ none in absurd (cc)
 says_of sheet bs d (Some p) is none =

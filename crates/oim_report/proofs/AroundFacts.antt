@@ -1,4 +1,5 @@
--- The text of a document's members: some, the object `facts` whose text is read in pieces, and others behind it.
+-- The text of a document's members: members before `facts`, the object `facts`, whose text is read in pieces, and members after
+-- it.
 use Rattle.std.proofs.Common.{◌≡◌, ℕ, ◌≤◌, Bool, true, false, ◌||◌, ◌==◌, inl, inr, ◌⊎◌, List, [], ◌∷◌, ◌++◌, Some, option_map, option_and_then, refl, sym, ap, ◌∙◌, subst, arith, append_assoc, append-nil}
 use Rattle.std.specs.Prelude.{codes}
 use Rattle.std.proofs.lemmas.Bool.{eqb-true}
@@ -85,7 +86,7 @@ lex_end s h = ap (lex between) (sym (append-nil s)) ∙ lex_spaces s [] h ∙ le
 
 -- ---- texts of members, by their tokens
 
--- white space in front
+-- white space before members
 led : (s a : List ℕ) (ms : Members) → AreSpaces s → Members_of a ms → Members_of (s ++ a) ms
 led s a ms h m = record {
   ls = m.ls;
@@ -101,7 +102,7 @@ keyed_body : (ms : Members) (ts : List Token) → HasSome ms → IsKeyed (body m
 keyed_body j.no_members ts h = absurd h
 keyed_body (j.member k v ms) ts h = tt
 
--- a comma between two, with white space before it
+-- a comma between two texts of members, with white space before it
 both_members : (a s b : List ℕ) (ms ns : Members) → AreSpaces s → HasSome ns → Members_of a ms → Members_of b ns → Members_of (a ++ (s ++ 44 ∷ b)) (plus ms ns)
 both_members a s b ms ns h some m n = record {
   ls = m.ls ++ comma ∷ n.ls;
@@ -139,9 +140,9 @@ wrapped s3 s4 f s5 fs h3 h4 h5 m =
           ∙ sym (append_assoc (body fs) (end_object ∷ []) (punctuate after_value more)) ∙ ap (λ l. l ++ punctuate after_value more) (sym (closed_body fs) ∙ sym (append-nil (members_tokens fs))));
     }
 
--- ---- and by what they give
+-- ---- the data that texts give
 
--- the text is that of members that give these, nested n deep at most
+-- the text is read as these members, nested at most n deep
 pub record Gives (text : List ℕ) (n : ℕ) (found : d.Members) : Type 0 where
   pub ms : Members
   pub members : Members_of text ms
@@ -149,7 +150,7 @@ pub record Gives (text : List ℕ) (n : ℕ) (found : d.Members) : Type 0 where
   pub gives : of_members ms d.no_members ≡ Some found
   pub shallow : members_depth ms ≤ n
 
--- a piece is nested less deep than a document may be, by the array and the object round it
+-- a piece is nested at most 125 deep, because a document puts an array and an object around it
 pub piece_gives : (a : List ℕ) (found : d.Members) → IsPiece a found → Gives a 125 found
 piece_gives a found p =
     let r = piece_as a found p in
@@ -187,7 +188,7 @@ facts_give s3 s4 f s5 found h3 h4 h5 g =
       shallow = omega (arith, deep);
     }
 
--- braces round the text of members, with white space outside and before the last one
+-- braces around the text of members, with white space before and after, and before the closing brace
 pub document_gives : (s0 m s7 s8 : List ℕ) (found : d.Members) → AreSpaces s0 → AreSpaces s7 → AreSpaces s8 → Gives m 126 found → read (s0 ++ 123 ∷ (m ++ (s7 ++ 125 ∷ s8))) ≡ Some (d.object found)
 document_gives s0 m s7 s8 found h0 h7 h8 g =
     let all = j.object g.ms in

@@ -1,4 +1,4 @@
--- The entries of `namespaces`, bound one after another: since their keys ascend, each binds a prefix that is free.
+-- The entries of `namespaces`, bound one after another. Since their keys ascend, each binds a free prefix.
 use Rattle.std.proofs.Common.{◌≡◌, ℕ, List, [], ◌∷◌, ◌++◌, Bool, true, false, cond, not, ◌||◌, Option, Some, None, string_bytes, string_cmp, String, Global, Less, nat_cmp, is_eq, bytes_eq, append_assoc, append-nil, refl, sym, ap, ◌∙◌}
 use Rattle.std.specs.Option.{option_map, option_map_or, unwrap_or}
 use Rattle.std.specs.List.{find, AllByRecursion}
@@ -18,12 +18,12 @@ abbrev pub bound_step : List Binding → List ℕ → Option (List ℕ) → (Lis
 bound_step bs key None more = None
 bound_step bs key (Some uri) more = cond (is_refused_binding bs key uri) None (more (bound bs key uri))
 
--- the bindings after these, or None where an entry can't be bound
+-- the bindings after these entries, or None if an entry cannot be bound
 abbrev pub bound_after : List Binding → Members → Option (List Binding)
 bound_after bs no_members = Some bs
 bound_after bs (member key d ms) = bound_step bs key (text_of (given d)) (λ more. bound_after more ms)
 
--- none of the keys is bound
+-- no key is bound
 abbrev AreFree : List Binding → List Entry → Type 0
 AreFree bs es = AllByRecursion (λ (e : Entry). uri_of bs (string_bytes e.0) ≡ None) es
 
@@ -79,14 +79,14 @@ by_other_case : (b : Bool) (bs cs : List Binding) → cond b None (Some bs) ≡ 
 by_other_case true bs cs e = absurd (cc)
 by_other_case false bs cs e = (cc, refl)
 
--- what the walk over all entries says of them
+-- the loop fails exactly if some entry binds nothing
 pub all_refused : (es : List Entry) → IsStrictlySortedBy string_cmp (keys_of es) → bound_after [] (members_view es) ≡ None → any_member binds_nothing (members_view es) ≡ true
 all_refused es ascend e = by_case _ (bindings_in (members_view es)) (sym (bound_all es ascend) ∙ e)
 
 pub all_bound : (es : List Entry) (bs : List Binding) → IsStrictlySortedBy string_cmp (keys_of es) → bound_after [] (members_view es) ≡ Some bs → (bs ≡ bindings_in (members_view es)) × (any_member binds_nothing (members_view es) ≡ false)
 all_bound es bs ascend e = by_other_case _ (bindings_in (members_view es)) bs (sym (bound_all es ascend) ∙ e)
 
--- where the walk stops
+-- the loop stops at an entry that binds nothing
 pub stops_at : (bs : List Binding) (es rest : List Entry) (e : Entry) → es ≡ e ∷ rest → text_of (given (view e.1)) ≡ None → bound_after bs (members_view es) ≡ None
 stops_at bs es rest e is none = rw (is, none) refl
 

@@ -1,4 +1,4 @@
--- What a fact object's outcome is by its parts, and by the conditions that hold.
+-- The outcome of a fact object, in terms of its parts and of the conditions that apply.
 use Rattle.std.proofs.Common.{◌≡◌, List, Result, Err, refl, sym, ap, ◌∙◌}
 use Rattle.std.specs.Prelude.{Option, Some, None}
 use Rattle.oim_names.specs.Bindings.{Binding}
@@ -15,7 +15,7 @@ use Rattle.oim_report.specs.Holds.{holds}
 use Rattle.oim_report.specs.Least.{least}
 use Rattle.oim_report.proofs.FactHolds.{object_least}
 
--- what is no object has not the form
+-- a value that is no object is refused for its form
 abbrev pub parts_outcome : Sheet → List Binding → Option FactParts → Result Fact Reason
 parts_outcome sheet bs None = Err MemberForm
 parts_outcome sheet bs (Some p) = fact_or (fact_refusal sheet bs p) (said_fact sheet bs p)

@@ -1,4 +1,4 @@
--- Names of which one is repeated, looked at one after another.
+-- A list of names in which one may be repeated, read one after another.
 use Rattle.std.proofs.Common.{◌≡◌, ◌≢◌, ◌⊎◌, inl, inr, Result, Ok, Err, ℕ, List, [], ◌∷◌, Bool, true, false, cond, ◌||◌, refl, sym, ap, ◌∙◌}
 use Rattle.std.specs.Prelude.{Option, Some, None, if◌then◌else◌, is_some, IfErr}
 use Rattle.std.specs.FinMap as map
@@ -20,7 +20,7 @@ use Rattle.oim_report.specs.Names.{named}
 use Rattle.oim_report.proofs.Naming.{stands}
 use Rattle.oim_report.proofs.RisingNames.{name_total}
 
--- whether one of the names is there already, or is repeated
+-- a name is in the map, or is repeated
 abbrev pub again_after : {K : Type 0} → FinMap name_cmp K → List QName → Bool
 again_after m ns = list_any (λ n. map.contains_key m n) ns || comes_again ns
 
@@ -58,7 +58,7 @@ module _ {K : Type 0} where
   some_or true v o = refl
   some_or false v o = refl
 
-  -- with one more name
+  -- the test after one more name
   with_name : (m : FinMap name_cmp K) (n : QName) (k : K) (ns : List QName) → list_any (λ q. map.contains_key (map.insert m n k) q) ns ≡ (list_any (λ q. is_eq (name_cmp n q)) ns || list_any (λ q. map.contains_key m q) ns)
   with_name m n k [] = refl
   with_name m n k (q ∷ qs) =
@@ -68,7 +68,7 @@ module _ {K : Type 0} where
   put_as : (m : FinMap name_cmp K) (n : QName) (k : K) → map.contains_key m n ≡ false → (if map.contains_key m n then m else map.insert m n k) ≡ map.insert m n k
   put_as m n k new = ap (λ b. if b then m else map.insert m n k) new
 
-  -- the others, after a name that is new
+  -- the test of the other names, after a new name
   pub next : (m after : FinMap name_cmp K) (n : QName) (k : K) (ns : List QName) → map.contains_key m n ≡ false → after ≡ (if map.contains_key m n then m else map.insert m n k) → again_after after ns ≡ again_after m (n ∷ ns)
   next m after n k ns new put =
       ap (λ m. again_after m ns) (put ∙ put_as m n k new)
@@ -86,7 +86,7 @@ refused_by bs t r (Some n) refused is = let no : None ≡ Some r = sym (named_ke
 pub refused_none : (bs : List Binding) (t : List ℕ) (r : Reason) → name_refusal bs t ≡ Some r → named bs t ≡ None
 refused_none bs t r refused = refused_by bs t r (named bs t) refused refl
 
--- as it is read
+-- the result of reading a text that names nothing
 pub read_none : (bs : List Binding) (t : List ℕ) (read : Result QName Reason) → None ≡ result_ok read → read ≢ Err OutOfMemory → IfErr read (λ r. (r ≡ OutOfMemory) ⊎ (name_refusal bs t ≡ Some r)) → named bs t ≡ None
 read_none bs t (Ok m) is other e = absurd (cc)
 read_none bs t (Err r) is other (inl memory) = absurd (other (ap Err memory))

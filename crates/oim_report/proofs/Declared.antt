@@ -8,7 +8,7 @@ use Rattle.oim_value.specs.declared.level.Level.{Level}
 use Rattle.oim_report.specs.Json.{Given, given}
 use Rattle.oim_report.specs.Info.{declarations, is_allowed_duplicates, said_level}
 
--- the declared level, where one was declared already or none
+-- the declared level, if a level was or was not declared before
 abbrev pub level_after : Option Level → List Given → Option Level
 level_after None gs = said_level gs
 level_after (Some l) [] = Some l
@@ -30,7 +30,7 @@ goes_on : (declared : Option Level) (g : Given) (gs : List Given) (l : Level) (f
 goes_on None g gs l found first again is = first_declares g gs l (sym (first refl) ∙ is)
 goes_on (Some m) g gs l found first again is = absurd (let none : found ≡ None = again refl in cc)
 
--- the walk over the features: what a declaration is told of
+-- the loop over the features reads each declaration
 walked : (bs : List Binding) (declared : Option Level) (es rest : List Entry) (e : Entry) (key : List ℕ) (g : Given)
     → es ≡ e ∷ rest → key ≡ string_bytes e.0 → is_allowed_duplicates bs key ≡ true → g ≡ given (view e.1)
     → level_after declared (declarations bs (members_view es)) ≡ level_after declared (g ∷ declarations bs (members_view rest))
@@ -47,7 +47,7 @@ pub goes_on_at : (bs : List Binding) (declared : Option Level) (es rest : List E
 goes_on_at bs declared es rest e key g l found is name allowed value first again some =
     goes_on declared g (declarations bs (members_view rest)) l found first again some ∙ sym (walked bs declared es rest e key g is name allowed value)
 
--- where it stops
+-- the loop stops at a second declaration or an unknown level
 pub stops_at : (bs : List Binding) (declared : Option Level) (es rest : List Entry) (e : Entry) (key : List ℕ) (g : Given) (found : Option Level)
     → es ≡ e ∷ rest → key ≡ string_bytes e.0 → is_allowed_duplicates bs key ≡ true → g ≡ given (view e.1)
     → (declared ≡ None → found ≡ said_level (g ∷ [])) → found ≡ None

@@ -1,4 +1,4 @@
--- The members of `dimensions` that a row of the table looks at, one after another.
+-- The members of `dimensions` that a row of the table tests, one after another.
 use Rattle.std.proofs.Common.{◌≡◌, ◌≢◌, ◌⊎◌, ℕ, List, [], ◌∷◌, ◌++◌, map, Bool, true, false, cond, ◌||◌, ◌&&◌, Result, Ok, Err, refl, sym, ap, ◌∙◌}
 use Rattle.std.specs.Prelude.{Option, Some, None, IfOk, IfErr, codes, if◌then◌else◌, option_and_then}
 use Rattle.std.specs.Option.{option_map_or, option_to_list}
@@ -56,7 +56,7 @@ and_true false = refl
 pub colon_utf8 : (key : List ℕ) → IsUtf8 key → has_colon key ≡ is_defined key
 colon_utf8 key utf8 = and_true (has_colon key) ∙ ap (λ b. has_colon key && b) (sym (is_utf8-from_IsUtf8 key utf8))
 
--- the name of a key, as it is read
+-- the name that reading a key returns
 as_read : (bs : List Binding) (t : List ℕ) (read : Result QName Reason) → IfOk read (Expands bs t) → IfErr read (λ r. (r ≡ OutOfMemory) ⊎ (name_refusal bs t ≡ Some r)) → read ≢ Err OutOfMemory → result_ok read ≡ named bs t
 as_read bs t (Ok n) e refused other = sym (expanded is_name bs t n e)
 as_read bs t (Err r) e refused other = sym (read_none bs t (Err r) refl other refused)
@@ -66,7 +66,7 @@ pub read_name : {E : Type 0} (bs : List Binding) (t : List ℕ) (read : Result Q
 read_name bs t read there e refused (Ok o) h = h.0 ∙ as_read bs t read e refused h.1 ∙ ap (λ b. if b then named bs t else None) (sym there)
 read_name bs t read there e refused (Err x) h = h
 
--- ---- a name of a fact is refused where one of its parts' is
+-- ---- a name of a fact is refused if it is refused in some part
 
 module _ (sheet : Sheet) (bs : List Binding) (fact : Data) (ms : Members) (r : Reason) where
   abbrev pub refused : List Spelled → Bool

@@ -1,4 +1,4 @@
--- A document is refused for the least of its conditions that hold.
+-- A document is refused for the least condition that applies.
 use Rattle.std.proofs.Common.{◌≡◌, ℕ, suc, List, [], ◌∷◌, length, map, Bool, true, false, not, ◌||◌, ◌&&◌, cond, refl, sym, ap, ◌∙◌, arith}
 use Rattle.std.specs.Prelude.{Option, Some, None, bytes_eq, codes, if◌then◌else◌, is_none, is_some, nat_lt, option_and_then, option_map}
 use Rattle.std.specs.Option.{option_map_or}
@@ -24,7 +24,7 @@ use Rattle.oim_report.proofs.ValueWords.{by_given, text_same}
 
 -- ---- the conditions in two groups
 
--- whether a part of it is missing, or of another kind of value
+-- a part is missing, or has another kind of value
 abbrev pub has_misshapen_part : Data → Bool
 has_misshapen_part tree =
     not (is_object tree) || is_none (object_at (codes "documentInfo") tree) || is_no_object (info (codes "namespaces") tree) || is_no_object (info (codes "features") tree) || is_no_object (get (codes "facts") tree) || is_no_array (info (codes "taxonomy") tree)
@@ -144,7 +144,7 @@ pub feature_same : (tree : Data) → is_none (level_said tree) ≡ document_hold
 unfolding document_holds
 feature_same tree = ap (λ gs. is_none (said_level gs)) (declared_same (bindings_of tree) (features_of tree)) ∙ level_same (declared tree)
 
--- ---- all of them
+-- ---- all conditions
 
 flat : (a b c d e f g : Bool)
     → or_refusal (if a then Some MemberForm else (if b then Some UnknownMember else (if c then Some DocumentType else None))) (or_refusal (if d then Some Namespace else (if e then Some BaseUrl else (if f then Some TaxonomyUrl else (if g then Some Feature else None)))) None)
@@ -174,7 +174,7 @@ document_least tree =
     (behind_test (is_none (base_said tree)) BaseUrl _ _ (λ based. λ i. if taxonomy_same tree based i then Some TaxonomyUrl else (if feature_same tree i then Some Feature else None))
     ∙ ap (λ b. if b then Some BaseUrl else (if document_holds tree TaxonomyUrl then Some TaxonomyUrl else (if document_holds tree Feature then Some Feature else None))) (base_same (info (codes "baseURL") tree))))
 
--- the first of the three conditions of the shape
+-- the first of the three conditions on the form
 pub shape_same : (tree : Data) → find (document_holds tree) (MemberForm ∷ UnknownMember ∷ DocumentType ∷ []) ≡ shape_refusal tree
 unfolding document_holds
 shape_same tree =

@@ -33,7 +33,7 @@ use Rattle.oim_report.specs.Json.{json_text, without_mark}
 use Rattle.oim_report.proofs.Texts.{passes}
 use Rattle.oim_report.specs.Pieces.{IsPiece, IsOutline}
 
--- ---- what does not depend on the facts
+-- ---- the contents that do not depend on the facts
 
 abbrev pub whole : Members → Members → Data
 whole ms fs = object (put (codes "facts") (object fs) ms)
@@ -132,7 +132,7 @@ whole_outcome sheet bytes tree ms fs facts references level t read accepted said
     ap (tree_outcome sheet) read ∙ ap (λ o. unless_refused o (then_allowed (map_ok (document_with all) (facts_said sheet (bindings_of all) (facts_of all))))) none
     ∙ ap (λ o. then_allowed (map_ok (document_with all) o)) same ∙ ap allowed made ∙ ap (λ b. if b then Err (at AtDocument DisallowedDuplicates) else Ok document) above
 
--- ---- what was handed out
+-- ---- the result of the reader
 
 pub taken : {A E : Type 0} (r : Result A E) (x : A) (P : A → Type 0) → IfOk r P → Some x ≡ result_ok r → P x
 taken (Ok a) x P h e = let same : a ≡ x = cc in subst P same h

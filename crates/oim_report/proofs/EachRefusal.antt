@@ -13,17 +13,17 @@ pub first-append : (rs ss : List (Option Reason)) → first_refusal (rs ++ ss) �
 first-append [] ss = refl
 first-append (r ∷ rs) ss = ap (or_refusal r) (first-append rs ss) ∙ sym (or_refusal-assoc r (first_refusal rs) (first_refusal ss))
 
--- a condition, and those behind it
+-- a condition, followed by others
 pub or_when : (holds : Bool) (reason : Reason) (later : Option Reason) → or_refusal (when holds reason) later ≡ (if holds then Some reason else later)
 or_when true reason later = refl
 or_when false reason later = refl
 
--- what stands behind a refusal matters where there is none
+-- later conditions matter only if there is no refusal before them
 pub behind : (r s t : Option Reason) → (r ≡ None → s ≡ t) → or_refusal r s ≡ or_refusal r t
 behind None s t same = same refl
 behind (Some r) s t same = refl
 
--- and behind a condition, where it does not hold
+-- later conditions matter only if the condition before them does not apply
 pub behind_test : (b : Bool) (r : Reason) (s t : Option Reason) → (b ≡ false → s ≡ t) → (if b then Some r else s) ≡ (if b then Some r else t)
 behind_test true r s t same = refl
 behind_test false r s t same = same refl

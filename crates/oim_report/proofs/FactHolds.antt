@@ -1,4 +1,4 @@
--- A fact object is refused for the least of the conditions that hold of it.
+-- A fact object is refused for the least condition that applies to it.
 use Rattle.std.proofs.Common.{◌≡◌, ℕ, ℤ, Ok, Err, List, [], ◌∷◌, ◌++◌, map, Bool, true, false, not, ◌||◌, ◌&&◌, refl, sym, ap, ◌∙◌}
 use Rattle.std.specs.Prelude.{Option, Some, None, codes, if◌then◌else◌, int_lt, is_none, is_some, option_and_then, option_map}
 use Rattle.std.specs.Option.{option_map_or, option_to_list}
@@ -78,7 +78,7 @@ unit_same : (o : Option Data) → map a_name (option_map_or pieces (option_and_t
 unit_same None = refl
 unit_same (Some d) = by_given (λ g t w n. map a_name (option_map_or pieces t []) ≡ unit_names g) refl pieces_same (λ n. refl) refl d
 
--- a text is a name where it names something
+-- a text is a name exactly if it names something
 by_uri : (u : Option (List ℕ)) (t : List ℕ) → is_none (prefix_refusal u) ≡ is_some (option_and_then (λ v. in_namespace v t) u)
 by_uri None t = refl
 by_uri (Some v) t =
@@ -163,7 +163,7 @@ decimals_form (Some d) =
     by_given (λ g t w n. or_refusal (when (is_none w) DecimalsForm) (or_refusal (when (is_some_and (λ x. not (is_finite_decimals x)) w) DecimalsRange) None) ≡ decimals_refusal None g)
     refl (λ t. refl) (λ n. finite (is_finite_decimals n)) refl d
 
--- ---- the content, of a fact whose dimensions are an object
+-- ---- the content of a fact whose dimensions are an object
 
 assembled : {n n' u u' r r' mc mc' uc uc' ud ud' dv dv' uo uo' ln ln' dd dd' : Bool} {P U L V D : Option Reason} (pf po uf lf vf nf nd df dr : Bool)
     → n ≡ n' → u ≡ u' → r ≡ r' → mc ≡ mc' → uc ≡ uc' → ud ≡ ud' → dv ≡ dv'

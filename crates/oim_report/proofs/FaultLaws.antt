@@ -1,4 +1,4 @@
--- A report has faults exactly if it is refused, and the first of them is its refusal.
+-- A report has faults exactly if it is refused, and the first fault is its refusal.
 use Rattle.std.proofs.Common.{◌≡◌, ℕ, ◌+◌, List, [], ◌∷◌, ◌++◌, map, Bool, true, false, Result, Ok, Err, refl, sym, ap, ◌∙◌}
 use Rattle.std.specs.Prelude.{Option, Some, None, if◌then◌else◌, option_and_then}
 use Rattle.std.specs.Option.{option_map_or, option_to_list, unwrap_or}
@@ -46,7 +46,7 @@ pub refused_by_first : (sheet : Sheet) (bs : List Binding) (d : Data) (place : P
 refused_by_first sheet bs d place r e =
     ap (λ o. fact_or o (option_and_then (said_fact sheet bs) (fact_parts d))) (sym (first_told (holds sheet bs d)) ∙ by_told place (told (holds sheet bs d)) r e)
 
--- ---- several
+-- ---- several fact objects
 
 none_first : (place : Place) (rs : List Reason) (later : List Refusal) → first rs ≡ None → first_of (map (at place) rs ++ later) ≡ first_of later
 none_first place [] later h = refl
@@ -129,7 +129,7 @@ module _ (sheet : Sheet) (tree : Data) where
   at_most_one true r = refl
   at_most_one false r = refl
 
-  -- the refusal of a report whose document and facts have no faults is that of its level
+  -- if the document and the facts have no faults, the refusal is the fault of the level
   pub level_alone : map (at AtDocument) (told (document_holds tree)) ≡ [] → found ≡ [] → option_to_list (result_err (tree_outcome sheet (Some tree))) ≡ tree_faults sheet tree
   level_alone none free =
       let last : tree_faults sheet tree ≡ level_faults sheet tree = λ i. or_else (none i) (or_else (free i) (level_faults sheet tree)) in
@@ -143,7 +143,7 @@ pub first_fault : FirstFaultIsAnswered
 unfolding faults outcome
 first_fault sheet bytes = by_read sheet (json bytes)
 
--- ---- where there is none
+-- ---- reports without faults
 
 is_ok : (said : Result Document Refusal) → None ≡ result_err said → (d : Document) × (said ≡ Ok d)
 is_ok (Ok d) h = (d, refl)

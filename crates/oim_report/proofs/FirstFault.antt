@@ -1,4 +1,4 @@
--- The first of all conditions of a fact that hold is the one that is answered.
+-- The first condition of a fact that applies is its refusal.
 use Rattle.std.proofs.Common.{◌≡◌, ℕ, List, [], ◌∷◌, ◌++◌, Bool, true, false, not, ◌||◌, ◌&&◌, refl, sym, ap, ◌∙◌}
 use Rattle.std.specs.Prelude.{Option, Some, None, codes, if◌then◌else◌, is_none, is_some, option_map, option_and_then}
 use Rattle.std.specs.Option.{option_map_or}
@@ -40,7 +40,7 @@ first_name bs ns = three (refuses_some NameForm bs ns) (refuses_some UnboundPref
 
 -- ---- the form
 
--- a member is missing, or is an object
+-- a member that is no object, if it exists, is missing or an object
 pub missing : (o : Option Data) → is_no_object o ≡ false → is_none (option_map dimension_parts (option_and_then as_object o)) ≡ is_none o
 missing None h = refl
 missing (Some null) h = absurd (cc)
@@ -68,7 +68,7 @@ first_form ms =
     let object = (or_parts (is_no_object (get_member (codes "dimensions") ms)) (is_no_object (get_member (codes "links") ms)) shaped).0 in
     sym (missing (get_member (codes "dimensions") ms) object))
 
--- ---- the concept, where its name is not refused
+-- ---- the concept, if its name is not refused
 
 one_free : (bs : List Binding) (t : List ℕ) → names_refusal bs (a_name t ∷ []) ≡ None → name_refusal bs t ≡ None
 one_free bs t free = (first_free bs (a_name t) [] free).0
@@ -82,7 +82,7 @@ first_concept sheet bs (text t) fits free =
     let unknown = is_none (concept_kind sheet bs (text t)) in
     ap (λ r. or_refusal (when (is_none r && unknown) UnknownConcept) None) (one_free bs t free) ∙ or_when unknown UnknownConcept None
 
--- ---- the dimensions that a taxonomy defines, where their names are not refused
+-- ---- the taxonomy-defined dimensions, if their names are not refused
 
 first_two : (a b c d : Bool) → a ≡ b → (b ≡ false → c ≡ d) → first_refusal (when a UnknownDimension ∷ when c DimensionValue ∷ []) ≡ (if b then Some UnknownDimension else (if d then Some DimensionValue else None))
 first_two a true c d same fits = ap (λ x. or_refusal (when x UnknownDimension) (or_refusal (when c DimensionValue) None)) same
@@ -114,7 +114,7 @@ module _ (sheet : Sheet) (bs : List Binding) where
       first_two (list_any (is_unknown_dimension sheet bs) ds) (lists_unknown sheet bs ds) (list_any (has_misfit sheet bs) ds || comes_again (dimension_names bs ds)) (is_faulty sheet bs ds) (unknown_same ds free)
       (λ known. ap (λ b. b || comes_again (dimension_names bs ds)) (misfit_same ds known))
 
--- ---- the unit, the language and the decimals: their form, and then whether they may stand there
+-- ---- the unit, the language and the decimals: first their form, then whether they are allowed
 
 two_tests : (a b : Bool) (r s : Reason) → or_refusal (if a then Some r else None) (or_refusal (when b s) None) ≡ (if a then Some r else (if b then Some s else None))
 two_tests true b r s = refl
@@ -155,7 +155,7 @@ first_value kind value decimals fits =
     (λ i. or_refusal (there (is_absent value) (value_refusal kind value) fits i) (first_decimals kind decimals i))
     ∙ ap (or_refusal (value_refusal kind value)) (sym (or_none (decimals_refusal kind decimals)))
 
--- the period, and the two behind it
+-- the period, the unit and the language
 first_core : (kind : Option ConceptKind) (ds : DimensionParts) → first_refusal (core_refusals kind ds) ≡ or_refusal (period_refusal ds.period) (or_refusal (unit_refusal kind ds.unit) (language_refusal kind ds.language))
 first_core kind ds =
     ap (or_refusal (period_refusal ds.period)) (first-append (unit_refusals kind ds.unit) (language_refusals kind ds.language) ∙ (λ i. or_refusal (first_unit kind ds.unit i) (first_language kind ds.language i)))
@@ -205,7 +205,7 @@ module _ (sheet : Sheet) (bs : List Binding) (p : FactParts) where
 
 -- ---- a fact object
 
--- of a fact object of these parts, in the order of the numbers
+-- the refusals of a fact object with these parts, in the order of the numbers
 abbrev pub parts_refusals : Sheet → List Binding → Members → List (Option Reason)
 parts_refusals sheet bs ms = form_refusals (parts_of ms) (get_member (codes "dimensions") ms) ++ option_map_or (content_refusals sheet bs (parts_of ms)) (parts_of ms).dimensions []
 

@@ -1,4 +1,4 @@
--- What a fact object says fits the sheet, part by part.
+-- A fact that an object says fits the sheet, part by part.
 use Rattle.std.proofs.Common.{◌≡◌, ◌≢◌, ℕ, List, [], ◌∷◌, Bool, true, false, not, ◌&&◌, cond, bytes_eq, Option, Some, None, refl, sym, ap, subst, length, ◌==◌, arith}
 use Rattle.std.specs.Prelude.{ℤ, All, IsTrue, option_and_then, codes}
 use Rattle.std.specs.Option.{option_map, option_map_or, unwrap_or}
@@ -96,7 +96,7 @@ entity_fits bs t n are utf8 e = record {
   utf8 = subst IsUtf8 (sym e.local_part) (local_utf8 t utf8);
 }
 
--- ---- texts that are given are UTF-8
+-- ---- given texts are UTF-8
 
 abbrev pub IsClean : Given → Type 0
 IsClean g = (t : List ℕ) → g ≡ text t → IsUtf8 t
@@ -138,7 +138,7 @@ dimensions_clean ms = record {
   defined = defined_clean ms;
 }
 
--- the value and the dimensions of a fact object
+-- the value and the dimensions of a fact object are UTF-8
 pub record AreClean (p : FactParts) : Type 0 where
   pub value : IsClean p.value
   pub dimensions : (ds : DimensionParts) → p.dimensions ≡ Some ds → AreCleanDimensions ds
@@ -155,7 +155,7 @@ parts_clean ms = record {
 pub are_clean : (d : Data) (p : FactParts) → fact_parts d ≡ Some p → AreClean p
 are_clean d p e = let ms = map_some parts_of (as_object d) p e in subst AreClean ms.2 (parts_clean ms.0)
 
--- ---- what each part says fits
+-- ---- each part that is said fits
 
 text_clean : (g : Given) (t : List ℕ) → IsClean g → text_of g ≡ Some t → IsUtf8 t
 text_clean g t clean e = clean t (text_is g t e)
@@ -174,7 +174,7 @@ said_entity_fits bs (text t) said are clean e =
 said_entity_fits bs (whole n) said are clean e = absurd (cc)
 said_entity_fits bs other said are clean e = absurd (cc)
 
--- moments of their years, and a duration that ends after its start
+-- moments are in range, and a duration ends after its start
 pub said_period_is : (g : Given) (said : Period) → said_period g ≡ Some said → IsPeriod said
 said_period_is absent said e = let same : Forever ≡ said = cc in subst IsPeriod same (record { moments = tt; forward = tt })
 said_period_is nil said e = absurd (cc)

@@ -1,4 +1,4 @@
--- Facts that were found in a text, brought into the order of their identifiers.
+-- Facts that were found in a text, sorted by their identifiers.
 use Rattle.std.proofs.Common.{◌≡◌, ℕ, ◌+◌, ◌<◌, List, [], ◌∷◌, ◌++◌, length, get_or, drop, map, Bool, true, false, cond, Option, Some, None, Ok, String, Global, string_bytes, refl, sym, ap, ◌∙◌, subst, arith, append_assoc}
 use Rattle.std.specs.Prelude.{IfSome}
 use Rattle.std.specs.Ordering.{nat_cmp, match_ordering, is_lt}
@@ -21,7 +21,7 @@ use Rattle.oim_report.specs.Sheet.{Sheet}
 use Rattle.oim_report.proofs.MembersPut.{IsBefore, IsRising, before_all, rising_stays}
 
 module _ (sheet : Sheet) (bs : List Binding) where
-  -- ---- one piece behind another
+  -- ---- one piece after another
 
   pub found_append : (ms ns : Members) (ss ts : List (String Global)) (fs gs : List Fact) → AreFound sheet bs ms ss fs → AreFound sheet bs ns ts gs → AreFound sheet bs (append ms ns) (ss ++ ts) (fs ++ gs)
   found_append no_members ns [] ts [] gs h k = k
@@ -31,7 +31,7 @@ module _ (sheet : Sheet) (bs : List Binding) where
   found_append (member l d ms) ns (s ∷ ss) ts [] gs h k = absurd h
   found_append (member l d ms) ns (s ∷ ss) ts (f ∷ fs) gs h k = (h.0, h.1, found_append ms ns ss ts fs gs h.2 k)
 
-  -- ---- what they say
+  -- ---- the facts that the pieces say
 
   said_from : (n : ℕ) (ms : Members) (ss : List (String Global)) (fs : List Fact) → AreFound sheet bs ms ss fs → all_or_first n (map (fact_outcome sheet bs) (values ms)) ≡ Ok fs
   said_from n no_members [] [] h = refl
@@ -45,7 +45,7 @@ module _ (sheet : Sheet) (bs : List Binding) where
   pub found_said : (ms : Members) (ss : List (String Global)) (fs : List Fact) → AreFound sheet bs ms ss fs → facts_said sheet bs ms ≡ Ok fs
   found_said ms ss fs h = said_from 1 ms ss fs h
 
-  -- ---- identifiers that rise
+  -- ---- identifiers that ascend
 
   less : (o : Ordering) → is_lt o ≡ true → o ≡ Less
   less Less e = refl
@@ -87,7 +87,7 @@ module _ (sheet : Sheet) (bs : List Binding) where
       → AreFound sheet bs (append ms (member k d no_members)) (ss ++ s ∷ []) (fs ++ f ∷ [])
   found_one ms ss fs k d s f h e o = found_append ms (member k d no_members) ss (s ∷ []) fs (f ∷ []) h (e, o, tt)
 
-  -- ---- facts that go to their places
+  -- ---- facts that are moved to their indices
 
   abbrev pub AreKept : Members → List (String Global × Fact) → Type 0
   AreKept ms es = AreFound sheet bs ms (map (λ e. e.0) es) (map (λ e. e.1) es)
@@ -123,7 +123,7 @@ weaker (Some x) P Q h f = f x h
 pub at_index : {X : Type 0} (xs : List X) (i : ℕ) (x : X) → i < length xs → x ≡ get_or xs i x → drop i xs ≡ x ∷ drop (i + 1) xs
 at_index xs i x l e = drop_more xs i x l ∙ ap (λ y. y ∷ drop (i + 1) xs) (sym e)
 
--- ---- facts that go to their places, one after another
+-- ---- facts that are moved to their indices, one after another
 
 abbrev pub put_entries : List (String Global) → List Fact → List (String Global × Fact) → List (String Global × Fact)
 put_entries [] fs es = es

@@ -1,4 +1,4 @@
--- What is found where a part of a document is read, or refused.
+-- The result of reading a part of a document, whether it is accepted or refused.
 use Rattle.std.proofs.Common.{◌≡◌, ◌≢◌, ◌⊎◌, inl, inr, List, [], ◌∷◌, Bool, true, false, not, ◌&&◌, ◌==◌, length, subst, arith, Result, Ok, Err, refl, sym, ap}
 use Rattle.std.specs.Prelude.{Option, Some, None, if◌then◌else◌, is_none, is_some, IfOk, IfErr}
 use Rattle.std.proofs.lemmas.Bool.Decides.{nat_tests}
@@ -9,13 +9,13 @@ use Rattle.oim_names.specs.declared.reason.Reason.TheVariants.{OutOfMemory}
 use Rattle.oim_report.specs.declared.refusal.Refusal.{Refusal}
 use Rattle.oim_report.specs.Faults.{or_else}
 
--- what a part says is what is read of it
+-- the contents of a part are the result of reading it
 pub found_is : {A : Type 0} (read : Result A Reason) (said : Option A) (other : Reason) → read ≢ Err OutOfMemory → IfOk read (λ a. said ≡ Some a) → IfErr read (λ r. (r ≡ OutOfMemory) ⊎ ((r ≡ other) × (said ≡ None))) → result_ok read ≡ said
 found_is (Ok a) said other ne ok err = sym ok
 found_is (Err r) said other ne ok (inl memory) = absurd (ne (ap Err memory))
 found_is (Err r) said other ne ok (inr refused) = sym refused.1
 
--- it says none where it is refused
+-- a part that is refused has no contents
 pub none_is : {A B : Type 0} (read : Result A Reason) (said : Option B) (f : A → B) (other : Reason) → read ≢ Err OutOfMemory → IfOk read (λ a. said ≡ Some (f a)) → IfErr read (λ r. (r ≡ OutOfMemory) ⊎ ((r ≡ other) × (said ≡ None))) → is_none (result_ok read) ≡ is_none said
 none_is (Ok a) said f other ne ok err = sym (ap is_none ok)
 none_is (Err r) said f other ne ok (inl memory) = absurd (ne (ap Err memory))
@@ -39,7 +39,7 @@ pub where_good : {A : Type 0} (bad : Bool) (bs : A) (test : A → Bool) → opti
 where_good true bs test = refl
 where_good false bs test = refl
 
--- ---- as the code tells it
+-- ---- the result of the code
 
 pub from_some : {A : Type 0} (o : Option A) (b : Bool) → is_some o ≡ not b → b ≡ is_none o
 from_some None true h = refl
@@ -60,7 +60,7 @@ nothing_said (Ok a) said other is ne h = absurd (cc)
 nothing_said (Err r) said other is ne (inl memory) = absurd (ne (ap Err memory))
 nothing_said (Err r) said other is ne (inr refused) = refused.1
 
--- ---- a list, or another where it is empty
+-- ---- a list, or another if it is empty
 
 pub filled_else : (xs ys : List Refusal) → (length xs == 0) ≡ false → xs ≡ or_else xs ys
 filled_else [] ys filled = absurd (cc)

@@ -1,4 +1,4 @@
--- What a glossary says after a text was added.
+-- The meanings in a glossary after a text was added.
 use Rattle.std.proofs.Common.{◌≡◌, ◌⊎◌, inl, inr, ℕ, List, Bool, true, false, cond, bytes_eq, Result, Ok, Err, refl, sym, ap, subst, ◌∙◌}
 use Rattle.std.specs.Prelude.{Option, Some, None, OnOk, OnErr}
 use Rattle.std.specs.Borrow.{Bor}
@@ -15,16 +15,16 @@ either R g t u a b is says true same found =
     subst (λ x. R x b) ((bytes_decides t u).0 same) (subst (λ x. R t x) value says)
 either R g t u a b is says false other found = is.each u b found
 
--- what was added is right, and so is all that was there
+-- the meanings stay right after a right one is added
 pub still : {A : Type 0} (R : List ℕ → A → Type 0) (g h : Glossary A) (t : List ℕ) (a : A) → IsGlossary R g → R t a → Adds g t a h → IsGlossary R h
 still R g h t a is says (inl same) = record { each = λ u b found. is.each u b (sym (same u) ∙ found) }
 still R g h t a is says (inr new) = record { each = λ u b found. either R g t u a b is says (bytes_eq t u) refl (sym (new u) ∙ found) }
 
--- where nothing was added
+-- an empty glossary has no wrong meaning
 pub none_wrong : {A : Type 0} (R : List ℕ → A → Type 0) (g : Glossary A) → ((t : List ℕ) → meaning g t ≡ None) → IsGlossary R g
 none_wrong R g empty = record { each = λ t a found. let none = sym (empty t) ∙ found in cc }
 
--- a text that was put into a map, or was not
+-- a text was inserted into a map, or the map is unchanged
 pub after_insert : {A S E : Type 0} (m n : HashMap (Bor (List ℕ)) A S) (k : Bor (List ℕ)) (a : A) (r : Result (Option A) E)
     → OnOk r (Updates (λ x y. bytes_eq x.now y.now) m n k (Some a)) → OnErr r (IsUnchanged m n)
     → ((u : List ℕ) → get_by (λ l. bytes_eq u l.now) n ≡ get_by (λ l. bytes_eq u l.now) m)

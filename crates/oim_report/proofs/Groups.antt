@@ -1,4 +1,4 @@
--- The conditions of a fact by its parts, in the order of the numbers.
+-- The conditions of a fact in groups for its parts, in the order of the numbers.
 use Rattle.std.proofs.Common.{ℕ, List, [], ◌∷◌, ◌++◌, Bool, false, not, ◌||◌, ◌&&◌}
 use Rattle.std.specs.Prelude.{if◌then◌else◌, Option, None, is_none, is_some}
 use Rattle.std.specs.Option.{option_map_or}
@@ -18,7 +18,7 @@ use Rattle.oim_report.specs.Sheet.{Sheet}
 
 -- ---- the form of a fact
 
--- of these parts, and what stands at `dimensions`, which is not missing where it is no object
+-- the conditions on the form, from the parts and the value at `dimensions`, which exists if it is no object
 abbrev pub form_refusals : FactParts → Option Data → List (Option Reason)
 form_refusals p dimensions =
     when (p.misshapen || is_absent p.value || in_dimensions has_misshapen_core p) MemberForm
@@ -37,7 +37,7 @@ names_refusals bs names =
     ∷ when (refuses_some ReservedNamespace bs names) ReservedNamespace
     ∷ []
 
--- ---- its concept and its dimensions; what is refused as a name is not unknown, and what is unknown has no kind
+-- ---- its concept and its dimensions; a text that is no name is not unknown, and an unknown concept has no kind
 
 abbrev pub is_a_name : List Binding → List ℕ → Bool
 is_a_name bs t = is_none (name_refusal bs t)
@@ -61,7 +61,7 @@ defined_refusals sheet bs defined =
     ∷ when (list_any (has_misfit sheet bs) defined || comes_again (dimension_names bs defined)) DimensionValue
     ∷ []
 
--- its form, as that of a concept of no kind, and then whether it may stand there
+-- the form of a unit, tested without the kind of the concept, and then whether a unit is allowed
 abbrev pub unit_refusals : Option ConceptKind → Given → List (Option Reason)
 unit_refusals kind unit = unit_refusal None unit ∷ when (not (is_absent unit) && is_other_kind kind) UnitOnOther ∷ []
 
@@ -72,7 +72,7 @@ language_refusals kind language =
 abbrev pub core_refusals : Option ConceptKind → DimensionParts → List (Option Reason)
 core_refusals kind ds = period_refusal ds.period ∷ unit_refusals kind ds.unit ++ language_refusals kind ds.language
 
--- ---- its value and its decimals; a value that is missing is told by the form
+-- ---- its value and its decimals; the conditions on the form include a missing value
 
 abbrev pub value_refusals : Option ConceptKind → Given → Given → List (Option Reason)
 value_refusals kind value decimals =

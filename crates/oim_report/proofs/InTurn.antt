@@ -1,4 +1,4 @@
--- The members of taxonomy-defined dimensions, gathered and put in order once.
+-- The members of taxonomy-defined dimensions are collected and sorted once.
 use Rattle.std.proofs.Common.{◌≡◌, ◌⊎◌, inl, inr, ⊎_elim, ℕ, zero, suc, ◌≤◌, ◌<◌, ◌+◌, length, drop, get_or, append-nil, List, [], ◌∷◌, ◌++◌, false, ◌||◌, Some, None, refl, sym, ap, subst, ◌∙◌, arith}
 use Rattle.std.specs.Prelude.{Contains, IsTrue, IsPermutation}
 use Rattle.std.specs.Borrow.{Bor}
@@ -25,7 +25,7 @@ use Rattle.oim_report.proofs.OneMembers.{same_rising}
 abbrev Item : Type 0
 Item = QName × Member
 
--- members with others, one after another
+-- members after others are added one after another
 abbrev pub with_each : List Item → List Item → List Item
 with_each [] es = es
 with_each (f ∷ fs) es = with_each fs (with_member f.0 f.1 es)
@@ -34,7 +34,7 @@ pub with_each-push : (fs es : List Item) (f : Item) → with_each (fs ++ f ∷ [
 with_each-push [] es f = refl
 with_each-push (g ∷ fs) es f = with_each-push fs (with_member g.0 g.1 es) f
 
--- ---- they are those and no others
+-- ---- the result has exactly these members
 
 old_or_one : (fs es : List Item) (x : Item) → Contains (with_each fs es) x → Contains es x ⊎ Contains fs x
 old_or_one [] es x c = inl c
@@ -66,7 +66,7 @@ pub comes_again_is : (fs : List Item) → comes_again (names_of fs) ≡ repeats 
 comes_again_is [] = refl
 comes_again_is (f ∷ fs) = λ i. same_there f.0 fs i || comes_again_is fs i
 
--- ---- what stands at the end
+-- ---- the state at the end of the loop
 
 none_left : {X : Type 0} (xs : List X) (i : ℕ) → length xs ≤ i → drop i xs ≡ []
 none_left [] zero past = refl
@@ -75,7 +75,7 @@ none_left (x ∷ xs) zero past = absurd (omega (arith, past))
 none_left (x ∷ xs) (suc i) past = none_left xs i (omega (arith, past))
 
 module _ (sheet : Sheet) (bs : List Binding) (xs : List (Bor (List ℕ) × Lent)) (found : List Item) where
-  -- what is known so far, where those from a place on are left
+  -- the state of the loop before index i
   pub record AreFound (i : ℕ) : Type 0 where
     pub unknown : lists_unknown sheet bs (seen_defined (drop i xs)) ≡ lists_unknown sheet bs (seen_defined xs)
     pub misfits : some_misfit sheet bs (seen_defined (drop i xs)) ≡ some_misfit sheet bs (seen_defined xs)
@@ -86,7 +86,7 @@ module _ (sheet : Sheet) (bs : List Binding) (xs : List (Bor (List ℕ) × Lent)
     nothing : drop i xs ≡ []
     nothing = none_left xs i past
 
-    -- one is repeated exactly if they are refused for that
+    -- a name is repeated exactly if the dimensions are refused for it
     pub faulty_is : is_faulty sheet bs (seen_defined xs) ≡ repeats found
     faulty_is =
         let fit : some_misfit sheet bs (seen_defined xs) ≡ false = sym are.misfits ∙ ap (λ ys. some_misfit sheet bs (seen_defined ys)) nothing in
@@ -98,7 +98,7 @@ module _ (sheet : Sheet) (bs : List Binding) (xs : List (Bor (List ℕ) × Lent)
         let known : lists_unknown sheet bs (seen_defined xs) ≡ false = sym are.unknown ∙ ap (λ ys. lists_unknown sheet bs (seen_defined ys)) nothing in
         rw (known, faulty_is ∙ once) refl
 
-    -- in the order of names they are what one after another gives
+    -- sorting the members gives the same list as adding them one after another
     pub put_in_order : (sorted : List Item) → repeats found ≡ false → IsPermutation found sorted → IsTrue (rises sorted) → said_members sheet bs (seen_defined xs) ≡ Some sorted
     put_in_order sorted once moved up =
         let said : said_members sheet bs (seen_defined xs) ≡ Some (with_each found []) = sym are.members ∙ ap (λ ys. members_with sheet bs (with_each found []) (seen_defined ys)) nothing in
@@ -107,7 +107,7 @@ module _ (sheet : Sheet) (bs : List Binding) (xs : List (Bor (List ℕ) × Lent)
         (λ x c. Contains-permutation found sorted x moved (⊎_elim (λ old. absurd (none_in x old)) (λ one. one) (old_or_one found [] x c)))
         (λ x c. each_is_there found [] x (Contains-permutation sorted found x (IsPermutation-sym found sorted moved) c)))
 
--- one more is found
+-- one more member is found
 pub found_more : (sheet : Sheet) (bs : List Binding) (xs : List (Bor (List ℕ) × Lent)) (found new : List Item) (i : ℕ) (x : Bor (List ℕ) × Lent) (within : i < length xs) (kind : DimensionKind) (n : QName) (m : Member) → let d = seen_item (get_or xs i x) in
     dimension_kind sheet bs d.0 ≡ Some kind → named bs d.0 ≡ Some n → is_misfit (Some kind) d.1 ≡ false → said_member bs (Some kind) d.1 ≡ Some m → new ≡ found ++ (n, m) ∷ [] → AreFound sheet bs xs found i → AreFound sheet bs xs new (i + 1)
 found_more sheet bs xs found new i x within kind n m known names fits said pushed are =

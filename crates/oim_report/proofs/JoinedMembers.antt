@@ -1,4 +1,4 @@
--- Two texts of members are one text of both, where each is read alone.
+-- Two texts of members make one text with the members of both, if each is read alone.
 use Rattle.std.proofs.Common.{◌≡◌, ℕ, suc, ◌-◌, ◌≤◌, Bool, true, false, List, [], ◌∷◌, ◌++◌, Some, inl, inr, ◌⊎◌, refl, sym, ap, ◌∙◌, subst, arith, append_assoc, append-nil}
 use Rattle.std.proofs.lemmas.List.{append_cancel_right}
 use Rattle.std.proofs.lemmas.Bool.{false≢true}
@@ -61,7 +61,7 @@ rest_of : (b : Bool) (t : Token) (k : Place → List Token) (next : Place) → N
 rest_of true t k next h = h.1
 rest_of false t k next h = absurd (false≢true h.0)
 
--- the tokens behind one that was placed are not bad
+-- the tokens after a token that has a place are good
 behind : (p : Place) (t : Token) (c : Bool) (k : Place → List Token) → NoBad (place_token p t c k) → (q : Place) × NoBad (k q)
 behind p begin_object c k h = (fresh, rest_of (may_begin p) begin_object k fresh h)
 behind p end_object c k h = (after_value, rest_of (may_close p) end_object k after_value h)
@@ -148,7 +148,7 @@ shut-body o (j.member k v ms) e = opened-append true (json_tokens v) (body ms) �
 abbrev pub one : Members → Json
 one ms = j.array (j.item (j.object ms) j.no_items)
 
--- the text a is read as these members, and nothing else
+-- the text is read as these members, and nothing else
 abbrev pub Reads : ℕ → List ℕ → Members → Type 0
 Reads d a ms = value d (tokens (alone a)) ≡ Some (one ms, [])
 
@@ -173,7 +173,7 @@ inner_good ms = nobad-append (members_tokens ms) (end_array ∷ []) (nobad-membe
 no_quote : NoQuote (125 ∷ 93 ∷ [])
 no_quote = (λ e. Prim.cc, (λ e. Prim.cc, tt))
 
--- the text's lexemes, whose tokens are those of the members wherever no colon follows
+-- the lexemes of a text give the tokens of the members if no colon follows them
 pub record Members_of (a : List ℕ) (ms : Members) : Type 0 where
   pub ls : List Lexeme
   pub lexed : (b : List ℕ) → lex between (a ++ b) ≡ ls ++ lex between b
@@ -186,7 +186,7 @@ lex_ending : lex between (125 ∷ 93 ∷ []) ≡ ending
 unfolding lex
 lex_ending = refl
 
--- where the object is closed, a value went before
+-- an object is closed only after a value
 closes_at : (p : Place) (ms : Members) (ts : List Token) → HasSome ms → (p ≡ fresh → opened true ts ≡ true) → ts ++ punctuate p ending ≡ members_tokens ms ++ end_array ∷ [] → (p ≡ after_value) × (ts ≡ body ms)
 unfolding punctuate
 closes_at fresh j.no_members ts some f e = absurd some
@@ -268,7 +268,8 @@ after_one ls = refl
 pub room : (d : ℕ) (a : List ℕ) (ms : Members) → Reads d a ms → suc (suc (members_depth ms)) ≤ d
 room d a ms e = let deep : depth (one ms) ≤ d = value-depth d (tokens (alone a)) [] (one ms) e in omega (arith, deep)
 
--- Two texts that end with a closing brace and are each read as members are, with a comma between them, read as the members of both.
+-- Take two texts that end with a closing brace and are each read as members. With a comma between them they are read as the
+-- members of both.
 pub joined : (d : ℕ) (a b : List ℕ) (ms ns : Members) → Closed a → HasSome ms → HasSome ns → Reads d a ms → Reads d b ns → Reads d (a ++ 44 ∷ b) (plus ms ns)
 joined d a b ms ns c some more e f =
     let m = members_of d a ms c some e in

@@ -1,4 +1,4 @@
--- Texts of members as `serde_json` reads them, and two with a comma between them.
+-- Texts of members as `serde_json` reads them, and two of them joined by a comma.
 use Rattle.std.proofs.Common.{ℕ, List, ◌∷◌, ◌++◌}
 use Rattle.serde_json.specs.Data.{Members}
 use Rattle.serde_json.specs.Read.{max_depth}
@@ -7,7 +7,8 @@ use Rattle.oim_report.proofs.JoinedMembers.{plus, joined}
 use Rattle.oim_report.proofs.PieceTrees.{ReadAs, some_read}
 use Rattle.oim_report.proofs.MembersPut.{both_found}
 
--- Two texts that are each read as members are, with a comma between them, read as the members of the first with those of the second put in.
+-- Take two texts that are each read as members. With a comma between them they are read as the members of the first, with those
+-- of the second added.
 pub joined_as : (a b : List ℕ) (found more : Members) → Closed a → HasMember found → HasMember more → ReadAs a found → ReadAs b more → ReadAs (a ++ 44 ∷ b) (put_all more found)
 joined_as a b found more closed some some_more r s = record {
   ms = plus r.ms s.ms;

@@ -1,4 +1,4 @@
--- A front that ends with a closing brace has the same lexemes whatever follows it.
+-- A prefix of a text that ends with a closing brace has the same lexemes whatever follows it.
 use Rattle.std.proofs.Common.{◌≡◌, ℕ, suc, zero, ◌≤◌, Bool, true, false, cond, ◌&&◌, ◌||◌, ◌==◌, nat_lt, List, [], ◌∷◌, ◌++◌, length, Option, Some, None, option_and_then, refl, sym, ap, ◌∙◌, subst, arith, append_assoc}
 use Rattle.std.proofs.lemmas.Bool.{false≢true, true≢false, eqb-true, and_parts}
 use Rattle.std.proofs.lemmas.List.{length-append}
@@ -13,7 +13,7 @@ use Rattle.oim_report.specs.Pieces.{Closed}
 use Rattle.oim_report.proofs.JsonStrings.{turn, run, is_between, mode, Keeps, keeps-content, stays, hex_stays, all_hex, is_found}
 use Rattle.oim_report.proofs.JsonWords.{is_end, each_end, word-front}
 
--- ---- where a string ends
+-- ---- the end of a string
 
 record Closes (w : Within) (ys : List ℕ) : Type 0 where
   q : List ℕ
@@ -102,7 +102,7 @@ closes (after_high k) (y ∷ u ∷ a ∷ b ∷ c ∷ d ∷ xs) s h =
     by ((y == 92) && (u == 117)) _ _ s _ (λ e. then_of _ (code_unit a b c d) s _ (λ f l. by (is_low_surrogate l) _ _ s _
     (λ n. some_of (encode_utf8 (surrogate_pair k l)) _ s _ (λ v i. six k y u a b c d xs (and_parts _ _ e).0 f (closes plain xs v i))) (λ n i. no s _ i))) (λ e i. no s _ i) h
 
--- ---- a string ends before what has no quote
+-- ---- a string ends before a text without quotes
 
 abbrev pub NoQuote : List ℕ → Type 0
 NoQuote [] = ⊤
@@ -127,7 +127,7 @@ before (x ∷ xs) t (c ∷ q) r h e =
     let rest = before xs t q r h (ap tl e) in
     (rest.0, λ i. ap hd e i ∷ rest.1 i)
 
--- ---- where a word ends
+-- ---- the end of a word
 
 closed_rest : (x : ℕ) (xs : List ℕ) → Closed (x ∷ xs) → Closed xs
 closed_rest x [] h = tt
@@ -261,6 +261,6 @@ piece n [] t le nq c g = record { ls = []; lexed = λ b. refl }
 piece zero (x ∷ xs) t le nq c g = let no : ⊥ = omega arith in absurd no
 piece (suc n) (x ∷ xs) t le nq c g = at_class (class x) n x xs t le nq c refl (subst AllGood (lexc x (class x) refl (xs ++ t)) g) (λ r l d k. piece n r t l nq d k)
 
--- the lexemes of a front that ends with a closing brace, where with something behind it that has no quote no lexeme is bad
+-- a prefix that ends with a closing brace has good lexemes if it has them before some text without quotes
 pub piece_of : (a t : List ℕ) → NoQuote t → Closed a → AllGood (lex between (a ++ t)) → Piece a
 piece_of a t = piece (length a) a t (omega arith)

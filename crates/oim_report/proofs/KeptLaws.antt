@@ -1,4 +1,4 @@
--- The text of an http or https URL reads as itself, and so a kept text is its own kept text.
+-- The text of an http or https URL is read as that URL, so a kept text is kept as it is.
 use Rattle.std.proofs.Common.{◌≡◌, ℕ, ◌||◌, ◌⊎◌, inl, inr, ⊎_elim, Bool, true, false, not, List, codes, bytes_eq, Option, Some, None, Ok, Err, refl, sym, ap, ◌∙◌, subst}
 use Rattle.std.specs.Option.{option_map_or}
 use Rattle.std.specs.Str.{is_utf8, IsUtf8}
@@ -36,11 +36,11 @@ web_kind url h =
 same_bytes : (xs : List ℕ) → bytes_eq xs xs ≡ true
 same_bytes xs = (bytes_eq-Decides xs xs).1 refl
 
--- the text of a URL that code has parses as that URL
+-- the text of a valid URL parses as that URL
 pub web_text-parsed : (url : Parts) → IsValid url → is_web url ≡ true → parse_url None (serialize url) ≡ Ok url
 web_text-parsed url valid web = parse_url-serialize_special url None valid (web_kind url web)
 
--- and is its text
+-- the text of a valid URL is its own text
 pub web_text-valid : (url : Parts) → IsValid url → IsUtf8 (serialize url) → is_web url ≡ true → web_text (Some url) ≡ Some (serialize url)
 web_text-valid url valid utf8 web =
     let reads : web_url (parse_url None (serialize url)) ≡ Some url =
@@ -51,14 +51,14 @@ web_text-valid url valid utf8 web =
 
 -- ---- the law
 
--- whether what was parsed is an http or https URL of this text
+-- the parsed text is an http or https URL with this text
 abbrev has_text : List ℕ → Parsed Parts → Bool
 has_text text r = option_map_or (λ url. bytes_eq (serialize url) text) (web_url r) false
 
 never : (P : Type 0) → false ≡ true → P
 never P h = cc
 
--- a text that reads as itself
+-- a text that is kept as it is
 itself : (r : Parsed Parts) (text : List ℕ) → parse_url None text ≡ r → is_web_text text ≡ true → kept_by r None text ≡ Some text
 itself (Ok url) text reads h =
     let parsed : has_text text (Ok url) ≡ true = ap (has_text text) (sym reads) ∙ (and_parts _ _ h).1 in
@@ -102,13 +102,13 @@ not_false : (b : Bool) → not b ≡ false → b ≡ true
 not_false true h = refl
 not_false false h = cc
 
--- the kept text of a reference that is not refused
+-- the kept text of an accepted reference is within the limit
 pub kept_limit : (base : Option Parts) (reference text : List ℕ) → is_reference_refused base reference ≡ false → kept base reference ≡ Some text → is_within_limit text ≡ true
 kept_limit base reference text accepted h =
     let both = and_parts (is_within_limit reference) (is_text_within_limit (kept base reference)) (not_false _ accepted) in
     sym (ap is_text_within_limit h) ∙ both.1
 
--- a text within the limit that is kept as itself
+-- a text within the limit that is kept as it is
 pub accepted_itself : (text : List ℕ) → kept None text ≡ Some text → is_within_limit text ≡ true → is_reference_refused None text ≡ false
 accepted_itself text itself limit = ap not (and_from _ _ limit (ap is_text_within_limit itself ∙ limit))
 

@@ -1,4 +1,4 @@
--- The references that are said are kept.
+-- The references of a report are kept texts.
 use Rattle.std.proofs.Common.{◌≡◌, ℕ, List, [], ◌∷◌, Bool, true, false, cond, Option, Some, None, refl, sym, ap, subst, ◌∙◌, arith}
 use Rattle.std.proofs.lemmas.List.Elements.{All-cons}
 use Rattle.std.specs.Prelude.{ℤ, All, option_and_then}
@@ -20,7 +20,7 @@ string_utf8 : (s t : List ℕ) (b : Bool) → is_utf8 s ≡ b → text_of (cond 
 string_utf8 s t true u e = let same : s ≡ t = cc in ap is_utf8 (sym same) ∙ u
 string_utf8 s t false u e = absurd (cc)
 
--- a text that is given is UTF-8
+-- a given text is UTF-8
 pub text_utf8 : (d : Data) (t : List ℕ) → text_of (given d) ≡ Some t → is_utf8 t ≡ true
 text_utf8 null t e = absurd (cc)
 text_utf8 (boolean b) t e = absurd (cc)
@@ -60,6 +60,6 @@ under_base : (o : Option (Option Parts)) (ds : Items) (rs : List (List ℕ)) →
 under_base None ds rs e = absurd (cc)
 under_base (Some base) ds rs e = items_kept base ds rs e
 
--- each reference that a report says is its own kept text
+-- each reference that a report says is kept as it is
 pub references_kept : (tree : Data) (rs : List (List ℕ)) → references_said tree ≡ Some rs → All IsKeptReference rs
 references_kept tree rs e = under_base (base_said tree) (taxonomy_of tree) rs e

@@ -1,4 +1,4 @@
--- The identifiers of facts, gathered one after another.
+-- The identifiers of facts, collected one after another.
 use Rattle.std.proofs.Common.{◌≡◌, ℕ, List, [], ◌∷◌, Some, refl}
 use Rattle.std.specs.List.{AllZip}
 use Rattle.oim_names.specs.Bindings.{Binding}
@@ -11,7 +11,7 @@ use Rattle.oim_report.specs.Json.{values}
 use Rattle.oim_report.specs.Sheet.{Sheet}
 use Rattle.oim_report.proofs.Documents.{outcomes_are_said}
 
--- the objects say the facts, and so do the members by their keys
+-- if the objects say the facts, so do the members with their keys
 keyed_say : (sheet : Sheet) (bs : List Binding) (ms : Members) (fs : List Fact) → AllZip (ObjectSays sheet bs) (values ms) fs → AllZip (IdentifierSays sheet bs) (keyed ms) fs
 keyed_say sheet bs no_members fs says = says
 keyed_say sheet bs (member key d ms) [] says = says

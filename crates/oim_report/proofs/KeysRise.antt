@@ -1,4 +1,4 @@
--- The keys of the objects that are read rise by bytes.
+-- The keys of each object that was read ascend by bytes.
 use Rattle.std.proofs.Common.{◌≡◌, ℕ, List, Bool, true, false, cond, Option, Some, None, option_and_then, subst, Less, Equal, Greater}
 use Rattle.std.specs.Prelude.{codes, ⊤}
 use Rattle.std.specs.List.{AllByRecursion}
@@ -18,7 +18,7 @@ use Rattle.oim_report.specs.PlainJson.{IsBefore}
 use Rattle.oim_report.proofs.PutMembers.{Ascends, ascends_put}
 use Rattle.oim_report.proofs.ReadUtf8.{Has, has_mapped, has_then, any}
 
--- where a value is an object, its keys ascend
+-- if a value is an object, its keys ascend
 abbrev ObjectAscends : Data → Type 0
 ObjectAscends d = Has Ascends (as_object d)
 
@@ -26,11 +26,11 @@ abbrev EachAscends : Members → Type 0
 EachAscends no_members = ⊤
 EachAscends (member k d ms) = ObjectAscends d × EachAscends ms
 
--- where a value is an object, the keys of each object in it ascend
+-- if a value is an object, the keys of each object in it ascend
 abbrev HasAscending : Data → Type 0
 HasAscending d = Has EachAscends (as_object d)
 
--- ---- members go in one after another
+-- ---- members are added one after another
 
 members_ascend : (ms : json.Members) (found : Members) → Ascends found → Has Ascends (of_members ms found)
 members_ascend json.no_members found h = h

@@ -1,4 +1,4 @@
--- What stands at a name, as members come one after another: since their keys ascend, the last that comes there is the only one.
+-- The last value at a key, while members are read one after another. Since keys ascend, it is the only value at the key.
 use Rattle.std.proofs.Common.{◌≡◌, ◌≢◌, ℕ, List, [], ◌∷◌, true, false, cond, not, Option, Some, None, String, Global, string_bytes, string_cmp, Less, Equal, Greater, nat_cmp, is_eq, bytes_eq, refl, sym, ap, subst, ◌∙◌}
 use Rattle.std.specs.Prelude.{if◌then◌else◌, ◌&&◌}
 use Rattle.std.specs.List.{AllByRecursion, list_any}
@@ -18,7 +18,7 @@ use Rattle.oim_report.specs.PlainJson.{IsBefore}
 use Rattle.oim_report.proofs.PutMembers.{Ascends}
 use mathlib.Core.Bool.{false≢true}
 
--- what stands at a name after these members, where this stood there before them
+-- the value at a key after these members, if it had this value before them
 abbrev pub last_at : List ℕ → Option Data → Members → Option Data
 last_at name found no_members = found
 last_at name found (member key d ms) = last_at name (if bytes_eq name key then Some d else found) ms
@@ -28,14 +28,14 @@ last_at name found (member key d ms) = last_at name (if bytes_eq name key then S
 pub last_other : (name : List ℕ) (found : Option Data) (key : List ℕ) (d : Data) (ms : Members) → bytes_eq name key ≡ false → last_at name found ms ≡ last_at name found (member key d ms)
 last_other name found key d ms other = ap (λ b. last_at name (cond b (Some d) found) ms) (sym other)
 
--- a key with a colon is none without
+-- a key with a colon differs from a key without one
 pub colon_other : (name key : List ℕ) → has_colon name ≡ false → has_colon key ≡ true → bytes_eq name key ≡ false
 colon_other name key plain colon = bytes_not_eq name key (λ same. false≢true (sym plain ∙ ap has_colon same ∙ colon))
 
 pub colon_known : (known : List (List ℕ)) (key : List ℕ) (d : Data) → has_colon key ≡ true → is_unknown known key d ≡ false
 colon_known known key d colon = ap (λ b. not b && not (list_any (λ k. bytes_eq k key) known)) colon
 
--- the same for a text that is the key
+-- the same for a text that equals the key
 pub text_other : (name key t : List ℕ) → t ≡ key → t ≢ name → bytes_eq name key ≡ false
 text_other name key t is differ = bytes_not_eq name key (λ same. differ (is ∙ sym same))
 

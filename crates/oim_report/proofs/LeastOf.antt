@@ -1,4 +1,4 @@
--- The first reason of the table that holds is the least.
+-- The first reason of the table that applies is the least.
 use Rattle.std.proofs.Common.{◌≡◌, ◌⊎◌, inl, inr, ⊎_elim, ℕ, zero, suc, ◌+◌, ◌≤◌, ◌<◌, List, [], ◌∷◌, length, map, slice_index, Contains, Bool, true, false, not, ◌||◌, cond, subst, refl, sym, ap, ◌∙◌, arith}
 use Rattle.std.specs.Prelude.{◌↔◌, ◌==◌, ◌&&◌, Option, Some, None, IsTrue}
 use Rattle.std.specs.Option.{option_map_or}
@@ -22,7 +22,7 @@ nth [] k = None
 nth (r ∷ rs) zero = Some r
 nth (r ∷ rs) (suc k) = nth rs k
 
--- whether the numbers rise by one, from n on
+-- the numbers ascend by one, from n on
 abbrev rises : ℕ → List Reason → Bool
 rises n [] = true
 rises n (r ∷ rs) = (number r == n) && rises (n + 1) rs
@@ -107,7 +107,7 @@ module _ (holds : Reason → Bool) where
   unfolding least
   none_is = ((λ e r. none_holds reasons (number r) r e (each_stands r)), (λ none. none_found (find holds reasons) refl none))
 
--- ---- the first
+-- ---- the first reason
 
 one_first : (b : Bool) (r : Reason) (later : List Reason) (o : Option Reason) → first later ≡ o → first (cond b (r ∷ later) later) ≡ cond b (Some r) o
 one_first true r later o same = refl
@@ -121,7 +121,7 @@ shown : (b c : Bool) → b ≡ false → (not (b || false) && c) ≡ c
 shown true c none = absurd (cc)
 shown false c none = refl
 
--- behind Feature
+-- the reasons after `Feature`
 abbrev later : List Reason
 later = Links ∷ Notes ∷ DimensionsMissing ∷ NameForm ∷ UnboundPrefix ∷ ReservedNamespace ∷ MissingConcept ∷ UnknownConcept ∷ UnknownDimension ∷ DimensionValue ∷ PeriodForm ∷ PeriodOrder ∷ UnitForm ∷ UnitOnOther ∷ LanguageForm ∷ LanguageOnNumeric ∷ ValueForm ∷ NumberForm ∷ NumberDigits ∷ DecimalsForm ∷ DecimalsRange ∷ DecimalsOnOther ∷ DisallowedDuplicates ∷ SheetKind ∷ []
 
@@ -133,7 +133,7 @@ first_told h =
     (behind_test (h Namespace) Namespace _ _
     (λ none. ap (λ b. cond (h BaseUrl) (Some BaseUrl) (cond (h TaxonomyUrl) (Some TaxonomyUrl) (cond b (Some Feature) (find h later)))) (shown (h Namespace) (h Feature) none)))
 
--- ---- all of them
+-- ---- all reasons
 
 none_of : (h : Reason → Bool) (xs : List Reason) (s : Reason) → list_any h xs ≡ false → Contains xs s → h s ≡ false
 none_of h [] s none at = let lt : at.0 < 0 = at.1 in absurd (omega arith)

@@ -18,7 +18,7 @@ use Rattle.oim_report.specs.Said.{members_with, said_member}
 use Rattle.oim_report.specs.SeenParts.{seen_defined}
 use Rattle.oim_report.specs.Sheet.{Sheet}
 
--- whether one has a member that it may not have
+-- a member is not of its dimension's kind
 abbrev pub some_misfit : Sheet → List Binding → List (List ℕ × Given) → Bool
 some_misfit sheet bs ds = list_any (λ d. is_misfit (dimension_kind sheet bs d.0) d.1) ds
 
@@ -26,9 +26,9 @@ some_misfit sheet bs ds = list_any (λ d. is_misfit (dimension_kind sheet bs d.0
 abbrev pub names_of : List (QName × Member) → List QName
 names_of es = map (λ e. e.0) es
 
--- ---- as the code goes
+-- ---- the steps of the code
 
--- an item, as it is seen
+-- an item as contracts see it
 abbrev pub seen_item : Bor (List ℕ) × Lent → List ℕ × Given
 seen_item x = (x.0.now, seen x.1)
 

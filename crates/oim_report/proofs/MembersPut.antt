@@ -1,4 +1,4 @@
--- Members that are put into an object, in any order.
+-- Members that are added to an object, in any order.
 use Rattle.std.proofs.Common.{◌≡◌, ℕ, List, Option, Some, None, option_and_then, refl, sym, ap, ◌∙◌, subst}
 use Rattle.std.specs.Prelude.{⊤}
 use Rattle.std.specs.Ordering.{nat_cmp, match_ordering, ordering_reverse}
@@ -20,17 +20,17 @@ cmp k l = slice_cmp nat_cmp k l
 flipped : (k l : List ℕ) (o : Ordering) → cmp k l ≡ o → cmp l k ≡ ordering_reverse o
 flipped k l o e = nat_list_cmp_total.antisymm l k ∙ ap ordering_reverse e
 
--- the key is before each of the members
+-- the key is less than each key of the members
 abbrev pub IsBefore : List ℕ → Members → Type 0
 IsBefore k no_members = ⊤
 IsBefore k (member l d ms) = (cmp k l ≡ Less) × IsBefore k ms
 
--- each key is before all that follow
+-- each key is less than all later keys
 abbrev pub IsRising : Members → Type 0
 IsRising no_members = ⊤
 IsRising (member k d ms) = IsBefore k ms × IsRising ms
 
--- ---- where a member goes
+-- ---- the index at which a member is inserted
 
 put_less : (k l : List ℕ) (d e : Data) (ms : Members) → cmp k l ≡ Less → put k d (member l e ms) ≡ member k d (member l e ms)
 put_less k l d e ms h = ap (λ o. match_ordering o (member k d (member l e ms)) (member l d ms) (member l e (put k d ms))) h
@@ -72,7 +72,7 @@ below_both k l d e (member m x ms) less =
           ] refl
     ] refl
 
--- members of two keys go in in either order
+-- members with two keys can be added in either order
 pub either_first : (k l : List ℕ) (d e : Data) (ms : Members) → (k ≡ l → ⊥) → put k d (put l e ms) ≡ put l e (put k d ms)
 either_first k l d e ms other =
     elim (cmp k l) as (λ o. cmp k l ≡ o → put k d (put l e ms) ≡ put l e (put k d ms)) [
@@ -81,7 +81,7 @@ either_first k l d e ms other =
       | Greater ↦ λ h. sym (below_both l k e d ms (flipped k l Greater h))
     ] refl
 
--- the last of two members of one key stays
+-- the last of two members with the same key stays
 put_again : (k : List ℕ) (d e : Data) (ms : Members) → put k d (put k e ms) ≡ put k d ms
 put_again k d e no_members = put_equal k k d e no_members (tied_itself nat_list_cmp_total k)
 put_again k d e (member l x ms) =
@@ -118,12 +118,12 @@ put_first : (k : List ℕ) (d : Data) (ms : Members) → IsBefore k ms → put k
 put_first k d no_members h = refl
 put_first k d (member l e ms) h = put_less k l d e ms h.0
 
--- members whose keys rise are put in as they are
+-- members with ascending keys are added as they are
 pub rising_stays : (ms : Members) → IsRising ms → put_all ms no_members ≡ ms
 rising_stays no_members h = refl
 rising_stays (member k d ms) h = put_all_later k d ms no_members (lacks_before k ms h.0) ∙ ap (put k d) (rising_stays ms h.1) ∙ put_first k d ms h.0
 
--- what was put in last is put on last
+-- the member that was added last is added to the others last
 pub put_onto : (k : List ℕ) (d : Data) (ms onto : Members) → IsRising ms → put_all (put k d ms) onto ≡ put k d (put_all ms onto)
 put_onto k d no_members onto h = refl
 put_onto k d (member l e ms) onto h =
@@ -139,7 +139,7 @@ put_onto k d (member l e ms) onto h =
       | Greater ↦ λ o. ap (λ l. put_all l onto) (put_greater k l d e ms o) ∙ put_onto k d ms (put l e onto) h.1
     ] refl
 
--- ---- what is read rises
+-- ---- the keys of an object that was read ascend
 
 before_put : (l k : List ℕ) (d : Data) (ms : Members) → cmp l k ≡ Less → IsBefore l ms → IsBefore l (put k d ms)
 before_put l k d no_members less h = (less, tt)
@@ -163,7 +163,7 @@ pub rising_found : (ms : j.Members) (old found : Members) → of_members ms old 
 rising_found j.no_members old found e h = let same : old ≡ found = Prim.cc in subst IsRising same h
 rising_found (j.member k v ms) old found e h = let t = then_some _ (of_json v) found e in rising_found ms (put k t.0 old) found t.2 (rising_put k t.0 old h)
 
--- ---- the members of a text, put onto others
+-- ---- the members of a text, added to others
 
 of_members_onto : (ms : j.Members) (old found onto : Members) → IsRising old → of_members ms old ≡ Some found → of_members ms (put_all old onto) ≡ Some (put_all found onto)
 of_members_onto j.no_members old found onto h e = let same : old ≡ found = Prim.cc in ap (λ l. Some (put_all l onto)) same
@@ -183,7 +183,7 @@ of_members-plus (j.member k v ms) ns old = after (of_json v) (λ d. of_members-p
     after None same = refl
     after (Some d) same = same d
 
--- Both texts' members give the members of the first, and onto them those of the second.
+-- The members of two texts are those of the first, with those of the second added.
 pub both_found : (ms ns : j.Members) (found more : Members) → of_members ms no_members ≡ Some found → of_members ns no_members ≡ Some more → of_members (plus ms ns) no_members ≡ Some (put_all more found)
 both_found ms ns found more e f = of_members-plus ms ns no_members ∙ ap (option_and_then (of_members ns)) e ∙ found_onto ns more found f
 

@@ -59,7 +59,7 @@ dimension_says sheet bs d n m name says =
       member = k.2;
     }
 
--- ---- all of them, one after another: the members rise, no key of the rest names one of them, and each is said by some key
+-- ---- all members: they ascend, each name is in a single key, and some key says each member
 
 abbrev IsApart : List Binding → List (QName × Member) → List (List ℕ × Given) → Type 0
 IsApart bs es ds = (n : QName) → Contains (dimension_names bs ds) n → ¬ (IsTrue (has_name n es))
@@ -90,7 +90,7 @@ module _ {X : Type 0} where
   pub none_in : (x : X) → Contains [] x → ⊥
   none_in x c = absurd (omega (arith, c.1))
 
--- the name of the first key
+-- the names of all keys begin with the name of the first
 names_here : (bs : List Binding) (d : List ℕ × Given) (ds : List (List ℕ × Given)) (n : QName) → named bs d.0 ≡ Some n → dimension_names bs (d ∷ ds) ≡ n ∷ dimension_names bs ds
 names_here bs d ds n e = rw e refl
 
@@ -141,7 +141,7 @@ walk sheet bs (d ∷ ds) es new up once apart e =
           (rest.others x c);
     }
 
--- ---- from no member on
+-- ---- starting with no members
 
 once_by : (sheet : Sheet) (bs : List Binding) (ds : List (List ℕ × Given)) → defined_refusal sheet bs ds ≡ None → comes_again (dimension_names bs ds) ≡ false
 once_by sheet bs ds e = second (list_any (λ d. is_none (dimension_kind sheet bs d.0)) ds) (list_any (λ d. is_misfit (dimension_kind sheet bs d.0) d.1) ds) (comes_again (dimension_names bs ds)) e
@@ -170,7 +170,7 @@ members_say sheet bs ds es none e =
       others = λ k x lt. (let found = by_key sheet bs ds es is (get_or es k x) (All-contains_itself es k x lt) in (found.1.0, found.0, found.1.1, found.1.2, found.2));
     }
 
--- ---- and each fits
+-- ---- each member fits
 
 member_fits : (bs : List Binding) (k : DimensionKind) (g : Given) (m : Member) → AreNamespaces bs → IsClean g → SaysMember bs k g m → MemberFits k m
 member_fits bs Explicit (text t) (MemberName n) are clean e = name_fits bs t n are (clean t refl) e

@@ -1,4 +1,4 @@
--- Several names are refused where one of them is, and for the first of three reasons.
+-- Several names are refused if one of them is, for the first of three reasons.
 use Rattle.std.proofs.Common.{◌≡◌, List, [], ◌∷◌, ◌++◌, Bool, true, false, not, ◌||◌, ◌&&◌, refl, sym, ◌∙◌}
 use Rattle.std.specs.Prelude.{Option, Some, None, if◌then◌else◌}
 use Rattle.std.proofs.lemmas.Bool.{or_parts}
@@ -9,7 +9,7 @@ use Rattle.oim_names.specs.declared.reason.Reason.{Reason}
 use Rattle.oim_names.specs.declared.reason.Reason.TheVariants.{NameForm, UnboundPrefix, ReservedNamespace}
 use Rattle.oim_report.specs.Names.{names_refusal, refuses_some}
 
--- the first of three that some name has
+-- the first of three reasons that applies to some name
 abbrev pub by_any : Bool → Bool → Bool → Option Reason
 by_any form prefix namespace =
     if form then Some NameForm else (if prefix then Some UnboundPrefix else (if namespace then Some ReservedNamespace else None))
@@ -36,7 +36,7 @@ free_one true true r h k l = absurd (cc)
 free_one true false true h k l = absurd (cc)
 free_one true false false h k l = refl
 
--- no name of several is refused
+-- none of several names is refused
 record AreFree (bs : List Binding) (ns : List Spelled) : Type 0 where
   form : refuses_some NameForm bs ns ≡ false
   prefix : refuses_some UnboundPrefix bs ns ≡ false
@@ -50,7 +50,7 @@ are_free bs ns e =
 none_refused : (bs : List Binding) (ns : List Spelled) → AreFree bs ns → names_refusal bs ns ≡ None
 none_refused bs ns free = λ i. by_any (free.form i) (free.prefix i) (free.namespace i)
 
--- ---- one more
+-- ---- one more name
 
 pub first_free : (bs : List Binding) (n : Spelled) (ns : List Spelled) → names_refusal bs (n ∷ ns) ≡ None → (refusal_as n.has_form bs n.text ≡ None) × (names_refusal bs ns ≡ None)
 first_free bs n ns e =

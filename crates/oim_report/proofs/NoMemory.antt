@@ -1,4 +1,4 @@
--- Out of memory is no refusal of a report's own.
+-- No report or sheet is refused for lack of memory.
 use Rattle.std.proofs.Common.{◌≡◌, ◌≢◌, ℕ, ◌+◌, List, [], ◌∷◌, map, Bool, true, false, cond, Option, Some, None, Result, Ok, Err, refl, sym, ap, ◌∙◌}
 use Rattle.std.specs.Ordering.{is_lt}
 use Rattle.oim_names.specs.Bindings.{Binding}
@@ -27,7 +27,7 @@ abbrev is_memory : Reason → Bool
 is_memory OutOfMemory = true
 is_memory r = false
 
--- a refusal, where there is one, other than out of memory
+-- a refusal, if there is one, is not out of memory
 abbrev IsOther : Option Reason → Type 0
 IsOther None = Unit {0}
 IsOther (Some r) = is_memory r ≡ false

@@ -1,4 +1,4 @@
--- Keys say one list of members, in the order of names.
+-- Keys say one list of members, sorted by name.
 use Rattle.std.proofs.Common.{◌≡◌, ⊎_elim, ℕ, List, [], ◌∷◌, true, Option, Some, refl, sym, ap, subst, ◌∙◌}
 use Rattle.std.specs.Prelude.{Any, Contains, IsTrue}
 use Rattle.std.specs.Ordering.{is_lt}
@@ -24,7 +24,7 @@ use Rattle.oim_report.specs.Json.{Given, absent, nil, text, whole, other}
 use Rattle.oim_report.specs.Sheet.{Sheet}
 use Rattle.oim_report.proofs.MembersSay.{first_in, later_in, first_or_later, none_in}
 
--- ---- lists that rise and have the same members are one
+-- ---- ascending lists with the same members are equal
 
 less_is : (o : Ordering) → is_lt o ≡ true → o ≡ Less
 less_is Less h = refl
@@ -43,11 +43,11 @@ below_each n (e ∷ es) x below c =
 not_below_itself : (n : QName) → name_cmp n n ≡ Less → ⊥
 not_below_itself n h = let tie = tied_itself name_total n in absurd (cc)
 
--- the first of one is not among the others of that list
+-- the first item of an ascending list is not among its other items
 not_later : (e : QName × Member) (es : List (QName × Member)) → is_below e.0 es ≡ true → Contains es e → ⊥
 not_later e es below c = not_below_itself e.0 (below_each e.0 es e below c)
 
--- a member of the rest is in the rest of the other
+-- a member of the rest of one list is in the rest of the other
 in_rest : (e f : QName × Member) (es fs : List (QName × Member)) → e ≡ f → is_below e.0 es ≡ true → ((x : QName × Member) → Contains (e ∷ es) x → Contains (f ∷ fs) x) → (x : QName × Member) → Contains es x → Contains fs x
 in_rest e f es fs one below to x c =
     ⊎_elim
@@ -76,7 +76,7 @@ same_rising (e ∷ es) (f ∷ fs) up_e up_f to back =
     let rest = same_rising es fs rising_e.1 rising_f.1 (in_rest e f es fs one rising_e.0 to) (in_rest f e fs es (sym one) rising_f.0 back) in
     λ i. one i ∷ rest i
 
--- ---- what is given is said in one way
+-- ---- a given value says only one member
 
 pub one_some : {X : Type 0} (o : Option X) (x y : X) → o ≡ Some x → o ≡ Some y → x ≡ y
 one_some o x y p q = cc

@@ -1,4 +1,4 @@
--- A document from the pieces of its text.
+-- A document, read in pieces of its text.
 use Rattle.std.proofs.Common.{◌≡◌, ℕ, codes, List, [], ◌∷◌, ◌++◌, Option, Some, None, refl, sym, ap, ◌∙◌, subst, append_assoc}
 use Rattle.std.specs.Ordering.{nat_cmp, match_ordering}
 use Rattle.std.specs.Cmp.Lexicographic.{slice_cmp}
@@ -12,7 +12,7 @@ use Rattle.oim_report.proofs.MembersPut.{IsRising, Lacks, lacks_parts, put_all_l
 use Rattle.oim_report.proofs.PiecesInTurn.{both_pieces, alone_same, piece_as}
 use Rattle.oim_report.proofs.AroundFacts.{Gives, piece_gives, less_deep, led_gives, both_give, facts_give, document_gives}
 
--- ---- a key that is not found is not there
+-- ---- a missing key is not found
 
 not_equal : (q l : List ℕ) (d : Data) (r : Option Data) → match_ordering (slice_cmp nat_cmp q l) r (Some d) r ≡ None → (q ≡ l → ⊥) × (r ≡ None)
 not_equal q l d r e =
@@ -80,7 +80,7 @@ tail_is text t1 t2 front facts rest behind a b s t ends = record {
   ends = ends;
 }
 
--- ---- the whole, put together
+-- ---- the whole document
 
 own_rest : (s3 s4 f s5 r : List ℕ) → facts_text s3 s4 f s5 ++ r ≡ facts_key ++ (s3 ++ 58 ∷ (s4 ++ 123 ∷ (f ++ (s5 ++ 125 ∷ r))))
 own_rest s3 s4 f s5 r =
@@ -111,7 +111,7 @@ together text facts before behind s =
     s.splits ∙ (λ i. h.splits i ++ last i) ∙ append_assoc h.s0 (123 ∷ with_before before h.s1 h.s2) (w ++ r)
     ∙ ap (λ l. h.s0 ++ 123 ∷ l) (before_rest before h.s1 h.s2 (w ++ r) ∙ ap (with_before before h.s1) (sym (append_assoc h.s2 w r)) ∙ sym (before_rest before h.s1 (h.s2 ++ w) r))
 
--- ---- what it gives
+-- ---- the result
 
 rising_piece : (a : List ℕ) (found : Members) → IsPiece a found → IsRising found
 rising_piece a found p = let r = piece_as a found p in rising_found r.ms no_members found r.gives tt
@@ -164,7 +164,7 @@ module _ (text facts : List ℕ) (fs : Members) (p : IsPiece facts fs) where
       (both_give b h.s1 _ 126 found (put_all more own_member) h.are.1 (less_deep b found (piece_gives b found q)) (behind_facts (Some b) e more s v))
       ∙ ap (λ l. Some (object l)) (ap (λ l. put_all l found) (later e more v lacking) ∙ put_onto (codes "facts") (object fs) more found (rising_piece e more v))
 
-  -- the document, by what its members beside `facts` give
+  -- the document that is read, in terms of its members other than `facts`
   pub document_read : (before behind : Option (List ℕ)) (found : Members) → IsSplit text before facts behind → IsBeside before behind found → Lacks (codes "facts") found → read text ≡ Some (object (put (codes "facts") (object fs) found))
   document_read None None found s is lack = absurd is
   document_read (Some b) None found s is lack = before_only b found s is

@@ -1,4 +1,4 @@
--- What a level allows, pair by pair.
+-- The facts that a level allows, pair by pair.
 use Rattle.std.proofs.Common.{◌≡◌, zero, suc, Bool, true, false, cond, not, ◌&&◌, ◌||◌, List, [], ◌∷◌, ◌++◌, get_or, refl, sym, ap, subst, ◌∙◌, arith, All, AllPairs, IsPermutation, IsTrue, Decides}
 use Rattle.std.specs.List.{list_all}
 use Rattle.std.specs.Cmp.{Equal-is, both_ways, tied_back}
@@ -20,7 +20,7 @@ use Rattle.oim_report.specs.Duplicates.{allows, allows_each, allows_values, are_
 use Rattle.oim_dims.proofs.Orders.{dimensions_cmp_total}
 use Rattle.oim_report.proofs.ValuesMeet.{values_meet_self, values_meet_turns}
 
--- ---- a test of each two
+-- ---- a test of each two facts
 
 list_all-Decides : {X : Type 0} (p : X → Bool) (xs : List X) → Decides (list_all p xs) (All (λ x. p x ≡ true) xs)
 list_all-Decides p xs = Decides-by_and p (λ x. p x ≡ true) (list_all p) (λ x. (λ h. h, λ h. h)) refl (λ _ _. refl) xs
@@ -97,7 +97,7 @@ pub level_ignores_order : LevelIgnoresOrder
 unfolding level_of
 level_ignores_order fs gs p = λ i. strictest (allows_each-IsPermutation Unique fs gs p i) (allows_each-IsPermutation Complete fs gs p i) (allows_each-IsPermutation Consistent fs gs p i)
 
--- ---- what a level allows, each later one does
+-- ---- each later level allows what a level allows
 
 either : (a b c : Bool) → (b ≡ true → c ≡ true) → (a || b) ≡ true → (a || c) ≡ true
 either true b c f h = refl
@@ -127,7 +127,7 @@ all_are_allowed fs = allowed_each AllLevel fs (λ i j d under within. let f : Fa
     or_true true = refl
     or_true false = refl
 
--- a test passes exactly if it is no stricter than the first that does
+-- a test passes exactly if its level is no stricter than the first level that passes
 abbrev pub test_at : Level → Bool → Bool → Bool → Bool
 test_at Unique u c s = u
 test_at Complete u c s = c
@@ -183,7 +183,7 @@ level_is_strictest l fs = (
   λ h. each_allowed l fs (sym (passes_is l fs) ∙ h),
 )
 
--- ---- one fact more
+-- ---- one more fact
 
 regrouped : (a b c d : Bool) → ((a && (b && true)) && (c && d)) ≡ ((a && c) && (b && d))
 regrouped true true c d = refl
@@ -195,7 +195,7 @@ and_true : (a : Bool) → (a && true) ≡ a
 and_true true = refl
 and_true false = refl
 
--- a further fact is allowed beside each before it
+-- one more fact must be allowed beside each fact before it
 pub allows_each-push : (l : Level) (fs : List Fact) (g : Fact) → allows_each l (fs ++ g ∷ []) ≡ (allows_each l fs && list_all (λ f. allows l f g) fs)
 allows_each-push l [] g = refl
 allows_each-push l (f ∷ fs) g =

@@ -1,4 +1,4 @@
--- The parts of an object, as its members come one after another.
+-- The parts of an object, while its members are read one after another.
 use Rattle.std.proofs.Common.{◌≡◌, ℕ, List, [], ◌∷◌, ◌++◌, Bool, true, false, cond, not, ◌||◌, Option, None, option_map, codes, string_cmp, bytes_eq, append-nil, refl, sym, ap, ◌∙◌}
 use Rattle.std.specs.Prelude.{◌&&◌, option_and_then}
 use Rattle.std.specs.Borrow.{Bor}
@@ -26,7 +26,7 @@ or_false : (b : Bool) → (b || false) ≡ b
 or_false true = refl
 or_false false = refl
 
--- what a reference to a value, where there is one, stands for
+-- the value behind an optional reference
 abbrev pub lent : Option (Bor Value) → Option Data
 lent = option_map (λ v. view v.now)
 
@@ -44,7 +44,7 @@ dimensions_found c e p u l n ds unknown = record {
   unknown = unknown;
 }
 
--- the parts after these members, where these were found before them
+-- the parts after these members, if these were found before them
 abbrev pub dimensions_after : (c e p u l n : Option Data) → List (List ℕ × Given) → Bool → Members → DimensionParts
 dimensions_after c e p u l n ds unknown ms = record {
   concept = given_of (last_at (codes "concept") c ms);
@@ -115,7 +115,7 @@ fact_found v p ds ls unknown = record {
   unknown = unknown;
 }
 
--- the parts after these members, where these were found before them
+-- the parts after these members, if these were found before them
 abbrev pub fact_after : (v p ds ls : Option Data) → Bool → Members → FactParts
 fact_after v p ds ls unknown ms = fact_found (last_at (codes "value") v ms) (last_at (codes "decimals") p ms) (last_at (codes "dimensions") ds ms) (last_at (codes "links") ls ms) (any_member (is_unknown fact_keys) ms || unknown)
 

@@ -1,4 +1,4 @@
--- What `serde_json` reads of the text of an array of one object, and what it makes of the members.
+-- How `serde_json` reads the text of an array of one object, and the members that it returns.
 use Rattle.std.proofs.Common.{◌≡◌, ℕ, List, [], ◌∷◌, Option, Some, None, option_map, option_and_then, refl, ap, ◌∙◌}
 use Rattle.json.specs.Token.{Token}
 use Rattle.json.specs.Lex.{tokens}
@@ -10,7 +10,7 @@ use Rattle.serde_json.specs.Read.{of_json, of_items, of_members, number_of, max_
 use Rattle.oim_report.specs.Pieces.{alone, one_data, HasMember}
 use Rattle.oim_report.proofs.JoinedMembers.{one, Reads, HasSome}
 
--- the text a is that of members that `serde_json` reads, which give these members
+-- `serde_json` reads the text as members, which give these members
 pub record ReadAs (a : List ℕ) (found : d.Members) : Type 0 where
   pub ms : Members
   pub reads : Reads max_depth a ms
@@ -26,7 +26,7 @@ pub then_some : {A B : Type 0} (f : A → Option B) (o : Option A) (b : B) → o
 then_some f None b e = absurd (Prim.cc)
 then_some f (Some a) b e = (a, refl, e)
 
--- ---- the data is that of such a tree
+-- ---- the data of such a tree
 
 number_only : (s : List ℕ) (x : Data) → of_json (j.number s) ≡ Some x → (n : d.Num) × (d.number n ≡ x)
 number_only s x e = let m = mapped_some d.number (number_of s) x e in (m.0, m.2)
@@ -83,14 +83,14 @@ whole_some None x e = absurd (Prim.cc)
 whole_some (Some (v, [])) x e = (v, refl, e)
 whole_some (Some (v, t ∷ ts)) x e = absurd (Prim.cc)
 
--- what `Value::from_str` says of the text of an array of one object
+-- the result of `Value::from_str` for the text of an array of one object
 pub read_as : (a : List ℕ) (found : d.Members) → read (alone a) ≡ Some (one_data found) → ReadAs a found
 read_as a found e =
     let w = whole_some (value max_depth (tokens (alone a))) (one_data found) e in
     let o = of_array w.0 found w.2 in
     record { ms = o.0; reads = w.1 ∙ ap (λ v. Some (v, [])) o.1; gives = o.2 }
 
--- where there is a member in the data, there is one in the text
+-- if the data has a member, so has the text
 pub some_read : (ms : Members) (found : d.Members) → of_members ms d.no_members ≡ Some found → HasMember found → HasSome ms
 some_read j.no_members d.no_members e h = h
 some_read j.no_members (d.member k x found) e h = absurd (Prim.cc)

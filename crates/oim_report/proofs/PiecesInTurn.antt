@@ -1,4 +1,4 @@
--- Pieces one after another.
+-- Pieces that are read one after another.
 use Rattle.std.proofs.Common.{◌≡◌, ℕ, List, [], ◌∷◌, ◌++◌, Some, None, option_map, option_and_then, refl, sym, ap, ◌∙◌, subst, append_assoc, append-nil}
 use Rattle.std.specs.Ordering.{nat_cmp, match_ordering}
 use Rattle.std.specs.Cmp.Lexicographic.{slice_cmp}
@@ -26,7 +26,7 @@ ends_behind : (xs ys : List ℕ) → EndsWithBrace ys → EndsWithBrace (xs ++ y
 ends_behind [] ys h = h
 ends_behind (x ∷ xs) ys h = ends_later x (xs ++ ys) (ends_behind xs ys h)
 
--- ---- there is a member
+-- ---- a piece has a member
 
 has_put : (k : List ℕ) (d : Data) (ms : Members) → HasMember (put k d ms)
 has_put k d no_members = tt
@@ -58,7 +58,7 @@ both_pieces a b found more p q = record {
   reads = read_back (a ++ 44 ∷ b) (put_all more found) (joined_as a b found more (ends_closed a p.closed) p.some q.some (piece_as a found p) (piece_as b more q));
 }
 
--- ---- one piece more
+-- ---- one more piece
 
 pub append_none : (ms : Members) → append ms no_members ≡ ms
 append_none no_members = refl
@@ -68,14 +68,14 @@ put_append : (ms ns onto : Members) → put_all (append ms ns) onto ≡ put_all 
 put_append no_members ns onto = refl
 put_append (member k d ms) ns onto = put_append ms ns (put k d onto)
 
--- putting the members of a piece into nothing gives them
+-- adding the members of a piece to an empty object gives these members
 pub alone_same : (a : List ℕ) (found : Members) → IsPiece a found → put_all found no_members ≡ found
 alone_same a found p =
     let r = piece_as a found p in
     let both : Some (put_all found no_members) ≡ Some found = sym (found_onto r.ms found no_members r.gives) ∙ r.gives in
     Prim.cc
 
--- the text up to the comma before what is left has been read as these members, in the order of the text
+-- the text up to the comma before the rest has been read as these members, in the order of the text
 abbrev pub IsUpTo : List ℕ → List ℕ → Members → Type 0
 IsUpTo text left no_members = left ≡ text
 IsUpTo text left (member k d ms) = (done : List ℕ) × (text ≡ done ++ 44 ∷ left) × IsPiece done (put_all (member k d ms) no_members)

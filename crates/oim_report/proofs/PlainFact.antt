@@ -1,4 +1,4 @@
--- The object of a fact is plain: its compact text gives it back.
+-- The object of a fact is plain: it is read back from its compact text.
 use Rattle.std.proofs.Common.{◌≡◌, ℕ, ◌≤◌, List, [], ◌∷◌, codes, true, Option, Some, None, refl, ap, ◌∙◌, arith, pos, negsuc}
 use Rattle.std.specs.Prelude.{ℤ, All, IfSome, IsUtf8, unsigned_abs}
 use Rattle.std.specs.Ordering.{nat_cmp, match_ordering, ordering_reverse}
@@ -34,7 +34,7 @@ use Rattle.oim_report.proofs.Spelled.{spelled_utf8}
 use Rattle.oim_report.proofs.WrittenTexts.{plain_utf8, period_utf8}
 use Rattle.oim_report.proofs.WrittenParts.{entity_texts, language_texts, unit_texts}
 
--- ---- one member more
+-- ---- one more member
 
 record IsKept (d : Data) (n : ℕ) : Type 0 where
   plain : IsPlain d

@@ -1,4 +1,4 @@
--- Members of an object, one more among them.
+-- The members of an object after one more is added.
 use Rattle.std.proofs.Common.{◌≡◌, ◌≢◌, ℕ, List, [], ◌∷◌, Bool, true, false, cond, Option, Some, None, refl, sym, ap, ◌∙◌}
 use Rattle.std.specs.Prelude.{◌&&◌, ⊤}
 use Rattle.std.specs.Option.{option_map}
@@ -90,7 +90,7 @@ undefined_put key d (member l e ms) plain =
       | Greater ↦ λ o. ap (λ ds. cond (is_defined l) ((l, given e) ∷ ds) ds) (undefined_put key d ms plain)
     ] refl
 
--- ---- members that are not known
+-- ---- unknown members
 
 pub known_put : (known : List (List ℕ)) (key : List ℕ) (d : Data) (ms : Members) → is_unknown known key d ≡ false → any_member (is_unknown known) ms ≡ false → any_member (is_unknown known) (put key d ms) ≡ false
 known_put known key d no_members is h = or_from (is_unknown known key d) false is refl
@@ -102,7 +102,7 @@ known_put known key d (member l e ms) is h =
       | Greater ↦ or_from (is_unknown known l e) (any_member (is_unknown known) (put key d ms)) b.0 (known_put known key d ms is b.1)
     ]
 
--- ---- a text that may not be there
+-- ---- an optional text
 
 pub text_there : (key : List ℕ) (t : Option (List ℕ)) (ms : Members) → get_member key ms ≡ None → get_member key (put_text key t ms) ≡ option_map string t
 text_there key None ms none = none

@@ -1,4 +1,4 @@
--- A fact is read as itself: its parts together.
+-- A fact is read as itself, from all its parts.
 use Rattle.std.proofs.Common.{◌≡◌, ℕ, List, [], ◌∷◌, ◌++◌, false, Option, Some, None, Ok, refl, ap, ◌∙◌}
 use Rattle.std.specs.Prelude.{option_and_then, option_map, IfSome}
 use Rattle.std.specs.List.{flat_map}
@@ -51,7 +51,7 @@ pub form_accepted : FormsAreAccepted
 form_accepted spelled f =
     rw (value_there spelled f.value, text_or_nothing (option_spelled spelled f.dimensions.entity), text_or_nothing (period_text f.dimensions.period), text_or_nothing (option_unit_text spelled f.dimensions.unit), text_or_nothing f.dimensions.language) refl
 
--- ---- what is known of a fact's parts
+-- ---- properties of a fact's parts
 
 is_period : (p : Period) → HasMoments p → EndsAfterStart p → IsPeriod p
 is_period Forever h fits = record { moments = h; forward = fits }
@@ -62,7 +62,7 @@ measures_fit : (kind : ConceptKind) (m : Option Measures) → UnitFits kind m �
 measures_fit kind None fits = tt
 measures_fit kind (Some m) fits = fits
 
--- refusals one after another
+-- several refusals, one after another
 then_none : (r : Option Reason) (rs : List (Option Reason)) → r ≡ None → first_refusal rs ≡ None → first_refusal (r ∷ rs) ≡ None
 then_none r rs here there = λ i. or_refusal (here i) (there i)
 
@@ -121,7 +121,7 @@ module _ (sheet : Sheet) (bs : List Binding) (spelled : QName → List ℕ) (f :
   none_refuses : fact_refusal sheet bs parts ≡ None
   none_refuses = then_none (form_refusal parts) (content_refusal sheet bs parts given ∷ []) (form_accepted spelled f) (then_none (content_refusal sheet bs parts given) [] content_none refl)
 
-  -- ---- it says the fact
+  -- ---- the object says the fact
 
   says_dimensions : SaysDimensions sheet bs given f.dimensions
   says_dimensions = record {
@@ -144,7 +144,7 @@ module _ (sheet : Sheet) (bs : List Binding) (spelled : QName → List ℕ) (f :
     value = value.says;
   }
 
-  -- ---- and is said by nothing else
+  -- ---- the object says no other fact
 
   dimensions_said : said_dimensions sheet bs given ≡ Some f.dimensions
   dimensions_said = rw (concept.said, entity.said, period.said, unit.said, language.said, members.said) refl

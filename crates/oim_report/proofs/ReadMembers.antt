@@ -1,4 +1,4 @@
--- The dimensions that a taxonomy defines, with their members, are read as themselves.
+-- The taxonomy-defined dimensions with their members are read as themselves.
 use Rattle.std.proofs.Common.{◌≡◌, ◌≢◌, ℕ, suc, List, [], ◌∷◌, true, false, refl, sym, ap, ◌∙◌, arith}
 use Rattle.std.specs.Prelude.{All, Any, Contains, Option, Some, None, is_none, option_and_then, option_map, ⊤}
 use Rattle.std.specs.FinMap as map
@@ -65,18 +65,18 @@ no_misfit bs spelled Typed (MemberName n) fits = absurd fits
 no_misfit bs spelled Typed (MemberText t) fits = refl
 no_misfit bs spelled Typed NoMember fits = refl
 
--- steps that agree wherever there is something
+-- two steps have the same result if they agree on each value
 same_steps : {A B C : Type 0} (a : Option A) (b : Option B) (f g : A → B → Option C) → ((x : A) → a ≡ Some x → (y : B) → f x y ≡ g x y) → option_and_then (λ x. option_and_then (f x) b) a ≡ option_and_then (λ x. option_and_then (g x) b) a
 same_steps None b f g h = refl
 same_steps (Some x) None f g h = refl
 same_steps (Some x) (Some y) f g h = h x refl y
 
 module _ (sheet : Sheet) (bs : List Binding) where
-  -- the key names no dimension of this name
+  -- the key does not name this dimension
   abbrev NamesNo : QName → Keyed → Type 0
   NamesNo n d = (o : QName) → named bs d.0 ≡ Some o → o ≢ n
 
-  -- ---- one key more says one member more
+  -- ---- one more key says one more member
 
   module _ (key : List ℕ) (g : Given) (n : QName) (m : Member) (is : named bs key ≡ Some n) (says : said_member bs (dimension_kind sheet bs key) g ≡ Some m) where
     said_first : (es : List Entry) (ds : List Keyed) → members_with sheet bs es ((key, g) ∷ ds) ≡ members_with sheet bs (with_member n m es) ds
@@ -149,7 +149,7 @@ module _ (sheet : Sheet) (bs : List Binding) where
   -- ---- the dimensions of a fact
 
   module _ (spelled : QName → List ℕ) where
-    -- what is known of each
+    -- the properties of a written dimension
     record IsWritten (e : Entry) : Type 0 where
       fits : DimensionFits sheet e
       spells : SpellsDimension bs spelled e
@@ -171,7 +171,7 @@ module _ (sheet : Sheet) (bs : List Binding) where
       member = says_member bs spelled w.fits.kind e.1 w.fits.member w.spells.member;
     }
 
-    -- other names, and other keys
+    -- different names have different keys
     other_names : (n : QName) (es : List Entry) → All IsWritten es → All (λ (e : Entry). e.0 ≢ n) es → All (NamesNo n) (defined_given spelled es)
     other_names n [] w h = All-nil (NamesNo n)
     other_names n (e ∷ es) w h =
@@ -193,7 +193,7 @@ module _ (sheet : Sheet) (bs : List Binding) where
     rest : (e : Entry) (es : List Entry) → rises (e ∷ es) ≡ true → rises es ≡ true
     rest e es h = (and_parts (is_below e.0 es) (rises es) h).1
 
-    -- they say the members, whatever the order of the keys
+    -- the keys say the members, whatever the order of the keys
     all_said : (es found : List Entry) → rises es ≡ true → All IsWritten es → members_with sheet bs found (defined_given spelled es) ≡ Some (each_added found es)
     all_said [] found h w = refl
     all_said (e ∷ es) found h w =
@@ -230,7 +230,7 @@ module _ (sheet : Sheet) (bs : List Binding) where
         (λ f s. Any-kept (λ (d : Keyed). SaysDimension sheet bs d f) (spelled e.0) (member_given spelled e.1) ds (other_keys e es we ws (apart e es h)) s)
         es (each_said es (rest e es h) ws))
 
-    -- and no condition refuses them
+    -- no condition refuses the members
     all_listed : (es : List Entry) → All IsWritten es → All (λ (d : Keyed). is_none (dimension_kind sheet bs d.0) ≡ false) (defined_given spelled es)
     all_listed [] w = All-nil (λ (d : Keyed). is_none (dimension_kind sheet bs d.0) ≡ false)
     all_listed (e ∷ es) w =
@@ -252,7 +252,7 @@ module _ (sheet : Sheet) (bs : List Binding) where
         let ws = All-tail IsWritten e es w in
         distinct_with (spelled e.0) (member_given spelled e.1) e.0 (key_back e (All-head IsWritten e es w)) (defined_given spelled es) (other_names e.0 es ws (apart e es h)) (all_distinct es (rest e es h) ws)
 
-    -- and each of their names is accepted
+    -- each name of a member is accepted
     member_names_none : (kind : DimensionKind) (m : Member) → MemberFits kind m → SpellsMember bs spelled m → names_refusal bs (member_names (Some kind) (member_given spelled m)) ≡ None
     member_names_none Explicit (MemberName n) fits s = one_name is_name bs (spelled n) n (expands bs spelled n s fits)
     member_names_none Explicit (MemberText t) fits s = absurd fits

@@ -17,7 +17,7 @@ use Rattle.serde_json.proofs.Numbers.{number_of-decimal, number_of-negative}
 use Rattle.serde_json.proofs.Texts.{print-outline}
 use Rattle.oim_report.specs.PlainJson.{IsWhole, IsBefore, IsPlain, ItemsArePlain, MembersArePlain}
 
--- ---- the members go in one after another, at the end
+-- ---- the members are added one after another, at the end
 
 abbrev join : Members → Members → Members
 join no_members ns = ns
@@ -57,7 +57,7 @@ precedes_none : (ms : Members) → Precedes no_members ms
 precedes_none no_members = tt
 precedes_none (member k d ms) = (tt, precedes_none ms)
 
--- ---- the outline reads as the value
+-- ---- the outline is read as the value
 
 number_back : (n : Num) → IsWhole n → number_of (number_text n) ≡ Some n
 number_back (unsigned n) h = number_of-decimal n h
@@ -88,7 +88,7 @@ mutual
       ∙ of_members-outline ms next h.2 (precedes_more found k d ms p.1 h.1)
       ∙ ap Some (join-join found (member k d no_members) ms)
 
--- ---- its numbers can be written, and it nests as deep
+-- ---- its numbers can be written, and its depth is kept
 
 mutual
   numbers : (d : Data) → IsPlain d → tree.HasNumbers (outline d)

@@ -1,4 +1,4 @@
--- The strings and the keys of a JSON value that is read of a text in UTF-8 are UTF-8.
+-- The strings and the keys of a JSON value that was read from UTF-8 are UTF-8.
 use Rattle.std.proofs.Common.{◌≡◌, ℕ, zero, suc, List, [], ◌∷◌, ◌++◌, length, Bool, true, false, cond, ◌==◌, Option, Some, None, option_map, option_and_then, refl, sym, subst, arith, Less, Equal, Greater}
 use Rattle.std.specs.Prelude.{IsUtf8, ⊤}
 use Rattle.std.specs.Ordering.{nat_cmp, match_ordering}
@@ -253,7 +253,7 @@ unfolding value
 value_has zero = with_has (λ ts. None) (λ ts. None) (λ ts h. tt) (λ ts h. tt)
 value_has (suc n) = with_has _ _ (λ ts h. items_have (value n) (value_has n) (length ts) ts h) (λ ts h. members_have (value n) (value_has n) (length ts) ts h)
 
--- ---- the value that is kept: the members go in one after another
+-- ---- the stored value: members are added one after another
 
 abbrev pub Has : {A : Type 0} → (A → Type 0) → Option A → Type 0
 Has P None = ⊤

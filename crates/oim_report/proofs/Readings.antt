@@ -1,4 +1,4 @@
--- What is read of a part, by what is given there.
+-- The result of reading a part, in terms of the given value.
 use Rattle.std.proofs.Common.{◌≡◌, ℕ, ℤ, List, sym, ap, ◌∙◌}
 use Rattle.std.specs.Prelude.{Option, Some, IfSome}
 use Rattle.oim_names.specs.Bindings.{Binding}

@@ -1,4 +1,4 @@
--- A report is refused exactly for the first condition that holds.
+-- A report is refused exactly for the first condition that applies.
 use Rattle.std.proofs.Common.{◌≡◌, inl, inr, ℕ, ◌+◌, List, [], ◌∷◌, ◌++◌, length, map, Bool, true, false, cond, Option, Some, None, Result, Ok, Err, refl, sym, ap, ◌∙◌, arith}
 use Rattle.std.specs.List.{AllByRecursion}
 use Rattle.std.specs.Ordering.{is_lt}
@@ -26,7 +26,7 @@ use Rattle.oim_report.proofs.AcceptedWhereFree.{all_free, all_ok, one_free, one_
 use Rattle.oim_report.proofs.Documents.{document_is_said}
 use Rattle.oim_report.proofs.OneDocument.{says_one_document}
 
--- ---- the first of several
+-- ---- the first of several objects
 
 err_of : {A B : Type 0} (g : A → B) (r : Result A Refusal) (q : Refusal) → map_ok g r ≡ Err q → r ≡ Err q
 err_of g (Ok a) q e = absurd (cc)

@@ -1,4 +1,4 @@
--- Entries whose keys rise: what stands at a key, and where a new one goes.
+-- Entries with ascending keys: the value at a key, and the index at which to insert one.
 use Rattle.std.proofs.Common.{◌≡◌, ℕ, zero, suc, ◌+◌, ◌<◌, ◌≤◌, Bool, true, false, cond, List, [], ◌∷◌, length, get_or, Option, Some, None, refl, sym, ap, subst, ◌∙◌, arith, inl, inr}
 use Rattle.std.specs.Prelude.{T, is_some, option_map, slice_get, if◌then◌else◌}
 use mathlib.Core.Bool.{true≢false}
@@ -39,14 +39,14 @@ module _ {K X : Type 0} {R : K → K → Ordering} (o : IsTotalOrder R) where
   below_at x (e ∷ es) zero d h lt = less (R x e.0) (sym (and_parts (is_lt (R x e.0)) (below_all R x es) h).0)
   below_at x (e ∷ es) (suc j) d h lt = below_at x es j d (and_parts (is_lt (R x e.0)) (below_all R x es) h).1 (omega arith)
 
-  -- of two places, the first has the lower key
+  -- the entry at the lower index has the lower key
   rising_at : (es : List (K × X)) (i j : ℕ) (d : K × X) → is_sorted R es ≡ true → i < j → j < length es → R (get_or es i d).0 (get_or es j d).0 ≡ Less
   rising_at [] i j d h lt within = absurd (omega (arith, within))
   rising_at (e ∷ es) i zero d h lt within = absurd (omega (arith, lt))
   rising_at (e ∷ es) zero (suc j) d h lt within = below_at e.0 es j d (and_parts (below_all R e.0 es) (is_sorted R es) h).0 (omega (arith, within))
   rising_at (e ∷ es) (suc i) (suc j) d h lt within = rising_at es i j d (and_parts (below_all R e.0 es) (is_sorted R es) h).1 (omega (arith, lt)) (omega (arith, within))
 
-  -- what stands at the key of a place
+  -- the value at the key of an index
   pub found_at : (es : List (K × X)) (i : ℕ) (d : K × X) → is_sorted R es ≡ true → i < length es → find R (get_or es i d).0 es ≡ Some (get_or es i d).1
   found_at [] i d h within = absurd (omega (arith, within))
   found_at (e ∷ es) zero d h within = ap (λ r. cond (is_eq r) (Some e.1) (find R e.0 es)) (tied_itself o e.0)
@@ -56,7 +56,7 @@ module _ {K X : Type 0} {R : K → K → Ordering} (o : IsTotalOrder R) where
       let in_rest : i < length es = omega (arith, within) in
       ap (λ r. cond (is_eq r) (Some e.1) (find R k es)) (turned_less o e.0 k (below_at e.0 es i d parts.0 in_rest)) ∙ found_at es i d parts.1 in_rest
 
-  -- nothing stands at a key that is none of theirs
+  -- a key that no entry has has no value
   pub found_nowhere : (es : List (K × X)) (q : K) → ((j : ℕ) (d : K × X) → j < length es → is_eq (R q (get_or es j d).0) ≡ false) → find R q es ≡ None
   found_nowhere [] q apart = refl
   found_nowhere (e ∷ es) q apart = ap (λ b. cond b (Some e.1) (find R q es)) (apart 0 e (omega arith)) ∙ found_nowhere es q (λ j d lt. apart (suc j) d (omega (arith, lt)))
@@ -67,7 +67,7 @@ module _ {K X : Type 0} {R : K → K → Ordering} (o : IsTotalOrder R) where
     | inr over ↦ ap is_eq (turned_greater o _ _ (gap.1 j d over lt))
   ])
 
-  -- what is below a key at one place is so at each before, and what is above it at each after
+  -- if the entry at an index is below a key, so are all before it; if it is above, so are all after it
   pub less_before : (es : List (K × X)) (q : K) (i : ℕ) (x : K × X) → is_sorted R es ≡ true → i < length es → R (get_or es i x).0 q ≡ Less → (j : ℕ) (d : K × X) → j < i + 1 → R (get_or es j d).0 q ≡ Less
   less_before es q i x h within p j d lt =
       let read : R (get_or es i d).0 q ≡ Less = ap (λ e. R e.0 q) (get_or_default es i d x within) ∙ p in
@@ -84,7 +84,7 @@ module _ {K X : Type 0} {R : K → K → Ordering} (o : IsTotalOrder R) where
         | inr over ↦ let same : j ≡ i = omega (arith, over, ge) in ap (λ n. R (get_or es n d).0 q) same ∙ read
       ]
 
--- ---- the same as a map
+-- ---- the entries as a map
 
 from_true : (b : Bool) → b ≡ true → T b
 from_true b h = subst T (sym h) tt
@@ -97,7 +97,7 @@ module _ {X : Type 0} where
   pub get_in : (es : List (QName × X)) (q : QName) → is_sorted name_cmp es ≡ true → map.get (map.from_sorted {R = name_cmp} es) q ≡ find name_cmp q es
   get_in es q h = get-from_sorted name_cmp es q (from_true _ h)
 
-  -- the entry at a place stands at its own key
+  -- the entry at an index is the entry of its key
   pub stands_here : (es : List (QName × X)) (q : QName) (i : ℕ) (e : QName × X) → is_sorted name_cmp es ≡ true → i < length es → e ≡ get_or es i e → option_map (λ f. f.0) (slice_get es i) ≡ Some q → (e.0 ≡ q) × (map.get (map.from_sorted {R = name_cmp} es) q ≡ Some e.1)
   stands_here es q i e h within is here =
       let same : e.0 ≡ q = same_Some _ _ (sym (ap (option_map (λ f. f.0)) (slice_get_read es (length es) i e refl within is)) ∙ here) in
@@ -109,14 +109,14 @@ module _ {X : Type 0} where
   sorted_after : (es : List (QName × X)) (q : QName) (v : X) → is_sorted name_cmp es ≡ true → is_sorted name_cmp (put name_cmp q v es) ≡ true
   sorted_after es q v h = to_true _ (is_sorted-put name_cmp name_total q v es (from_true _ h))
 
-  -- and lists that make one map are one
+  -- lists that make the same map are equal
   pub same_list : (es fs : List (QName × X)) → is_sorted name_cmp es ≡ true → is_sorted name_cmp fs ≡ true → map.from_sorted {R = name_cmp} es ≡ map.from_sorted fs → es ≡ fs
   same_list es fs h k same = sym (entries-from_sorted name_cmp es (from_true _ h)) ∙ ap entries same ∙ entries-from_sorted name_cmp fs (from_true _ k)
 
   pub empty_list : map.from_sorted {R = name_cmp} [] ≡ map.empty {X = X}
   empty_list = empty_of_len _ (len-entries _ ∙ ap length (entries-from_sorted name_cmp [] tt))
 
-  -- a name that is listed stays as it is, and another is put
+  -- a name that is listed keeps its kind, and another is added
   pub listed_stays : (m : FinMap name_cmp X) (q : QName) (v k : X) → map.get m q ≡ Some k → m ≡ (if map.contains_key m q then m else map.insert m q v)
   listed_stays m q v k h = sym (ap (λ (a : Option X). cond (is_some a) m (map.insert m q v)) h)
 
@@ -126,7 +126,7 @@ module _ {X : Type 0} where
   pub get-put : (m : FinMap name_cmp X) (q : QName) (v : X) → map.get (map.insert m q v) q ≡ Some v
   get-put m q v = get-insert name_total m q v q ∙ ap (λ r. cond (is_eq r) (Some v) (map.get m q)) (tied_itself name_total q)
 
--- ---- and as an ordered map of the library
+-- ---- the entries as an ordered map of the library
 
 module _ {K X : Type 0} (R : K → K → Ordering) where
   pub lookup_is_find : (q : K) (es : List (K × X)) → lookup (λ k. is_eq (R q k)) es ≡ find R q es
@@ -142,7 +142,7 @@ module _ {K X : Type 0} (R : K → K → Ordering) where
   ]
 
 module _ {X : Type 0} where
-  -- an entry put among those of a map
+  -- an entry that is added to a map
   pub put_among : (es : List (QName × X)) (q : QName) (v : X) → is_sorted name_cmp es ≡ true → (is_sorted name_cmp (put name_cmp q v es) ≡ true) × (map.from_sorted {R = name_cmp} (put name_cmp q v es) ≡ map.insert (map.from_sorted es) q v)
   put_among es q v h = (
     sorted_after es q v h,

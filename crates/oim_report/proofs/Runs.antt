@@ -1,4 +1,4 @@
--- A pass over facts that do not fall.
+-- The loop over sorted facts.
 use Rattle.std.proofs.Common.{◌≡◌, Bool, true, false, cond, not, ◌&&◌, ◌||◌, List, [], ◌∷◌, ◌++◌, append_assoc, refl, sym, ap, subst, ◌∙◌}
 use Rattle.std.specs.Prelude.{Option, if◌then◌else◌}
 use Rattle.std.specs.List.{list_all}
@@ -55,10 +55,10 @@ up_cases Greater up less equal = gone (sym up)
 up_then_less : {K : Type 0} {R : K → K → Ordering} → IsTotalOrder R → (x y z : K) → is_gt (R x y) ≡ false → R y z ≡ Less → R x z ≡ Less
 up_then_less {K} {R} o x y z up less = up_cases (R x y) up (λ e. o.trans x y z e less) (λ e. o.congr x y z e ∙ less)
 
--- ---- the pass, step by step
+-- ---- the loop, step by step
 
--- the level where a list goes on with some facts, of which none falls: the last fact so far, what the intervals of its
--- dimension set share, and the level so far
+-- the level of a sorted list after some of its facts: it needs the last fact, the common part of the intervals in its dimension
+-- set, and the level so far
 unfoldable pub walk : Fact → Option Interval → Level → List Fact → Level
 walk last shared level [] = level
 walk last shared level (f ∷ fs) =
@@ -79,10 +79,10 @@ unfolding walk
 walk-other last f shared level fs h =
     ap (λ b. cond b (walk f (both_common shared (interval_at f.value)) (ord_max level_cmp level (level_beside last.value shared f.value)) fs) (walk f (interval_at f.value) level fs)) h
 
--- ---- what is known of the facts so far
+-- ---- properties of the facts so far
 
--- no dimensions are above those of the last fact, and a later fact of its dimension set meets the others of that set exactly
--- where it meets what they share
+-- no fact so far has dimensions above those of the last; a later fact with its dimensions meets the others exactly if it meets
+-- their common part
 pub record Knows (before : List Fact) (last : Fact) (shared : Option Interval) : Type 0 where
   pub below : list_all (λ f. not (is_gt (dims f last))) (before ++ last ∷ []) ≡ true
   pub sharing : (h : Fact) → dims last h ≡ Equal → value_cmp last.value h.value ≡ Less → list_all (λ f. allows Consistent f h) (before ++ last ∷ []) ≡ both_meet shared (interval_at h.value)
@@ -99,7 +99,7 @@ each_from : {X : Type 0} (p q : X → Bool) → ((x : X) → p x ≡ true → q 
 each_from p q f [] h = refl
 each_from p q f (x ∷ xs) h = let both = and_parts (p x) (list_all p xs) h in and_from (q x) (list_all q xs) (f x both.0) (each_from p q f xs both.1)
 
--- a test of a list with one more at its end
+-- a test of all items of a list with one more at its end
 each_push : {X : Type 0} (p : X → Bool) (xs : List X) (x : X) → list_all p (xs ++ x ∷ []) ≡ (list_all p xs && p x)
 each_push p xs x = list_all-append p xs (x ∷ []) ∙ ap (λ b. list_all p xs && b) (and_true (p x))
 
@@ -112,11 +112,11 @@ apart_each l fs last h below less =
     each_from (λ f. not (is_gt (dims f last))) (λ f. allows l f h)
     (λ f up. apart_allowed l f h (up_then_less dimensions_cmp_total f.dimensions last.dimensions h.dimensions (not-true _ up) less)) fs below
 
--- of one dimension set, values decide
+-- facts with the same dimensions are tested by value
 same_allowed : (l : Level) (f g : Fact) → dims f g ≡ Equal → allows l f g ≡ allows_values l f.value g.value
 same_allowed l f g h = ap (λ (o : Ordering). not (is_eq o) || allows_values l f.value g.value) h
 
--- the later of two lesser facts
+-- the level of a fact after a lesser fact with the same dimensions
 lesser_allowed : (f g : Fact) → dims f g ≡ Equal → value_cmp f.value g.value ≡ Less → allows Consistent f g ≡ both_meet (interval_at f.value) (interval_at g.value)
 lesser_allowed f g same less = same_allowed Consistent f g same ∙ lesser_meets f.value g.value less
 
@@ -159,7 +159,7 @@ knows_duplicate before last f shared known equal up = record {
       ∙ sym (both_meet-both_common shared (interval_at f.value) (interval_at h.value));
 }
 
--- ---- the level with one fact more
+-- ---- the level after one more fact
 
 abbrev grown : List Fact → Fact → Level
 grown fs f = strictest (allows_each Unique fs && list_all (λ g. allows Unique g f) fs) (allows_each Complete fs && list_all (λ g. allows Complete g f) fs) (allows_each Consistent fs && list_all (λ g. allows Consistent g f) fs)
@@ -170,7 +170,7 @@ level_grown fs f = level_of_is (fs ++ f ∷ []) ∙ (λ i. strictest (allows_eac
 three : {a b c x y z : Bool} → a ≡ x → b ≡ y → c ≡ z → strictest a b c ≡ strictest x y z
 three p q r = λ i. strictest (p i) (q i) (r i)
 
--- of another dimension set
+-- a fact with other dimensions does not change the level
 level_other : (before : List Fact) (last f : Fact) (shared : Option Interval) → Knows before last shared → dims last f ≡ Less → level_of ((before ++ last ∷ []) ++ f ∷ []) ≡ level_of (before ++ last ∷ [])
 level_other before last f shared known less =
     let fs : List Fact = before ++ last ∷ [] in
@@ -179,13 +179,13 @@ level_other before last f shared known less =
     free : (l : Level) → (allows_each l (before ++ last ∷ []) && list_all (λ g. allows l g f) (before ++ last ∷ [])) ≡ allows_each l (before ++ last ∷ [])
     free l = ap (λ b. allows_each l (before ++ last ∷ []) && b) (apart_each l (before ++ last ∷ []) last f known.below less) ∙ and_true (allows_each l (before ++ last ∷ []))
 
--- where the last refuses it, so does the list
+-- if the last fact is not allowed, neither is the list
 refused_at_end : (l : Level) (before : List Fact) (last f : Fact) → allows l last f ≡ false → (allows_each l (before ++ last ∷ []) && list_all (λ g. allows l g f) (before ++ last ∷ [])) ≡ false
 refused_at_end l before last f h =
     ap (λ b. allows_each l (before ++ last ∷ []) && b) (each_push (λ g. allows l g f) before last ∙ ap (λ b. list_all (λ g. allows l g f) before && b) h ∙ and_false _)
     ∙ and_false _
 
--- what is allowed beside the last is allowed again
+-- a fact that is allowed beside the last one may be repeated
 again : (l : Level) (before : List Fact) (last : Fact) → allows l last last ≡ true → (allows_each l (before ++ last ∷ []) && list_all (λ g. allows l g last) (before ++ last ∷ [])) ≡ allows_each l (before ++ last ∷ [])
 again l before last h = absorbed _ _ (λ each. each_push (λ g. allows l g last) before last ∙ and_from _ _ (and_parts (allows_each l before) _ (sym (allows_each-push l before last) ∙ each)).1 h)
   where
@@ -213,7 +213,7 @@ differing true true false m p q = gone (q refl)
 differing false true false m p q = gone (q refl)
 differing true false s m p q = gone (p refl)
 
--- the last fact again
+-- the level after the last fact is repeated
 level_repeated : (before : List Fact) (last : Fact) (shared : Option Interval) → level_of ((before ++ last ∷ []) ++ last ∷ []) ≡ ord_max level_cmp (level_of (before ++ last ∷ [])) (level_beside last.value shared last.value)
 level_repeated before last shared =
     let fs : List Fact = before ++ last ∷ [] in
@@ -225,7 +225,7 @@ level_repeated before last shared =
     ∙ repeated (allows_each Unique fs) (allows_each Complete fs) (allows_each Consistent fs) (unique_are_complete fs)
     ∙ (λ i. ord_max level_cmp (sym (level_of_is fs) i) (sym beside i))
 
--- another value of the same dimension set
+-- the level after another value with the same dimensions
 level_differing : (before : List Fact) (last f : Fact) (shared : Option Interval) → Knows before last shared → dims last f ≡ Equal → value_cmp last.value f.value ≡ Less → level_of ((before ++ last ∷ []) ++ f ∷ []) ≡ ord_max level_cmp (level_of (before ++ last ∷ [])) (level_beside last.value shared f.value)
 level_differing before last f shared known same less =
     let fs : List Fact = before ++ last ∷ [] in
@@ -243,7 +243,7 @@ level_duplicate before last f shared known same up =
     let one : last ≡ f = fact_cmp_exact last f (ap (λ (o : Ordering). ordering_then o (value_cmp last.value f.value)) same ∙ tied) in
     subst (λ g. level_of ((before ++ last ∷ []) ++ g ∷ []) ≡ ord_max level_cmp (level_of (before ++ last ∷ [])) (level_beside last.value shared g.value)) one (level_repeated before last shared))
 
--- ---- the whole pass
+-- ---- the whole loop
 
 -- no fact is below the one before it
 abbrev pub RisesFrom : Fact → List Fact → Type 0
@@ -266,7 +266,7 @@ walk_is (f ∷ fs) before last shared known rises =
     ∙ walk_is fs (before ++ last ∷ []) f (both_common shared (interval_at f.value)) (knows_duplicate before last f shared known equal up) rises.1
     ∙ ap level_of (append_assoc before (last ∷ []) (f ∷ fs)))
 
--- from the first fact on
+-- the loop from the first fact on
 pub walk_from_first : (first : Fact) (fs : List Fact) → RisesFrom first fs → walk first (interval_at first.value) Unique fs ≡ level_of (first ∷ fs)
 unfolding level_of
 walk_from_first first fs rises = walk_is fs [] first (interval_at first.value) (knows_first first) rises

@@ -1,4 +1,4 @@
--- What is said of a fact's parts has no name that is refused.
+-- No name in a fact that is said is refused.
 use Rattle.std.proofs.Common.{◌≡◌, ℕ, List, [], ◌∷◌, ◌++◌, map, Bool, true, false, Option, Some, None, refl, ap, ◌∙◌}
 use Rattle.std.specs.Prelude.{if◌then◌else◌, option_map, option_and_then}
 use Rattle.std.specs.List.{flat_map}
@@ -116,7 +116,7 @@ value bs None g decimals v e = refl
 
 -- ---- the fact
 
--- where a fact is said, no name of it is refused
+-- no name of a fact that is said is refused
 said_names : (sheet : Sheet) (bs : List Binding) (p : FactParts) (ds : DimensionParts) (f : Fact) → fact_of sheet bs p ds ≡ Some f → names_refusal bs (names_of sheet bs ds p.value) ≡ None
 said_names sheet bs p ds f e =
     let kind = concept_kind sheet bs ds.concept in

@@ -1,4 +1,4 @@
--- Where a part is said as a function has it, it is said member by member.
+-- If the function says a part, the relation says it member by member.
 use Rattle.std.proofs.Common.{◌≡◌, ℕ, List, [], ◌∷◌, Bool, true, false, not, cond, bytes_eq, Option, Some, None, Result, Ok, Err, refl, sym, ap, subst, ◌∙◌}
 use Rattle.std.specs.Prelude.{IsTrue, is_none, option_and_then}
 use Rattle.std.specs.Option.{option_map}
@@ -51,11 +51,11 @@ with_form has_form bs t n true form e =
     let u = and_then_some (λ v. in_namespace v t) (uri_of bs (prefix_part t)) n e in
     in_uri has_form bs t u.0 n (bytes_eq u.0 reserved_uri) form u.1 refl u.2
 
--- what is named expands
+-- a text that is named expands to the name
 pub named_expands : (has_form : List ℕ → Bool) (bs : List Binding) (t : List ℕ) (n : QName) → named_as has_form bs t ≡ Some n → ExpandsAs has_form bs t n
 named_expands has_form bs t n e = with_form has_form bs t n (has_form t) refl e
 
--- a text that is given
+-- a given text
 pub text_is : (g : Given) (t : List ℕ) → text_of g ≡ Some t → g ≡ text t
 text_is absent t e = absurd (cc)
 text_is nil t e = absurd (cc)

@@ -1,4 +1,4 @@
--- A sheet is refused for the least of its conditions that hold.
+-- A sheet is refused for the least condition that applies.
 use Rattle.std.proofs.Common.{◌≡◌, inl, inr, ℕ, List, [], ◌∷◌, ◌++◌, Bool, true, false, ◌||◌, Err, refl, sym, ap, ◌∙◌}
 use Rattle.std.specs.Prelude.{Option, Some, None, codes, if◌then◌else◌}
 use Rattle.std.specs.List.{find}
@@ -43,7 +43,7 @@ sheet_least tree =
     let names = sheet_names tree in
     flat (sheet_holds tree MemberForm) (sheet_holds tree UnknownMember) (any_in binds_nothing (sheet_namespaces tree)) (refuses_some NameForm bs names) (refuses_some UnboundPrefix bs names) (refuses_some ReservedNamespace bs names) (sheet_holds tree SheetKind)
 
--- ---- as a sheet is read
+-- ---- the order in which a sheet is read
 
 -- the kinds are refused, and nothing before them
 pub kinds_refused : (tree : Data) (bs : List Binding) (ns cs ds : Option Members) → None ≡ find (sheet_holds tree) (MemberForm ∷ UnknownMember ∷ [])
@@ -56,7 +56,7 @@ kinds_refused tree bs ns cs ds form at_ns bound at_cs at_ds names bad =
     ∙ (λ i. first_refusal (sym form i ∷ first_holding ((any_in binds_nothing (sym at_ns i), Namespace) ∷ []) ∷ names_refusal (is i) (key_names (members (sym at_cs i)) ++ key_names (members (sym at_ds i))) ∷ first_holding ((has_bad_kind concept_kind_named same_concept_kind (is i) (members (sym at_cs i)) || has_bad_kind dimension_kind_named same_dimension_kind (is i) (members (sym at_ds i)), SheetKind) ∷ []) ∷ []))
     ∙ (λ i. first_refusal (None ∷ first_holding ((bound.1 i, Namespace) ∷ []) ∷ sym names i ∷ first_holding ((bad i, SheetKind) ∷ []) ∷ []))
 
--- ---- over bytes
+-- ---- for bytes
 
 refused_for : (o : Option Reason) (said : Sheet) (r : Reason) → unless o said ≡ Err r → o ≡ Some r
 refused_for None said r e = absurd (cc)

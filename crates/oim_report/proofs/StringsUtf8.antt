@@ -1,4 +1,4 @@
--- The strings of a text that is UTF-8 are UTF-8: what stands between two quotes, with its escapes replaced.
+-- The strings of a text in UTF-8 are UTF-8: the bytes between two quotes, with escapes replaced.
 use Rattle.std.proofs.Common.{◌≡◌, ℕ, ◌<◌, List, [], ◌∷◌, ◌++◌, Bool, true, false, cond, ◌&&◌, ◌==◌, nat_lt, Option, Some, None, option_and_then, refl, sym, subst, arith}
 use Rattle.std.specs.Prelude.{IsUtf8, ⊤}
 use Rattle.std.specs.Char.{IsScalar, digit_value, is_digit, encode_utf8}
@@ -9,12 +9,12 @@ use Rattle.std.proofs.lemmas.Str.{IsUtf8-append, IsUtf8-encode}
 use Rattle.json.specs.Text.{code_unit, short_escape, is_high_surrogate, is_low_surrogate, surrogate_pair, Within, plain, after_backslash, after_u, after_high, prepend, content}
 use Rattle.oim_report.proofs.Utf8Parts.{both_utf8}
 
--- the bytes, where there are some, make UTF-8 behind a run of others
+-- the bytes, if there are some, make UTF-8 after other bytes
 abbrev pub IsUtf8Behind : List ℕ → Option (List ℕ) → Type 0
 IsUtf8Behind run None = ⊤
 IsUtf8Behind run (Some s) = IsUtf8 (run ++ s)
 
--- what stands behind an ASCII character of a text
+-- the text after an ASCII character is UTF-8
 pub behind : (x : ℕ) (xs : List ℕ) → x < 128 → IsUtf8 (x ∷ xs) → IsUtf8 xs
 behind x xs ascii utf8 = (both_utf8 [] xs x ascii utf8).1
 
@@ -95,7 +95,7 @@ IsUtf8-one c ascii =
 
 -- ---- a string
 
--- the run of bytes behind which it is read: none once an escape has begun
+-- the bytes so far of a character that is not finished; there are none after an escape has begun
 abbrev open_run : Within → List ℕ → List ℕ
 open_run plain run = run
 open_run after_backslash run = []

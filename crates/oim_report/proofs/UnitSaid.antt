@@ -1,4 +1,4 @@
--- The unit that a text denotes is the one that its definition as a function gives.
+-- The unit that a text denotes is the result of the function.
 use Rattle.std.proofs.Common.{◌≡◌, ◌≢◌, ℕ, zero, suc, ◌+◌, List, [], ◌∷◌, true, false, refl, ap, ◌∙◌, arith}
 use Rattle.std.specs.Prelude.{Option, Some, None, IfSome, option_map}
 use Rattle.std.specs.List.{AllZip}
@@ -18,7 +18,7 @@ use Rattle.oim_dims.proofs.SortedOnce.{sorted_once}
 use Rattle.oim_report.specs.Said.{all_named, in_order, side_of, unit_of, unit_with, with_name}
 use Rattle.oim_report.proofs.Naming.{expanded}
 
--- ---- names in their order
+-- ---- sorted names
 
 with_same : (n : QName) (ms : List QName) → IsPermutation (n ∷ ms) (with_name n ms)
 with_same n [] = IsPermutation-refl (n ∷ [])
@@ -31,7 +31,7 @@ pub order_same : (ns : List QName) → IsPermutation ns (in_order ns)
 order_same [] = IsPermutation-refl []
 order_same (n ∷ ns) = IsPermutation-trans (n ∷ ns) (n ∷ in_order ns) (with_name n (in_order ns)) (IsPermutation-cons n ns (in_order ns) (order_same ns)) (with_same n (in_order ns))
 
--- none of the names is below the one before it
+-- no name is below the name before it
 abbrev pub from : QName → List QName → Type 0
 from x [] = Unit {0}
 from x (y ∷ ys) = (is_lt (name_cmp y x) ≡ false) × from y ys
@@ -117,7 +117,7 @@ other_unit (n ∷ []) [] other = cond-false _ _ _ (not_pure n (λ same. other (�
 other_unit (n ∷ []) (d ∷ ds) other = refl
 other_unit (n ∷ m ∷ ns) ds other = refl
 
--- the unit that a text denotes, as a function gives it
+-- the unit that a text denotes is the result of the function
 pub unit_is : (bs : List Binding) (t : List ℕ) (u : Option Measures) → UnitOf bs t u → IfSome u IsUnit → unit_of bs t ≡ Some u
 unit_is bs t None says is = both_sides bs t pure_alone says alone_sorted none_sorted ∙ ap Some is_none
 unit_is bs t (Some m) says is = both_sides bs t m says.0 is.numerators is.denominators ∙ ap Some (other_unit m.numerators m.denominators says.1)

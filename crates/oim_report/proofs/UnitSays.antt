@@ -1,4 +1,4 @@
--- The unit that a function gives is the one that the text denotes, and it fits.
+-- The result of the function is the unit that the text denotes, and it fits.
 use Rattle.std.proofs.Common.{◌≡◌, ◌≢◌, ℕ, List, [], ◌∷◌, Bool, true, false, cond, Option, Some, None, refl, sym, ap, subst, ◌∙◌}
 use Rattle.std.specs.Prelude.{option_map, option_and_then}
 use Rattle.std.specs.List.{AllZip}
@@ -28,7 +28,7 @@ each_named bs (p ∷ ps) ns e =
     let b = map_some (λ ms. a.0 ∷ ms) (all_named bs ps) ns a.2 in
     subst (AllZip (Expands bs) (p ∷ ps)) b.2 (named_expands is_name bs p a.0 a.1, each_named bs ps b.0 b.1)
 
--- a side: its names in their order
+-- a side: its names, sorted
 pub record IsSide (bs : List Binding) (ps : List (List ℕ)) (ns : List QName) : Type 0 where
   pub names : NamesEach bs ps ns
   pub order : IsSorted name_cmp ns
@@ -46,7 +46,7 @@ side_is bs ps ns e =
 abbrev pub unit_made : List QName → List QName → Measures
 unit_made ns ds = record { numerators = ns; denominators = ds }
 
--- `pure` alone, or a unit that is not
+-- `pure` alone, or any other unit
 pub data Made (ns ds : List QName) (u : Option Measures) : Type 0 where
   alone : u ≡ None → unit_made ns ds ≡ pure_alone → Made ns ds u
   unit : u ≡ Some (unit_made ns ds) → unit_made ns ds ≢ pure_alone → Made ns ds u
@@ -73,7 +73,7 @@ made (n ∷ []) [] u e =
 made (n ∷ []) (d ∷ ds) u e = unit (sym e) (λ same. let h : d ∷ ds ≡ [] = denominators_of (unit_made (n ∷ []) (d ∷ ds)) pure_alone same in absurd (cc))
 made (n ∷ m ∷ ns) ds u e = unit (sym e) (λ same. let h : n ∷ m ∷ ns ≡ pure_name ∷ [] = numerators_of (unit_made (n ∷ m ∷ ns) ds) pure_alone same in absurd (cc))
 
--- what a text's sides are
+-- the sides of a text that denotes a unit
 pub record HasSides (bs : List Binding) (t : List ℕ) (u : Option Measures) : Type 0 where
   pub form : is_unit_text t ≡ true
   pub numerators : List QName

@@ -1,4 +1,4 @@
--- The parts of a text that is UTF-8, cut at ASCII characters, are UTF-8.
+-- A text in UTF-8 that is cut at ASCII characters has parts in UTF-8.
 use Rattle.std.proofs.Common.{◌≡◌, ℕ, suc, ◌+◌, ◌-◌, ◌<◌, ◌≤◌, List, [], ◌∷◌, ◌++◌, length, get_or, take, drop, Bool, true, false, ◌==◌, ◌&&◌, cond, refl, sym, ap, subst, arith, length-append}
 use Rattle.std.specs.Prelude.{All}
 use Rattle.std.specs.List.{after_first, before_first, join_with_byte, list_any, position_or_len}
@@ -23,7 +23,7 @@ module _ (p : ℕ → Bool) (ascii : OnlyAscii p) (t : List ℕ) (utf8 : IsUtf8 
   passed : position_or_len p t < length t → get_or t (position_or_len p t) 0 < 128
   passed lt = ascii _ (passes_at_first p t 0 lt)
 
-  -- what stands after the first that passes, and before it
+  -- the texts after and before the first character that passes
   pub after_utf8 : IsUtf8 (after_first p t)
   after_utf8 = elim (cases_lt (position_or_len p t) (length t)) [
     | inl lt ↦ IsUtf8-drop t (position_or_len p t + 1) utf8 (IsCharBoundary-after_ascii t (position_or_len p t) utf8 lt (passed lt))
@@ -36,7 +36,7 @@ module _ (p : ℕ → Bool) (ascii : OnlyAscii p) (t : List ℕ) (utf8 : IsUtf8 
     | inr ge ↦ subst IsUtf8 (sym (take_all (position_or_len p t) t (omega (arith, ge)))) utf8
   ]
 
--- the parts round an ASCII character
+-- the parts before and after an ASCII character
 at_seam : (xs ys : List ℕ) (c : ℕ) → get_or (xs ++ c ∷ ys) (length xs) 0 ≡ c
 at_seam [] ys c = refl
 at_seam (x ∷ xs) ys c = at_seam xs ys c

@@ -1,4 +1,4 @@
--- What the table's words say of a value, beside what is given.
+-- The words of the table of conditions, in terms of the given value.
 use Rattle.std.proofs.Common.{◌≡◌, ℕ, ℤ, pos, List, [], ◌∷◌, ◌++◌, map, Bool, true, false, not, ◌||◌, ◌&&◌, cond, refl, sym, ap, ◌∙◌}
 use Rattle.std.specs.Prelude.{⊤, Option, Some, None, is_none, is_some, option_and_then, if◌then◌else◌}
 use Rattle.std.specs.Option.{option_to_list}
@@ -16,7 +16,7 @@ use Rattle.oim_report.specs.Refusal.{first_refusal, or_refusal}
 use Rattle.oim_report.specs.Holds.{as_text, as_whole, entries, is_some_and, no_text}
 use Rattle.oim_report.proofs.EachRefusal.{or_when}
 
--- a property of what is given and of what the words say holds of each value where it holds of the five kinds
+-- a property of the given value and of the table's words holds for each value if it holds for the five kinds
 pub by_given : (P : Given → Option (List ℕ) → Option ℤ → Option ⊤ → Type 0) → P nil None None (Some tt) → ((t : List ℕ) → P (text t) (Some t) None None) → ((n : ℤ) → P (whole n) None (Some n) None) → P other None None None
     → (d : Data) → P (given d) (as_text d) (as_whole d) (as_null d)
 by_given P of_nil of_text of_whole of_other null = of_nil
@@ -72,7 +72,7 @@ pub filtered_same : {A B C : Type 0} (g : A → B) (p : A → Option C) (q : B �
 filtered_same g p q same [] = refl
 filtered_same g p q same (x ∷ xs) = λ i. cons_option (same x i) (filtered_same g p q same xs i)
 
--- ---- the first that holds
+-- ---- the first that applies
 
 pub find_is : (h : Reason → Bool) (rs : List Reason) → find h rs ≡ first_refusal (map (λ r. when (h r) r) rs)
 find_is h [] = refl

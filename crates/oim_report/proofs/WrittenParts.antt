@@ -1,4 +1,4 @@
--- The parts of the object by which a fact is written.
+-- The parts of the object of a written fact.
 use Rattle.std.proofs.Common.{◌≡◌, ◌≢◌, ℕ, List, [], ◌∷◌, codes, true, false, Option, Some, None, refl, ap, ◌∙◌, pos, negsuc}
 use Rattle.std.specs.Prelude.{All, IfSome, IsUtf8, ◌&&◌}
 use Rattle.std.specs.Option.{option_map}
@@ -144,7 +144,7 @@ module _ (entity language period unit : Option (List ℕ)) (concept : List ℕ) 
 
 -- ---- the dimensions that a taxonomy defines
 
--- a dimension whose texts are UTF-8, and whose key has a colon
+-- the texts of a dimension are UTF-8, and its key has a colon
 record IsWritten (spelled : QName → List ℕ) (e : QName × Member) : Type 0 where
   colon : has_colon (spelled e.0) ≡ true
   utf8 : IsUtf8 (spelled e.0)

@@ -1,4 +1,4 @@
--- Which reports are accepted, by the conditions and not by the outcome (own).
+-- Which reports are accepted, in terms of the conditions (own).
 use Rattle.std.specs.Prelude.{◌≡◌, ◌↔◌, ℕ, List, false, Some, Ok}
 use Rattle.std.specs.List.{AllByRecursion}
 use Rattle.std.specs.Ordering.{is_lt}
@@ -14,11 +14,12 @@ use Rattle.oim_report.specs.Outcome.{outcome}
 use Rattle.oim_report.specs.Sheet.{Sheet}
 use Rattle.oim_report.specs.Holds.{document_holds, holds}
 
--- no condition holds for a fact object
+-- no condition applies to a fact object
 abbrev pub IsFree : Sheet → List Binding → Data → Type 0
 IsFree sheet bs d = (r : Reason) → holds sheet bs d r ≡ false
 
--- the bytes are JSON, no condition holds for the document or a fact, they say this document, and the level of its facts is not above the declared one
+-- the bytes are JSON and say this document, no condition applies to the document or a fact, and the level of its facts is not
+-- above the declared one
 pub record Accepts (sheet : Sheet) (bytes : List ℕ) (d : Document) : Type 0 where
   pub tree : Data
   pub read : json bytes ≡ Some tree
@@ -27,6 +28,6 @@ pub record Accepts (sheet : Sheet) (bytes : List ℕ) (d : Document) : Type 0 wh
   pub said : SaysDocument sheet bytes d
   pub level : is_lt (level_cmp d.level (level_of d.facts)) ≡ false
 
--- a report is accepted as a document exactly if that holds
+-- a report is accepted as a document exactly if Accepts holds
 abbrev pub AcceptedWhereFree : Type 0
 AcceptedWhereFree = (sheet : Sheet) (bytes : List ℕ) (d : Document) → (outcome sheet bytes ≡ Ok d) ↔ Accepts sheet bytes d

@@ -1,4 +1,4 @@
--- The level of a value beside earlier values of its dimension set, which do not fall (own).
+-- The level of a value after earlier values with the same dimensions, in sorted order (own).
 use Rattle.std.specs.Prelude.{Bool, false, Option, Some, None, if◌then◌else◌}
 use Rattle.std.specs.Ordering.{is_eq}
 use Rattle.oim_value.specs.Interval.{common_part, interval, intervals_meet}
@@ -14,16 +14,16 @@ abbrev pub interval_at : Value → Option Interval
 interval_at (Number units decimals) = Some (interval units decimals)
 interval_at other = None
 
--- the common part of several intervals and one more, if all exist
+-- the common part of several intervals and one more, if both exist
 abbrev pub both_common : Option Interval → Option Interval → Option Interval
 both_common (Some i) (Some j) = Some (common_part i j)
 both_common i j = None
 
--- whether both exist and meet
+-- both intervals exist and meet
 abbrev pub both_meet : Option Interval → Option Interval → Bool
 both_meet (Some i) (Some j) = intervals_meet i j
 both_meet i j = false
 
--- the strictest level that allows a value beside values with this last one, and this common part of all intervals
+-- the strictest level that allows one more value after values with this last one and this common part of their intervals
 abbrev pub level_beside : Value → Option Interval → Value → Level
 level_beside last common v = if is_eq (value_cmp last v) then Complete else (if both_meet common (interval_at v) then Consistent else All)

@@ -1,5 +1,5 @@
--- Why a fact object is refused (OIM Common 1.0; xBRL-JSON 1.0, section 3.1; own where it says so), a group of conditions for each part.
--- A condition that speaks of something that isn't there doesn't hold.
+-- Why a fact object is refused (OIM Common 1.0; xBRL-JSON 1.0, section 3.1; own where marked). The conditions are in one group
+-- for each part. A condition on a part that is missing does not apply.
 use Rattle.std.specs.Prelude.{ℕ, List, [], ◌∷◌, ◌++◌, map, Bool, true, false, not, ◌||◌, ◌&&◌, if◌then◌else◌, Option, Some, None, is_none, option_and_then}
 use Rattle.std.specs.Option.{option_map_or}
 use Rattle.std.specs.Result.{result_err}
@@ -29,16 +29,16 @@ use Rattle.oim_report.specs.Sheet.{Sheet}
 
 -- ---- form
 
--- whether a core dimension is there and no text
+-- a core dimension exists and is no text
 abbrev pub has_misshapen_core : DimensionParts → Bool
 has_misshapen_core ds =
     is_no_text ds.concept || is_no_text ds.entity || is_no_text ds.period || is_no_text ds.unit || is_no_text ds.language
 
--- a test of the dimensions, where there are any
+-- the dimensions, if there are any, pass a test
 abbrev pub in_dimensions : (DimensionParts → Bool) → FactParts → Bool
 in_dimensions test p = option_map_or test p.dimensions false
 
--- links and notes are left out (own)
+-- links and notes are refused (own)
 abbrev pub form_refusal : FactParts → Option Reason
 form_refusal p = first_holding (
     (p.misshapen || is_absent p.value || in_dimensions has_misshapen_core p, MemberForm)
@@ -50,7 +50,7 @@ form_refusal p = first_holding (
 
 -- ---- kinds
 
--- the kind of what a text names, where it names something and the sheet lists that
+-- the kind of the concept or dimension that a text names, if the sheet lists it
 abbrev pub concept_kind : Sheet → List Binding → Given → Option ConceptKind
 concept_kind sheet bs concept = option_and_then (map.get sheet.concepts) (option_and_then (named bs) (text_of concept))
 
@@ -63,14 +63,14 @@ is_numeric (Some Numeric) = true
 is_numeric (Some Text) = false
 is_numeric (Some Name) = false
 
--- whether it is a listed kind other than numeric
+-- the kind is listed and is not numeric
 abbrev pub is_other_kind : Option ConceptKind → Bool
 is_other_kind None = false
 is_other_kind (Some Numeric) = false
 is_other_kind (Some Text) = true
 is_other_kind (Some Name) = true
 
--- ---- the names of a fact, each with its form
+-- ---- the names of a fact, with their forms
 
 abbrev pub spelled_in : (List ℕ → Spelled) → Given → List Spelled
 spelled_in form (text t) = form t ∷ []
@@ -79,7 +79,7 @@ spelled_in form nil = []
 spelled_in form (whole n) = []
 spelled_in form other = []
 
--- the key of a taxonomy-defined dimension, and the text of its member where the sheet lists it as explicit
+-- the key of a taxonomy-defined dimension, and the text of its member if the dimension is explicit
 abbrev pub member_names : Option DimensionKind → Given → List Spelled
 member_names (Some Explicit) g = spelled_in a_name g
 member_names (Some Typed) g = []
@@ -88,7 +88,7 @@ member_names None g = []
 abbrev pub defined_names : Sheet → List Binding → List ℕ × Given → List Spelled
 defined_names sheet bs d = a_name d.0 ∷ member_names (dimension_kind sheet bs d.0) d.1
 
--- the pieces of a unit that has the shape
+-- the pieces of a unit that has the form of a unit
 abbrev pub piece_names : List ℕ → List Spelled
 piece_names t = if is_unit_text t then map a_name (numerator_pieces t ++ denominator_pieces t) else []
 
@@ -99,7 +99,7 @@ unit_names nil = []
 unit_names (whole n) = []
 unit_names other = []
 
--- the value of a concept whose values are names
+-- the value, if the concept's values are names
 abbrev pub value_names : Option ConceptKind → Given → List Spelled
 value_names (Some Name) g = spelled_in a_name g
 value_names (Some Numeric) g = []
@@ -110,7 +110,7 @@ abbrev pub names_of : Sheet → List Binding → DimensionParts → Given → Li
 names_of sheet bs ds value =
     spelled_in a_name ds.concept ++ (spelled_in an_entity ds.entity ++ (flat_map (defined_names sheet bs) ds.defined ++ (unit_names ds.unit ++ value_names (concept_kind sheet bs ds.concept) value)))
 
--- ---- concept, and the dimensions that a taxonomy defines
+-- ---- the concept and the taxonomy-defined dimensions
 
 abbrev pub concept_refusal : Sheet → List Binding → Given → Option Reason
 concept_refusal sheet bs concept = first_holding (
@@ -118,14 +118,14 @@ concept_refusal sheet bs concept = first_holding (
     ∷ (is_none (concept_kind sheet bs concept), UnknownConcept)
     ∷ [])
 
--- whether a member is none that its dimension may have (own: a typed member is a text or nil)
+-- a member is not of its dimension's kind (own: a typed member is a text or nil)
 abbrev pub is_misfit : Option DimensionKind → Given → Bool
 is_misfit (Some Explicit) (text t) = false
 is_misfit (Some Typed) (text t) = false
 is_misfit (Some Typed) nil = false
 is_misfit kind g = true
 
--- the names of dimensions, and whether one of them is repeated
+-- the names of dimensions, and the test that one of them is repeated
 abbrev pub dimension_names : List Binding → List (List ℕ × Given) → List QName
 dimension_names bs defined = filter_map (λ d. named bs d.0) defined
 
@@ -133,7 +133,7 @@ abbrev pub comes_again : List QName → Bool
 comes_again [] = false
 comes_again (n ∷ ns) = list_any (λ m. is_eq (name_cmp n m)) ns || comes_again ns
 
--- whether the sheet does not list one of them; whether one has a member that it may not have, or is repeated
+-- the sheet does not list a dimension; or a member is not of its dimension's kind, or a dimension is repeated
 abbrev pub lists_unknown : Sheet → List Binding → List (List ℕ × Given) → Bool
 lists_unknown sheet bs defined = list_any (λ d. is_none (dimension_kind sheet bs d.0)) defined
 
@@ -156,7 +156,7 @@ period_refusal nil = None
 period_refusal (whole n) = None
 period_refusal other = None
 
--- its pieces are among the names of the fact
+-- the pieces of a unit are tested with the names of the fact
 abbrev pub unit_refusal : Option ConceptKind → Given → Option Reason
 unit_refusal kind unit = first_holding (
     (option_map_or (λ t. not (is_unit_text t)) (text_of unit) false, UnitForm)
@@ -171,7 +171,8 @@ language_refusal kind language = first_holding (
 
 -- ---- value and decimals
 
--- a value is a text or nil (xBRL-JSON 1.0, section 3.1.1); that of a numeric concept is a number, of so many digits (own)
+-- a value is a text or nil (xBRL-JSON 1.0, section 3.1.1); the value of a numeric concept is a number with at most 18 digits
+-- (own)
 abbrev pub value_refusal : Option ConceptKind → Given → Option Reason
 value_refusal kind (text t) = if is_numeric kind then number_refusal t else None
 value_refusal kind nil = None
@@ -179,7 +180,7 @@ value_refusal kind absent = Some ValueForm
 value_refusal kind (whole n) = Some ValueForm
 value_refusal kind other = Some ValueForm
 
--- decimals are a whole number (xBRL-JSON 1.0, section 3.1.2), in a range (own), and only numbers have them
+-- decimals are a whole number (xBRL-JSON 1.0, section 3.1.2) in a range (own), and only numbers have them
 abbrev pub decimals_refusal : Option ConceptKind → Given → Option Reason
 decimals_refusal kind (whole n) = first_holding ((not (is_finite_decimals n), DecimalsRange) ∷ (is_other_kind kind, DecimalsOnOther) ∷ [])
 decimals_refusal kind absent = None
@@ -187,7 +188,7 @@ decimals_refusal kind nil = Some DecimalsForm
 decimals_refusal kind (text t) = Some DecimalsForm
 decimals_refusal kind other = Some DecimalsForm
 
--- ---- all of them, in the order in which they are answered
+-- ---- all conditions, in the order of the refusals
 
 abbrev pub dimension_refusals : Sheet → List Binding → Option ConceptKind → DimensionParts → List (Option Reason)
 dimension_refusals sheet bs kind ds =
@@ -200,7 +201,7 @@ dimension_refusals sheet bs kind ds =
 abbrev pub value_refusals : Option ConceptKind → Given → Given → List (Option Reason)
 value_refusals kind value decimals = value_refusal kind value ∷ decimals_refusal kind decimals ∷ []
 
--- of a fact's content: its names, its concept, its other dimensions and its value
+-- the conditions on the content of a fact: its names, its concept, its other dimensions and its value
 abbrev pub content_refusal : Sheet → List Binding → FactParts → DimensionParts → Option Reason
 content_refusal sheet bs p ds =
     let kind = concept_kind sheet bs ds.concept in

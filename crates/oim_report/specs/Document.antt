@@ -1,4 +1,4 @@
--- What a report says (xBRL-JSON 1.0, sections 2 and 3; the order of facts is own).
+-- The contents of a report (xBRL-JSON 1.0, sections 2 and 3; the order of facts is own).
 use Rattle.std.specs.Prelude.{◌≡◌, ℕ, List, Some}
 use Rattle.std.specs.List.{AllZip}
 use Rattle.oim_names.specs.Bindings.{Binding}
@@ -11,8 +11,8 @@ use Rattle.oim_report.specs.Json.{json, values}
 use Rattle.oim_report.specs.Parts.{FactParts, fact_parts}
 use Rattle.oim_report.specs.Sheet.{Sheet}
 
--- its facts, in byte order of their identifiers (law `identifiers_rise`), repeats kept; the references of `taxonomy` as they are
--- kept, in their order; and the declared level of duplicates
+-- the facts with their repeats, in byte order of their identifiers (law `identifiers_rise`); the references of `taxonomy` in
+-- their order, as they are kept; and the declared level of duplicates
 pub record Document : Type 0 where
   pub facts : List Fact
   pub references : List (List ℕ)
@@ -24,7 +24,7 @@ pub record ObjectSays (sheet : Sheet) (bs : List Binding) (object : Data) (said 
   pub are : fact_parts object ≡ Some parts
   pub says : SaysFact sheet bs parts said
 
--- the document that a report's bytes say under a sheet: each fact object says the fact at its place
+-- the document that a report's bytes say under a sheet; each fact object says the fact with the same index
 pub record SaysDocument (sheet : Sheet) (bytes : List ℕ) (document : Document) : Type 0 where
   pub tree : Data
   pub read : json bytes ≡ Some tree

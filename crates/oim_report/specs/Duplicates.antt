@@ -13,7 +13,7 @@ use Rattle.oim_value.specs.declared.value.Value.TheVariants.{Nil, Number, Text a
 use Rattle.oim_dims.specs.FactOrder.{dimensions_cmp}
 use Rattle.oim_dims.specs.declared.fact.Fact.{Fact}
 
--- whether two values meet, as `Meets` has it
+-- two values meet, as in `Meets`
 abbrev pub values_meet : Value → Value → Bool
 values_meet Nil Nil = true
 values_meet (Number m d) (Number n e) = intervals_meet (interval m d) (interval n e)
@@ -21,39 +21,39 @@ values_meet (AText s) (AText t) = bytes_eq s t
 values_meet (AName m) (AName n) = is_eq (name_cmp m n)
 values_meet x y = false
 
--- whether two facts are duplicates: they have one dimension set
+-- two facts are duplicates if they have the same dimensions
 abbrev pub are_duplicates : Fact → Fact → Bool
 are_duplicates f g = is_eq (dimensions_cmp f.dimensions g.dimensions)
 
--- whether a level allows two values in one dimension set
+-- a level allows two values with the same dimensions
 abbrev pub allows_values : Level → Value → Value → Bool
 allows_values Unique v w = false
 allows_values Complete v w = is_eq (value_cmp v w)
 allows_values Consistent v w = values_meet v w
 allows_values All v w = true
 
--- whether a level allows two facts
+-- a level allows two facts
 abbrev pub allows : Level → Fact → Fact → Bool
 allows l f g = not (are_duplicates f g) || allows_values l f.value g.value
 
--- whether a level allows each fact of a list beside each later one
+-- a level allows each fact of a list beside each later one
 abbrev pub allows_each : Level → List Fact → Bool
 allows_each l [] = true
 allows_each l (f ∷ fs) = list_all (allows l f) fs && allows_each l fs
 
--- the strictest level that allows the facts of a list, repeats kept
+-- the strictest level that allows the facts of a list with their repeats
 unfoldable pub level_of : List Fact → Level
 level_of fs =
     if allows_each Unique fs then Unique else (if allows_each Complete fs then Complete else (if allows_each Consistent fs then Consistent else All))
 
--- the test of values is the relation
+-- the test of values decides `Meets`
 abbrev pub ValuesMeetIsMeets : Type 0
 ValuesMeetIsMeets = (v w : Value) → IsTrue (values_meet v w) ↔ Meets v w
 
--- a level allows each two facts of a list exactly if it is no stricter than the list's,
+-- a level allows each two facts of a list exactly if it is no stricter than the level of the list
 abbrev pub LevelIsStrictest : Type 0
 LevelIsStrictest = (l : Level) (fs : List Fact) → AllPairs (λ f g. IsTrue (allows l f g)) fs ↔ IsTrue (is_le (level_cmp (level_of fs) l))
 
--- and the order of the list does not matter
+-- the level of a list does not depend on its order
 abbrev pub LevelIgnoresOrder : Type 0
 LevelIgnoresOrder = (fs gs : List Fact) → IsPermutation fs gs → level_of fs ≡ level_of gs

@@ -1,4 +1,4 @@
--- Facts as examples of what is written and read (own).
+-- Examples of facts that are written and read (own).
 use Rattle.std.specs.Prelude.{ℕ, pos, negsuc, List, [], ◌∷◌, ◌++◌, codes, bytes_eq, if◌then◌else◌, Some, None}
 use Rattle.oim_names.specs.QName.{QName}
 use Rattle.oim_names.specs.Bindings.{Binding}
@@ -21,15 +21,15 @@ in_first part = record { uri = first_uri; local_part = part }
 abbrev pub in_second : List ℕ → QName
 in_second part = record { uri = second_uri; local_part = part }
 
--- names by the number of their URI
+-- spells a name with the prefix `n1` or `n2`, which depends on its URI
 abbrev pub numbered : QName → List ℕ
 numbered n = (if bytes_eq n.uri first_uri then codes "n1:" else codes "n2:") ++ n.local_part
 
--- with another binding of a URI
+-- bindings in which one URI has two prefixes
 abbrev pub bindings : List Binding
 bindings = record { prefix = codes "eg"; uri = first_uri } ∷ record { prefix = codes "n1"; uri = first_uri } ∷ record { prefix = codes "n2"; uri = second_uri } ∷ []
 
--- what is said of a concept alone
+-- the dimensions of a concept alone
 abbrev pub alone : QName → DimensionSet
 alone concept = record { concept = concept; entity = None; period = Forever; unit = None; language = None; members = [] }
 
@@ -62,7 +62,7 @@ number_fact = fact (record {
   members = [];
 }) (Number (negsuc 14999999999999999999) (Some (pos 1)))
 
--- numbers of a concept alone and a unit
+-- numbers with only a concept and a unit
 abbrev pub measured : List QName → List QName → Value → Fact
 measured numerators denominators = fact (record (alone (in_first (codes "A"))) { unit = Some (record { numerators = numerators; denominators = denominators }) })
 
@@ -81,7 +81,7 @@ zero_fact = fact (alone (in_first (codes "A"))) (Number (pos 0) None)
 abbrev pub name_fact : Fact
 name_fact = fact (alone (in_first (codes "Q"))) (AName (in_first (codes "North")))
 
--- a text with control characters, a typed member whose text looks like a name, and one that is nil, by an entity with a line end
+-- a text with control characters, by an entity with a line end; one typed member looks like a name, and one is nil
 abbrev pub odd_fact : Fact
 odd_fact = fact (record {
   concept = in_first (codes "T");

@@ -1,4 +1,4 @@
--- Which fact an object says, member by member (OIM Common 1.0; xBRL-JSON 1.0, section 3.1; own where it says so).
+-- Which fact an object says, member by member (OIM Common 1.0; xBRL-JSON 1.0, section 3.1; own where marked).
 use Rattle.std.specs.Prelude.{◌≡◌, ℕ, ℤ, List, Contains, All, Any, Option, Some, None, Ok, IsTrue}
 use Rattle.std.specs.Str.{str_to_ascii_lowercase}
 use Rattle.std.specs.FinMap as map
@@ -26,7 +26,7 @@ use Rattle.oim_report.specs.Json.{Given, absent, nil, text, whole, other}
 use Rattle.oim_report.specs.Parts.{DimensionParts, FactParts}
 use Rattle.oim_report.specs.Sheet.{Sheet}
 
--- a text is given, and it is said to be so
+-- a text is given, and the relation holds for it
 abbrev pub GivesText : Given → (List ℕ → Type 0) → Type 0
 GivesText (text t) Says = Says t
 GivesText absent Says = ⊥
@@ -34,7 +34,7 @@ GivesText nil Says = ⊥
 GivesText (whole n) Says = ⊥
 GivesText other Says = ⊥
 
--- the same, or nothing is given
+-- a text is given and the relation holds for it, or nothing is given
 abbrev pub GivesTextOr : Type 0 → Given → (List ℕ → Type 0) → Type 0
 GivesTextOr IfAbsent absent Says = IfAbsent
 GivesTextOr IfAbsent (text t) Says = Says t
@@ -42,7 +42,7 @@ GivesTextOr IfAbsent nil Says = ⊥
 GivesTextOr IfAbsent (whole n) Says = ⊥
 GivesTextOr IfAbsent other Says = ⊥
 
--- what a core dimension that may be absent says
+-- what an optional core dimension says
 abbrev pub SaysEntity : List Binding → Given → Option QName → Type 0
 SaysEntity bs g said = GivesTextOr (said ≡ None) g (λ t. (n : QName) × (said ≡ Some n) × ExpandsEntity bs t n)
 
@@ -56,7 +56,7 @@ SaysUnit bs g said = GivesTextOr (said ≡ None) g (λ t. UnitOf bs t said)
 abbrev pub SaysLanguage : Given → Option (List ℕ) → Type 0
 SaysLanguage g said = GivesTextOr (said ≡ None) g (λ t. IsTrue (is_language t) × (said ≡ Some (str_to_ascii_lowercase t)))
 
--- the member of an explicit dimension is a name; that of a typed one a text as it stands, or nil
+-- the member of an explicit dimension is a name; the member of a typed one is the text as it is spelled, or nil
 abbrev pub SaysMember : List Binding → DimensionKind → Given → Member → Type 0
 SaysMember bs Explicit g (MemberName n) = GivesText g (λ t. Expands bs t n)
 SaysMember bs Explicit g (MemberText t) = ⊥
@@ -65,21 +65,21 @@ SaysMember bs Typed g (MemberName n) = ⊥
 SaysMember bs Typed g (MemberText t) = g ≡ text t
 SaysMember bs Typed g NoMember = g ≡ nil
 
--- a key with its member says that the dimension has the member, under a sheet that lists it
+-- a key and its value say a dimension with its member, which the sheet lists
 pub record SaysDimension (sheet : Sheet) (bs : List Binding) (d : List ℕ × Given) (said : QName × Member) : Type 0 where
   pub name : Expands bs d.0 said.0
   pub kind : DimensionKind
   pub listed : map.get sheet.dimensions said.0 ≡ Some kind
   pub member : SaysMember bs kind d.1 said.1
 
--- the members are those of the keys, and no others
+-- each key says a member, and each member is said by a key
 pub record SaysMembers (sheet : Sheet) (bs : List Binding) (defined : List (List ℕ × Given)) (said : List (QName × Member)) : Type 0 where
   pub each : All (λ d. (e : QName × Member) × Contains said e × SaysDimension sheet bs d e) defined
   pub others : All (λ e. Any (λ d. SaysDimension sheet bs d e) defined) said
 
 -- ---- the value
 
--- how precisely a number is reported: exactly, where that isn't said (the range is own)
+-- the decimals of a number; without them it is exact (the range is own)
 abbrev pub SaysDecimals : Given → Option ℤ → Type 0
 SaysDecimals absent places = places ≡ None
 SaysDecimals (whole n) places = IsTrue (is_finite_decimals n) × (places ≡ Some n)
@@ -87,12 +87,12 @@ SaysDecimals nil places = ⊥
 SaysDecimals (text t) places = ⊥
 SaysDecimals other places = ⊥
 
--- a text denotes so many units (that it is short is own)
+-- a text denotes this number of units (the limit of digits is own)
 pub record SaysNumber (t : List ℕ) (units : ℤ) : Type 0 where
   pub denoted : Denotes t units
   pub short : IsTrue (is_short t)
 
--- a value of a kind: nil, or by the kind a number, a text or a name
+-- a value is nil, or a number, a text or a name, depending on the kind of the concept
 abbrev pub SaysValue : List Binding → ConceptKind → Given → Given → Value → Type 0
 SaysValue bs kind g decimals Nil = g ≡ nil
 SaysValue bs Numeric g decimals (Number units places) = GivesText g (λ t. SaysNumber t units) × SaysDecimals decimals places
@@ -102,7 +102,7 @@ SaysValue bs kind g decimals said = ⊥
 
 -- ---- the fact
 
--- what the members of `dimensions` say, under a sheet that lists what they name
+-- the members of `dimensions` say this dimension set, under a sheet that lists the names in it
 pub record SaysDimensions (sheet : Sheet) (bs : List Binding) (ds : DimensionParts) (said : DimensionSet) : Type 0 where
   pub concept : GivesText ds.concept (λ t. Expands bs t said.concept)
   pub entity : SaysEntity bs ds.entity said.entity
@@ -112,7 +112,7 @@ pub record SaysDimensions (sheet : Sheet) (bs : List Binding) (ds : DimensionPar
   pub members : SaysMembers sheet bs ds.defined said.members
   pub set : IsDimensionSet said
 
--- a fact, where prefixes are bound so
+-- a fact object with these parts says the fact under these bindings
 pub record SaysFact (sheet : Sheet) (bs : List Binding) (p : FactParts) (said : Fact) : Type 0 where
   pub parts : DimensionParts
   pub there : p.dimensions ≡ Some parts

@@ -43,7 +43,7 @@ pub record FitsEntity (n : QName) : Type 0 where
   pub some : n.local_part ≢ []
   pub utf8 : IsUtf8 n.local_part
 
--- ---- parts that may be absent
+-- ---- optional parts
 
 abbrev pub EntityFits : Option QName → Type 0
 EntityFits None = ⊤
@@ -59,7 +59,7 @@ abbrev pub UnitFits : ConceptKind → Option Measures → Type 0
 UnitFits kind None = ⊤
 UnitFits kind (Some m) = MeasuresFit kind m
 
--- a language in lower case, and numbers have none
+-- a language is in lower case, and numbers have none
 pub record IsLanguageOf (kind : ConceptKind) (l : List ℕ) : Type 0 where
   pub form : IsTrue (is_language l)
   pub lower : str_to_ascii_lowercase l ≡ l
@@ -71,7 +71,7 @@ LanguageFits kind (Some l) = IsLanguageOf kind l
 
 -- ---- members
 
--- for an explicit dimension a name, for a typed one a text or nil
+-- the member of an explicit dimension is a name; the member of a typed one is a text or nil
 abbrev pub MemberFits : DimensionKind → Member → Type 0
 MemberFits Explicit (MemberName n) = FitsName n
 MemberFits Explicit (MemberText t) = ⊥
@@ -88,7 +88,7 @@ pub record DimensionFits (sheet : Sheet) (e : QName × Member) : Type 0 where
 
 -- ---- values
 
--- nil, or of the concept's kind; numbers are short, with decimals in range
+-- a value is nil or of the concept's kind; numbers are short and have decimals in range
 abbrev pub ValueFits : ConceptKind → Value → Type 0
 ValueFits kind Nil = ⊤
 ValueFits Numeric (Number units places) = IsShort units × AreDecimals places

@@ -1,4 +1,4 @@
--- Everything that is wrong with a report (own): all conditions that hold and are not hidden, each with its place.
+-- All faults of a report (own): the conditions that apply and are not hidden, each with its place.
 use Rattle.std.specs.Prelude.{◌≡◌, ◌↔◌, ℕ, ◌+◌, List, [], ◌∷◌, ◌++◌, map, Bool, if◌then◌else◌, Option, Some, None, option_and_then}
 use Rattle.std.specs.Option.{option_map_or, unwrap_or}
 use Rattle.std.specs.List.{filter_map}
@@ -25,40 +25,41 @@ use Rattle.oim_report.specs.Sheet.{Sheet}
 use Rattle.oim_report.specs.Holds.{document_holds, holds}
 use Rattle.oim_report.specs.Least.{told}
 
--- a refusal, where its condition holds
+-- the refusal, if its condition applies
 abbrev pub when : Bool → Reason → Option Reason
 when holds reason = if holds then Some reason else None
 
--- those that there are
+-- the refusals in a list of optional refusals
 abbrev pub all_refusals : List (Option Reason) → List Reason
 all_refusals refusals = filter_map (λ r. r) refusals
 
 -- ---- the facts
 
--- of several fact objects, where the first has the place n
+-- the faults of several fact objects, if the first is at place n
 abbrev pub faults_from : Sheet → List Binding → ℕ → List Data → List Refusal
 faults_from sheet bs n [] = []
 faults_from sheet bs n (d ∷ ds) = map (at (AtFact n)) (told (holds sheet bs d)) ++ faults_from sheet bs (n + 1) ds
 
 -- ---- a report
 
--- the first list, or the second where it is empty
+-- the first list, or the second if the first is empty
 abbrev pub or_else : List Refusal → List Refusal → List Refusal
 or_else [] later = later
 or_else (r ∷ rs) later = r ∷ rs
 
--- the facts that its fact objects say
+-- the facts that the fact objects of a report say
 abbrev pub facts_in : Sheet → Data → List Fact
 facts_in sheet tree = filter_map (λ d. option_and_then (said_fact sheet (bindings_of tree)) (fact_parts d)) (values (facts_of tree))
 
--- whether the level of the facts is above the declared one
+-- the level of the facts is above the declared one
 abbrev pub is_above_level : Sheet → Data → Bool
 is_above_level sheet tree = is_lt (level_cmp (unwrap_or (level_said tree) AllLevel) (level_of (facts_in sheet tree)))
 
 abbrev pub level_faults : Sheet → Data → List Refusal
 level_faults sheet tree = if is_above_level sheet tree then at AtDocument DisallowedDuplicates ∷ [] else []
 
--- the faults of the document; if it has none, those of its facts in byte order of their identifiers; if they have none, that of the level
+-- the faults of the document; if it has none, the faults of its facts in byte order of their identifiers; if they have none, the
+-- fault of the level
 abbrev pub tree_faults : Sheet → Data → List Refusal
 tree_faults sheet tree =
     or_else (map (at AtDocument) (told (document_holds tree)))
@@ -74,10 +75,10 @@ abbrev pub first_of : List Refusal → Option Refusal
 first_of [] = None
 first_of (r ∷ rs) = Some r
 
--- there are no faults exactly if the report is accepted
+-- a report has no faults exactly if it is accepted
 abbrev pub NoFaultsWhereAccepted : Type 0
 NoFaultsWhereAccepted = (sheet : Sheet) (bytes : List ℕ) → (faults sheet bytes ≡ []) ↔ ((d : Document) × Accepts sheet bytes d)
 
--- the first fault is the refusal
+-- the first fault is the refusal that the outcome has
 abbrev pub FirstFaultIsAnswered : Type 0
 FirstFaultIsAnswered = (sheet : Sheet) (bytes : List ℕ) → first_of (faults sheet bytes) ≡ result_err (outcome sheet bytes)

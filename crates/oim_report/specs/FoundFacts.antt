@@ -10,7 +10,7 @@ use Rattle.serde_json.specs.Data.{Members, no_members, member}
 use Rattle.oim_report.specs.Outcome.{fact_outcome}
 use Rattle.oim_report.specs.Sheet.{Sheet}
 
--- these are the keys of the members and the facts that their values say
+-- these are the keys of the members, and the facts that their values say
 abbrev pub AreFound : Sheet → List Binding → Members → List (String Global) → List Fact → Type 0
 AreFound sheet bs no_members [] [] = ⊤
 AreFound sheet bs no_members [] (f ∷ fs) = ⊥
@@ -19,12 +19,12 @@ AreFound sheet bs (member k d ms) [] fs = ⊥
 AreFound sheet bs (member k d ms) (s ∷ ss) [] = ⊥
 AreFound sheet bs (member k d ms) (s ∷ ss) (f ∷ fs) = (string_bytes s ≡ k) × (fact_outcome sheet bs d ≡ Ok f) × AreFound sheet bs ms ss fs
 
--- whether a key is above the one before it
+-- a key is above the key before it
 abbrev pub is_above : Option (List ℕ) → List ℕ → Bool
 is_above None key = true
 is_above (Some last) key = is_lt (slice_cmp nat_cmp last key)
 
--- whether each key is above the one before it, the first above the last one so far
+-- each key is above the key before it, and the first is above the last key so far
 abbrev pub rise_after : Option (List ℕ) → List (String Global) → Bool
 rise_after last [] = true
 rise_after last (s ∷ ss) = if is_above last (string_bytes s) then rise_after (Some (string_bytes s)) ss else false

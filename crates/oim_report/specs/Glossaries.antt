@@ -1,4 +1,4 @@
--- What the texts of a report stand for under a sheet and prefixes (own).
+-- The meanings of a report's texts under a sheet and prefixes (own).
 use Rattle.std.specs.Prelude.{◌≡◌, ℕ, List, true, Option, Some, Ok, IfSome}
 use Rattle.std.specs.Borrow.{Bor}
 use Rattle.std.specs.Str.{str_to_ascii_lowercase}
@@ -22,7 +22,7 @@ use Rattle.oim_report.specs.Sheet.{Sheet}
 abbrev pub NamesConcept : Sheet → List Binding → List ℕ → Bor QName × ConceptKind → Type 0
 NamesConcept sheet bs t c = (named bs t ≡ Some c.0.now) × (concept_kind sheet bs (text t) ≡ Some c.1)
 
--- the same for a dimension
+-- the text names this dimension, which the sheet lists with this kind
 abbrev pub NamesDimension : Sheet → List Binding → List ℕ → Bor QName × DimensionKind → Type 0
 NamesDimension sheet bs t d = (named bs t ≡ Some d.0.now) × (dimension_kind sheet bs t ≡ Some d.1)
 

@@ -1,18 +1,18 @@
--- What texts that were read stand for (own).
+-- The meanings of texts that were read (own).
 use Rattle.std.specs.Prelude.{◌≡◌, ◌⊎◌, ℕ, List, Option, Some}
 use Rattle.std.specs.Str.{bytes_eq}
 use Rattle.std.specs.HashMap.{get_by}
 use Rattle.std.specs.Map.{update}
 use Rattle.oim_report.specs.declared.fact.glossary.Glossary.{Glossary}
 
--- what a text stands for, where it was added
+-- the meaning of a text, if it was added
 abbrev pub meaning : {A : Type 0} → Glossary A → List ℕ → Option A
 meaning g t = get_by (λ k. bytes_eq t k.now) g.meanings
 
--- h is g, or g with t standing for a
+-- h is g, or g with the meaning a of t added
 abbrev pub Adds : {A : Type 0} → Glossary A → List ℕ → A → Glossary A → Type 0
 Adds g t a h = ((u : List ℕ) → meaning h u ≡ meaning g u) ⊎ ((u : List ℕ) → meaning h u ≡ update bytes_eq (meaning g) t (Some a) u)
 
--- each text stands for what R says
+-- R holds for each text and its meaning
 pub record IsGlossary {A : Type 0} (R : List ℕ → A → Type 0) (g : Glossary A) : Type 0 where
   pub each : (t : List ℕ) (a : A) → meaning g t ≡ Some a → R t a

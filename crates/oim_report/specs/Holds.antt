@@ -1,5 +1,5 @@
--- The conditions of a document and of a fact object, one clause each (OIM Common 1.0; xBRL-JSON 1.0; own where it says so).
--- A condition on something that is missing does not hold.
+-- The conditions of a document and of a fact object, one clause for each (OIM Common 1.0; xBRL-JSON 1.0; own where marked). A
+-- condition on a part that is missing does not apply.
 use Rattle.std.specs.Prelude.{ℕ, ℤ, List, [], ◌∷◌, ◌++◌, map, length, Bool, true, false, not, ◌||◌, ◌&&◌, nat_lt, int_lt, if◌then◌else◌, bytes_eq, codes, Option, Some, None, is_none, is_some, option_and_then}
 use Rattle.std.specs.Option.{option_map_or, option_to_list}
 use Rattle.std.specs.List.{filter, filter_map, flat_map, list_any}
@@ -39,7 +39,7 @@ use Rattle.oim_report.specs.Sheet.{Sheet, same_concept_kind, same_dimension_kind
 abbrev pub is_some_and : {A : Type 0} → (A → Bool) → Option A → Bool
 is_some_and test o = option_map_or test o false
 
--- the text of a string, which is UTF-8 wherever it was read; a whole number
+-- the text of a string, which is always UTF-8 if it was read; a whole number
 abbrev pub as_text : Data → Option (List ℕ)
 as_text d = option_and_then (λ s. if is_utf8 s then Some s else None) (as_str d)
 
@@ -52,7 +52,7 @@ no_text d = is_none (as_text d)
 abbrev pub no_text_or_null : Data → Bool
 no_text_or_null d = no_text d && is_none (as_null d)
 
--- members with their keys; whether an item passes the test
+-- the members with their keys; a test of an optional item
 abbrev pub entries : Members → List (List ℕ × Data)
 entries no_members = []
 entries (member key d ms) = (key, d) ∷ entries ms
@@ -69,13 +69,13 @@ lacks_moment t = is_none (moment_of (start_part t)) || is_none (moment_of (end_p
 abbrev pub runs_backward : List ℕ → Bool
 runs_backward t = is_some_and (λ start. is_some_and (λ end. int_lt end start) (moment_of (end_part t))) (moment_of (start_part t))
 
--- the pieces of a unit of the right form
+-- the pieces of a unit that has the form of a unit
 abbrev pub pieces : List ℕ → List (List ℕ)
 pieces t = if is_unit_text t then numerator_pieces t ++ denominator_pieces t else []
 
 -- ---- facts
 
--- whether a dimension of this kind cannot have this member (own: a typed member is a text or null)
+-- a dimension of this kind cannot have this member (own: a typed member is a text or null)
 abbrev pub misfits : DimensionKind → Data → Bool
 misfits Explicit v = no_text v
 misfits Typed v = no_text_or_null v
@@ -92,14 +92,14 @@ module _ (sheet : Sheet) (bs : List Binding) (fact : Data) (dimensions : Members
   abbrev pub value_text : Option (List ℕ)
   value_text = option_and_then as_text (get (codes "value") fact)
 
-  -- the expanded name of the concept; whether the sheet lists it with this kind
+  -- the expanded name of the concept; the test that the sheet lists it with this kind
   abbrev pub concept : Option QName
   concept = option_and_then (named bs) (text_at (codes "concept"))
 
   abbrev pub is_kind : ConceptKind → Bool
   is_kind k = is_some_and (same_concept_kind k) (option_and_then (map.get sheet.concepts) concept)
 
-  -- taxonomy-defined dimensions are the members whose keys have a colon; the sheet lists their kinds
+  -- taxonomy-defined dimensions are the members whose keys have a colon, and the sheet lists their kinds
   abbrev pub defined : List (List ℕ × Data)
   defined = filter (λ m. has_colon m.0 && is_utf8 m.0) (entries dimensions)
 
@@ -109,7 +109,7 @@ module _ (sheet : Sheet) (bs : List Binding) (fact : Data) (dimensions : Members
   abbrev pub explicit_text : List ℕ × Data → Option (List ℕ)
   explicit_text m = if is_some_and (same_dimension_kind Explicit) (dimension_kind m.0) then as_text m.1 else None
 
-  -- all its names, each with its form
+  -- all names of the fact, with their forms
   abbrev pub names : List Spelled
   names =
       map a_name (option_to_list (text_at (codes "concept")))
@@ -118,7 +118,7 @@ module _ (sheet : Sheet) (bs : List Binding) (fact : Data) (dimensions : Members
       ++ (map a_name (option_map_or pieces (text_at (codes "unit")) [])
       ++ map a_name (if is_kind Name then option_to_list value_text else []))))
 
-  -- whether a condition holds (own: no links or notes; at most 18 digits; decimals from -18 to 18)
+  -- the condition applies (own: no links or notes; at most 18 digits; decimals from -18 to 18)
   abbrev pub holds_with : Reason → Bool
   holds_with MemberForm =
       not (is_object fact) || is_none (get (codes "value") fact)

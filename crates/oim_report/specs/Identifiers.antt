@@ -13,7 +13,7 @@ use Rattle.oim_report.specs.Json.{json}
 use Rattle.oim_report.specs.Outcome.{outcome}
 use Rattle.oim_report.specs.Sheet.{Sheet}
 
--- the members with their keys, in byte order of these
+-- the members with their keys, in byte order of the keys
 abbrev pub keyed : Members → List (List ℕ × Data)
 keyed no_members = []
 keyed (member key d ms) = (key, d) ∷ keyed ms
@@ -25,11 +25,11 @@ identifiers_in objects = map (λ o. o.0) objects
 abbrev pub tree_identifiers : Data → List (List ℕ)
 tree_identifiers tree = identifiers_in (keyed (facts_of tree))
 
--- the identifiers that a file's bytes give, None if they are not JSON
+-- the identifiers that a file's bytes give, or None if they are not JSON
 abbrev pub identifiers : List ℕ → Option (List (List ℕ))
 identifiers bytes = option_map tree_identifiers (json bytes)
 
--- they strictly rise by bytes, if the bytes are JSON
+-- the identifiers strictly ascend by bytes if the bytes are JSON
 abbrev pub IdentifiersRise : Type 0
 IdentifiersRise = (bytes : List ℕ) (tree : Data) → json bytes ≡ Some tree → IsStrictlySortedBy (slice_cmp nat_cmp) (tree_identifiers tree)
 
@@ -37,7 +37,7 @@ IdentifiersRise = (bytes : List ℕ) (tree : Data) → json bytes ≡ Some tree 
 abbrev pub IdentifierSays : Sheet → List Binding → List ℕ × Data → Fact → Type 0
 IdentifierSays sheet bs object said = ObjectSays sheet bs object.1 said
 
--- these are the identifiers of a document's facts: the object under each says the fact at its place
+-- these are the identifiers of a document's facts: the object under each says the fact with the same index
 pub record Identify (sheet : Sheet) (bytes : List ℕ) (document : Document) (is : List (List ℕ)) : Type 0 where
   pub tree : Data
   pub read : json bytes ≡ Some tree

@@ -1,4 +1,4 @@
--- The parts of a report outside its facts, and why they are refused (xBRL-JSON 1.0, section 2; own where it says so).
+-- The parts of a report outside its facts, and why they are refused (xBRL-JSON 1.0, section 2; own where marked).
 use Rattle.std.specs.Prelude.{ℕ, List, [], ◌∷◌, Bool, false, ◌&&◌, bytes_eq, codes, if◌then◌else◌, Option, Some, None, option_map, option_and_then}
 use Rattle.std.specs.Option.{option_map_or, unwrap_or}
 use Rattle.oim_names.specs.Bindings.{Binding, uri_of}
@@ -34,9 +34,9 @@ features_of tree = members (option_and_then as_object (info (codes "features") t
 abbrev pub facts_of : Data → Members
 facts_of tree = members (object_at (codes "facts") tree)
 
--- ---- what they say, each None where it is refused
+-- ---- the contents of the parts; each is None if it is refused
 
--- the base of relative references: a web address, or none
+-- the base of relative references: an http or https URL, or none
 abbrev pub said_base : Given → Option (Option Parts)
 said_base absent = Some None
 said_base (text t) = option_map Some (base_url t)
@@ -44,7 +44,7 @@ said_base nil = None
 said_base (whole n) = None
 said_base other = None
 
--- a reference, as it is kept
+-- a reference in the text under which it is kept
 abbrev pub accepted_reference : Option Parts → List ℕ → Option (List ℕ)
 accepted_reference base t = if is_reference_refused base t then None else kept base t
 
@@ -55,17 +55,17 @@ abbrev pub said_references : Option Parts → Items → Option (List (List ℕ))
 said_references base no_items = Some []
 said_references base (item d ds) = option_and_then (λ t. option_map (λ ts. t ∷ ts) (said_references base ds)) (said_reference base d)
 
--- whether a key of `features` is the feature `xbrl:allowedDuplicates`, by whatever prefix
+-- a key of `features` is the feature `xbrl:allowedDuplicates`, with any prefix
 abbrev pub is_allowed_duplicates : List Binding → List ℕ → Bool
 is_allowed_duplicates bs key =
     option_map_or (λ u. bytes_eq u reserved_uri) (uri_of bs (prefix_part key)) false && bytes_eq (local_part key) (codes "allowedDuplicates")
 
--- the values at keys that are
+-- the values at keys that are the feature
 abbrev pub declarations : List Binding → Members → List Given
 declarations bs no_members = []
 declarations bs (member key d ms) = if is_allowed_duplicates bs key then given d ∷ declarations bs ms else declarations bs ms
 
--- the declared level: that of the one declaration; without any, all is allowed (own)
+-- the level in the only declaration; without a declaration, all duplicates are allowed (own)
 abbrev pub said_level : List Given → Option Level
 said_level [] = Some All
 said_level (g ∷ []) = option_and_then level_with (text_of g)
@@ -80,7 +80,7 @@ references_said tree = option_and_then (λ base. said_references base (taxonomy_
 abbrev pub level_said : Data → Option Level
 level_said tree = said_level (declarations (bindings_of tree) (features_of tree))
 
--- ---- what may stand there
+-- ---- the values that each part may have
 
 abbrev pub root_keys : List (List ℕ)
 root_keys = codes "documentInfo" ∷ codes "facts" ∷ []

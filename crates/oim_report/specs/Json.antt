@@ -1,4 +1,4 @@
--- The JSON value of a file's bytes (RFC 8259), and looking into one.
+-- The JSON value of a file's bytes (RFC 8259), and access to its parts.
 use Rattle.std.specs.Prelude.{ℕ, ℤ, List, [], ◌∷◌, take, drop, Bool, true, false, not, ◌||◌, ◌&&◌, if◌then◌else◌, bytes_eq, Option, Some, None, is_some, option_and_then}
 use Rattle.std.specs.Option.{unwrap_or, option_map_or}
 use Rattle.std.specs.List.{list_any}
@@ -20,7 +20,8 @@ json_text text = if is_utf8 text then read text else None
 abbrev pub json : List ℕ → Option Data
 json bytes = json_text (without_mark bytes)
 
--- ---- what stands at a key, as far as sheets and reports tell values apart; a text is a string that is UTF-8, as every string read is
+-- ---- the value at a key, with the differences that matter to sheets and reports; a text is a string in UTF-8, as every string
+-- that was read
 
 pub data Given : Type 0 where
   absent : Given
@@ -48,7 +49,7 @@ is_absent (text t) = false
 is_absent (whole n) = false
 is_absent other = false
 
--- whether there is a value, and it is no text
+-- there is a value that is no text
 abbrev pub is_no_text : Given → Bool
 is_no_text absent = false
 is_no_text nil = true
@@ -64,13 +65,13 @@ text_of (text t) = Some t
 text_of (whole n) = None
 text_of other = None
 
--- whether this text is given
+-- the value is this text
 abbrev pub is_text : List ℕ → Given → Bool
 is_text t g = option_map_or (λ u. bytes_eq u t) (text_of g) false
 
 -- ---- members
 
--- what stands at a key of an object's members
+-- the value at a key of an object's members
 abbrev pub given_at : List ℕ → Members → Given
 given_at key ms = given_of (get_member key ms)
 
@@ -78,11 +79,11 @@ given_at key ms = given_of (get_member key ms)
 abbrev pub object_at : List ℕ → Data → Option Members
 object_at key d = option_and_then as_object (get key d)
 
--- the member of an object that is a member
+-- the member at a key of an object that is itself a member
 abbrev pub within : List ℕ → List ℕ → Data → Option Data
 within outer key d = option_and_then (get key) (get outer d)
 
--- the members, or none where there is no object
+-- the members, or none if there is no object
 abbrev pub members : Option Members → Members
 members ms = unwrap_or ms no_members
 
@@ -91,12 +92,12 @@ abbrev pub values : Members → List Data
 values no_members = []
 values (member key d ms) = d ∷ values ms
 
--- whether some member passes the test
+-- some member passes the test
 abbrev pub any_member : (List ℕ → Data → Bool) → Members → Bool
 any_member test no_members = false
 any_member test (member key d ms) = test key d || any_member test ms
 
--- whether there is an object, and some member of it passes the test
+-- there is an object with a member that passes the test
 abbrev pub any_in : (List ℕ → Data → Bool) → Option Members → Bool
 any_in test ms = option_map_or (any_member test) ms false
 
@@ -105,11 +106,11 @@ has_member ms = any_in (λ key d. true) ms
 
 -- ---- keys
 
--- whether a key is an extension's (own: any with a colon is)
+-- a key belongs to an extension (own: if it has a colon)
 abbrev pub has_colon : List ℕ → Bool
 has_colon key = list_any is_colon key
 
--- whether a member's key is no extension's, and none of these
+-- a member's key is none of these and belongs to no extension
 abbrev pub is_unknown : List (List ℕ) → List ℕ → Data → Bool
 is_unknown known key d = not (has_colon key) && not (list_any (λ k. bytes_eq k key) known)
 
@@ -118,7 +119,7 @@ is_unknown known key d = not (has_colon key) && not (list_any (λ k. bytes_eq k 
 abbrev pub is_object : Data → Bool
 is_object d = is_some (as_object d)
 
--- whether there is a value, and it is no object, no array
+-- there is a value that is no object; no array
 abbrev pub is_no_object : Option Data → Bool
 is_no_object d = option_map_or (λ v. not (is_object v)) d false
 

@@ -1,4 +1,4 @@
--- The text under which a taxonomy reference is kept (xBRL-JSON 1.0, `taxonomy` and `baseURL` of a report; the form that is kept is own).
+-- The text under which a taxonomy reference is kept (xBRL-JSON 1.0, `taxonomy` and `baseURL` of a report; the kept form is own).
 use Rattle.std.specs.Prelude.{◌≡◌, ℕ, ◌&&◌, ◌||◌, Bool, true, false, not, nat_le, if◌then◌else◌, List, length, codes, bytes_eq, Option, Some, None, is_none, Ok, Err}
 use Rattle.std.specs.Option.{option_map_or}
 use Rattle.std.specs.Str.{is_utf8}
@@ -15,8 +15,8 @@ abbrev pub web_url : Parsed Parts → Option Parts
 web_url (Ok url) = if is_web url then Some url else None
 web_url (Err e) = None
 
--- whether the text is UTF-8, and that of the http or https URL which it parses as (URL Standard, sections 4.4 and 4.5).
--- Each such URL has a text of this kind, so no code tests it.
+-- the text is UTF-8, and is the text of the http or https URL that it parses as (URL Standard, sections 4.4 and 4.5). The text of
+-- each such URL passes, so no code tests this.
 abbrev pub is_web_text : List ℕ → Bool
 is_web_text text = is_utf8 text && option_map_or (λ url. bytes_eq (serialize url) text) (web_url (parse_url None text)) false
 
@@ -25,41 +25,42 @@ abbrev pub web_text : Option Parts → Option (List ℕ)
 web_text None = None
 web_text (Some url) = if is_web_text (serialize url) then Some (serialize url) else None
 
--- how a reference is kept, by what it parses as alone: an http or https URL as its text, another URL as spelled.
--- If it is not a URL: as spelled without a base, else as the http or https URL to which it resolves
+-- the kept text of a reference, from what it parses as: an http or https URL is kept as its text, another URL as it is spelled. A
+-- reference that is no URL is resolved to an http or https URL, or kept as it is spelled if there is no base.
 abbrev pub kept_by : Parsed Parts → Option Parts → List ℕ → Option (List ℕ)
 kept_by (Ok url) base reference = if is_web url then web_text (Some url) else Some reference
 kept_by (Err e) None reference = Some reference
 kept_by (Err e) (Some base) reference = web_text (web_url (parse_url (Some base) reference))
 
--- the text under which a reference is kept; None if it does not resolve
+-- the text under which a reference is kept, or None if it does not resolve
 abbrev pub kept : Option Parts → List ℕ → Option (List ℕ)
 kept base reference = kept_by (parse_url None reference) base reference
 
--- whether the text may be a base, a reference or a kept text by its length (own)
+-- the length of a base, a reference or a kept text is within the limit (own)
 abbrev pub is_within_limit : List ℕ → Bool
 is_within_limit text = nat_le (length text) MOST_REFERENCE_BYTES
 
--- the URL against which references are resolved: a text within the limit that parses as an http or https URL (that no other is one is own)
+-- the URL against which references are resolved: a text within the limit that parses as an http or https URL (the restriction to
+-- these is own)
 abbrev pub base_url : List ℕ → Option Parts
 base_url text = if is_within_limit text then web_url (parse_url None text) else None
 
 abbrev pub is_base_refused : List ℕ → Bool
 is_base_refused text = is_none (base_url text)
 
--- whether there is a text, and it is within the limit
+-- there is a text within the limit
 abbrev pub is_text_within_limit : Option (List ℕ) → Bool
 is_text_within_limit text = option_map_or is_within_limit text false
 
--- whether a reference is too long, does not resolve, or has a kept text that is too long (own)
+-- a reference is too long, does not resolve, or has a kept text that is too long (own)
 abbrev pub is_reference_refused : Option Parts → List ℕ → Bool
 is_reference_refused base reference = not (is_within_limit reference && is_text_within_limit (kept base reference))
 
--- without a base a kept text is kept as itself
+-- without a base a kept text is kept as it is
 abbrev pub KeptIsKept : Type 0
 KeptIsKept = (base : Option Parts) (reference text : List ℕ) → kept base reference ≡ Some text → kept None text ≡ Some text
 
--- without a base the kept text of a reference that is not refused is not refused
+-- without a base the kept text of an accepted reference is accepted
 abbrev pub KeptIsAccepted : Type 0
 KeptIsAccepted =
     (base : Option Parts) (reference text : List ℕ) → is_reference_refused base reference ≡ false → kept base reference ≡ Some text →
@@ -71,7 +72,7 @@ KeptIsUtf8 =
     (base : Option Parts) (reference text : List ℕ) → is_utf8 reference ≡ true → kept base reference ≡ Some text →
     is_utf8 text ≡ true
 
--- a reference as it is kept: its own kept text without a base, of at most so many bytes, in UTF-8
+-- a reference in the text under which it is kept: without a base it is kept as it is, and it is UTF-8 within the limit
 pub record IsKeptReference (text : List ℕ) : Type 0 where
   pub kept : kept None text ≡ Some text
   pub short : is_within_limit text ≡ true

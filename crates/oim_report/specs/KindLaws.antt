@@ -1,4 +1,4 @@
--- Kinds that the test calls the same are equal.
+-- Kinds that pass the test are equal.
 use Rattle.std.specs.Prelude.{◌≡◌, true, refl}
 use mathlib.Core.Bool.{false≢true}
 use Rattle.oim_report.specs.declared.concept_kind.ConceptKind.{ConceptKind}

@@ -1,4 +1,4 @@
--- A refusal is the least condition that holds, and faults are all conditions that hold (own).
+-- A refusal is the least condition that applies, and faults are all conditions that apply (own).
 use Rattle.std.specs.Prelude.{◌≡◌, ◌↔◌, ◌≤◌, List, [], ◌∷◌, map, Contains, Bool, false, not, ◌&&◌, IsTrue, Option, Some, None}
 use Rattle.std.specs.List.{filter, find, list_any}
 use Rattle.std.specs.List.Sorted.{IsStrictlyIncreasing}
@@ -6,27 +6,27 @@ use Rattle.oim_names.specs.Reasons.{entry_of, reasons}
 use Rattle.oim_names.specs.declared.reason.Reason.{Reason}
 use Rattle.oim_names.specs.declared.reason.Reason.TheVariants.{Namespace, Feature}
 
--- the condition with the least number that holds: `reasons` lists them by number
+-- the condition with the least number that applies; `reasons` lists them by number
 unfoldable pub least : (Reason → Bool) → Option Reason
 least holds = find holds reasons
 
--- the conditions that hide this one: without prefixes no key is the feature
+-- the conditions that hide a condition: without prefixes, no key is the feature
 abbrev pub hidden_by : Reason → List Reason
 hidden_by Feature = Namespace ∷ []
 hidden_by r = []
 
--- the conditions that hold and are not hidden, by number
+-- the conditions that apply and are not hidden, by number
 unfoldable pub told : (Reason → Bool) → List Reason
 told holds = filter (λ r. not (list_any holds (hidden_by r)) && holds r) reasons
 
 -- ---- laws
 
--- this condition holds, and none with a smaller number does
+-- the condition applies, and none with a smaller number does
 pub record IsLeast (holds : Reason → Bool) (r : Reason) : Type 0 where
   pub holding : IsTrue (holds r)
   pub before : (s : Reason) → IsTrue (holds s) → (entry_of r).number ≤ (entry_of s).number
 
--- this condition holds, and none that hides it does
+-- the condition applies, and none that hides it does
 pub record IsShown (holds : Reason → Bool) (r : Reason) : Type 0 where
   pub holding : IsTrue (holds r)
   pub alone : (s : Reason) → Contains (hidden_by r) s → holds s ≡ false
@@ -35,7 +35,8 @@ abbrev pub first : List Reason → Option Reason
 first [] = None
 first (r ∷ rs) = Some r
 
--- `least` returns the least condition; `told` lists each condition that is shown, in strictly rising order of the numbers, and begins with the least
+-- `least` returns the least condition; `told` lists exactly the conditions that are shown, with strictly ascending numbers, and
+-- begins with the least
 pub record Answers (holds : Reason → Bool) : Type 0 where
   pub some : (r : Reason) → (least holds ≡ Some r) ↔ IsLeast holds r
   pub none : (least holds ≡ None) ↔ ((r : Reason) → holds r ≡ false)

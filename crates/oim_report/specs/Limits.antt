@@ -1,4 +1,4 @@
--- The limits of a file (own; the nesting of JSON is limited by `serde_json`).
+-- The limits of a file (own; `serde_json` limits the nesting of JSON).
 use Rattle.std.specs.Prelude.{◌≡◌, ◌↔◌, ℕ, ◌≤◌, IsTrue, List, length, Some}
 use Rattle.serde_json.specs.Data.{Data, object, Members, depth}
 use Rattle.serde_json.specs.Written.{compact_text}
@@ -6,14 +6,14 @@ use Rattle.oim_report.specs.Json.{json}
 use Rattle.oim_report.specs.Kept.{is_within_limit}
 use Rattle.oim_report.specs.PlainJson.{IsPlainJson}
 
--- a base, a reference and a kept text have at most 65,536 bytes,
+-- a base, a reference and a kept text have at most 65,536 bytes
 abbrev pub TextsAreWithinLimit : Type 0
 TextsAreWithinLimit = (text : List ℕ) → IsTrue (is_within_limit text) ↔ (length text ≤ 65_536)
 
--- what is read is at most 127 levels deep,
+-- a value that was read is at most 127 levels deep
 abbrev pub NestsWithinLimit : Type 0
 NestsWithinLimit = (bytes : List ℕ) (tree : Data) → json bytes ≡ Some tree → depth tree ≤ 127
 
--- and an object of that depth is read
+-- an object that is 127 levels deep is read
 abbrev pub NestedIsRead : Type 0
 NestedIsRead = (ms : Members) → IsPlainJson (object ms) 127 → json (compact_text (object ms)) ≡ Some (object ms)

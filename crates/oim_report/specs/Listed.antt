@@ -1,4 +1,4 @@
--- What a sheet lists, by its members (own).
+-- The names that a sheet lists, in terms of its members (own).
 use Rattle.std.specs.Prelude.{◌≡◌, ◌⊎◌, ◌↔◌, ℕ, List, Option, Some, Ok, option_and_then}
 use Rattle.std.specs.FinMap as map
 use Rattle.oim_names.specs.QName.{QName}
@@ -10,7 +10,7 @@ use Rattle.oim_report.specs.declared.dimension_kind.DimensionKind.{DimensionKind
 use Rattle.oim_report.specs.Json.{given, json, text_of}
 use Rattle.oim_report.specs.Sheet.{Sheet, concept_kind_named, dimension_kind_named, sheet_bindings, sheet_concepts, sheet_dimensions, sheet_outcome}
 
--- a member of these has this key and this value
+-- one of the members has this key and this value
 abbrev pub StandsIn : List ℕ → Data → Members → Type 0
 StandsIn key value no_members = ⊥
 StandsIn key value (member k d ms) = ((key ≡ k) × (value ≡ d)) ⊎ StandsIn key value ms
@@ -23,13 +23,13 @@ pub record SaysKind {K : Type 0} (kind_named : List ℕ → Option K) (bs : List
   pub name : Expands bs key n
   pub kind : option_and_then kind_named (text_of (given value)) ≡ Some k
 
--- an accepted sheet has a concept with a kind exactly if its member `concepts` says so,
+-- an accepted sheet lists a concept with a kind exactly if its member `concepts` says so
 abbrev pub ConceptsAreListed : Type 0
 ConceptsAreListed =
     (bytes : List ℕ) (tree : Data) (sheet : Sheet) (n : QName) (k : ConceptKind) → json bytes ≡ Some tree → sheet_outcome bytes ≡ Ok sheet →
     (map.get sheet.concepts n ≡ Some k) ↔ SaysKind concept_kind_named (sheet_bindings tree) (sheet_concepts tree) n k
 
--- and a dimension exactly if its member `dimensions` does
+-- an accepted sheet lists a dimension with a kind exactly if its member `dimensions` says so
 abbrev pub DimensionsAreListed : Type 0
 DimensionsAreListed =
     (bytes : List ℕ) (tree : Data) (sheet : Sheet) (n : QName) (k : DimensionKind) → json bytes ≡ Some tree → sheet_outcome bytes ≡ Ok sheet →

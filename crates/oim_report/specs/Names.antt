@@ -8,15 +8,15 @@ use Rattle.oim_names.specs.Expansion.{reserved_uri, Spelled, refuses}
 use Rattle.oim_names.specs.declared.reason.Reason.{Reason}
 use Rattle.oim_names.specs.declared.reason.Reason.TheVariants.{NameForm, UnboundPrefix, ReservedNamespace}
 
--- whether one of several texts is no such name for this reason
+-- whether one of several names is refused for this reason
 abbrev pub refuses_some : Reason → List Binding → List Spelled → Bool
 refuses_some reason bs names = list_any (refuses reason bs) names
 
--- the least refusal of several names: of form, prefix and namespace (own)
+-- the refusal with the least number among several names: for their form, prefix or namespace (own)
 abbrev pub names_refusal : List Binding → List Spelled → Option Reason
 names_refusal bs names = find (λ r. refuses_some r bs names) (NameForm ∷ UnboundPrefix ∷ ReservedNamespace ∷ [])
 
--- the name that a text stands for (XML Namespaces 1.0, section 4), as `Expands` has it
+-- the name that a text expands to (XML Namespaces 1.0, section 4), as in `Expands`
 abbrev pub in_namespace : List ℕ → List ℕ → Option QName
 in_namespace u t = if bytes_eq u reserved_uri then None else Some (record { uri = u; local_part = local_part t })
 

@@ -7,7 +7,7 @@ use Rattle.oim_names.specs.Bindings.{Binding}
 use Rattle.serde_json.specs.Data.{Data, Members, no_members, member}
 use Rattle.oim_report.specs.Json.{given, text_of}
 
--- whether an entry of `namespaces` binds nothing: its key is not a prefix, or its value is empty or not a text
+-- an entry of `namespaces` binds nothing if its key is not a prefix, or its value is empty or not a text
 abbrev pub binds_nothing : List ℕ → Data → Bool
 binds_nothing key d = not (is_part key) || option_map_or (λ u. bytes_eq u []) (text_of (given d)) true
 

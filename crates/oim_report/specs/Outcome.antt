@@ -1,4 +1,4 @@
--- What a report's bytes say, or the first refusal (own).
+-- The outcome of a report's bytes: their document, or the first refusal (own).
 use Rattle.std.specs.Prelude.{◌≢◌, ℕ, ◌+◌, List, [], ◌∷◌, map, if◌then◌else◌, Option, Some, None, option_and_then, Result, Ok, Err}
 use Rattle.std.specs.Option.{unwrap_or}
 use Rattle.std.specs.Ordering.{is_lt}
@@ -29,7 +29,7 @@ at place reason = record { reason = reason; place = place }
 
 -- ---- a fact
 
--- an object says a fact if no condition holds for it: if it said none, its form would be refused
+-- the fact that an object says, if no condition applies; an object that says none is refused for its form
 abbrev pub fact_or : Option Reason → Option Fact → Result Fact Reason
 fact_or None (Some fact) = Ok fact
 fact_or None None = Err MemberForm
@@ -46,11 +46,11 @@ all_or_first n (Err reason ∷ outcomes) = Err (at (AtFact n) reason)
 
 -- ---- a document
 
--- the facts of fact objects, in byte order of their identifiers, or the first refusal
+-- the facts of fact objects in byte order of their identifiers, or the first refusal
 abbrev pub facts_said : Sheet → List Binding → Members → Result (List Fact) Refusal
 facts_said sheet bs objects = all_or_first 1 (map (fact_outcome sheet bs) (values objects))
 
--- a document, if its facts have no duplicates beyond the declared level
+-- a document, if its facts have no duplicates above the declared level
 abbrev pub unless_above : Level → Document → Result Document Refusal
 unless_above found d = if is_lt (level_cmp d.level found) then Err (at AtDocument DisallowedDuplicates) else Ok d
 
@@ -73,10 +73,10 @@ tree_outcome sheet None = Err (at AtDocument NotJson)
 tree_outcome sheet (Some tree) =
     unless_refused (document_refusal tree) (then_allowed (map_ok (document_with tree) (facts_said sheet (bindings_of tree) (facts_of tree))))
 
--- the document that the bytes say under the sheet, or the first refusal: the document's, then the first fact's, then that of duplicates
+-- the document that the bytes say under the sheet, or the first refusal: of the document, a fact or the duplicates
 unfoldable pub outcome : Sheet → List ℕ → Result Document Refusal
 outcome sheet bytes = tree_outcome sheet (json bytes)
 
--- no bytes are refused for out of memory, which is not a condition of a report
+-- no report is refused for lack of memory, which is not a condition of a report
 abbrev pub OutcomesWantNoMemory : Type 0
 OutcomesWantNoMemory = (sheet : Sheet) (bytes : List ℕ) (place : Place) → outcome sheet bytes ≢ Err (at place OutOfMemory)

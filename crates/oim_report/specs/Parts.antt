@@ -5,8 +5,8 @@ use Rattle.serde_json.specs.Data.{Data, Members, no_members, member}
 use Rattle.serde_json.specs.Find.{get_member, as_object}
 use Rattle.oim_report.specs.Json.{Given, given, given_at, any_member, has_member, has_colon, is_unknown, is_no_object}
 
--- what the members of `dimensions` are: the core dimensions, whether there is a member that is neither one of them
--- nor has a colon in its key, and the dimensions that a taxonomy defines, in byte order of their keys
+-- the members of `dimensions`: the core dimensions, the test for other members without a colon in the key, and the
+-- taxonomy-defined dimensions in byte order of their keys
 pub record DimensionParts : Type 0 where
   pub concept : Given
   pub entity : Given
@@ -37,8 +37,8 @@ dimension_parts ms = record {
   unknown = any_member (is_unknown core_keys) ms;
 }
 
--- what the members of a fact object are: its value, its decimals, its dimensions where they are an object; whether `links` has a
--- member, whether `dimensions` or `links` is there and no object, and whether there is another member without a colon in its key
+-- the members of a fact object: its value, its decimals, and its dimensions if they are an object; and the tests that `links` has
+-- a member, that `dimensions` or `links` exists and is no object, and that there is another member without a colon in its key
 pub record FactParts : Type 0 where
   pub value : Given
   pub decimals : Given
@@ -60,6 +60,6 @@ parts_of ms = record {
   unknown = any_member (is_unknown fact_keys) ms;
 }
 
--- of a value that is an object
+-- the parts of a value that is an object
 abbrev pub fact_parts : Data → Option FactParts
 fact_parts d = option_map parts_of (as_object d)

@@ -1,10 +1,10 @@
--- The text of an object's members, read in pieces, each as the one object of an array (own).
+-- The text of an object's members is read in pieces, each as the only object of an array (own).
 use Rattle.std.specs.Prelude.{◌≡◌, ℕ, codes, List, [], ◌∷◌, ◌++◌, true, Option, Some, None, ⊤}
 use Rattle.json.specs.Word.{is_space}
 use Rattle.serde_json.specs.Data.{Data, array, object, no_items, item, Members, no_members, member, put}
 use Rattle.serde_json.specs.Read.{read}
 
--- the text of an array of one object, whose members' text is `piece`
+-- the text of an array of one object with the members in `piece`
 abbrev pub alone : List ℕ → List ℕ
 alone piece = 91 ∷ 123 ∷ (piece ++ 125 ∷ 93 ∷ [])
 
@@ -28,30 +28,31 @@ EndsWithBrace [] = ⊥
 EndsWithBrace (x ∷ []) = x ≡ 125
 EndsWithBrace (x ∷ y ∷ xs) = EndsWithBrace (y ∷ xs)
 
--- the piece is the text of these members, at least one
+-- the piece is the text of these members, and there is at least one
 pub record IsPiece (piece : List ℕ) (found : Members) : Type 0 where
   pub closed : EndsWithBrace piece
   pub some : HasMember found
   pub reads : read (alone piece) ≡ Some (one_data found)
 
--- ---- the pieces' members, one after another
+-- ---- the members of several pieces
 
 abbrev pub append : Members → Members → Members
 append no_members ns = ns
 append (member k d ms) ns = member k d (append ms ns)
 
--- the members put one after another into an object that has others: of a repeated key the last one stays (RFC 8259, section 4, as `serde_json` reads it)
+-- the members are added to an object one after another; the last member of a repeated key stays (RFC 8259, section 4, as
+-- `serde_json` reads it)
 abbrev pub put_all : Members → Members → Members
 put_all no_members onto = onto
 put_all (member k d ms) onto = put_all ms (put k d onto)
 
--- a comma between two pieces makes a piece that gives the members of both (RFC 8259, section 4, as `serde_json` reads it)
+-- two pieces with a comma between them make a piece with the members of both (RFC 8259, section 4, as `serde_json` reads it)
 abbrev pub PiecesAreTheWhole : Type 0
 PiecesAreTheWhole = (a b : List ℕ) (found more : Members) → IsPiece a found → IsPiece b more → IsPiece (a ++ 44 ∷ b) (put_all more found)
 
 -- ---- the next piece of a text
 
--- a piece, and after a comma what is left
+-- a piece, and the remaining text after a comma
 abbrev pub with_rest : List ℕ → Option (List ℕ) → List ℕ
 with_rest piece None = piece
 with_rest piece (Some rest) = piece ++ 44 ∷ rest
@@ -72,28 +73,28 @@ AreSpaces (x ∷ xs) = (is_space x ≡ true) × AreSpaces xs
 abbrev pub facts_key : List ℕ
 facts_key = 34 ∷ 102 ∷ 97 ∷ 99 ∷ 116 ∷ 115 ∷ 34 ∷ []
 
--- white space and then the other text
+-- white space, followed by the rest
 pub record AfterSpaces (text rest : List ℕ) : Type 0 where
   pub spaces : List ℕ
   pub are : AreSpaces spaces
   pub splits : text ≡ spaces ++ rest
 
--- the text and then white space
+-- the front, followed by white space
 pub record BeforeSpaces (text front : List ℕ) : Type 0 where
   pub spaces : List ℕ
   pub are : AreSpaces spaces
   pub splits : text ≡ front ++ spaces
 
--- the member `facts`, with white space where JSON has it
+-- the member `facts`, with white space wherever JSON allows it
 abbrev pub facts_text : List ℕ → List ℕ → List ℕ → List ℕ → List ℕ
 facts_text s3 s4 facts s5 = facts_key ++ (s3 ++ 58 ∷ (s4 ++ 123 ∷ (facts ++ (s5 ++ 125 ∷ []))))
 
--- members before others, if there are any
+-- other members before these, if there are any
 abbrev pub with_before : Option (List ℕ) → List ℕ → List ℕ → List ℕ
 with_before None spaces rest = rest
 with_before (Some before) spaces rest = before ++ (spaces ++ 44 ∷ rest)
 
--- and after others
+-- other members after these, if there are any
 abbrev pub with_behind : List ℕ → List ℕ → Option (List ℕ) → List ℕ
 with_behind front spaces None = front
 with_behind front spaces (Some behind) = front ++ (spaces ++ 44 ∷ behind)
@@ -132,7 +133,7 @@ pub record IsSplit (text : List ℕ) (before : Option (List ℕ)) (facts : List 
   pub head_is : IsHead head before
   pub tail_is : IsTail tail facts behind
 
--- two texts of members, and both with a comma between them, give these members
+-- two texts of members, joined by a comma, give these members
 pub record AreBoth (before behind : List ℕ) (all : Members) : Type 0 where
   pub found : Members
   pub more : Members
@@ -140,13 +141,13 @@ pub record AreBoth (before behind : List ℕ) (all : Members) : Type 0 where
   pub second : IsPiece behind more
   pub both : IsPiece (before ++ 44 ∷ behind) all
 
--- the members beside `facts`
+-- the members other than `facts`
 abbrev pub IsBeside : Option (List ℕ) → Option (List ℕ) → Members → Type 0
 IsBeside None None found = ⊥
 IsBeside (Some before) None found = IsPiece before found
 IsBeside None (Some behind) found = IsPiece behind found
 IsBeside (Some before) (Some behind) found = AreBoth before behind found
 
--- the object without its member `facts`, whose members' text is `facts`: whatever that text gives
+-- the document without its member `facts`, if `facts` is the text of that object's members; its result does not depend on them
 abbrev pub IsOutline : List ℕ → Data → List ℕ → Type 0
 IsOutline text tree facts = (before : Members) × (tree ≡ object before) × ((found : Members) → IsPiece facts found → read text ≡ Some (object (put (codes "facts") (object found) before)))

@@ -1,4 +1,5 @@
--- JSON values that their compact text gives back: no float, integers in range, keys in order (RFC 8259; the ranges are own).
+-- JSON values that are read back from their compact text: no float, integers in range, keys in order (RFC 8259; the ranges are
+-- own).
 use Rattle.std.specs.Prelude.{◌≡◌, ℕ, ◌^◌, ◌<◌, ◌≤◌, pos, negsuc, List, IsUtf8, ⊤, false, Some}
 use Rattle.std.specs.declared.cmp.Ordering.TheVariants.{Less}
 use Rattle.std.specs.Ordering.{nat_cmp}
@@ -8,14 +9,14 @@ use Rattle.serde_json.specs.Read.{max_depth}
 use Rattle.serde_json.specs.Written.{compact_text, has_float}
 use Rattle.oim_report.specs.Json.{json}
 
--- an integer that a text can have
+-- an integer that can be written and read
 abbrev pub IsWhole : Num → Type 0
 IsWhole (unsigned n) = n < 2 ^ 64
 IsWhole (negative (pos n)) = ⊥
 IsWhole (negative (negsuc n)) = n < 2 ^ 63
 IsWhole (float x) = ⊥
 
--- the key is before each of the members
+-- the key is less than each key of the members
 abbrev pub IsBefore : List ℕ → Members → Type 0
 IsBefore k no_members = ⊤
 IsBefore k (member l d ms) = (slice_cmp nat_cmp k l ≡ Less) × IsBefore k ms
@@ -55,7 +56,7 @@ abbrev mutual
   MembersHaveUtf8 no_members = ⊤
   MembersHaveUtf8 (member k d ms) = IsUtf8 k × HasUtf8 d × MembersHaveUtf8 ms
 
--- a value that its compact text gives back, with a limit of nesting
+-- a value, nested at most this deep, that is read back from its compact text
 pub record IsPlainJson (d : Data) (most : ℕ) : Type 0 where
   pub plain : IsPlain d
   pub utf8 : HasUtf8 d
@@ -65,10 +66,10 @@ pub record IsPlainJson (d : Data) (most : ℕ) : Type 0 where
 abbrev pub PlainTextReadsBack : Type 0
 PlainTextReadsBack = (ms : Members) → IsPlainJson (object ms) max_depth → json (compact_text (object ms)) ≡ Some (object ms)
 
--- and has no float, so it is what `serde_json` writes
+-- a plain value has no float, so `serde_json` writes its compact text
 abbrev pub PlainHasNoFloat : Type 0
 PlainHasNoFloat = (d : Data) → IsPlain d → has_float d ≡ false
 
--- each string and each key of what is read is UTF-8
+-- each string and each key of a value that was read is UTF-8
 abbrev pub ReadHasUtf8 : Type 0
 ReadHasUtf8 = (bytes : List ℕ) (d : Data) → json bytes ≡ Some d → HasUtf8 d

@@ -34,7 +34,7 @@ use Rattle.oim_report.specs.Sheet.{Sheet}
 
 -- ---- names that a function from names to texts spells
 
--- a name is spelled with a prefix that is bound to its URI: ASCII letters and digits, at least one
+-- a name is spelled with a prefix that is bound to its URI and consists of one or more ASCII letters and digits
 pub record SpellsName (bs : List Binding) (spelled : QName → List ℕ) (n : QName) : Type 0 where
   pub prefix : List ℕ
   pub filled : prefix ≢ []
@@ -61,7 +61,7 @@ SpellsValue bs spelled (Number units places) = ⊤
 SpellsValue bs spelled (AText t) = ⊤
 SpellsValue bs spelled (AName n) = SpellsName bs spelled n
 
--- each name of a fact is
+-- each name of a fact is spelled in this way
 pub record SpellsFact (bs : List Binding) (spelled : QName → List ℕ) (f : Fact) : Type 0 where
   pub concept : SpellsName bs spelled f.dimensions.concept
   pub entity : IfSome f.dimensions.entity (SpellsName bs spelled)
@@ -75,7 +75,7 @@ abbrev pub option_given : Option (List ℕ) → Given
 option_given None = absent
 option_given (Some t) = text t
 
--- a key with its value, among others in byte order
+-- a key with its value, added to others in byte order
 abbrev pub with_given : List ℕ → Given → List (List ℕ × Given) → List (List ℕ × Given)
 with_given key g [] = (key, g) ∷ []
 with_given key g (d ∷ ds) = match_ordering (slice_cmp nat_cmp key d.0) ((key, g) ∷ d ∷ ds) ((d.0, g) ∷ ds) (d ∷ with_given key g ds)
@@ -86,7 +86,7 @@ module _ (spelled : QName → List ℕ) where
   member_given (MemberText t) = text t
   member_given (MemberName n) = text (spelled n)
 
-  -- the members, in byte order of their keys
+  -- the members of the taxonomy-defined dimensions, in byte order of their keys
   abbrev pub defined_given : List (QName × Member) → List (List ℕ × Given)
   defined_given [] = []
   defined_given (e ∷ es) = with_given (spelled e.0) (member_given e.1) (defined_given es)
@@ -130,7 +130,7 @@ module _ (spelled : QName → List ℕ) where
 abbrev pub FactObjectHasParts : Type 0
 FactObjectHasParts = (sheet : Sheet) (bs : List Binding) (spelled : QName → List ℕ) (f : Fact) → FactFits sheet f → SpellsFact bs spelled f → fact_parts (fact_object spelled f) ≡ Some (parts_given spelled f)
 
--- ---- part by part: what is written says the part, and the part alone, and is not refused
+-- ---- part by part: the written part says this part and no other, and is not refused
 
 pub record ConceptReadsBack (sheet : Sheet) (bs : List Binding) (spelled : QName → List ℕ) (n : QName) (kind : ConceptKind) : Type 0 where
   pub says : Expands bs (spelled n) n
@@ -175,7 +175,7 @@ pub record LanguageReadsBack (kind : ConceptKind) (language : Option (List ℕ))
 abbrev pub LanguagesReadBack : Type 0
 LanguagesReadBack = (kind : ConceptKind) (language : Option (List ℕ)) → LanguageFits kind language → LanguageReadsBack kind language
 
--- several dimensions at once, of both kinds, each with its member
+-- several dimensions of both kinds, each with its member
 pub record MembersReadBack (sheet : Sheet) (bs : List Binding) (spelled : QName → List ℕ) (es : List (QName × Member)) : Type 0 where
   pub says : SaysMembers sheet bs (defined_given spelled es) es
   pub said : said_members sheet bs (defined_given spelled es) ≡ Some es
@@ -192,7 +192,7 @@ pub record ValueReadsBack (bs : List Binding) (spelled : QName → List ℕ) (ki
   pub decimals_accepted : decimals_refusal (Some kind) (decimals_given spelled v) ≡ None
   pub names : names_refusal bs (value_names (Some kind) (value_given spelled v)) ≡ None
 
--- nil, a number with its decimals, a text, a name
+-- a value is nil, a number with its decimals, a text or a name
 abbrev pub ValuesReadBack : Type 0
 ValuesReadBack = (bs : List Binding) (spelled : QName → List ℕ) (kind : ConceptKind) (v : Value) → ValueFits kind v → SpellsValue bs spelled v → ValueReadsBack bs spelled kind v
 
@@ -202,7 +202,7 @@ ValuesReadBack = (bs : List Binding) (spelled : QName → List ℕ) (kind : Conc
 abbrev pub FormsAreAccepted : Type 0
 FormsAreAccepted = (spelled : QName → List ℕ) (f : Fact) → form_refusal (parts_given spelled f) ≡ None
 
--- and none of their names is refused
+-- none of the names is refused
 abbrev pub NamesAreAccepted : Type 0
 NamesAreAccepted = (sheet : Sheet) (bs : List Binding) (spelled : QName → List ℕ) (f : Fact) → FactFits sheet f → SpellsFact bs spelled f → names_refusal bs (names_of sheet bs (dimensions_given spelled f.dimensions) (value_given spelled f.value)) ≡ None
 
@@ -212,7 +212,7 @@ NamesAreAccepted = (sheet : Sheet) (bs : List Binding) (spelled : QName → List
 abbrev pub FactObjectIsPlain : Type 0
 FactObjectIsPlain = (sheet : Sheet) (bs : List Binding) (spelled : QName → List ℕ) (f : Fact) → FactFits sheet f → SpellsFact bs spelled f → IsPlainJson (fact_object spelled f) 2
 
--- the value of a fact object has parts that are not refused and say the fact; and the fact is what it says
+-- a fact object has parts that are not refused and say the fact, and they say no other fact
 pub record IsReadAs (sheet : Sheet) (bs : List Binding) (d : Data) (f : Fact) : Type 0 where
   pub parts : FactParts
   pub are : fact_parts d ≡ Some parts
@@ -220,6 +220,6 @@ pub record IsReadAs (sheet : Sheet) (bs : List Binding) (d : Data) (f : Fact) : 
   pub says : SaysFact sheet bs parts f
   pub outcome : fact_outcome sheet bs d ≡ Ok f
 
--- a fact that fits is said by its object, if its names are spelled with prefixes that are bound to their URIs
+-- the object of a fact that fits says the fact, if its names are spelled with prefixes that are bound to their URIs
 abbrev pub FactObjectReadsBack : Type 0
 FactObjectReadsBack = (sheet : Sheet) (bs : List Binding) (spelled : QName → List ℕ) (f : Fact) → FactFits sheet f → SpellsFact bs spelled f → IsReadAs sheet bs (fact_object spelled f) f

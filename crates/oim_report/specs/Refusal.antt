@@ -1,12 +1,12 @@
--- Conditions of refusals, and which is answered (own).
+-- Conditions and their refusals, and the first of them that applies (own).
 use Rattle.std.specs.Prelude.{Bool, List, [], ◌∷◌, if◌then◌else◌, Option, Some, None, Result, Ok, Err}
 use Rattle.oim_names.specs.declared.reason.Reason.{Reason}
 
--- whether it holds, and the refusal that it is answered with
+-- the test of a condition, and its refusal
 abbrev pub Condition : Type 0
 Condition = Bool × Reason
 
--- the refusal of the first condition that holds
+-- the refusal of the first condition that applies
 abbrev pub first_holding : List Condition → Option Reason
 first_holding [] = None
 first_holding (c ∷ cs) = if c.0 then Some c.1 else first_holding cs
@@ -20,7 +20,7 @@ abbrev pub first_refusal : List (Option Reason) → Option Reason
 first_refusal [] = None
 first_refusal (r ∷ rs) = or_refusal r (first_refusal rs)
 
--- a value, but where it is refused
+-- a value, or a refusal if there is one
 abbrev pub unless : {A : Type 0} → Option Reason → A → Result A Reason
 unless None a = Ok a
 unless (Some reason) a = Err reason

@@ -1,4 +1,4 @@
--- Which reports are refused and why, by the conditions and not by the outcome (own).
+-- Which reports are refused and why, in terms of the conditions (own).
 use Rattle.std.specs.Prelude.{◌≡◌, ◌⊎◌, ◌↔◌, ℕ, ◌+◌, List, ◌∷◌, ◌++◌, length, true, false, None, Some, Err}
 use Rattle.std.specs.List.{AllByRecursion}
 use Rattle.std.specs.Ordering.{is_lt}
@@ -30,20 +30,20 @@ pub record RefusesOne (sheet : Sheet) (bs : List Binding) (earlier : ℕ) (objec
   pub refused : IsLeast (holds sheet bs object) reason
   pub answer : r ≡ at (AtFact (earlier + length before)) reason
 
--- the level of what is said is above the declared one
+-- the level of the facts is above the declared one
 pub record RefusesLevel (sheet : Sheet) (bytes : List ℕ) (r : Refusal) : Type 0 where
   pub document : Document
   pub said : SaysDocument sheet bytes document
   pub above : is_lt (level_cmp document.level (level_of document.facts)) ≡ true
   pub answer : r ≡ at AtDocument DisallowedDuplicates
 
--- for a document without a condition that holds: the first fact with one, or else the level
+-- if no condition applies to the document: the first fact to which one applies, or else the level
 abbrev pub RefusesFacts : Sheet → List ℕ → Data → Refusal → Type 0
 RefusesFacts sheet bytes tree r =
     RefusesOne sheet (bindings_of tree) 1 (values (facts_of tree)) r
     ⊎ (AllByRecursion (IsFree sheet (bindings_of tree)) (values (facts_of tree)) × RefusesLevel sheet bytes r)
 
--- for JSON: the least condition of the document that holds, or else the facts
+-- if the bytes are JSON: the least condition of the document that applies, or else the facts
 abbrev pub RefusesTree : Sheet → List ℕ → Data → Refusal → Type 0
 RefusesTree sheet bytes tree r =
     ((reason : Reason) × IsLeast (document_holds tree) reason × (r ≡ at AtDocument reason)) ⊎ (((reason : Reason) → document_holds tree reason ≡ false) × RefusesFacts sheet bytes tree r)
@@ -52,6 +52,6 @@ abbrev pub Refuses : Sheet → List ℕ → Refusal → Type 0
 Refuses sheet bytes r =
     ((json bytes ≡ None) × (r ≡ at AtDocument NotJson)) ⊎ ((tree : Data) × (json bytes ≡ Some tree) × RefusesTree sheet bytes tree r)
 
--- a report is refused so exactly if that holds
+-- a report has this refusal exactly if Refuses holds
 abbrev pub RefusedWhereHeld : Type 0
 RefusedWhereHeld = (sheet : Sheet) (bytes : List ℕ) (r : Refusal) → (outcome sheet bytes ≡ Err r) ↔ Refuses sheet bytes r

@@ -1,4 +1,4 @@
--- What the rows of the table ask of one member of `dimensions`.
+-- The tests in the table of conditions for one member of `dimensions`.
 use Rattle.std.specs.Prelude.{ℕ, List, ◌∷◌, map, Bool, ◌&&◌, Option, None, if◌then◌else◌, is_none}
 use Rattle.std.specs.Option.{option_to_list}
 use Rattle.std.specs.List.{filter_map}
@@ -15,29 +15,29 @@ use Rattle.oim_report.specs.Names.{named, refuses_some}
 use Rattle.oim_names.specs.Expansion.{a_name}
 use Rattle.oim_report.specs.Sheet.{Sheet}
 
--- whether the value at a key is no text
+-- the value at a key is no text
 abbrev pub lacks_text : List ℕ → Members → Bool
 lacks_text key ms = is_some_and no_text (get_member key ms)
 
--- whether a key is that of a taxonomy-defined dimension, and whether such a member passes the test
+-- a key belongs to a taxonomy-defined dimension; its member passes a test
 abbrev pub is_defined : List ℕ → Bool
 is_defined key = has_colon key && is_utf8 key
 
 abbrev pub any_defined : (List ℕ → Data → Bool) → Members → Bool
 any_defined test ms = any_member (λ key d. is_defined key && test key d) ms
 
--- whether one of its names is refused for this reason: its key, or its member where it is explicit
+-- a name is refused for this reason: the key, or the member if the dimension is explicit
 abbrev pub refuses_in : Reason → Sheet → List Binding → List ℕ → Data → Bool
 refuses_in r sheet bs key d = refuses_some r bs (a_name key ∷ map a_name (option_to_list (explicit_text sheet bs null no_members (key, d))))
 
--- whether the sheet does not list it; whether it cannot have this member
+-- the sheet does not list the dimension; the dimension cannot have this member
 abbrev pub is_unlisted : Sheet → List Binding → List ℕ → Data → Bool
 is_unlisted sheet bs key d = is_some_and (λ n. is_none (map.get sheet.dimensions n)) (named bs key)
 
 abbrev pub is_misfit : Sheet → List Binding → List ℕ → Data → Bool
 is_misfit sheet bs key d = is_some_and (λ kind. misfits kind d) (dimension_kind sheet bs null no_members key)
 
--- the names of all
+-- the name of a taxonomy-defined dimension; the names of all
 abbrev pub defined_name : List Binding → List ℕ → Option QName
 defined_name bs key = if is_defined key then named bs key else None
 

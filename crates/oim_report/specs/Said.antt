@@ -1,4 +1,4 @@
--- The fact that a fact object says, as a function: part by part, each None if the object does not say it.
+-- The fact that a fact object says, as a function. Each part is None if the object does not say it.
 use Rattle.std.specs.Prelude.{ℕ, ℤ, List, [], ◌∷◌, if◌then◌else◌, Option, Some, None, option_map, option_and_then}
 use Rattle.std.specs.Result.{result_ok}
 use Rattle.std.specs.Ordering.{is_lt, is_eq}
@@ -28,7 +28,7 @@ use Rattle.oim_report.specs.Parts.{DimensionParts, FactParts}
 use Rattle.oim_report.specs.Conditions.{concept_kind, dimension_kind}
 use Rattle.oim_report.specs.Sheet.{Sheet}
 
--- a part that may be absent: then it has this value
+-- an optional part: the given value if it is absent
 abbrev pub said_text : {A : Type 0} → A → (List ℕ → Option A) → Given → Option A
 said_text none says absent = Some none
 said_text none says (text t) = says t
@@ -50,12 +50,12 @@ said_language = said_text None (λ t. if is_language t then Some (Some (str_to_a
 
 -- ---- units
 
--- the names of several texts
+-- the names that several texts expand to
 abbrev pub all_named : List Binding → List (List ℕ) → Option (List QName)
 all_named bs [] = Some []
 all_named bs (t ∷ ts) = option_and_then (λ n. option_map (λ ns. n ∷ ns) (all_named bs ts)) (named bs t)
 
--- names in their order, repeats kept
+-- names in sorted order, with their repeats
 abbrev pub with_name : QName → List QName → List QName
 with_name n [] = n ∷ []
 with_name n (m ∷ ms) = if is_lt (name_cmp m n) then m ∷ with_name n ms else n ∷ m ∷ ms
@@ -67,7 +67,7 @@ in_order (n ∷ ns) = with_name n (in_order ns)
 abbrev pub side_of : List Binding → List (List ℕ) → Option (List QName)
 side_of bs ps = option_map in_order (all_named bs ps)
 
--- both sides as a unit; `pure` alone is none (own)
+-- the unit of both sides; `pure` alone is none (own)
 abbrev pub unit_with : List QName → List QName → Option Measures
 unit_with (n ∷ []) [] = if is_eq (name_cmp n pure_name) then None else Some (record { numerators = n ∷ []; denominators = [] })
 unit_with ns ds = Some (record { numerators = ns; denominators = ds })
@@ -87,7 +87,7 @@ said_member bs (Some Typed) (text t) = Some (MemberText t)
 said_member bs (Some Typed) nil = Some NoMember
 said_member bs kind g = None
 
--- the members with those of several keys, one after another
+-- the members with the members of several keys added one after another
 abbrev pub members_with : Sheet → List Binding → List (QName × Member) → List (List ℕ × Given) → Option (List (QName × Member))
 members_with sheet bs es [] = Some es
 members_with sheet bs es (d ∷ ds) =

@@ -1,4 +1,4 @@
--- What the borrowed parts of the code stand for.
+-- The values that the borrowed parts of the code represent.
 use Rattle.std.specs.Prelude.{List, ℕ, map, option_map}
 use Rattle.std.specs.Borrow.{Bor}
 use Rattle.oim_report.specs.declared.fact.given.Given.{Given as Lent}

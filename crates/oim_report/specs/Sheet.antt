@@ -1,4 +1,4 @@
--- Concept sheets: which concepts and dimensions reports may use, with the kinds of their values (own).
+-- Concept sheets list the concepts and dimensions that reports may use, with the kinds of their values (own).
 use Rattle.std.specs.Prelude.{◌≡◌, ◌≢◌, ◌⊎◌, ◌↔◌, ℕ, List, [], ◌∷◌, ◌++◌, Bool, true, false, not, ◌||◌, codes, bytes_eq, if◌then◌else◌, Option, Some, None, is_some, option_and_then, Result, Err}
 use Rattle.std.specs.Option.{option_map_or}
 use Rattle.std.specs.List.{list_any}
@@ -41,7 +41,7 @@ sheet_dimensions tree = members (object_at (codes "dimensions") tree)
 abbrev pub sheet_bindings : Data → List Binding
 sheet_bindings tree = bindings_in (members (sheet_namespaces tree))
 
--- the names that keys have to spell
+-- the names that keys must spell
 abbrev pub key_names : Members → List Spelled
 key_names no_members = []
 key_names (member key d ms) = a_name key ∷ key_names ms
@@ -88,7 +88,7 @@ module _ {K : Type 0} (kind_named : List ℕ → Option K) (same : K → K → B
   abbrev pub names_no_kind : List ℕ → Data → Bool
   names_no_kind key d = not (is_some (kind_in d))
 
-  -- whether a name has two kinds: then one of them is not the one in the map
+  -- a name has two kinds if one of its kinds is not the one in the map
   abbrev pub has_other_kind : FinMap name_cmp K → QName × K → Bool
   has_other_kind m e = not (option_map_or (same e.1) (map.get m e.0) false)
 
@@ -106,7 +106,7 @@ sheet_keys = codes "namespaces" ∷ codes "concepts" ∷ codes "dimensions" ∷ 
 abbrev pub sheet_names : Data → List Spelled
 sheet_names tree = key_names (sheet_concepts tree) ++ key_names (sheet_dimensions tree)
 
--- whether a condition of a sheet holds
+-- a condition of a sheet applies
 unfoldable pub sheet_holds : Data → Reason → Bool
 sheet_holds tree MemberForm =
     not (is_object tree) || is_no_object (get (codes "namespaces") tree) || is_no_object (get (codes "concepts") tree) || is_no_object (get (codes "dimensions") tree)
@@ -119,7 +119,7 @@ sheet_holds tree SheetKind =
     has_bad_kind concept_kind_named same_concept_kind (sheet_bindings tree) (sheet_concepts tree) || has_bad_kind dimension_kind_named same_dimension_kind (sheet_bindings tree) (sheet_dimensions tree)
 sheet_holds tree r = false
 
--- ---- what a sheet says
+-- ---- the contents of a sheet
 
 abbrev pub said_sheet : Data → Sheet
 said_sheet tree = record {
@@ -131,15 +131,15 @@ abbrev pub sheet_of : Option Data → Result Sheet Reason
 sheet_of None = Err NotJson
 sheet_of (Some tree) = unless (least (sheet_holds tree)) (said_sheet tree)
 
--- the sheet that the bytes say, or why they are refused
+-- the sheet that the bytes say, or the reason to refuse them
 unfoldable pub sheet_outcome : List ℕ → Result Sheet Reason
 sheet_outcome bytes = sheet_of (json bytes)
 
--- no sheet is refused for out of memory
+-- no sheet is refused for lack of memory
 abbrev pub SheetOutcomesWantNoMemory : Type 0
 SheetOutcomesWantNoMemory = (bytes : List ℕ) → sheet_outcome bytes ≢ Err OutOfMemory
 
--- a sheet is refused because it is not JSON, or for the least condition that holds
+-- a sheet is refused because it is not JSON, or for the least condition that applies
 abbrev pub RefusesSheet : List ℕ → Reason → Type 0
 RefusesSheet bytes r = ((json bytes ≡ None) × (r ≡ NotJson)) ⊎ ((tree : Data) × (json bytes ≡ Some tree) × IsLeast (sheet_holds tree) r)
 

@@ -1,4 +1,4 @@
-/// What the values of a concept are.
+/// The kind of a concept's values.
 #[derive(Clone, Copy, Debug, PartialEq, Eq)]
 pub enum ConceptKind {
     /// Numbers.

@@ -1,4 +1,4 @@
-//! Parts of a report around its facts.
+//! The parts of a report outside its facts.
 
 pub(crate) mod base;
 pub(crate) mod base_url;

@@ -1,4 +1,4 @@
-//! One fact of a report.
+//! A single fact of a report.
 
 pub(crate) mod core_dimensions;
 pub(crate) mod dimensions_reader;

@@ -26,8 +26,8 @@ ghost use Rattle.oim_report.specs.ReadBack.{ConceptsReadBack, DimensionsReadBack
 
 use url::Url;
 
-/// The text of an http or https URL is UTF-8 and parses as that URL, so it is always the text under
-/// which the URL is kept (URL Standard, sections 4.4 and 4.5).
+/// The text of an http or https URL is UTF-8 and parses as that URL. So the URL is always kept
+/// under this text (URL Standard, sections 4.4 and 4.5).
 pub fn web_texts_read_back(url: &Url)
     ensures utf8 { IsTrue (is_web url.now) → IsTrue (is_utf8 (serialize url.now)) }
     ensures parsed { IsTrue (is_web url.now) → parse_url None (serialize url.now) ≡ Ok url.now }
@@ -36,14 +36,14 @@ pub fn web_texts_read_back(url: &Url)
     let _text = url.as_str();
 }
 
-/// A text names what it expands to, and nothing else; so do the texts of entities.
+/// A text names exactly what it expands to. The same holds for the texts of entities.
 pub fn names_are_expanded()
     ensures names { (bs : List Binding) (t : List ℕ) (n : QName) → (named bs t ≡ Some n) ↔ Expands bs t n }
     ensures entities { (bs : List Binding) (t : List ℕ) (n : QName) → (entity_named bs t ≡ Some n) ↔ ExpandsEntity bs t n }
 {}
 
-/// A kept text is kept as itself without a base, is UTF-8 if the reference is, and is within the
-/// limit if the reference is.
+/// A kept text is kept without a change if there is no base. If the reference is UTF-8 or within
+/// the limit, so is its kept text.
 pub fn kept_is_kept()
     ensures kept { KeptIsKept }
     ensures accepted { KeptIsAccepted }
@@ -65,18 +65,19 @@ pub fn level_ignores_order()
     ensures { LevelIgnoresOrder }
 {}
 
-/// No sheet is refused for out of memory, which is not a condition of a sheet.
+/// No sheet is refused for lack of memory, which is not a condition of a sheet.
 pub fn sheet_outcomes_want_no_memory()
     ensures { SheetOutcomesWantNoMemory }
 {}
 
-/// A sheet is refused exactly because its bytes are not JSON, or for the least condition that holds.
+/// A sheet is refused exactly if its bytes are not JSON, or else for the condition with the least
+/// number that applies.
 pub fn sheet_refused_where_held()
     ensures { SheetRefusedWhereHeld }
 {}
 
-/// An accepted sheet has a concept with a kind exactly if a key of `concepts` expands to it and the
-/// value there names the kind. The same holds for dimensions and `dimensions`.
+/// An accepted sheet lists a concept with a kind exactly if a key of `concepts` expands to it and
+/// the value at the key names the kind. The same holds for dimensions and `dimensions`.
 pub fn sheet_lists_what_it_says()
     ensures concepts { ConceptsAreListed }
     ensures dimensions { DimensionsAreListed }
@@ -88,7 +89,7 @@ pub fn says_one_document()
 {}
 
 /// An accepted report says its document member by member. Its facts fit the sheet, and its
-/// references are their own kept texts.
+/// references are kept as they are.
 pub fn outcomes_are_said()
     ensures said { OutcomesAreSaid }
     ensures facts { AcceptedFactsFit }
@@ -96,32 +97,32 @@ pub fn outcomes_are_said()
 {}
 
 /// An accepted report has as many identifiers as facts, and the object under each identifier says
-/// the fact at its place.
+/// the fact with the same index.
 pub fn each_fact_has_an_identifier()
     ensures { EachFactHasAnIdentifier }
 {}
 
-/// If the bytes of a file are JSON, the identifiers of its facts strictly rise by bytes.
+/// If the bytes of a file are JSON, the identifiers of its facts strictly ascend by bytes.
 pub fn identifiers_rise()
     ensures { IdentifiersRise }
 {}
 
-/// A report is accepted as a document exactly if its bytes are JSON, no condition holds for the
-/// document or a fact, they say that document, and the level of its facts is not above the declared
-/// one.
+/// A report is accepted as a document exactly if its bytes are JSON and say that document, no
+/// condition applies to the document or a fact, and the level of its facts is not above the
+/// declared one.
 pub fn accepted_where_free()
     ensures { AcceptedWhereFree }
 {}
 
-/// A report is refused for exactly one condition, the first of these: its bytes are not JSON; the
-/// least that holds for the document; the least that holds for the first fact with any, at its
-/// place; the level of its facts is above the declared one.
+/// A report is refused for exactly one condition, the first of these. Its bytes are not JSON; the
+/// least condition that applies to the document; the least condition of the first fact that has
+/// one, at its place; the level of its facts is above the declared one.
 pub fn refused_where_held()
     ensures { RefusedWhereHeld }
 {}
 
-/// A report has no faults exactly if it is accepted, by the conditions and the level alone. The
-/// first fault is the refusal of `read_report`.
+/// A report has no faults exactly if it is accepted. The first fault is the refusal that
+/// `read_report` returns. Both follow from the conditions and the level alone.
 pub fn faults_begin_with_the_refusal()
     ensures none { NoFaultsWhereAccepted }
     ensures first { FirstFaultIsAnswered }
@@ -132,13 +133,13 @@ pub fn facts_are_said_unless_refused()
     ensures { FactsAreSaid }
 {}
 
-/// No report is refused for out of memory, which is not a condition of a report.
+/// No report is refused for lack of memory, which is not a condition of a report.
 pub fn outcomes_want_no_memory()
     ensures { OutcomesWantNoMemory }
 {}
 
-/// The object by which a fact is written has the parts that were written, whatever the order of its
-/// spelled keys.
+/// The object of a written fact has the parts that were written, whatever the order of its spelled
+/// keys.
 pub fn fact_object_has_parts()
     ensures { FactObjectHasParts }
 {}
@@ -153,7 +154,8 @@ pub fn entities_read_back()
     ensures { EntitiesReadBack }
 {}
 
-/// A written period is read as itself, and forever is written as none.
+/// A written period is read as itself. Forever is written as no period, and is read back as
+/// forever.
 pub fn periods_read_back()
     ensures { PeriodsReadBack }
 {}
@@ -168,44 +170,45 @@ pub fn languages_read_back()
     ensures { LanguagesReadBack }
 {}
 
-/// The written members of taxonomy-defined dimensions, several at once and of both kinds, are read
-/// as themselves.
+/// The written members of taxonomy-defined dimensions, of both kinds, are read as themselves
+/// together.
 pub fn dimensions_read_back()
     ensures { DimensionsReadBack }
 {}
 
-/// A written value is read as itself: nil, a number with its decimals, a text, a name.
+/// A written value is read as itself, whether it is nil, a number with its decimals, a text or a
+/// name.
 pub fn values_read_back()
     ensures { ValuesReadBack }
 {}
 
-/// No condition on form or names refuses what is written.
+/// No condition on form or names refuses the object of a written fact.
 pub fn written_facts_are_accepted()
     ensures form { FormsAreAccepted }
     ensures names { NamesAreAccepted }
 {}
 
-/// A fact that fits a sheet is said by its object, and no condition holds for it, if each of its
-/// names is spelled with a prefix of ASCII letters and digits that is bound to its URI.
+/// Suppose that each name of a fact is spelled with a bound prefix of ASCII letters and digits. If
+/// the fact fits a sheet, its object says it, and no condition applies to the object.
 pub fn fact_object_reads_back()
     ensures { FactObjectReadsBack }
 {}
 
-/// Each string and each key of the value of a file's bytes is UTF-8.
+/// Each string and each key of a file's JSON value is UTF-8.
 pub fn what_is_read_is_utf8()
     ensures { ReadHasUtf8 }
 {}
 
-/// A base, a reference and a kept text have at most 65,536 bytes. JSON that is read is at most 127
-/// levels deep, the limit of `serde_json`.
+/// A base, a reference and a kept text have at most 65,536 bytes. JSON may be nested at most 127
+/// levels deep, which is the limit of `serde_json`.
 pub fn limits_are()
     ensures texts { TextsAreWithinLimit }
     ensures nesting { NestsWithinLimit }
     ensures nested { NestedIsRead }
 {}
 
-/// A plain object is read from its compact text. It has no float, so this is what `serde_json`
-/// writes.
+/// The compact text of a plain object is read as that object. A plain object has no float, so its
+/// compact text is the one that `serde_json` writes.
 pub fn plain_text_reads_back()
     ensures back { PlainTextReadsBack }
     ensures whole { PlainHasNoFloat }
@@ -216,14 +219,15 @@ pub fn fact_object_is_plain()
     ensures { FactObjectIsPlain }
 {}
 
-/// For any conditions, `least` is the one with the least number that holds. `told` lists those that
-/// hold and are not hidden, with strictly rising numbers, and begins with the least.
+/// For any conditions, `least` returns the one with the least number that applies. `told` lists
+/// those that apply and are not hidden. Its numbers strictly ascend, and its first is the least.
 pub fn least_is_answered()
     ensures { LeastIsAnswered }
 {}
 
-/// Two texts of members that can each be read alone are, with a comma between them, read as the
-/// members of both (RFC 8259, section 4; for a repeated name `serde_json` keeps the last value).
+/// Take two texts of members, each of which can be read alone. With a comma between them they are
+/// read as the members of both (RFC 8259, section 4; `serde_json` keeps the last value of a
+/// repeated name).
 pub fn pieces_are_the_whole()
     ensures { PiecesAreTheWhole }
 {}

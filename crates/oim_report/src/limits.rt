@@ -1,15 +1,15 @@
 // The limits of this project's profile.
 
-/// The most bytes of a base, a taxonomy reference and its kept text.
+/// The greatest length in bytes of a base, a taxonomy reference and its kept text.
 pub const MOST_REFERENCE_BYTES: usize = 65_536;
 
-/// The most texts in a glossary. Few texts are repeated often; the limit bounds the memory, and the
-/// time that many texts with one hash would take.
+/// The greatest number of texts in a glossary. Only few texts are repeated often. The limit bounds
+/// the memory, and the time that many texts with the same hash would take.
 pub const MOST_MEANINGS: usize = 1_024;
 
-/// The least bytes of a piece of a report. For each piece the reader fills 16 kB with zeros, and
-/// larger pieces cost more page faults.
+/// The least size in bytes of a piece of a report. For each piece the reader fills 16 kB with
+/// zeros, and larger pieces cause more page faults.
 pub const PIECE_BYTES: usize = 65_536;
 
-/// The least bytes of a report that is read in pieces.
+/// The least size in bytes of a report that is read in pieces.
 pub const LEAST_IN_PIECES: usize = 131_072;

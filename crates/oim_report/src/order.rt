@@ -5,18 +5,18 @@ use oim_dims::Fact;
 use std::alloc::{AllocError, Global};
 use std::cmp::Ordering;
 
-/// The places of the facts, from 0, each once, in the order of the facts.
+/// Returns the indices of the facts, each once, in the order of the facts.
 pub(crate) fn order_of(alloc: Global, facts: &[Fact]) -> Result<Vec<usize>, AllocError>
     ensures { IfOk result (λ places. IsOrderOf facts.now places.items) }
 {
-    // `collect` would ignore a refused request for its room
+    // `collect` would ignore a refused request for memory
     let mut places: Vec<usize> = Vec::with_capacity(alloc, facts.len())?;
     places.extend(0..facts.len())?;
     places.sort_unstable_by(|i, j| compared(facts, *i, *j));
     Ok(places)
 }
 
-// Compares the facts at two places.
+// Compares the facts at two indices.
 fn compared(facts: &[Fact], i: usize, j: usize) -> Ordering
     ensures { result ≡ place_cmp facts.now i j }
 {

@@ -1,4 +1,4 @@
-//! A long report, read in pieces.
+//! Reads a long report in pieces.
 
 pub(crate) mod facts_in_pieces;
 pub(crate) mod next_piece;

@@ -1,8 +1,8 @@
-/// Where in a report a refusal is.
+/// The place of a refusal in a report.
 #[derive(Clone, Copy, Debug, PartialEq, Eq)]
 pub enum Place {
-    /// In the document outside its facts; or nowhere, if memory was refused.
+    /// The document outside its facts. It is also the place of `OutOfMemory`.
     Document,
-    /// In the fact with this number, counted from 1 in byte order of the identifiers.
+    /// The fact with this number, counted from 1 in byte order of the identifiers.
     Fact(u64),
 }

@@ -18,11 +18,11 @@ use oim_names::Reason;
 use serde_json::Value;
 use std::alloc::Global;
 
-/// What a report's bytes say under a sheet (xBRL-JSON 1.0; the profile is own).
+/// Reads a report under a sheet (xBRL-JSON 1.0; the profile is own).
 ///
-/// Errors, the first that holds: the least condition of the document; the least condition of the
-/// first fact with any, in byte order of the identifiers; `DisallowedDuplicates`, at the document;
-/// `OutOfMemory`, at the document.
+/// Errors, the first that applies: the least condition of the document; the least condition of the
+/// first fact that has one, in byte order of the identifiers; `DisallowedDuplicates`, at the
+/// document; `OutOfMemory`, at the document.
 #[tactic(auto, unfolding(crate::specs::Outcome::outcome))]
 pub fn read_report<'s>(alloc: Global, sheet: &'s Sheet, bytes: &[u8]) -> Result<Report<'s>, Refusal>
     ensures ok { IfOk result (λ r. outcome sheet.now bytes.now ≡ Ok r.document) }
@@ -40,7 +40,7 @@ pub fn read_report<'s>(alloc: Global, sheet: &'s Sheet, bytes: &[u8]) -> Result<
     read_document(alloc, sheet, &tree)
 }
 
-/// The same for a JSON value.
+/// Does the same as `read_report` for a JSON value.
 pub(crate) fn read_document<'s>(
     alloc: Global,
     sheet: &'s Sheet,
@@ -61,9 +61,9 @@ pub(crate) fn read_document<'s>(
     Ok(Report::new(sheet, facts, info.references, info.level, level, order))
 }
 
-/// The same for bytes, with the facts read in pieces of `size` bytes or more, one in memory at a
-/// time. `None` if the text cannot be cut, or anything is refused: only reading the whole shows
-/// why.
+/// Does the same as `read_report`, but reads the facts in pieces of `size` bytes or more, with one
+/// piece in memory at a time. It returns `None` if the text cannot be split or anything is refused.
+/// Only reading the whole text shows why.
 pub(crate) fn read_in_pieces<'s>(
     alloc: Global,
     sheet: &'s Sheet,

@@ -7,17 +7,17 @@ use crate::place::Place;
 use oim_names::Reason;
 use std::alloc::{AllocError, AllocFailed};
 
-/// Why a report is refused, and where.
+/// A reason to refuse a report, with its place.
 #[derive(Clone, Copy, Debug, PartialEq, Eq)]
 pub struct Refusal {
-    /// Why.
+    /// Why the report is refused.
     pub reason: Reason,
-    /// Where.
+    /// Where the reason applies.
     pub place: Place,
 }
 
 impl Refusal {
-    /// The refusal of the fact at `place`. Out of memory has no place in the report.
+    /// Returns the refusal of the fact at `place`. `OutOfMemory` is always placed at the document.
     pub(crate) fn of_fact(reason: Reason, place: u64) -> Refusal
         ensures fact { reason ≢ OutOfMemory → result ≡ at (Fact place) reason }
         ensures memory { reason ≡ OutOfMemory → result ≡ at Document OutOfMemory }
@@ -32,7 +32,7 @@ impl Refusal {
     }
 }
 
-/// A refusal of the document.
+/// Returns a refusal of the document.
 impl From<Reason> for Refusal {
     ghost from_gives = { λ reason refusal. refusal ≡ at Document reason };
 

@@ -11,7 +11,7 @@ use oim_names::Text;
 use oim_value::Level;
 use std::marker::Model;
 
-/// What a report says, read under a sheet that it borrows (xBRL-JSON 1.0): its facts, its taxonomy
+/// A report, read under a sheet that it borrows (xBRL-JSON 1.0): its facts, its taxonomy
 /// references, and the level of duplicates that it declares.
 #[derive(Drop)]
 pub struct Report<'s> {
@@ -66,49 +66,51 @@ impl<'s> Report<'s> {
         }
     }
 
-    /// The facts, in byte order of their identifiers, repeats kept.
+    /// Returns the facts with their repeats, in byte order of their identifiers.
     pub fn facts(&self) -> &[Fact]
         ensures { result.now ≡ self.now.document.facts }
     {
         self.facts.as_slice()
     }
 
-    /// The references of its taxonomy as they are kept, in their order, with repeats.
+    /// Returns the references of its taxonomy with their repeats, in their order and in the text
+    /// under which they are kept.
     pub fn taxonomy(&self) -> &[Text]
         ensures { result.now ≡ self.now.document.references }
     {
         self.references.as_slice()
     }
 
-    /// The level of duplicates that it declares (`xbrl:allowedDuplicates`).
+    /// Returns the level of duplicates that it declares (`xbrl:allowedDuplicates`).
     pub fn declared(&self) -> Level
         ensures { result ≡ self.now.document.level }
     {
         self.declared
     }
 
-    /// The level of duplicates that it has: the strictest that allows its facts, with repeats.
+    /// Returns the level of duplicates that its facts have: the strictest level that allows them
+    /// with their repeats.
     pub fn level(&self) -> Level
         ensures { result ≡ level_of self.now.document.facts }
     {
         self.level
     }
 
-    /// The sheet under which it was read.
+    /// Returns the sheet under which it was read.
     pub fn sheet(&self) -> &'s Sheet
         ensures { result.now ≡ self.now.sheet }
     {
         self.sheet
     }
 
-    /// The places of the facts, from 0, each once, in the order of the facts.
+    /// Returns the indices of the facts, each once, in the order of the facts.
     pub fn order(&self) -> &[usize]
         ensures { result.now ≡ self.now.order }
     {
         self.order.as_slice()
     }
 
-    /// Gives up its facts, as `facts` shows them, and their order.
+    /// Consumes the report, and returns its facts in the order of `facts`, and their `order`.
     pub fn into_facts(self) -> (Vec<Fact>, Vec<usize>)
         ensures facts { result.0.items ≡ self.entry.document.facts }
         ensures order { result.1.items ≡ self.entry.order }
@@ -117,8 +119,8 @@ impl<'s> Report<'s> {
         (facts, order)
     }
 
-    /// Does nothing. Its contract says that each fact fits the sheet, each reference is its own
-    /// kept text, and the order is one of the facts.
+    /// Does nothing. Its contract states that each fact fits the sheet, that each reference is kept
+    /// as it is, and that the order is one of the facts.
     pub fn known(&self)
         ensures { IsReading self.now }
     {

@@ -44,10 +44,10 @@ impl Sheet {
     /// Reads a sheet: a JSON object with the members `namespaces`, `concepts` and `dimensions`,
     /// each an object or absent (own).
     ///
-    /// Errors, the first that holds: `NotJson`; `MemberForm` if the root or a member is not an
-    /// object; `UnknownMember` for another key without a colon; `Namespace`; the least of
-    /// `NameForm`, `UnboundPrefix` and `ReservedNamespace` for all keys of `concepts` and
-    /// `dimensions`; `SheetKind` if a kind is invalid, or a name has two; `OutOfMemory`.
+    /// Errors, the first that applies: `NotJson`; `MemberForm` if the root or a member is not an
+    /// object; `UnknownMember` for another key without a colon; `Namespace`; the first of
+    /// `NameForm`, `UnboundPrefix` and `ReservedNamespace` that applies to any key of `concepts`
+    /// and `dimensions`; `SheetKind` if a kind is invalid, or a name has two kinds; `OutOfMemory`.
     #[tactic(auto, unfolding(crate::specs::Sheet::sheet_outcome))]
     pub fn read(alloc: Global, bytes: &[u8]) -> Result<Sheet, Reason>
         ensures ok { IfOk result (λ s. sheet_outcome bytes.now ≡ Ok s) }
@@ -76,7 +76,7 @@ impl Sheet {
         })
     }
 
-    /// The kind of a concept's values, or None if the sheet does not list it.
+    /// Returns the kind of a concept's values, or None if the sheet does not list it.
     pub fn concept(&self, name: &Name) -> Option<ConceptKind>
         ensures { result ≡ map.get self.now.concepts name.now }
     {
@@ -84,7 +84,7 @@ impl Sheet {
         Some(kind)
     }
 
-    /// The kind of a dimension's members, or None if the sheet does not list it.
+    /// Returns the kind of a dimension's members, or None if the sheet does not list it.
     pub fn dimension(&self, name: &Name) -> Option<DimensionKind>
         ensures { result ≡ map.get self.now.dimensions name.now }
     {
@@ -92,7 +92,7 @@ impl Sheet {
         Some(kind)
     }
 
-    /// The concept with this URI and local part, and the kind of its values.
+    /// Returns the concept with this URI and local part, and the kind of its values.
     pub(crate) fn concept_of(&self, uri: &str, local: &str) -> Option<(&Name, ConceptKind)>
         ensures kind { option_map (λ c. c.1) result
             ≡ map.get self.now.concepts (record { uri = uri.now; local_part = local.now }) }
@@ -102,7 +102,7 @@ impl Sheet {
         self.concepts.find(uri, local)
     }
 
-    /// The dimension with this URI and local part, and the kind of its members.
+    /// Returns the dimension with this URI and local part, and the kind of its members.
     pub(crate) fn dimension_of(&self, uri: &str, local: &str) -> Option<(&Name, DimensionKind)>
         ensures kind { option_map (λ d. d.1) result
             ≡ map.get self.now.dimensions (record { uri = uri.now; local_part = local.now }) }
@@ -112,7 +112,7 @@ impl Sheet {
         self.dimensions.find(uri, local)
     }
 
-    /// Whether both list the same names with the same kinds.
+    /// Returns whether both list the same names with the same kinds.
     pub fn same_as(&self, other: &Sheet) -> bool
         ensures { IsTrue result ↔ (self.now ≡ other.now) }
     {

@@ -12,8 +12,8 @@ use crate::Sheet;
 use oim_names::{Aliases, Reason};
 use std::alloc::AllocError;
 
-// After a refused request for memory the call is made once more, and must not have changed
-// anything. The line on standard error reports it to `tests/refused_memory`, with whether the
+// If a request for memory is refused, the call is repeated once. A refused call must not have
+// changed anything. A line on standard error reports it to `tests/refused_memory`, and whether the
 // request was the test's own.
 
 const SHEET: &str =

@@ -4,7 +4,7 @@ ghost use Rattle.std.specs.Result.{result_ok};
 use oim_names::Reason;
 use std::alloc::AllocError;
 
-/// What was read, or nothing where it is refused.
+/// Returns the value that was read, or None if it was refused.
 ///
 /// Errors: out of memory, which is no refusal here.
 pub(crate) fn unless_memory<T: Drop>(read: Result<T, Reason>) -> Result<Option<T>, AllocError>

@@ -3,7 +3,7 @@ ghost use Rattle.oim_report.specs.Faults.{when};
 
 use oim_names::Reason;
 
-/// The refusal, where its condition holds.
+/// Returns the refusal if its condition applies.
 pub(crate) fn when(holds: bool, reason: Reason) -> Option<Reason>
     ensures { result ≡ when holds reason }
 {

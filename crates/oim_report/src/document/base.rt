@@ -8,7 +8,7 @@ use std::alloc::Global;
 use std::marker::Model;
 use url::{ParseError, ParseResult, Url};
 
-/// The URL of a report against which its taxonomy references are resolved. Contracts see its parts.
+/// The URL against which a report's taxonomy references are resolved. Contracts see its parts.
 #[derive(Drop)]
 pub(crate) struct Base {
     url: Url,
@@ -33,7 +33,7 @@ impl Base {
     }
 }
 
-/// Whether the URL is http or https.
+/// Returns whether the URL is http or https.
 pub(crate) fn is_web(url: &Url) -> bool
     ensures { result ≡ is_web url.now }
 {

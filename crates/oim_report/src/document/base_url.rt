@@ -9,7 +9,7 @@ use oim_names::Reason;
 use serde_json::Value;
 use std::alloc::Global;
 
-/// The base for a report's relative references, if it has one.
+/// Returns the base for a report's relative references, if it has one.
 ///
 /// Errors: `BaseUrl`; `OutOfMemory`.
 pub(crate) fn read_base_url(alloc: Global, tree: &Value) -> Result<Option<Base>, Reason>

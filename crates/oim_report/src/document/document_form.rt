@@ -13,9 +13,9 @@ use serde_json::Value;
 
 const DOCUMENT_TYPE: &str = "https://xbrl.org/2021/xbrl-json";
 
-/// Whether a report has the form: its parts, their keys, and the type of the document.
+/// Checks the form of a report: its parts, their keys, and the document type.
 ///
-/// Errors, the first that holds: `MemberForm`, `UnknownMember`, `DocumentType`.
+/// Errors, the first that applies: `MemberForm`, `UnknownMember`, `DocumentType`.
 pub(crate) fn check_shape(tree: &Value) -> Result<(), Reason>
     ensures { let form = Reason.MemberForm ∷ Reason.UnknownMember ∷ Reason.DocumentType ∷ [] in
         result_err result ≡ find (document_holds (view tree.now)) form }

@@ -6,10 +6,11 @@ ghost use Rattle.oim_report.specs.Order.{IsOrderOf};
 use oim_dims::Fact;
 use oim_value::{Interval, Level, Value, common, interval_of, meets};
 
-/// The strictest level of duplicates that allows the facts, repeats kept (`xbrl:allowedDuplicates`
-/// of OIM Common 1.0). `order` is their order, from `order_of`. It takes no memory and looks at
-/// each fact once: in one dimension set, values in order agree with each other exactly if all are
-/// equal, or all are numbers whose intervals have a common part.
+/// Returns the strictest level of duplicates that allows the facts with their repeats
+/// (`xbrl:allowedDuplicates` of OIM Common 1.0). `order` is the result of `order_of`. It takes no
+/// memory and visits each fact once. That is enough: sorted values with the same dimensions are
+/// consistent in twos exactly if all are equal, or all are numbers whose intervals have a common
+/// part.
 pub(crate) fn level_of(facts: &[Fact], order: &[usize]) -> Level
     requires { IsOrderOf facts.now order.now }
     ensures { result ≡ level_of facts.now }
@@ -34,8 +35,8 @@ pub(crate) fn level_of(facts: &[Fact], order: &[usize]) -> Level
     level
 }
 
-// The strictest level that allows a value beside the earlier ones of its dimension set: the last
-// one, and the common part of all their intervals.
+// Returns the strictest level that allows one more value after earlier values with the same
+// dimensions. It needs only the last of these, and the common part of their intervals.
 fn level_beside(last: &Value, shared: Option<Interval>, value: &Value) -> Level
     ensures { result ≡ level_beside last.now shared value.now }
 {
@@ -48,7 +49,7 @@ fn level_beside(last: &Value, shared: Option<Interval>, value: &Value) -> Level
     }
 }
 
-// The rounding interval of a number.
+// Returns the rounding interval of a number.
 fn interval_at(value: &Value) -> Option<Interval>
     ensures { result ≡ interval_at value.now }
 {

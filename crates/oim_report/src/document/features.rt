@@ -13,8 +13,8 @@ use serde_json::{Map, Value};
 
 const RESERVED: &str = "https://xbrl.org/2021";
 
-/// The level of duplicates that a report declares by the feature `xbrl:allowedDuplicates`; without
-/// it all are allowed.
+/// Returns the level of duplicates that a report declares with the feature
+/// `xbrl:allowedDuplicates`. Without the feature all duplicates are allowed.
 ///
 /// Errors: `Feature` if the feature is repeated, or its value is not a level.
 pub(crate) fn read_level(aliases: &Aliases, tree: &Value) -> Result<Level, Reason>
@@ -45,7 +45,7 @@ fn declared_level(aliases: &Aliases, features: &Map<String, Value>) -> Option<Le
     Some(declared.unwrap_or(Level::All))
 }
 
-// The level of a declaration, if there is none before it.
+// Returns the declared level, if none was declared before it.
 fn only_level(before: Option<Level>, value: Given<'_>) -> Option<Level>
     ensures first { before ≡ None → result ≡ said_level (seen value.entry ∷ []) }
     ensures again { IsSome before → result ≡ None }

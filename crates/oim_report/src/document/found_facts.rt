@@ -12,7 +12,7 @@ use oim_dims::Fact;
 use std::alloc::Global;
 use std::collections::BTreeMap;
 
-/// Facts in the order of a text, each with its identifier.
+/// Facts in the order of the text, each with its identifier.
 #[derive(Drop)]
 pub(crate) struct FoundFacts {
     pub(crate) identifiers: Vec<String>,
@@ -20,8 +20,8 @@ pub(crate) struct FoundFacts {
 }
 
 impl FoundFacts {
-    /// The facts in byte order of their identifiers; if an identifier is repeated, the last fact
-    /// with it. `None` if memory ran out.
+    /// Returns the facts in byte order of their identifiers. If an identifier is repeated, only its
+    /// last fact is kept. It returns `None` if a request for memory is refused.
     pub(crate) fn in_order(self, alloc: Global) -> Option<Vec<Fact>>
         ensures { IfSome result (λ facts. (sheet : ASheet) (bs : List Binding) (ms : Members) →
             AreFound sheet bs ms self.identifiers.items self.facts.items →
@@ -36,7 +36,7 @@ impl FoundFacts {
     }
 }
 
-// Whether each identifier is above the one before it.
+// Returns whether each identifier is above the one before it.
 fn rise(identifiers: &[String]) -> bool
     ensures { result ≡ rise_after None identifiers.now }
 {
@@ -53,7 +53,7 @@ fn rise(identifiers: &[String]) -> bool
     true
 }
 
-// Each identifier with the last fact that has it.
+// Returns each identifier with its last fact.
 fn by_identifier(
     alloc: Global,
     identifiers: Vec<String>,
@@ -74,7 +74,7 @@ fn by_identifier(
     Some(found)
 }
 
-// Whether there was memory for it.
+// Adds a fact under its identifier, and returns whether there was memory for it.
 fn put(found: &mut BTreeMap<String, Fact>, identifier: String, fact: Fact) -> bool
     ensures { result ≡ true → found.new.entries ≡ insert_entry string_cmp found.old.entries identifier fact }
 {

@@ -14,9 +14,9 @@ use oim_names::{Reason, Text};
 use serde_json::{Map, Value};
 use std::alloc::Global;
 
-/// The identifiers of a report's facts as its bytes spell them, in byte order, which for an
-/// accepted report is the order of `Report::facts` (xBRL-JSON 1.0, section 2). None if the bytes
-/// are JSON without an object `facts`. No other condition is tested.
+/// Returns the identifiers of a report's facts, in byte order (xBRL-JSON 1.0, section 2). For an
+/// accepted report this is the order of `Report::facts`. It returns None if the bytes are JSON
+/// without an object `facts`, and tests no other condition.
 ///
 /// Errors: `NotJson` if the bytes are not JSON; `OutOfMemory`.
 pub fn fact_identifiers(alloc: Global, bytes: &[u8]) -> Result<Vec<Text>, Reason>
@@ -28,8 +28,8 @@ pub fn fact_identifiers(alloc: Global, bytes: &[u8]) -> Result<Vec<Text>, Reason
     identifiers_of(alloc, &tree)
 }
 
-/// Reads a report under a sheet as `read_report` does, and the identifiers of its facts as
-/// `fact_identifiers` does, reading the bytes once (xBRL-JSON 1.0; the profile is own).
+/// Reads a report under a sheet as `read_report` does, and its identifiers as `fact_identifiers`
+/// does (xBRL-JSON 1.0; the profile is own). The bytes are read only once.
 ///
 /// Errors: as for `read_report`.
 #[tactic(auto, unfolding(crate::specs::Outcome::outcome))]

@@ -14,20 +14,20 @@ use oim_value::Level;
 use serde_json::Value;
 use std::alloc::Global;
 
-/// What a report says outside its facts.
+/// The contents of a report outside its facts.
 #[derive(Drop)]
 pub(crate) struct Info {
     /// The prefixes that it binds.
     pub(crate) aliases: Aliases,
-    /// The references of its `taxonomy`, as they are kept.
+    /// The references of its `taxonomy`, in the text under which they are kept.
     pub(crate) references: Vec<Text>,
-    /// The duplicates that it allows.
+    /// The level of duplicates that it allows.
     pub(crate) level: Level,
 }
 
-/// Reads what a report says outside its facts.
+/// Reads the contents of a report outside its facts.
 ///
-/// Errors: the first condition of a document that holds; `OutOfMemory`.
+/// Errors: the first condition of the document that applies; `OutOfMemory`.
 pub(crate) fn read_info(alloc: Global, tree: &Value) -> Result<Info, Reason>
     ensures aliases { IfOk result (λ info. info.aliases ≡ bindings_of (view tree.now)) }
     ensures references { IfOk result (λ info. references_said (view tree.now) ≡ Some info.references.items) }

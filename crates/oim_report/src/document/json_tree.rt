@@ -11,10 +11,10 @@ use serde_json::{Map, Value};
 use std::alloc::Global;
 use std::str;
 
-/// The JSON value that the bytes are, after at most one byte order mark.
+/// Parses the bytes as a JSON value, after at most one byte order mark.
 ///
-/// Errors: `NotJson` where they are not a text that `serde_json` reads (UTF-8, RFC 8259, nesting at
-/// most 127); `OutOfMemory`.
+/// Errors: `NotJson` if `serde_json` rejects the text (UTF-8, RFC 8259, nesting at most 127);
+/// `OutOfMemory`.
 pub(crate) fn read_json(alloc: Global, bytes: &[u8]) -> Result<Value, Reason>
     ensures value { IfOk result (λ v. json bytes.now ≡ Some (view v)) }
     ensures refused { IfErr result
@@ -27,8 +27,9 @@ pub(crate) fn read_json(alloc: Global, bytes: &[u8]) -> Result<Value, Reason>
     }
 }
 
-/// The object that the bytes are without its member `facts`, and the text of the fact objects. If
-/// that text can be read, so can the whole. `None` if the text was not cut so, or memory ran out.
+/// Returns the document without its member `facts`, and the text of the fact objects. If that text
+/// can be parsed, so can the whole document. It returns `None` if the text cannot be split, or if a
+/// request for memory is refused.
 pub(crate) fn read_json_outline(alloc: Global, bytes: &[u8]) -> Option<Outline<'_>>
     ensures { IfSome result (λ o. (before : Members) × (view o.tree ≡ object before)
         × ((found : Members) → IsPiece o.facts.now found
@@ -47,7 +48,7 @@ fn after_mark(bytes: &[u8]) -> &[u8]
     }
 }
 
-/// The object at a key.
+/// Returns the object at a key.
 pub(crate) fn object_at<'a>(value: &'a Value, key: &str) -> Option<&'a Map<String, Value>>
     ensures { option_map (λ m. members_view m.now.entries) result
         ≡ object_at key.now (view value.now) }
@@ -55,7 +56,7 @@ pub(crate) fn object_at<'a>(value: &'a Value, key: &str) -> Option<&'a Map<Strin
     value.get(key).and_then(Value::as_object)
 }
 
-/// The member at `key` of the object at `outer`.
+/// Returns the member at `key` of the object at `outer`.
 pub(crate) fn within<'a>(value: &'a Value, outer: &str, key: &str) -> Option<&'a Value>
     ensures { option_map (λ v. view v.now) result ≡ within outer.now key.now (view value.now) }
 {
@@ -65,7 +66,7 @@ pub(crate) fn within<'a>(value: &'a Value, outer: &str, key: &str) -> Option<&'a
     }
 }
 
-/// Whether there is an object that has a member.
+/// Returns whether there is an object with at least one member.
 pub(crate) fn has_member(object: Option<&Map<String, Value>>) -> bool
     ensures { result ≡ has_member (option_map (λ m. members_view m.now.entries) object.entry) }
 {
@@ -75,14 +76,14 @@ pub(crate) fn has_member(object: Option<&Map<String, Value>>) -> bool
     }
 }
 
-/// Whether a key is an extension's.
+/// Returns whether a key belongs to an extension.
 pub(crate) fn has_colon(key: &str) -> bool
     ensures { result ≡ has_colon key.now }
 {
     key.as_bytes().iter().any(|byte| *byte == b':')
 }
 
-/// The first key of an object that is no extension's and none of these.
+/// Returns the first key of an object that is none of these and belongs to no extension.
 pub(crate) fn unknown_in<'a>(
     object: Option<&'a Map<String, Value>>,
     known: &[&str],
@@ -114,7 +115,7 @@ fn is_unknown_key(key: &str, known: &[&str]) -> bool
     !has_colon(key) && !is_one_of(key, known)
 }
 
-/// Whether a key is one of these.
+/// Returns whether a key is one of these.
 pub(crate) fn is_one_of(key: &str, known: &[&str]) -> bool
     ensures { result ≡ list_any (λ k. bytes_eq k key.now) (map (λ s. s.now) known.now) }
 {
@@ -126,7 +127,7 @@ pub(crate) fn is_one_of(key: &str, known: &[&str]) -> bool
     false
 }
 
-/// Whether there is a value, and it is no object.
+/// Returns whether there is a value that is no object.
 pub(crate) fn is_no_object(member: Option<&Value>) -> bool
     ensures { result ≡ is_no_object (option_map (λ v. view v.now) member.entry) }
 {
@@ -136,7 +137,7 @@ pub(crate) fn is_no_object(member: Option<&Value>) -> bool
     }
 }
 
-/// Whether there is a value, and it is no array.
+/// Returns whether there is a value that is no array.
 pub(crate) fn is_no_array(member: Option<&Value>) -> bool
     ensures { result ≡ is_no_array (option_map (λ v. view v.now) member.entry) }
 {

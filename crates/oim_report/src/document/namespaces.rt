@@ -8,7 +8,7 @@ use oim_names::{Aliases, Reason};
 use serde_json::{Map, Value};
 use std::alloc::Global;
 
-/// The bindings of a `namespaces` object, or no bindings if there is none.
+/// Returns the bindings of a `namespaces` object, or no bindings if there is none.
 ///
 /// Errors: `Namespace` if an entry binds nothing; `OutOfMemory`.
 pub(crate) fn read_namespaces(

@@ -11,7 +11,8 @@ use oim_names::{Reason, Text};
 use serde_json::Value;
 use std::alloc::Global;
 
-/// The references of a report's `taxonomy`, as they are kept, in their order.
+/// Returns the references of a report's `taxonomy`, in their order and in the text under which they
+/// are kept.
 ///
 /// Errors: `TaxonomyUrl`; `OutOfMemory`.
 pub(crate) fn read_taxonomy(

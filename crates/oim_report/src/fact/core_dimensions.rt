@@ -1,4 +1,5 @@
-//! The core dimensions of a fact. An error says that a condition holds, but not which is the least.
+//! The core dimensions of a fact. An error means that some condition applies, but it need not be
+//! the one with the least number.
 
 ghost use Rattle.std.specs.Prelude.{◌≡◌, Some, None, false, IfOk, OnOk};
 ghost use Rattle.oim_names.specs.Expansion.{ExpandsEntity};
@@ -17,7 +18,7 @@ use oim_dims::{Period, Unit};
 use oim_names::{Aliases, Name, Reason, Text};
 use std::alloc::Global;
 
-/// The entity, if there is one.
+/// Returns the entity, if the fact has one.
 pub(crate) fn read_entity<'a>(
     alloc: Global,
     aliases: &Aliases,
@@ -35,7 +36,7 @@ pub(crate) fn read_entity<'a>(
     }
 }
 
-/// The period; without one a fact holds forever.
+/// Returns the period. A fact without one holds forever.
 pub(crate) fn read_period<'a>(
     alloc: Global,
     periods: &mut Glossary<'a, Period>,
@@ -53,7 +54,7 @@ pub(crate) fn read_period<'a>(
     }
 }
 
-/// The unit, if there is one, for a concept of this kind.
+/// Returns the unit, if the fact has one, for a concept of this kind.
 pub(crate) fn read_unit<'a>(
     alloc: Global,
     aliases: &Aliases,
@@ -77,7 +78,7 @@ pub(crate) fn read_unit<'a>(
     Ok(read)
 }
 
-/// The language in lower case, if there is one, for a concept of this kind.
+/// Returns the language in lower case, if the fact has one, for a concept of this kind.
 pub(crate) fn read_language<'a>(
     alloc: Global,
     languages: &mut Glossary<'a, Text>,

@@ -16,9 +16,9 @@ use oim_dims::Dimensions;
 use oim_names::{Aliases, Name, Reason, Text};
 use std::alloc::Global;
 
-/// The dimensions of a fact with this concept, of this kind. They are well-formed.
+/// Returns the dimensions of a fact with this concept. The parts are well-formed.
 ///
-/// Errors: some condition holds; `OutOfMemory`.
+/// Errors: any condition that applies; `OutOfMemory`.
 pub(crate) fn read_dimensions<'s, 'a>(
     alloc: Global,
     sheet: &'s Sheet,

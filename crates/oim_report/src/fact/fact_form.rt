@@ -5,7 +5,8 @@ ghost use Rattle.oim_report.specs.SeenParts.{seen_parts};
 
 use crate::fact::parts::{DimensionParts, FactParts};
 
-/// The parts of a fact's dimensions, if the fact has the form: its members, links and notes.
+/// Returns the parts of a fact's dimensions if the members of the fact have their forms, and there
+/// are no links or notes.
 pub(crate) fn well_formed<'p, 'a>(parts: &'p FactParts<'a>) -> Option<&'p DimensionParts<'a>>
     ensures there { IfSome result (λ found. parts.now.dimensions ≡ Some found.now) }
     ensures accepted { IfSome result (λ _. form_refusal (seen_parts parts.now) ≡ None) }

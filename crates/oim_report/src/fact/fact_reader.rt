@@ -21,9 +21,9 @@ use oim_names::{Aliases, Copied, Reason};
 use serde_json::Value;
 use std::alloc::Global;
 
-/// The fact that a fact object says under a sheet and these prefixes.
+/// Reads a fact object under a sheet and these prefixes.
 ///
-/// Errors: the least condition that holds; `OutOfMemory`.
+/// Errors: the condition with the least number that applies; `OutOfMemory`.
 pub(crate) fn read_fact<'s, 'a>(
     alloc: Global,
     sheet: &'s Sheet,
@@ -45,7 +45,8 @@ pub(crate) fn read_fact<'s, 'a>(
     }
 }
 
-// The least condition of a fact object that holds; `OutOfMemory` if none does.
+// Returns the condition with the least number that applies to a fact object, or `OutOfMemory` if
+// none does.
 fn least_fault(alloc: Global, sheet: &Sheet, aliases: &Aliases, object: &Value) -> Reason
     ensures { (result ≡ Reason.OutOfMemory)
         ⊎ (fact_outcome sheet.now aliases.now (view object.now) ≡ Err result) }
@@ -60,8 +61,9 @@ fn least_fault(alloc: Global, sheet: &Sheet, aliases: &Aliases, object: &Value) 
     }
 }
 
-// The fact, unless a condition holds or memory runs out. Most facts are accepted, so this reads each
-// part once and does not find out which condition is the least.
+// Returns the fact, unless a condition applies or a request for memory is refused. Most facts are
+// accepted, so this visits each part once, and does not determine the condition with the least
+// number.
 fn read_object<'s, 'a>(
     alloc: Global,
     sheet: &'s Sheet,
@@ -82,7 +84,7 @@ fn read_object<'s, 'a>(
     read_content(alloc, sheet, aliases, glossaries, &parts, dimensions)
 }
 
-// The fact with these parts, which are well-formed.
+// Reads a fact from its parts, which are well-formed.
 fn read_content<'s, 'a>(
     alloc: Global,
     sheet: &'s Sheet,

@@ -12,9 +12,9 @@ use oim_names::{Aliases, Reason, Text};
 use oim_value::{Decimals, Value, read_fixed};
 use std::alloc::Global;
 
-/// The value of a fact whose concept has this kind.
+/// Returns the value of a fact whose concept has this kind.
 ///
-/// Errors: some condition holds; `OutOfMemory`.
+/// Errors: any condition that applies; `OutOfMemory`.
 pub(crate) fn read_value(
     alloc: Global,
     aliases: &Aliases,
@@ -65,7 +65,7 @@ fn read_text(
     }
 }
 
-// The decimals of a fact whose concept has this kind; without any a number is exact.
+// Returns the decimals of a fact whose concept has this kind. A number without decimals is exact.
 fn read_decimals(kind: ConceptKind, decimals: Given<'_>) -> Result<Decimals, Reason>
     ensures said { IfOk result (λ read. read ≡ said_decimals (seen decimals.entry)) }
     ensures refused { result_err result ≡ decimals_refusal (Some kind) (seen decimals.entry) }

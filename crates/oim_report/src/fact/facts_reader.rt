@@ -14,7 +14,7 @@ use oim_names::{Aliases, Reason};
 use serde_json::{Map, Value};
 use std::alloc::Global;
 
-/// The facts of a report, in byte order of their identifiers.
+/// Returns the facts of a report, in byte order of their identifiers.
 ///
 /// Errors: the refusal of the first refused fact, with its place; `OutOfMemory`, at the document.
 pub(crate) fn read_facts(

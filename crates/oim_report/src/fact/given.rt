@@ -5,10 +5,10 @@ ghost use Rattle.oim_report.specs.Json.{given, given_of, is_absent, is_no_text, 
 
 use serde_json::Value;
 
-/// What stands at a key of an object, as far as sheets and reports tell values apart.
+/// The value at a key of an object, with the differences that matter to sheets and reports.
 #[derive(Clone, Copy, Debug)]
 pub(crate) enum Given<'a> {
-    /// Nothing.
+    /// There is no value.
     Absent,
     /// `null`.
     Nil,
@@ -21,7 +21,7 @@ pub(crate) enum Given<'a> {
 }
 
 impl<'a> Given<'a> {
-    /// What a member is, where there is one.
+    /// Returns the kind of a member, if there is one.
     pub(crate) fn of(member: Option<&'a Value>) -> Given<'a>
         ensures { seen result ≡ given_of (option_map (λ v. view v.now) member.entry) }
     {
@@ -31,7 +31,7 @@ impl<'a> Given<'a> {
         }
     }
 
-    /// What a value is.
+    /// Returns the kind of a value.
     pub(crate) fn of_value(value: &'a Value) -> Given<'a>
         ensures { seen result ≡ given (view value.now) }
     {
@@ -46,7 +46,7 @@ impl<'a> Given<'a> {
         }
     }
 
-    /// The text, where that is what it is.
+    /// Returns the text, if the value is one.
     pub(crate) fn text(self) -> Option<&'a str>
         ensures { option_map (λ t. t.now) result ≡ text_of (seen self.entry) }
     {
@@ -56,14 +56,14 @@ impl<'a> Given<'a> {
         }
     }
 
-    /// Whether nothing stands there.
+    /// Returns whether there is no value.
     pub(crate) fn is_absent(self) -> bool
         ensures { result ≡ is_absent (seen self.entry) }
     {
         matches!(self, Given::Absent)
     }
 
-    /// Whether something stands there that is no text.
+    /// Returns whether there is a value that is no text.
     pub(crate) fn is_no_text(self) -> bool
         ensures { result ≡ is_no_text (seen self.entry) }
     {

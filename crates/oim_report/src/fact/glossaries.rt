@@ -10,7 +10,7 @@ use oim_dims::{Period, Unit};
 use oim_names::{Name, Text};
 use std::alloc::{AllocError, Global};
 
-/// Caches of what the texts of one report were read as, under one sheet and one set of prefixes.
+/// Caches of the meanings of one report's texts, under one sheet and one set of prefixes.
 #[derive(Drop)]
 pub(crate) struct Glossaries<'s, 'a> {
     /// The concepts that the sheet lists.
@@ -26,7 +26,8 @@ pub(crate) struct Glossaries<'s, 'a> {
 }
 
 impl<'s, 'a> Glossaries<'s, 'a> {
-    /// Empty caches, each with room for so many texts, and at most `MOST_MEANINGS`.
+    /// Returns empty caches, each with capacity for this number of texts, and at most
+    /// `MOST_MEANINGS`.
     ///
     /// Errors: out of memory.
     pub(crate) fn with_room(alloc: Global, texts: usize) -> Result<Self, AllocError>

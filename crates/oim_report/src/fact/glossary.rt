@@ -6,14 +6,14 @@ use crate::limits::MOST_MEANINGS;
 use std::alloc::{AllocError, Global};
 use std::collections::HashMap;
 
-/// A cache of texts with their meanings, so that a text that is repeated is not read again.
+/// A cache of texts and their meanings, so that a repeated text is not read again.
 #[derive(Drop)]
 pub(crate) struct Glossary<'a, T> {
     meanings: HashMap<&'a str, T>,
 }
 
 impl<'a, T> Glossary<'a, T> {
-    /// An empty cache with room for so many texts, and at most `MOST_MEANINGS`.
+    /// Returns an empty cache with capacity for this number of texts, and at most `MOST_MEANINGS`.
     ///
     /// Errors: out of memory.
     pub(crate) fn with_room(alloc: Global, texts: usize) -> Result<Self, AllocError>
@@ -23,7 +23,7 @@ impl<'a, T> Glossary<'a, T> {
         Ok(Glossary { meanings })
     }
 
-    /// The meaning of a text that was added. It takes no memory.
+    /// Returns the meaning of a text that was added. It takes no memory.
     pub(crate) fn find(&self, text: &str) -> Option<&T>
         ensures { option_copied result ≡ meaning self.now text.now }
     {
@@ -32,7 +32,7 @@ impl<'a, T> Glossary<'a, T> {
 }
 
 impl<'a, T: Drop> Glossary<'a, T> {
-    /// Adds the meaning of a text. Without room nothing changes. It takes no memory.
+    /// Adds the meaning of a text. If the capacity is used up, nothing changes. It takes no memory.
     pub(crate) fn add(&mut self, text: &'a str, value: T)
         ensures { Adds self.old text.now value self.new }
     {
@@ -40,7 +40,7 @@ impl<'a, T: Drop> Glossary<'a, T> {
         if texts >= MOST_MEANINGS || texts >= self.meanings.capacity() {
             return;
         }
-        // there is room, so no memory is requested
+        // there is capacity, so no memory is requested
         let inserted: Result<_, _> = self.meanings.insert(text, value);
         let _replaced = inserted.unwrap();
     }

@@ -17,10 +17,10 @@ use oim_dims::{Dimensions, Member};
 use oim_names::{Aliases, Copied, Name, Reason, Text};
 use std::alloc::Global;
 
-/// The dimensions of a fact with this concept and these taxonomy-defined dimensions. Keys come in
-/// the order of prefixes, so the members are sorted by name once, when all are there.
+/// Returns the dimensions of a fact with this concept and these taxonomy-defined dimensions. Keys
+/// are in the order of prefixes, so the members are sorted by name once, at the end.
 ///
-/// Errors: some condition holds; `OutOfMemory`.
+/// Errors: any condition that applies; `OutOfMemory`.
 pub(crate) fn read_members<'s, 'a>(
     alloc: Global,
     sheet: &'s Sheet,
@@ -51,7 +51,7 @@ pub(crate) fn read_members<'s, 'a>(
     Ok(dimensions)
 }
 
-// The member of a dimension of this kind.
+// Reads the member of a dimension of this kind.
 fn read_member<'a>(
     alloc: Global,
     aliases: &Aliases,

@@ -10,7 +10,7 @@ use crate::fact::given::Given;
 use serde_json::{Map, Value};
 use std::alloc::{AllocError, Global};
 
-/// What the members of a fact's `dimensions` are.
+/// The members of a fact's `dimensions`.
 #[derive(Drop)]
 pub(crate) struct DimensionParts<'a> {
     pub(crate) concept: Given<'a>,
@@ -19,14 +19,14 @@ pub(crate) struct DimensionParts<'a> {
     pub(crate) unit: Given<'a>,
     pub(crate) language: Given<'a>,
     pub(crate) note: Given<'a>,
-    /// The members whose keys have a colon, in byte order of these.
+    /// The members whose keys have a colon, in byte order of the keys.
     pub(crate) defined: Vec<(&'a str, Given<'a>)>,
-    /// Whether there is a member of another key.
+    /// Whether there is a member with another key.
     pub(crate) unknown: bool,
 }
 
 impl<'a> DimensionParts<'a> {
-    /// The parts of a value that is an object.
+    /// Returns the parts of a value that is an object.
     fn of(alloc: Global, value: &'a Value) -> Result<Option<DimensionParts<'a>>, AllocError>
         ensures { IfOk result (λ parts. option_map seen_dimensions parts
             ≡ option_map dimension_parts (as_object (view value.now))) }
@@ -37,7 +37,8 @@ impl<'a> DimensionParts<'a> {
         }
     }
 
-    // The core dimensions (OIM Common 1.0), and the others. No key comes twice.
+    // Sorts the members into the core dimensions (OIM Common 1.0) and the others. No key is
+    // repeated.
     fn of_members(
         alloc: Global,
         members: &'a Map<String, Value>,
@@ -78,23 +79,23 @@ impl<'a> DimensionParts<'a> {
     }
 }
 
-/// What the members of a fact object are.
+/// The members of a fact object.
 #[derive(Drop)]
 pub(crate) struct FactParts<'a> {
     pub(crate) value: Given<'a>,
     pub(crate) decimals: Given<'a>,
-    /// The parts of `dimensions`, where that is an object.
+    /// The parts of `dimensions`, if it is an object.
     pub(crate) dimensions: Option<DimensionParts<'a>>,
     /// Whether `links` has a member.
     pub(crate) linked: bool,
-    /// Whether `dimensions` or `links` is there and no object.
+    /// Whether `dimensions` or `links` exists and is no object.
     pub(crate) misshapen: bool,
-    /// Whether there is a member of another key without a colon.
+    /// Whether there is another member whose key has no colon.
     pub(crate) unknown: bool,
 }
 
 impl<'a> FactParts<'a> {
-    /// The parts of a value that is an object.
+    /// Returns the parts of a value that is an object.
     pub(crate) fn of(alloc: Global, object: &'a Value) -> Result<Option<FactParts<'a>>, AllocError>
         ensures { IfOk result (λ parts. option_map seen_parts parts ≡ fact_parts (view object.now)) }
     {
@@ -104,7 +105,8 @@ impl<'a> FactParts<'a> {
         }
     }
 
-    // The members that are no extension's (xBRL-JSON 1.0, section 3.1). No key comes twice.
+    // Returns the members that belong to no extension (xBRL-JSON 1.0, section 3.1). No key is
+    // repeated.
     fn of_members(
         alloc: Global,
         members: &'a Map<String, Value>,

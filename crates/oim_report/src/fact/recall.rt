@@ -1,5 +1,6 @@
-//! The meaning of a text, from a glossary. A text that is not there is read and added. What depends
-//! on more than the text, such as a unit's kind of concept, is tested each time.
+//! The meaning of a text, from a glossary. A text that is not in the glossary is read and added. A
+//! test that depends on more than the text, such as the kind of a unit's concept, is made each
+//! time.
 
 ghost use Rattle.std.specs.Prelude.{◌≡◌, ◌⊎◌, Some, IsTrue, IfOk, IfErr, IfSome, OnOk, option_map};
 ghost use Rattle.std.specs.Str.{str_to_ascii_lowercase};
@@ -22,7 +23,7 @@ use oim_dims::{Period, Unit, read_language, read_period, read_unit};
 use oim_names::{Aliases, Copied, Name, Reason, Text};
 use std::alloc::Global;
 
-/// The concept that the text names, as the sheet has it, and the kind of its values.
+/// Returns the concept that the text names, as the sheet lists it, and the kind of its values.
 pub(crate) fn recall_concept<'s, 'a>(
     sheet: &'s Sheet,
     aliases: &Aliases,
@@ -43,7 +44,7 @@ pub(crate) fn recall_concept<'s, 'a>(
     Some(found)
 }
 
-/// The dimension that the text names, as the sheet has it, and the kind of its members.
+/// Returns the dimension that the text names, as the sheet lists it, and the kind of its members.
 pub(crate) fn recall_dimension<'s, 'a>(
     sheet: &'s Sheet,
     aliases: &Aliases,
@@ -63,9 +64,9 @@ pub(crate) fn recall_dimension<'s, 'a>(
     Some(found)
 }
 
-/// The expanded name that the text spells.
+/// Returns the expanded name that the text spells.
 ///
-/// Errors: those of `Aliases::name_refusal`; `OutOfMemory`.
+/// Errors: what `Aliases::name_refusal` returns; `OutOfMemory`.
 pub(crate) fn recall_name<'a>(
     alloc: Global,
     aliases: &Aliases,
@@ -86,9 +87,9 @@ pub(crate) fn recall_name<'a>(
     Ok(name)
 }
 
-/// The entity that the text spells.
+/// Returns the entity that the text spells.
 ///
-/// Errors: those of `Aliases::entity_refusal`; `OutOfMemory`.
+/// Errors: what `Aliases::entity_refusal` returns; `OutOfMemory`.
 pub(crate) fn recall_entity<'a>(
     alloc: Global,
     aliases: &Aliases,
@@ -109,9 +110,9 @@ pub(crate) fn recall_entity<'a>(
     Ok(entity)
 }
 
-/// The period that the text spells.
+/// Returns the period that the text denotes.
 ///
-/// Errors: those of `read_period`.
+/// Errors: as for `read_period`.
 pub(crate) fn recall_period<'a>(
     alloc: Global,
     periods: &mut Glossary<'a, Period>,
@@ -131,9 +132,9 @@ pub(crate) fn recall_period<'a>(
     read
 }
 
-/// The unit that the text spells, or none.
+/// Returns the unit that the text denotes, or none.
 ///
-/// Errors: those of `read_unit`.
+/// Errors: as for `read_unit`.
 pub(crate) fn recall_unit<'a>(
     alloc: Global,
     aliases: &Aliases,
@@ -155,9 +156,9 @@ pub(crate) fn recall_unit<'a>(
     Ok(unit)
 }
 
-/// The language that the text spells, in lower case.
+/// Returns the language of the text, in lower case.
 ///
-/// Errors: those of `read_language`.
+/// Errors: as for `read_language`.
 pub(crate) fn recall_language<'a>(
     alloc: Global,
     languages: &mut Glossary<'a, Text>,

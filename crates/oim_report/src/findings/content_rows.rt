@@ -1,5 +1,5 @@
-//! Of which part of a fact object a condition on its concept, its other core dimensions, its value or
-//! its decimals holds.
+//! Finds the part of a fact object that violates a condition on its concept, its other core
+//! dimensions, its value or its decimals.
 
 ghost use Rattle.std.specs.Prelude.{◌≡◌, ◌&&◌, ◌||◌, List, codes, is_none, is_some, not, option_and_then};
 ghost use Rattle.std.specs.FinMap as map;
@@ -23,7 +23,7 @@ use oim_value::{Decimals, read_fixed};
 use serde_json::Value;
 use std::alloc::Global;
 
-/// The kind of the concept, if the sheet lists it.
+/// Returns the kind of the concept, if the sheet lists it.
 pub(crate) fn kind_of(sheet: &Sheet, aliases: &Aliases, object: &Value) -> Option<ConceptKind>
     ensures { let dimensions = members (object_at (codes "dimensions") (view object.now)) in
         let named = concept sheet.now aliases.now (view object.now) dimensions in

@@ -1,4 +1,4 @@
-//! Of which taxonomy-defined dimension of a fact object a condition holds.
+//! Finds the taxonomy-defined dimension of a fact object that violates a condition.
 
 ghost use Rattle.std.specs.Prelude.{◌≡◌, ◌&&◌, is_some, IfOk};
 ghost use Rattle.serde_json.specs.Data.{Data};
@@ -19,14 +19,14 @@ use oim_names::{Aliases, Name, Reason};
 use serde_json::{Map, Value};
 use std::alloc::{AllocError, Global};
 
-/// Whether the key is that of a taxonomy-defined dimension.
+/// Returns whether the key belongs to a taxonomy-defined dimension.
 pub(crate) fn is_defined(key: &str) -> bool
     ensures { result ≡ is_defined key.now }
 {
     has_colon(key)
 }
 
-/// The first dimension that the sheet does not list.
+/// Returns the first dimension that the sheet does not list.
 #[tactic(auto, unfolding(crate::specs::Holds::holds), using(crate::proofs::DefinedRows::any_of))]
 pub(crate) fn unlisted_dimension<'a>(
     sheet: &Sheet,
@@ -62,7 +62,8 @@ fn is_unlisted(sheet: &Sheet, aliases: &Aliases, key: &str) -> bool
         && find_dimension(sheet, aliases, key).is_none()
 }
 
-/// The first dimension with a member that is none of its kind, or that two keys name one dimension.
+/// Returns the first dimension whose member is not of its kind, or `Twice` if two keys name one
+/// dimension.
 ///
 /// Errors: out of memory.
 #[tactic(auto, unfolding(crate::specs::Holds::holds), using(crate::proofs::DefinedRows::any_of, crate::proofs::DefinedRows::names_of))]
@@ -117,7 +118,7 @@ fn is_misfit(sheet: &Sheet, aliases: &Aliases, key: &str, value: &Value) -> bool
     }
 }
 
-// Whether two keys name one dimension.
+// Returns whether two keys name one dimension.
 fn names_twice(
     alloc: Global,
     aliases: &Aliases,
@@ -132,14 +133,14 @@ fn names_twice(
             if before.has(&name) {
                 return Ok(true);
             }
-            // the kind is not looked at
+            // the kind does not matter
             before.put(name, DimensionKind::Explicit)?;
         }
     }
     Ok(false)
 }
 
-// The name of a taxonomy-defined dimension.
+// Returns the name of a taxonomy-defined dimension.
 fn dimension_name(aliases: &Aliases, key: &str) -> Result<Option<Name>, AllocError>
     ensures { IfOk result (λ name. name ≡ defined_name aliases.now key.now) }
 {

@@ -23,7 +23,7 @@ use oim_names::{Aliases, Reason};
 use serde_json::Value;
 use std::alloc::{AllocError, Global};
 
-/// Appends each condition of a document that holds.
+/// Appends each condition of a document that applies.
 ///
 /// Errors: out of memory.
 pub(crate) fn add_document_faults(
@@ -52,7 +52,7 @@ pub(crate) fn add_document_faults(
     )
 }
 
-// The prefixes, unless an entry binds nothing.
+// Returns the prefixes, unless an entry binds nothing.
 fn read_aliases(alloc: Global, tree: &Value) -> Result<Option<Aliases>, AllocError>
     ensures { let refused = any_in binds_nothing (namespaces_of (view tree.now)) in
         IfOk result (λ aliases. aliases ≡ (if refused then None else Some (bindings_of (view tree.now)))) }
@@ -70,14 +70,14 @@ fn bound_in(alloc: Global, tree: &Value) -> Result<Aliases, Reason>
     read_namespaces(alloc, namespaces)
 }
 
-// The base of relative references, or that there is none, unless it is refused.
+// Returns the base of relative references, or that there is none, unless the base is refused.
 fn said_base(alloc: Global, tree: &Value) -> Result<Option<Option<Base>>, AllocError>
     ensures { IfOk result (λ base. base ≡ base_said (view tree.now)) }
 {
     unless_memory(read_base_url(alloc, tree))
 }
 
-// Whether a reference is refused under this base.
+// Returns whether a reference is refused under this base.
 fn refuses_references(alloc: Global, base: Option<Base>, tree: &Value) -> Result<bool, AllocError>
     ensures { IfOk result (λ refused. refused ≡ is_none (said_references base (taxonomy_of (view tree.now)))) }
 {
@@ -85,7 +85,7 @@ fn refuses_references(alloc: Global, base: Option<Base>, tree: &Value) -> Result
     Ok(references.is_none())
 }
 
-// Whether the declared level is refused under these prefixes, where they are none.
+// Returns whether the declared level is refused. Without prefixes it is not tested.
 fn refuses_level(aliases: &Option<Aliases>, tree: &Value) -> bool
     ensures { result ≡ option_map_or (λ bs. is_none (said_level (declarations bs (features_of (view tree.now))))) aliases.now false }
 {

@@ -18,8 +18,8 @@ use oim_names::{Aliases, Reason};
 use serde_json::Value;
 use std::alloc::{AllocError, Global};
 
-/// The part of a fact object of which a condition holds (own), under a sheet and these prefixes;
-/// `None` exactly if the condition does not hold. If it holds of several parts, the first of them is
+/// Returns the part of a fact object that violates a condition under a sheet and these prefixes, or
+/// `None` exactly if the condition does not apply (own). If several parts violate it, the first is
 /// returned.
 ///
 /// Errors: out of memory.

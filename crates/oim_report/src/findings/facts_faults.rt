@@ -13,7 +13,8 @@ use oim_names::Aliases;
 use serde_json::{Map, Value};
 use std::alloc::{AllocError, Global};
 
-/// Appends each condition of a fact that holds, fact by fact, in byte order of the identifiers.
+/// Appends each condition of each fact that applies. Facts are visited in byte order of their
+/// identifiers.
 ///
 /// Errors: out of memory.
 pub(crate) fn add_facts_faults(

@@ -8,8 +8,7 @@ use oim_names::Reason;
 use std::alloc::{AllocError, Global};
 use std::marker::Model;
 
-/// Everything that is wrong with a report: refusals, each with its place. None where the report is
-/// accepted.
+/// All faults of a report: refusals with their places. An accepted report has none.
 #[derive(Debug, Drop)]
 pub struct Faults {
     refusals: Vec<Refusal>,
@@ -25,7 +24,7 @@ impl Model for Faults {
 }
 
 impl Faults {
-    /// No fault. Later calls take their memory from `alloc`.
+    /// Returns a list without faults. Later calls take their memory from `alloc`.
     pub(crate) fn new(alloc: Global) -> Faults
         ensures { result ≡ [] }
     {
@@ -44,7 +43,7 @@ impl Faults {
         Ok(())
     }
 
-    /// Appends the refusals that there are among these, at the place.
+    /// Appends the refusals among these, with the place.
     ///
     /// Errors: out of memory.
     pub(crate) fn add(
@@ -62,8 +61,8 @@ impl Faults {
         Ok(())
     }
 
-    /// The refusals: of the document, or else of its facts in byte order of their identifiers, and at
-    /// one place by the order of the refusals.
+    /// Returns the refusals of the document, or else of its facts in byte order of their
+    /// identifiers. At one place they are in the order of their numbers.
     pub fn as_slice(&self) -> &[Refusal]
         ensures { result.now ≡ self.now }
     {

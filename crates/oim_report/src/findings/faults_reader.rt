@@ -18,11 +18,11 @@ use oim_names::Reason;
 use serde_json::Value;
 use std::alloc::{AllocError, Global};
 
-/// Everything that is wrong with a report's bytes under a sheet (own); `read_report` returns only the
-/// first fault. If the bytes are not JSON, that is the only fault. Otherwise they are all conditions
-/// that hold: of the document; if none holds, of the facts, each with its place; if none holds, that
-/// of the level of duplicates. `Feature` is left out beside `Namespace`. An accepted report has no
-/// faults.
+/// Returns all faults of a report's bytes under a sheet, while `read_report` returns only the first
+/// (own). If the bytes are not JSON, that is the only fault. Otherwise it returns all conditions
+/// that apply to the document; or, if there are none, to the facts, each with its place; or, if
+/// there are none either, the fault of the level of duplicates. `Feature` is left out if
+/// `Namespace` applies. An accepted report has no faults.
 ///
 /// Errors: out of memory.
 #[tactic(auto, unfolding(crate::specs::Faults::faults, crate::specs::Outcome::outcome))]
@@ -47,7 +47,7 @@ fn tree_faults(alloc: Global, sheet: &Sheet, tree: &Value) -> Result<Faults, All
     if !faults.as_slice().is_empty() {
         return Ok(faults);
     }
-    // No condition of the document holds, so that nothing but out of memory is left.
+    // No condition of the document applies, so the only error left is out of memory.
     let Some(info) = unless_memory(read_info(alloc, tree))? else {
         return Err(AllocError);
     };
@@ -59,7 +59,7 @@ fn tree_faults(alloc: Global, sheet: &Sheet, tree: &Value) -> Result<Faults, All
     Ok(faults)
 }
 
-// Appends the refusal, if the report is refused.
+// Appends the refusal if the report is refused.
 fn add_answered(
     alloc: Global,
     sheet: &Sheet,

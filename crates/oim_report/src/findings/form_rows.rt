@@ -1,4 +1,4 @@
-//! Of which part of a fact object a condition on its form holds.
+//! Finds the part of a fact object that violates a condition on its form.
 
 ghost use Rattle.std.specs.Prelude.{◌≡◌, ◌||◌, List, codes, is_some};
 ghost use Rattle.oim_names.specs.Bindings.{Binding};
@@ -14,7 +14,7 @@ use crate::findings::part::{Part, value_if};
 use oim_names::Reason;
 use serde_json::Value;
 
-/// The fact, or a member that is missing or has another kind of value.
+/// Returns the fact, or a member that is missing or has another kind of value.
 #[tactic(auto, unfolding(crate::specs::Holds::holds))]
 pub(crate) fn misshapen(object: &Value) -> Option<Part<'_>>
     ensures { (sheet : Sheet) (bs : List Binding) →
@@ -59,7 +59,7 @@ fn misshapen_dimension(object: &Value) -> Option<Part<'_>>
     None
 }
 
-/// The first key of the fact, or of its dimensions, that the format does not know.
+/// Returns the first key of the fact, or of its dimensions, that the format does not know.
 #[tactic(auto, unfolding(crate::specs::Holds::holds), using(crate::proofs::DimensionAt::any_members))]
 pub(crate) fn unknown(object: &Value) -> Option<Part<'_>>
     ensures { (sheet : Sheet) (bs : List Binding) →

@@ -1,4 +1,4 @@
-//! Of which name of a fact object a condition on names holds. It takes no memory.
+//! Finds the name of a fact object that violates a condition on names. It takes no memory.
 
 ghost use Rattle.std.specs.Prelude.{◌≡◌, ◌&&◌, [], codes, if◌then◌else◌, is_some, map, option_map, option_and_then};
 ghost use Rattle.std.specs.Option.{option_map_or, option_to_list};
@@ -22,7 +22,7 @@ use oim_dims::{is_unit_text, refuses_some_piece};
 use oim_names::{Aliases, Reason};
 use serde_json::{Map, Value};
 
-/// The first name that is none for this reason.
+/// Returns the first name that is refused for this reason.
 #[tactic(auto, using(crate::proofs::DefinedRows::names_parts))]
 pub(crate) fn refused_name<'a>(
     sheet: &Sheet,
@@ -49,7 +49,7 @@ pub(crate) fn refused_name<'a>(
     refused_value(sheet, aliases, object, reason)
 }
 
-// The value, if the concept's values are names.
+// Returns the value if it is refused and the concept's values are names.
 fn refused_value<'a>(
     sheet: &Sheet,
     aliases: &Aliases,
@@ -77,7 +77,7 @@ fn refused_text<'a>(aliases: &Aliases, value: Option<&'a Value>, reason: Reason)
     }
 }
 
-/// Whether this is why the text is no name.
+/// Returns whether the text is refused as a name for this reason.
 pub(crate) fn is_refused(aliases: &Aliases, text: &str, reason: Reason) -> bool
     ensures { result ≡ refuses reason aliases.now (a_name text.now) }
 {
@@ -98,14 +98,15 @@ fn refused_entity<'a>(
     }
 }
 
-// Whether this is why the text is no entity.
+// Returns whether the text is refused as an entity for this reason.
 fn is_refused_entity(aliases: &Aliases, text: &str, reason: Reason) -> bool
     ensures { result ≡ refuses reason aliases.now (an_entity text.now) }
 {
     aliases.entity_refusal(text) == Some(reason)
 }
 
-// The dimensions that a taxonomy defines, and the members of the explicit ones.
+// Returns the first refused name among the taxonomy-defined dimensions and the members of explicit
+// ones.
 fn refused_dimension<'a>(
     sheet: &Sheet,
     aliases: &Aliases,
@@ -170,7 +171,7 @@ fn refused_member<'a>(
     }
 }
 
-// The unit, if it has the form and one of its pieces is no name for this reason.
+// Returns the unit if it has the form of a unit and one of its pieces is refused for this reason.
 fn refused_piece<'a>(aliases: &Aliases, unit: Option<&'a Value>, reason: Reason) -> Option<Part<'a>>
     ensures { let found = option_and_then as_text (option_map (λ v. view v.now) unit.entry) in
         is_some result ≡ refuses_some reason aliases.now (map a_name (option_map_or pieces found [])) }

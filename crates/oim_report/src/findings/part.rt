@@ -2,38 +2,38 @@ ghost use Rattle.std.specs.Prelude.{◌≡◌, is_some};
 
 use serde_json::Value;
 
-/// The part of a fact of which a condition holds.
+/// The part of a fact that violates a condition.
 #[derive(Clone, Copy)]
 pub enum Part<'a> {
-    /// Nothing that can be shown: what is missing, or a name of two keys.
+    /// Nothing can be shown: a part is missing, or two keys have one name.
     Nothing,
     /// The whole fact, which is not an object.
     Whole,
-    /// The member of this key, which is missing.
+    /// The missing member with this key.
     Missing(&'static str),
-    /// The member of this key, which is not an object.
+    /// The member with this key, which is not an object.
     NoObject(&'static str),
-    /// The dimension of this key, which is not a text.
+    /// The dimension with this key, which is not a text.
     NoText(&'static str),
     /// A key of the fact.
     Key(&'a str),
     /// A key of its dimensions.
     DimensionKey(&'a str),
-    /// A text that is to be a name.
+    /// A text that is not a name, though it must be.
     Name(&'a str),
-    /// A text that is to be an entity.
+    /// A text that is not an entity, though it must be.
     Entity(&'a str),
-    /// A unit, one of whose pieces is at fault.
+    /// A unit with a refused piece.
     Piece(&'a str),
     /// A value.
     Value(&'a Value),
     /// A dimension with its member.
     Member(&'a str, &'a Value),
-    /// Two keys of one dimension.
+    /// One dimension that two keys name.
     Twice,
 }
 
-/// The value, if the condition holds.
+/// Returns the value if the condition applies.
 pub(crate) fn value_if(holds: bool, value: Option<&Value>) -> Option<Part<'_>>
     ensures { is_some result ≡ holds }
 {

@@ -15,9 +15,9 @@ use oim_names::Aliases;
 use serde_json::{Map, Value};
 use std::alloc::Global;
 
-/// The facts of a text of fact objects, in byte order of their identifiers, read in pieces of `size`
-/// bytes or more. `None` if a piece was not read, a fact is refused, or memory ran out: only reading
-/// the whole text shows which.
+/// Reads the facts in a text of fact objects, in pieces of `size` bytes or more, and returns them
+/// in byte order of their identifiers. It returns `None` if a piece cannot be read, a fact is
+/// refused, or a request for memory is refused. Only reading the whole text shows which.
 pub(crate) fn read_facts_in_pieces(
     alloc: Global,
     sheet: &Sheet,

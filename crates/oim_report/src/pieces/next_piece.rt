@@ -7,8 +7,9 @@ use crate::pieces::spaces::strip_front;
 use serde_json::{Map, Value};
 use std::alloc::Global;
 
-/// The next piece of a text of members, of `size` bytes or more, and the text after its comma.
-/// `None` if it could not be read, or memory ran out.
+/// Reads the next piece of a text of members, of `size` bytes or more, and returns it with the text
+/// after its comma. It returns `None` if the piece cannot be read, or a request for memory is
+/// refused.
 pub(crate) fn read_next<'t>(
     alloc: Global,
     buffer: &mut String,
@@ -37,7 +38,7 @@ fn split_piece(text: &str, size: usize) -> (&str, Option<&str>)
     }
 }
 
-// The parts before and behind the comma at a place.
+// Returns the text before and after the comma at an index.
 fn cut_at_comma(text: &str, at: usize) -> Option<(&str, &str)>
     ensures { IfSome result (λ p. text.now ≡ p.0.now ++ 44 ∷ p.1.now) }
 {
@@ -46,8 +47,8 @@ fn cut_at_comma(text: &str, at: usize) -> Option<(&str, &str)>
     Some((front, rest))
 }
 
-// A guess at the end of a piece of `size` bytes or more: the place of a comma after a closing brace
-// and before a fact. A wrong guess costs time: what is read there is not a piece.
+// Guesses the end of a piece of `size` bytes or more: a comma after a closing brace and before a
+// fact. A wrong guess costs time, because the text up to it cannot be read as a piece.
 fn guess_end(text: &str, size: usize) -> Option<usize> {
     let bytes = text.as_bytes();
     let mut after_brace = false;
@@ -67,7 +68,7 @@ fn begins_fact(text: &str) -> bool {
     }
 }
 
-// The key with which the text begins, if its value is an object.
+// Returns the key at the start of the text if its value is an object.
 fn key_of_object(text: &str) -> Option<&str> {
     let (key, rest) = strip_front(text, "\"")?.split_once('"')?;
     let _members = strip_front(strip_front(rest, ":")?, "{")?;

@@ -7,7 +7,7 @@ use crate::pieces::spaces::{strip_back, strip_front, trim_back};
 use serde_json::{Map, Value};
 use std::alloc::Global;
 
-// How far from the end of a document the end of `facts` is searched for.
+// The end of `facts` is searched for in the last `MOST_BEHIND` bytes of a document.
 const MOST_BEHIND: usize = 16_384;
 
 /// A document without its member `facts`, and the text of the members of `facts`.
@@ -17,7 +17,7 @@ pub(crate) struct Outline<'t> {
     pub(crate) facts: &'t str,
 }
 
-// The texts of a document's members: those before `facts`, those in it, and those after it.
+// The texts of a document's members before `facts`, in it and after it.
 #[derive(Drop)]
 struct Split<'t> {
     before: Option<&'t str>,
@@ -25,8 +25,9 @@ struct Split<'t> {
     behind: Option<&'t str>,
 }
 
-/// The document without its member `facts`, and the text of the fact objects. If that text can be
-/// read, so can the whole. `None` if the text was not cut so, or memory ran out.
+/// Returns the document without its member `facts`, and the text of the fact objects. If that text
+/// can be parsed, so can the whole document. It returns `None` if the text cannot be split, or if a
+/// request for memory is refused.
 pub(crate) fn read_outline(alloc: Global, text: &str) -> Option<Outline<'_>>
     ensures { IfSome result (λ o. IsOutline text.now (view o.tree) o.facts.now) }
 {
@@ -55,7 +56,7 @@ fn split_document(text: &str) -> Option<Split<'_>>
     })
 }
 
-// The members before the key `facts`, if there are any.
+// Returns the members before the key `facts`, if there are any.
 fn split_head(text: &str) -> Option<Option<&str>>
     ensures { IfSome result (λ b. IsHead text.now (option_map (λ t. t.now) b)) }
 {
@@ -68,7 +69,7 @@ fn split_head(text: &str) -> Option<Option<&str>>
     Some(Some(trim_back(inner)?))
 }
 
-// The members of `facts` and those after it, from the text after the key.
+// Returns the members of `facts` and those after it, from the text after the key.
 fn split_tail(text: &str) -> Option<(&str, Option<&str>)>
     ensures { IfSome result (λ p. IsTail text.now p.0.now (option_map (λ t. t.now) p.1)) }
 {
@@ -79,7 +80,7 @@ fn split_tail(text: &str) -> Option<(&str, Option<&str>)>
     Some((facts, behind))
 }
 
-// The parts before and behind the closing brace at a place.
+// Returns the text before and after the closing brace at an index.
 fn cut_at_brace(text: &str, at: usize) -> Option<(&str, &str)>
     ensures { IfSome result (λ p. text.now ≡ p.0.now ++ 125 ∷ p.1.now) }
 {
@@ -88,7 +89,7 @@ fn cut_at_brace(text: &str, at: usize) -> Option<(&str, &str)>
     Some((front, rest))
 }
 
-// The members after `facts`, if there are any.
+// Returns the members after `facts`, if there are any.
 fn split_end(text: &str) -> Option<Option<&str>>
     ensures { IfSome result (λ b. IsEnd text.now (option_map (λ t. t.now) b)) }
 {
@@ -100,8 +101,8 @@ fn split_end(text: &str) -> Option<Option<&str>>
     Some(Some(strip_front(front, ",")?))
 }
 
-// A guess at the place of the brace that closes `facts`: the last one that is not closed again on the
-// way back from the end of the document.
+// Guesses the index of the brace that closes `facts`. Read from the end of the document, it is the
+// last brace that is not matched again.
 fn guess_end(bytes: &[u8]) -> usize {
     let mut end = 0;
     let mut depth: usize = 0;

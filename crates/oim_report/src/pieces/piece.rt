@@ -6,8 +6,9 @@ ghost use Rattle.oim_report.specs.Pieces.{alone, one_data, EndsWithBrace, IsPiec
 use serde_json::{Map, Value};
 use std::alloc::Global;
 
-/// The members of a piece, read as the one object of an array. `None` if the piece has no member, is
-/// not the text of members or does not end with a brace, or memory ran out.
+/// Reads the members of a piece, as the only object of an array. It returns `None` if the piece has
+/// no member, is not the text of members or does not end with a brace, or if a request for memory
+/// is refused.
 pub(crate) fn read_piece(
     alloc: Global,
     buffer: &mut String,
@@ -44,7 +45,7 @@ fn read_alone(alloc: Global, buffer: &mut String, piece: &str) -> Option<Value>
     Value::from_str(alloc, buffer.as_str()).ok()
 }
 
-// The members of the one object of an array.
+// Returns the members of an array's only object.
 fn only_object(value: Value) -> Option<Map<String, Value>>
     ensures { IfSome result (λ m. view value ≡ one_data (members_view m.entries)) }
 {

@@ -8,7 +8,7 @@ fn is_space(byte: u8) -> bool
     byte == b' ' || byte == b'\t' || byte == b'\n' || byte == b'\r'
 }
 
-// Where the white space at the front ends.
+// Returns the index at which leading white space ends.
 fn front_end(bytes: &[u8]) -> usize
     ensures bound { result ≤ length bytes.now }
     ensures spaces { AreSpaces (take result bytes.now) }
@@ -23,7 +23,7 @@ fn front_end(bytes: &[u8]) -> usize
     at
 }
 
-// Where the white space at the end begins.
+// Returns the index at which trailing white space begins.
 fn back_start(bytes: &[u8]) -> usize
     ensures bound { result ≤ length bytes.now }
     ensures spaces { AreSpaces (drop result bytes.now) }
@@ -38,7 +38,7 @@ fn back_start(bytes: &[u8]) -> usize
     at
 }
 
-/// The text after leading white space and `start`.
+/// Returns the text after leading white space and `start`.
 pub(crate) fn strip_front<'t>(text: &'t str, start: &str) -> Option<&'t str>
     ensures { IfSome result (λ r. AfterSpaces text.now (start.now ++ r.now)) }
 {
@@ -46,7 +46,7 @@ pub(crate) fn strip_front<'t>(text: &'t str, start: &str) -> Option<&'t str>
     rest.strip_prefix(start)
 }
 
-/// The text before white space.
+/// Returns the text without trailing white space.
 pub(crate) fn trim_back(text: &str) -> Option<&str>
     ensures { IfSome result (λ r. BeforeSpaces text.now r.now) }
 {
@@ -54,7 +54,7 @@ pub(crate) fn trim_back(text: &str) -> Option<&str>
     Some(front)
 }
 
-/// The text before `end`, if only white space follows that.
+/// Returns the text before `end`, if only white space follows `end`.
 pub(crate) fn strip_back<'t>(text: &'t str, end: &str) -> Option<&'t str>
     ensures { IfSome result (λ r. BeforeSpaces text.now (r.now ++ end.now)) }
 {

@@ -8,9 +8,9 @@ use std::alloc::{AllocError, Global};
 use std::collections::BTreeMap;
 use std::marker::Model;
 
-/// The names of a sheet while it is read, each with its kind, in an ordered map. Keys come in the
-/// order of prefixes, which may not be that of URIs: putting each into the middle of a list would
-/// cost the square of their number.
+/// The names of a sheet with their kinds, while it is read. Keys are in the order of prefixes,
+/// which may differ from the order of URIs. Inserting each into the middle of a list would take
+/// time that is quadratic in their number, so this is an ordered map.
 #[derive(Drop)]
 pub(crate) struct Gathered<K: Kind> {
     kinds: BTreeMap<Name, K>,
@@ -33,7 +33,7 @@ impl<K: Kind> Model for Gathered<K> {
 }
 
 impl<K: Kind> Gathered<K> {
-    /// No names. Later calls take their memory from `alloc`.
+    /// Returns a map without names. Later calls take their memory from `alloc`.
     pub(crate) fn new(alloc: Global) -> Self
         ensures { result ≡ map.empty }
     {
@@ -42,16 +42,17 @@ impl<K: Kind> Gathered<K> {
         }
     }
 
-    /// Whether the name is there.
+    /// Returns whether the map has the name.
     pub(crate) fn has(&self, name: &Name) -> bool
         ensures { result ≡ map.contains_key self.now name.now }
     {
         self.kinds.contains_key(name)
     }
 
-    /// Adds the name with the kind unless it is there, and returns the kind that it then has.
+    /// Adds the name with the kind unless the map has the name, and returns the kind that the name
+    /// then has.
     ///
-    /// Errors: out of memory; all is then unchanged.
+    /// Errors: out of memory; the map is then unchanged.
     pub(crate) fn put(&mut self, name: Name, kind: K) -> Result<K, AllocError>
         ensures ok { OnOk result (self.new
             ≡ (if map.contains_key self.old name then self.old else map.insert self.old name kind)) }
@@ -67,7 +68,7 @@ impl<K: Kind> Gathered<K> {
         }
     }
 
-    /// The names in order.
+    /// Returns the names in order.
     ///
     /// Errors: out of memory.
     pub(crate) fn into_listing(self, alloc: Global) -> Result<Listing<K>, AllocError>

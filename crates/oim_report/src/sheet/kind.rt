@@ -4,21 +4,21 @@ use crate::concept_kind::ConceptKind;
 use crate::dimension_kind::DimensionKind;
 use std::fmt::Debug;
 
-/// The kind that a sheet gives a name, spelled as a text.
+/// A kind that a sheet gives to a name, spelled as a text.
 pub(crate) trait Kind: Copy + Debug + Drop {
     ghost use Rattle.std.specs.Prelude.{ℕ, List, Bool, true, Option};
 
     /// The kind that a text names.
     ghost kind_named: { List ℕ → Option Self };
 
-    /// Whether two kinds are the same.
+    /// Returns whether two kinds are equal.
     ghost same_kind: { Self → Self → Bool };
 
-    /// The kind that the text names.
+    /// Returns the kind that the text names.
     fn named(text: &str) -> Option<Self>
         ensures { result ≡ kind_named text.now };
 
-    /// Whether both are the same kind.
+    /// Returns whether both are the same kind.
     fn is(self, other: Self) -> bool
         ensures { result ≡ same_kind self other };
 

@@ -15,7 +15,7 @@ use crate::fact::recall::recall_concept;
 use crate::sheet::Sheet;
 use oim_names::{Aliases, Name};
 
-/// The concept that a text names, as the sheet has it, and what its values are.
+/// Returns the concept that a text names, as the sheet lists it, and the kind of its values.
 pub(crate) fn find_concept<'s, 'a>(
     sheet: &'s Sheet,
     aliases: &Aliases,
@@ -31,7 +31,7 @@ pub(crate) fn find_concept<'s, 'a>(
     recall_concept(sheet, aliases, concepts, concept.text()?)
 }
 
-/// The concept that a text names, as the sheet has it, and what its values are.
+/// Returns the concept that a text names, as the sheet lists it, and the kind of its values.
 pub(crate) fn find_named_concept<'s>(
     sheet: &'s Sheet,
     aliases: &Aliases,
@@ -47,7 +47,7 @@ pub(crate) fn find_named_concept<'s>(
     }
 }
 
-/// The dimension that a text names, as the sheet has it, and what its members are.
+/// Returns the dimension that a text names, as the sheet lists it, and the kind of its members.
 pub(crate) fn find_dimension<'s>(
     sheet: &'s Sheet,
     aliases: &Aliases,

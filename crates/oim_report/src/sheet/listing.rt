@@ -11,8 +11,8 @@ use std::alloc::Global;
 use std::cmp::Ordering;
 use std::marker::Model;
 
-/// The names of a sheet with their kinds, in order, so that a name is found by bisection. It is
-/// found by URI and local part, without making a name for it.
+/// The names of a sheet with their kinds, in order, so that a name is found by bisection. The
+/// search takes URI and local part, so no name is allocated for it.
 #[derive(Debug, Drop)]
 pub(crate) struct Listing<K: Kind> {
     entries: Vec<(Name, K)>,
@@ -35,7 +35,7 @@ impl<K: Kind> Model for Listing<K> {
 }
 
 impl<K: Kind> Listing<K> {
-    /// No names. Later calls take their memory from `alloc`.
+    /// Returns a listing without names. Later calls take their memory from `alloc`.
     pub(crate) fn new(alloc: Global) -> Self
         ensures { result ≡ map.empty }
     {
@@ -44,7 +44,7 @@ impl<K: Kind> Listing<K> {
         }
     }
 
-    /// The listing of names that are distinct and already in order.
+    /// Returns the listing of names that are distinct and already in order.
     pub(crate) fn of_rising(entries: Vec<(Name, K)>) -> Self
         requires { is_sorted name_cmp entries.items ≡ true }
         ensures { result ≡ map.from_sorted entries.items }
@@ -52,7 +52,7 @@ impl<K: Kind> Listing<K> {
         Listing { entries }
     }
 
-    /// The name with this URI and local part, and its kind. It takes no memory.
+    /// Returns the name with this URI and local part, and its kind. It takes no memory.
     pub(crate) fn find(&self, uri: &str, local: &str) -> Option<(&Name, K)>
         ensures kind { option_map (λ e. e.1) result
             ≡ map.get self.now (record { uri = uri.now; local_part = local.now }) }
@@ -68,7 +68,7 @@ impl<K: Kind> Listing<K> {
         }
     }
 
-    /// Whether both have the same names with the same kinds.
+    /// Returns whether both have the same names with the same kinds.
     pub(crate) fn same_as(&self, other: &Self) -> bool
         ensures { IsTrue result ↔ (self.now ≡ other.now) }
     {
@@ -96,7 +96,7 @@ fn is_same_entry<K: Kind>(one: &(Name, K), other: &(Name, K)) -> bool
     one.0 == other.0 && one.1.is(other.1)
 }
 
-/// Where a name is, or where it belongs.
+/// Returns the index of a name, or the index at which to insert it.
 fn halve<K: Kind>(entries: &[(Name, K)], uri: &str, local: &str) -> Result<usize, usize>
     requires { is_sorted name_cmp entries.now ≡ true }
     ensures found { IfOk result (λ i. i < length entries.now) }
@@ -121,7 +121,7 @@ fn halve<K: Kind>(entries: &[(Name, K)], uri: &str, local: &str) -> Result<usize
     Err(low)
 }
 
-/// Compares a name with the one that has this URI and local part.
+/// Compares a name with the name that has this URI and local part.
 fn compare(name: &Name, uri: &str, local: &str) -> Ordering
     ensures { result ≡ name_cmp name.now (record { uri = uri.now; local_part = local.now }) }
 {

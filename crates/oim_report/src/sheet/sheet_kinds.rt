@@ -12,10 +12,10 @@ use oim_names::{Aliases, Reason};
 use serde_json::{Map, Value};
 use std::alloc::Global;
 
-/// The names that the keys of an object spell, each with the kind that its value names; none if
-/// there is no object.
+/// Returns the names that the keys of an object spell, with the kinds that its values name. If
+/// there is no object, there are no names.
 ///
-/// Errors: `SheetKind` if a value names no kind, or a name has two; `OutOfMemory`.
+/// Errors: `SheetKind` if a value names no kind, or a name has two kinds; `OutOfMemory`.
 pub(crate) fn read_listing<K: Kind>(
     alloc: Global,
     aliases: &Aliases,
@@ -65,7 +65,7 @@ fn list_all<K: Kind>(
     Ok(gathered.into_listing(alloc)?)
 }
 
-/// The kind that a value names.
+/// Returns the kind that a value names.
 fn kind_in<K: Kind>(value: &Value) -> Option<K>
     ensures { result ≡ kind_in K.kind_named K.same_kind (view value.now) }
 {

@@ -7,7 +7,7 @@ use oim_value::Level::{All, Complete, Consistent, Unique};
 use oim_value::{Decimals, Level, Value, read_fixed};
 use std::test::Fail;
 
-// The value of a fact as a report spells it, with decimals if it has some.
+// The value of a fact as a report spells it, with its decimals if it has any.
 #[derive(Clone, Copy)]
 enum Said<'a> {
     Nil,
@@ -39,7 +39,7 @@ fn fact(rt: &HostRuntime, aliases: &Aliases, concept: &str, said: Said) -> Resul
     })
 }
 
-// Facts of these concepts with these values.
+// Returns facts with these concepts and values.
 fn facts(rt: &HostRuntime, aliases: &Aliases, rows: &[(&str, Said)]) -> Result<Vec<Fact>, Reason> {
     let mut facts = Vec::with_capacity(rt.alloc(), rows.len())?;
     for (concept, said) in rows {
@@ -60,7 +60,7 @@ fn level_once(rt: &HostRuntime, aliases: &Aliases, rows: &[(&str, Said)]) -> Res
     level_in_order(rt, &facts)
 }
 
-// After a refused request for memory everything is done once more.
+// If a request for memory is refused, everything is repeated once.
 fn level(rt: &HostRuntime, aliases: &Aliases, rows: &[(&str, Said)]) -> Result<Level, Reason> {
     match level_once(rt, aliases, rows) {
         Err(Reason::OutOfMemory) => {
@@ -72,7 +72,7 @@ fn level(rt: &HostRuntime, aliases: &Aliases, rows: &[(&str, Said)]) -> Result<L
 }
 
 const LEVELS: [(Level, &[(&str, Said)]); 22] = [
-    // facts of different dimensions are unique
+    // facts with different dimensions are unique
     (Unique, &[]),
     (Unique, &[("eg:A", Number("1"))]),
     (Unique, &[("eg:B", Number("1")), ("eg:A", Number("1"))]),
@@ -113,7 +113,7 @@ const LEVELS: [(Level, &[(&str, Said)]); 22] = [
             ("eg:A", Name("eg:N")),
         ],
     ),
-    // numbers that meet are consistent, also where one of them is repeated
+    // numbers that meet are consistent, also if one of them is repeated
     (
         Consistent,
         &[("eg:A", Rounded("1", 0)), ("eg:A", Number("1"))],
@@ -150,7 +150,7 @@ const LEVELS: [(Level, &[(&str, Said)]); 22] = [
             ("eg:A", Number("1.5")),
         ],
     ),
-    // neighbours that meet are not enough
+    // it is not enough that neighbours meet
     (
         All,
         &[
@@ -163,7 +163,7 @@ const LEVELS: [(Level, &[(&str, Said)]); 22] = [
         Consistent,
         &[("eg:A", Rounded("101", 0)), ("eg:A", Rounded("102", 0))],
     ),
-    // other different values need all
+    // other different values need `all`
     (All, &[("eg:B", Nil), ("eg:A", Nil), ("eg:A", Number("1"))]),
     (
         All,

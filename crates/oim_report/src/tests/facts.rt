@@ -30,7 +30,7 @@ fn read_alone(
     read_fact(rt.alloc(), sheet, aliases, &mut glossaries, object)
 }
 
-/// The fact of a fact object's text.
+/// Reads the fact object in a text.
 fn fact(rt: &HostRuntime, sheet: &Sheet, aliases: &Aliases, text: &str) -> Result<Fact, Reason> {
     let object = parsed(rt, text)?;
     match read_alone(rt, sheet, aliases, &object) {

@@ -14,9 +14,10 @@ const DOCUMENTS: Rows<'static> = &[
         r#"{"x":1,"documentInfo":{"y":1,"documentType":"z"},"facts":[]}"#,
         &[(2, 0), (3, 0), (4, 0)],
     ),
-    // the type is not missing beside what it stands in
+    // a missing type is not reported if `documentInfo` is missing
     (r#"{"x":1,"facts":{"a":7}}"#, &[(2, 0), (3, 0)]),
-    // a reference that needs the base is not refused beside it; another is
+    // if the base is refused, references that need it are not reported; another refused reference
+    // is
     (
         r#"{"documentInfo":{"documentType":"https://xbrl.org/2021/xbrl-json","baseURL":"x","taxonomy":["y"]},"facts":{"a":7}}"#,
         &[(6, 0)],
@@ -25,7 +26,7 @@ const DOCUMENTS: Rows<'static> = &[
         r#"{"documentInfo":{"documentType":"https://xbrl.org/2021/xbrl-json","baseURL":"x","taxonomy":[1]}}"#,
         &[(6, 0), (7, 0)],
     ),
-    // nor is a level that needs the prefixes
+    // if a prefix is refused, a level that needs prefixes is not reported
     (
         r#"{"documentInfo":{"documentType":"https://xbrl.org/2021/xbrl-json","namespaces":{"a":"","xbrl":"https://xbrl.org/2021"},"features":{"xbrl:allowedDuplicates":1}}}"#,
         &[(5, 0)],
@@ -47,27 +48,27 @@ const FACTS: Rows<'static> = &[
         r#""a":{"x":1,"dimensions":[],"links":{"y":1}},"b":7,"c":{"links":[]}"#,
         &[(2, 1), (3, 1), (9, 1), (2, 2), (2, 3), (11, 3)],
     ),
-    // without dimensions those of the value and the decimals
+    // conditions of the value and the decimals, without dimensions
     (
         r#""a":{"value":1,"decimals":"x"},"b":{"value":null,"decimals":19},"c":{"value":"x","decimals":1}"#,
         &[(11, 1), (25, 1), (28, 1), (11, 2), (29, 2), (11, 3)],
     ),
-    // and those of its content beside them
+    // conditions of the content, with conditions of the form
     (
         r#""a":{"dimensions":{"concept":"q:A","noteId":1}},"b":{"value":"1","dimensions":{"concept":1}}"#,
         &[(2, 1), (10, 1), (13, 1), (2, 2)],
     ),
-    // each condition of a name, of several names
+    // each condition of a name, with several names
     (
         r#""a":{"value":"1","dimensions":{"concept":"A","eg:Reg":"xbrl:b","entity":"q:a"}}"#,
         &[(12, 1), (13, 1), (14, 1)],
     ),
-    // and of the pieces of one unit
+    // each condition of a name, in the pieces of one unit
     (
         r#""a":{"value":"1","dimensions":{"concept":"eg:A","unit":"xbrl:a*a/q:a"}}"#,
         &[(12, 1), (13, 1), (14, 1)],
     ),
-    // what is no name is not unknown, and what is unknown has no kind
+    // a text that is no name is not unknown, and an unknown concept has no kind
     (
         r#""a":{"value":"x","decimals":1,"dimensions":{"concept":"eg:Z","eg:Z":1,"q:Z":1,"unit":"x:a","language":"en"}}"#,
         &[(13, 1), (16, 1), (17, 1)],
@@ -93,7 +94,7 @@ const FACTS: Rows<'static> = &[
         r#""a":{"value":"x","dimensions":{"concept":"eg:A"}},"b":{"value":"1","dimensions":{"concept":"eg:A"}},"c":{"value":"1234567890123456789","dimensions":{"concept":"eg:A"}}"#,
         &[(26, 1), (27, 3)],
     ),
-    // duplicates where nothing else is wrong
+    // duplicates are reported if nothing else is wrong
     (
         r#""a":{"value":"1","dimensions":{"concept":"eg:A"}},"b":{"value":"1","dimensions":{"concept":"eg:A"}}"#,
         &[(31, 0)],

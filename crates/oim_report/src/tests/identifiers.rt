@@ -14,7 +14,7 @@ fn identifiers(rt: &HostRuntime, text: &str) -> Result<Vec<Text>, Reason> {
     }
 }
 
-/// Whether the text gives exactly these identifiers, in this order.
+/// Returns whether the text gives exactly these identifiers, in this order.
 fn gives(rt: &HostRuntime, text: &str, wanted: &[&str]) -> Result<bool, Reason> {
     let found = identifiers(rt, text)?;
     if found.len() != wanted.len() {
@@ -51,7 +51,8 @@ fn what_is_no_json_has_no_identifiers(rt: HostRuntime) {
 const TWO: &str =
     r#"{"documentInfo":{"documentType":"https://xbrl.org/2021/xbrl-json","namespaces":{"eg":"http://example.org/t"}},"facts":{"b":{"value":"last","dimensions":{"concept":"eg:T"}},"a":{"value":"first","dimensions":{"concept":"eg:T"}}}}"#;
 
-/// A report with the identifiers of its facts; where a request is refused, it is asked once more.
+/// Reads a report with the identifiers of its facts. If a request is refused, the call is repeated
+/// once.
 fn identified<'s>(
     rt: &HostRuntime,
     sheet: &'s Sheet,
@@ -66,7 +67,7 @@ fn identified<'s>(
     }
 }
 
-/// Whether the fact object of this identifier says this text.
+/// Returns whether the fact object with this identifier says this text.
 fn says(read: &(Report<'_>, Vec<Text>), place: usize, identifier: &str, text: &str) -> bool {
     let (report, identifiers) = read;
     match (report.facts().get(place), identifiers.get(place)) {

@@ -25,7 +25,7 @@ fn kept(rt: &HostRuntime, base: Option<&Base>, reference: &str) -> Result<Text, 
     }
 }
 
-// Whether a reference is kept as a text; or refused, where there is none.
+// Returns whether a reference is kept as the text, or is refused if there is none.
 fn is_kept(rt: &HostRuntime, base: Option<&Base>, reference: &str, text: Option<&str>) -> bool {
     match kept(rt, base, reference) {
         Ok(found) => text == Some(found.as_str()),
@@ -86,7 +86,7 @@ fn refusal(rt: &HostRuntime, text: &str) -> Option<Reason> {
     base(rt, text).err()
 }
 
-// The refusal of a base that is repeated so many times behind this start.
+// Returns the refusal of a base that consists of this start and `count` repeats.
 fn refusal_of_long(rt: &HostRuntime, count: usize) -> Result<Option<Reason>, AllocError> {
     let text = long(rt, "http://x.org/", "a", count)?;
     Ok(refusal(rt, &text))
@@ -114,13 +114,13 @@ fn a_base_is_an_http_or_https_url(rt: HostRuntime) -> Result<(), Fail> {
     Ok(())
 }
 
-// The start, and then the piece so many times.
+// Returns the start, followed by the piece `count` times.
 fn long(rt: &HostRuntime, start: &str, piece: &str, count: usize) -> Result<String, AllocError> {
     let pieces = repeated(rt, piece, count)?;
     joined(rt, start, &pieces, "")
 }
 
-// Whether the kept text is so long; or refused, where there is no length.
+// Returns whether the kept text has this length, or is refused if there is none.
 fn has_length(
     rt: &HostRuntime,
     base: Option<&Base>,

@@ -14,12 +14,12 @@ const BETWEEN: &str = r#""},"g"#;
 
 const AFTER: &str = r#"":{"value":"2","dimensions":{"concept":"eg:T","language":"en"}}}}"#;
 
-// What a text may have where a cut is looked for, as JSON writes it.
+// Texts that look like a cut, in the form in which JSON writes them.
 const SIGNS: &[&str] = &[
     ",", "{", "}", "[", r#"\""#, r"\\", "},", "}},", r#"},\""#, r#"\\\""#, ":{", " ",
 ];
 
-// Reports of two facts or of one, which are read in pieces, with members in any order.
+// Reports of one or two facts that are read in pieces, with members in any order.
 const IN_PIECES: &[&str] = &[
     r#"{"documentInfo":{"documentType":"https://xbrl.org/2021/xbrl-json","namespaces":{"eg":"http://example.org/t"}},"facts":{"a":{"value":"1","dimensions":{"concept":"eg:A"}},"b":{"value":"2","dimensions":{"concept":"eg:A"}}}}"#,
     r#"{"facts":{"a":{"value":"1","dimensions":{"concept":"eg:A"}},"b":{"dimensions":{"concept":"eg:A"},"links":{},"value":"2"}},"documentInfo":{"documentType":"https://xbrl.org/2021/xbrl-json","namespaces":{"eg":"http://example.org/t"}}}"#,
@@ -27,11 +27,11 @@ const IN_PIECES: &[&str] = &[
     "\n{ \"documentInfo\" : {\n \"documentType\" : \"https://xbrl.org/2021/xbrl-json\", \"namespaces\" : {\n \"eg\" : \"http://example.org/t\" } },\n \"facts\" : {\n \"a\" : {\n \"value\" : \"1\",\n \"dimensions\" : { \"concept\" : \"eg:A\" }\n },\n \"b\" : { \"value\" : \"2\",\n \"dimensions\" : { \"concept\" : \"eg:A\" }\n }\n } }\n",
 ];
 
-// Fact objects whose identifiers do not rise, or are repeated.
+// Fact objects whose identifiers do not ascend, or are repeated.
 const OUT_OF_ORDER: &str =
     r#""f2":{"value":"2","dimensions":{"concept":"eg:A"}},"f10":{"value":"10","dimensions":{"concept":"eg:A"}},"f1":{"value":"1","dimensions":{"concept":"eg:A"}},"f2":{"value":"3","dimensions":{"concept":"eg:A"}}}}"#;
 
-// Reports that are read whole, since something in them is refused or is no piece.
+// Reports that are read as a whole, because a part is refused or cannot be read as a piece.
 const WHOLE: &[&str] = &[
     "",
     r#"{"facts":{"a":{}}}"#,
@@ -56,7 +56,8 @@ fn in_pieces<'s>(
     }
 }
 
-// Whether a short text is read in pieces, with the facts that it has where it is read whole.
+// Returns whether a short text that is read in pieces has the facts that it has when read as a
+// whole.
 fn is_read_alike(rt: &HostRuntime, sheet: &Sheet, text: &str, size: usize) -> bool {
     let Some(report) = in_pieces(rt, sheet, text, size) else {
         return told(rt, false, text);

@@ -12,29 +12,29 @@ use oim_names::{Reason, Text};
 use oim_value::Level;
 use std::alloc::AllocError;
 
-// The beginning of a report, up to the other members of `documentInfo`.
+// The start of a report, up to the other members of `documentInfo`.
 const TYPED: &str = r#"{"documentInfo":{"documentType":"https://xbrl.org/2021/xbrl-json""#;
 
-// The same, with the prefixes `eg`, `x`, `xbrli` and `xbrl`.
+// The start of a report with the prefixes `eg`, `x`, `xbrli` and `xbrl`.
 const BOUND: &str =
     r#"{"documentInfo":{"documentType":"https://xbrl.org/2021/xbrl-json","namespaces":{"eg":"http://example.org/t","x":"http://example.org/u","xbrli":"http://www.xbrl.org/2003/instance","xbrl":"https://xbrl.org/2021"}"#;
 
 const NO_FACTS: &str = r#"},"facts":{}}"#;
 
-// The same up to its facts.
+// The start of a report up to its facts.
 const FACTS: &str =
     r#"{"documentInfo":{"documentType":"https://xbrl.org/2021/xbrl-json","namespaces":{"eg":"http://example.org/t","x":"http://example.org/u","xbrli":"http://www.xbrl.org/2003/instance","xbrl":"https://xbrl.org/2021"}},"facts":{"#;
 
-// What comes of a report.
+// The expected outcome of a report.
 enum Answer<'t> {
-    /// It is refused by a reason of this number, and for a fact, by the fact's place.
+    /// It is refused for a reason with this number, and if a fact is refused, at this place.
     InDocument(u8),
     InFact(u8, u64),
     Read,
-    /// It is read, has so many facts, of this level, and declares none.
+    /// It is accepted and declares no level. It has this number of facts and this level.
     HasLevel(usize, Level),
     Declares(Level),
-    /// The references as they are kept.
+    /// It has these references.
     Keeps(&'t [&'t str]),
     /// The local names of the facts' concepts, and the order of the facts.
     Sorts(&'t [&'t str], &'t [usize]),
@@ -42,7 +42,7 @@ enum Answer<'t> {
 
 use Answer::{Declares, HasLevel, InDocument, InFact, Keeps, Read, Sorts};
 
-// The outcomes of texts between two parts of a report.
+// Texts between two parts of a report, and their outcomes.
 struct Table<'t> {
     start: &'t str,
     rows: &'t [(Answer<'t>, &'t [&'t str])],
@@ -163,7 +163,7 @@ fn table_holds(rt: &HostRuntime, sheet: &Sheet, table: &Table) -> Result<bool, A
     Ok(true)
 }
 
-/// Whether the tables hold under a sheet.
+/// Returns whether the tables hold under a sheet.
 fn hold(rt: &HostRuntime, sheet: &str, tables: &[Table]) -> Result<bool, Reason> {
     let sheet = read_sheet(rt, sheet)?;
     for table in tables {

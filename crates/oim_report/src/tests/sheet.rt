@@ -3,7 +3,7 @@ use crate::{ConceptKind, DimensionKind, Sheet};
 use oim_names::{Aliases, Name, Reason};
 use std::test::Fail;
 
-// Sheets by what they are refused for, if anything.
+// Sheets with the reason for which they are refused, if any.
 const SHEETS: [(Option<Reason>, &[&str]); 9] = [
     (Some(Reason::NotJson), &["", "{"]),
     // a sheet has its form
@@ -58,7 +58,7 @@ const SHEETS: [(Option<Reason>, &[&str]); 9] = [
     (
         Some(Reason::SheetKind),
         &[
-            // kinds are those of a sheet
+            // kinds belong to concepts or to dimensions
             r#"{"namespaces":{"eg":"u:t"},"concepts":{"eg:A":"typed"}}"#,
             r#"{"namespaces":{"eg":"u:t"},"concepts":{"eg:A":"Numeric"}}"#,
             r#"{"namespaces":{"eg":"u:t"},"concepts":{"eg:A":1}}"#,
@@ -112,7 +112,7 @@ fn read_name(rt: &HostRuntime, aliases: &Aliases, text: &str) -> Result<Name, Re
 
 type Kinds = (Option<ConceptKind>, Option<DimensionKind>);
 
-// The kinds that a sheet lists for a name, as a concept and as a dimension.
+// Returns the kinds that a sheet lists for a name, as a concept and as a dimension.
 fn kinds(rt: &HostRuntime, sheet: &Sheet, aliases: &Aliases, text: &str) -> Result<Kinds, Reason> {
     let name = read_name(rt, aliases, text)?;
     Ok((sheet.concept(&name), sheet.dimension(&name)))

@@ -59,7 +59,7 @@ const FAULTS: [(Reason, &[&str]); 24] = [
             r#"{"value":"North","dimensions":{"concept":"eg:Q"}}"#,
         ],
     ),
-    // each prefix of a fact is bound, and not to a reserved namespace
+    // each prefix of a fact is bound, and not to the reserved namespace
     (
         UnboundPrefix,
         &[
@@ -78,7 +78,7 @@ const FAULTS: [(Reason, &[&str]); 24] = [
             r#"{"value":"1","dimensions":{"concept":"eg:A","entity":"xbrl:1"}}"#,
         ],
     ),
-    // a sheet lists what a fact names
+    // a sheet lists each name of a fact
     (MissingConcept, &[r#"{"value":"1","dimensions":{}}"#]),
     (
         UnknownConcept,
@@ -170,7 +170,7 @@ const FAULTS: [(Reason, &[&str]); 24] = [
     ),
 ];
 
-// Each fact has the fault that is answered, and one of a greater number.
+// Each fact has the expected fault, and one with a greater number.
 const LEAST_FAULTS: [(Reason, &[&str]); 22] = [
     (
         MemberForm,

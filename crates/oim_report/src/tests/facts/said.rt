@@ -6,7 +6,7 @@ use oim_names::{Aliases, Name};
 use oim_value::Value;
 use std::test::Fail;
 
-// What a fact is to say.
+// The expected contents of a fact.
 enum Said {
     Blue,
     NilMember,
@@ -107,7 +107,7 @@ const READ: [(&str, Said); 7] = [
         r#"{"value":"eg:North","dimensions":{"concept":"eg:Q"}}"#,
         Said::North,
     ),
-    // pure is no unit, but pure over another measure is one
+    // `pure` is no unit, but `pure` over another measure is one
     (
         r#"{"value":"1","dimensions":{"concept":"eg:A","unit":"(xbrli:pure)"}}"#,
         Said::HasUnit(false),

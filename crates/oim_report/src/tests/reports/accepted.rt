@@ -3,7 +3,7 @@ use oim_value::Level::{All, Complete, Consistent, Unique};
 use std::test::Fail;
 
 const LEVELS: &[Table] = &[
-    // the level of a report keeps repeats
+    // the level of a report counts repeats
     Table {
         start: FACTS,
         rows: &[
@@ -44,7 +44,7 @@ const LEVELS: &[Table] = &[
         ],
         end: "}}",
     },
-    // a part that differs makes facts unique
+    // facts that differ in one part are unique
     Table {
         start: FACTS,
         rows: &[
@@ -64,7 +64,7 @@ const LEVELS: &[Table] = &[
         ],
         end: "}}",
     },
-    // every pair of numbers is to meet
+    // each two numbers must meet
     Table {
         start: FACTS,
         rows: &[
@@ -89,7 +89,7 @@ const LEVELS: &[Table] = &[
         ],
         end: "}}",
     },
-    // what is repeated is read the same
+    // a repeated text is read in the same way
     Table {
         start: FACTS,
         rows: &[(
@@ -115,7 +115,7 @@ const LEVELS: &[Table] = &[
 ];
 
 const KEPT: &[Table] = &[
-    // the declared level is not that of the facts
+    // the declared level may differ from the level of the facts
     Table {
         start: r#"{"documentInfo":{"documentType":"https://xbrl.org/2021/xbrl-json","namespaces":{"y":"https://xbrl.org/2021"},"features":{"y:allowedDuplicates":""#,
         rows: &[

@@ -95,7 +95,7 @@ const MEMBERS: [Table; 4] = [
         ],
         end: "}",
     },
-    // unknown members are extensions where their keys have a colon
+    // unknown members belong to extensions if their keys have a colon
     Table {
         start: TYPED,
         rows: &[
@@ -117,7 +117,7 @@ const MEMBERS: [Table; 4] = [
         ],
         end: "}",
     },
-    // the document type is that of xBRL-JSON
+    // the document type is the one of xBRL-JSON
     Table {
         start: r#"{"documentInfo":{"#,
         rows: &[
@@ -223,7 +223,7 @@ fn parts_of_a_document_have_their_forms(rt: HostRuntime) -> Result<(), Fail> {
     Ok(())
 }
 
-// Each document has what is answered, and what has the next number.
+// Each document has the expected fault, and the fault with the next number.
 const TWO_FAULTS: [Table; 3] = [
     Table {
         start: "",
@@ -274,7 +274,7 @@ const TWO_FAULTS: [Table; 3] = [
     },
 ];
 
-// Each document has a fact that is none.
+// Each document has a refused fact besides the expected fault.
 const BEFORE_FACTS: Table = Table {
     start: BOUND,
     rows: &[

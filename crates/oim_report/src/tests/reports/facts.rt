@@ -2,7 +2,7 @@ use super::{FACTS, InDocument, InFact, Read, SHEET, Table, hold};
 use std::test::Fail;
 
 const PLACES: [Table; 3] = [
-    // the first refused fact is answered by its place
+    // the first refused fact is reported with its place
     Table {
         start: FACTS,
         rows: &[
@@ -24,7 +24,7 @@ const PLACES: [Table; 3] = [
         ],
         end: "}}",
     },
-    // facts are in byte order of any identifiers
+    // facts are in byte order of their identifiers
     Table {
         start: FACTS,
         rows: &[
@@ -41,7 +41,7 @@ const PLACES: [Table; 3] = [
         ],
         end: "}}",
     },
-    // what is repeated elsewhere is read anew
+    // a text that is repeated elsewhere is read anew
     Table {
         start: FACTS,
         rows: &[
@@ -179,7 +179,7 @@ const PARTS: [Table; 5] = [
         ],
         end: r#""}}}}"#,
     },
-    // units are sides of names
+    // a unit is one or two sides of names
     Table {
         start: r#"{"documentInfo":{"documentType":"https://xbrl.org/2021/xbrl-json","namespaces":{"eg":"http://example.org/t","x":"http://example.org/u","xbrli":"http://www.xbrl.org/2003/instance"}},"facts":{"a":{"value":"1","dimensions":{"concept":"eg:A","unit":""#,
         rows: &[
@@ -211,7 +211,7 @@ const NAMES: Table = Table {
     end: r#""}}}}"#,
 };
 
-// Under an empty sheet.
+// Outcomes under an empty sheet.
 const UNKNOWN: Table = Table {
     start: FACTS,
     rows: &[(

@@ -29,7 +29,7 @@ const FEATURES: [Table; 4] = [
         ],
         end: "}}}",
     },
-    // the feature is known by the URI of its prefix
+    // the feature is recognised by the URI of its prefix
     Table {
         start: r#"{"documentInfo":{"documentType":"https://xbrl.org/2021/xbrl-json","namespaces":{"eg":"http://example.org/t","#,
         rows: &[
@@ -51,7 +51,7 @@ const FEATURES: [Table; 4] = [
         ],
         end: REPEATED,
     },
-    // other features are passed over
+    // other features are ignored
     Table {
         start: BOUND,
         rows: &[(
@@ -130,7 +130,7 @@ const DUPLICATES: [Table; 5] = [
         )],
         end: r#"}},"facts":{"a":{"value":"1","dimensions":{"concept":"eg:A"}},"b":{"value":"1","dimensions":{"concept":"eg:B"}}}}"#,
     },
-    // duplicates are answered last
+    // duplicates are tested last
     Table {
         start: DECLARED,
         rows: &[

@@ -4,7 +4,7 @@ use crate::tests::{joined, repeated, told};
 use std::alloc::AllocError;
 use std::test::Fail;
 
-// A report with a piece and what closes it, each so many times between a start and an end.
+// A report in which a piece and its closing text are repeated between a start and an end.
 struct Long<'t> {
     start: &'t str,
     piece: &'t str,
@@ -27,7 +27,7 @@ const LIMITS: [Long; 4] = [
             (128, InDocument(1)),
         ],
     },
-    // a reference has at most 65,536 bytes, also as it is kept
+    // a reference and its kept text have at most 65,536 bytes
     Long {
         start: r#"{"documentInfo":{"documentType":"https://xbrl.org/2021/xbrl-json","taxonomy":[""#,
         piece: "a",
