@@ -5,8 +5,7 @@ const MOST_CHARACTERS: usize = 80;
 
 /// A text that is safe to print on a terminal. Control characters, invisible characters, and those
 /// that end the line or change its direction are written as JSON escapes. Otherwise a prefix after
-/// a
-/// byte order mark would look bound, and the name of a file could imitate a line.
+/// a byte order mark would look bound, and the name of a file could imitate a line.
 #[derive(Clone, Copy)]
 pub struct Escaped<'t>(pub &'t str);
 

@@ -11,8 +11,7 @@ use serde_json::Value;
 use std::alloc::{AllocError, Global};
 
 /// Returns the line that says why a sheet is refused. It shows the text at fault, and says what
-/// kind
-/// of file it is if the first bytes or members show that (own).
+/// kind of file it is if the first bytes or members show that (own).
 ///
 /// Errors: out of memory.
 pub fn explain_sheet(

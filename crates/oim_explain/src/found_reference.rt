@@ -46,8 +46,7 @@ fn is_web(url: &Url) -> bool {
 }
 
 /// True if a reference is accepted, within the limit: as a URL of its own, as a web address
-/// resolved
-/// against the base, or as spelled if there is no base.
+/// resolved against the base, or as spelled if there is no base.
 fn is_kept(alloc: Global, base: Option<&Url>, reference: &Value) -> Result<bool, AllocError> {
     let Some(text) = reference.as_str() else {
         return Ok(false);

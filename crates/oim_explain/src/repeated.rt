@@ -66,8 +66,7 @@ fn push_facts(lines: &mut Lines<'_>, facts: &Value<'_>) -> Result<(), AllocError
 }
 
 /// Adds the repeated members of an object, in this fact or in the document. Their lines end with
-/// the
-/// place of the object.
+/// the place of the object.
 fn push_of(
     lines: &mut Lines<'_>,
     fact: Option<&str>,

@@ -1,8 +1,7 @@
 use oim_names::Reason;
 
 /// The sentence about a fault: the words before and after the text at fault, or the whole sentence
-/// if
-/// no text is shown.
+/// if no text is shown.
 #[derive(Clone, Copy)]
 pub(crate) struct Sentence {
     pub before: &'static str,

@@ -1,5 +1,5 @@
--- The verdict lines, one for each dimension set, in order (own; the words are from the XBRL working group note on
--- duplicate facts). In bytes, a space is 32, a line end 10.
+-- The verdict lines, one for each dimension set, in order (own; the words are from the XBRL working group note on duplicate facts). In
+-- bytes, a space is 32, a line end 10.
 use Rattle.std.specs.Prelude.{◌≡◌, ◌⊎◌, ℕ, suc, ◌-◌, List, [], ◌∷◌, ◌++◌, map, length, get_or, codes, Contains, Some}
 use Rattle.std.specs.Fmt.{decimal}
 use Rattle.oim_value.specs.Plain.{plain}

@@ -1,5 +1,4 @@
--- The sources of each fact: the fact objects in accepted reports that report it (own). In bytes, a space is 32, a line
--- end 10.
+-- The sources of each fact: the fact objects in accepted reports that report it (own). In bytes, a space is 32, a line end 10.
 use Rattle.std.specs.Prelude.{◌≡◌, ℕ, suc, ◌-◌, Bool, Option, Some, None, List, [], ◌∷◌, ◌++◌, map, get_or, filter, flat_map, Contains, Result, Ok, Err}
 use Rattle.std.specs.Fmt.{decimal}
 use Rattle.std.specs.List.{AllZip}

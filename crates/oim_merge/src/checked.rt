@@ -26,8 +26,7 @@ pub struct Checked {
 
 /// Reads a report under a sheet, counts its facts, and compares its bytes with its canonical text
 /// (xBRL-JSON 1.0; the levels are those of OIM Common 1.0; the canonical text is own). The
-/// canonical
-/// text may be held in memory beside the report.
+/// canonical text may be held in memory beside the report.
 ///
 /// Errors: the report's first refusal, with its place; `OutOfMemory`, at the document.
 pub fn check_report(alloc: Global, sheet: &Sheet, bytes: &[u8]) -> Result<Checked, Refusal>

@@ -19,15 +19,13 @@ pub fn reports_ignore_order()
 {}
 
 /// Adding reports one at a time gives what `consolidate` gives for their list: the same body and
-/// the
-/// same refusals.
+/// the same refusals.
 pub fn steps_are_list()
     ensures { StepsAreList }
 {}
 
 /// The text of a body that fits a sheet is read as the same facts and references, in order, with
-/// the
-/// level of its facts.
+/// the level of its facts.
 pub fn canonical_reads_back()
     ensures { CanonicalReadsBack }
 {}
@@ -38,8 +36,7 @@ pub fn earlier_reads_back()
 {}
 
 /// A text declares the strictest level. With a stricter one in its place the text is refused; with
-/// a
-/// looser one it is accepted.
+/// a looser one it is accepted.
 pub fn least_level_is_declared()
     ensures { LeastLevelIsDeclared }
 {}
@@ -57,8 +54,7 @@ pub fn texts_give_bodies()
 {}
 
 /// The text of a base is accepted under the base's sheet, as a document with exactly the base's
-/// facts
-/// and references.
+/// facts and references.
 pub fn bases_read_back(base: &Base<'_>)
     ensures { IsReadAsBody base.now.sheet (canonical base.now.body) base.now.body }
 {
@@ -76,8 +72,8 @@ pub fn earlier_is_not_canonical()
 {}
 
 /// A base has the body of the documents that reached it, directly or through bases that it joined.
-/// So bases that the same accepted reports reached, in any order, grouping and repetition, have
-/// the same bytes, verdicts, level and references.
+/// So bases that the same accepted reports reached, in any order, grouping and repetition, have the
+/// same bytes, verdicts, level and references.
 pub fn histories_are_forgotten()
     ensures body { HistoriesGiveBodies }
     ensures bytes { HistoriesAreForgotten }

@@ -18,8 +18,7 @@ use oim_write::Encoded;
 use std::alloc::{AllocError, Global};
 
 /// Finds the mentions of a base's facts in the reports that it was merged from. They are in the
-/// order
-/// of facts, then reports, then identifiers.
+/// order of facts, then reports, then identifiers.
 ///
 /// Errors: out of memory.
 pub fn mentions_by_fact(

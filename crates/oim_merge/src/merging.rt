@@ -41,8 +41,7 @@ impl<'s> Model for Consolidation<'s> {
 
 impl<'s> Consolidation<'s> {
     /// Starts a merge without reports. Reports are read under the sheet. Later calls take their
-    /// memory
-    /// from `alloc`.
+    /// memory from `alloc`.
     pub fn new(alloc: Global, sheet: &'s Sheet) -> Consolidation<'s>
         ensures { result ≡ begun sheet.now }
     {
@@ -70,8 +69,7 @@ impl<'s> Consolidation<'s> {
     }
 
     /// Reads one more report under the sheet and takes its facts, or keeps its refusal with its
-    /// number
-    /// from 1.
+    /// number from 1.
     ///
     /// Errors: out of memory; nothing is changed then, so the report can be added again.
     pub fn add(&mut self, bytes: &[u8]) -> Result<(), AllocError>
@@ -127,8 +125,7 @@ impl<'s> Consolidation<'s> {
     }
 
     /// Appends one line for each dimension set of the accepted reports to the sink, as
-    /// `verdict_lines`
-    /// does, and returns the refusals.
+    /// `verdict_lines` does, and returns the refusals.
     ///
     /// Errors: `Device` if the sink failed; `OutOfMemory`.
     pub fn finish_lines<S: Sink>(self, out: &mut S) -> Result<Refusals, Fault>

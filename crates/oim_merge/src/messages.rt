@@ -14,8 +14,7 @@ use std::alloc::{AllocError, Global};
 use std::cmp::Ordering;
 
 /// The sent texts in order. Equal texts are stored and read once. The contracts guarantee that a
-/// text
-/// found here is equal, not that each equal text is found: a miss only costs memory.
+/// text found here is equal, not that each equal text is found: a miss only costs memory.
 #[derive(Drop)]
 pub(crate) struct Messages<'s> {
     /// The distinct texts, in the order of first sending.
@@ -43,8 +42,7 @@ impl<'s> Messages<'s> {
     }
 
     /// Sends the text of a base, and stores its index as the current one. If there already is a
-    /// current
-    /// one, the text is not written again.
+    /// current one, the text is not written again.
     ///
     /// Errors: out of memory.
     pub(crate) fn send(

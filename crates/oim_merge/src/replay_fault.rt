@@ -11,8 +11,7 @@ pub enum ReplayFault {
     #[error("out of memory")]
     OutOfMemory,
     /// The line with this number, from 1, is the first that is not an event, or that names
-    /// something
-    /// that does not exist.
+    /// something that does not exist.
     #[error("line {0} is refused")]
     BadEvent(u64),
 }

@@ -16,14 +16,12 @@ use oim_write::Encoded;
 use std::alloc::{AllocError, Global};
 
 /// Replicas while a schedule runs, with the texts that they sent, the refused takes, and the
-/// reports
-/// read so far.
+/// reports read so far.
 #[derive(Drop)]
 pub(crate) struct Replicas<'s> {
     pub bases: Vec<Base<'s>>,
     /// For each replica, the index of its text among the messages. It is None if the replica sent
-    /// none,
-    /// or if a later event may have changed its base.
+    /// none, or if a later event may have changed its base.
     pub current: Vec<Option<usize>>,
     pub messages: Messages<'s>,
     pub refused: Refusals,

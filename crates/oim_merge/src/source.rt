@@ -15,9 +15,8 @@ pub trait Source {
     ghost failures: { Self → ℕ };
 
     /// Writes its next bytes to the start of the buffer and returns their number. The number is 0
-    /// only at
-    /// the end, or if the buffer is empty. On an error it gives no bytes and counts one more
-    /// failure.
+    /// only at the end, or if the buffer is empty. On an error it gives no bytes and counts one
+    /// more failure.
     fn get(&mut self, buffer: &mut [u8]) -> Result<usize, SourceError>
         requires { failures self.old < 2 ^ 64 - 1 }
         ensures bytes { ReadConsumes (told self.old) (told self.new) result buffer.new }

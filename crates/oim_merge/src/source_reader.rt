@@ -14,8 +14,7 @@ const FEWEST: usize = 1 << 12;
 const MOST: usize = 1 << 16;
 
 /// Reads a source to its end, if it gives at most `limit` bytes, and releases unused memory. It
-/// asks
-/// the source at most `limit` + 1 times, since each answer but the last has at least one byte.
+/// asks the source at most `limit` + 1 times, since each answer but the last has at least one byte.
 pub fn read_all<S: Source>(alloc: Global, source: &mut S, limit: u32) -> Result<Encoded, ReadFault>
     requires { S.failures source.old < 2 ^ 64 - 1 }
     ensures ok { IfOk result (λ bytes. Consumes (S.told source.old) (S.told source.new) bytes

@@ -1,5 +1,4 @@
--- The second key tells the two forms of text apart: `namespaces` in an earlier text, `features` in one that declares a
--- level.
+-- The second key tells the two forms of text apart: `namespaces` in an earlier text, `features` in one that declares a level.
 use Rattle.std.proofs.Common.{◌≡◌, ℕ, get_or, refl}
 use Rattle.json.specs.Print.{escape_byte}
 use Rattle.fact_base.specs.Body.{Body}

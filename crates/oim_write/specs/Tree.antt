@@ -1,7 +1,6 @@
--- The JSON value that is written for a body: xBRL-JSON 1.0, sections 2 and 3; the choice of prefixes and identifiers is
--- own.
--- The feature `xbrl:allowedDuplicates` declares a level of duplicates (OIM Common 1.0). The earlier form declares none.
--- In bytes, `:` is 58, `f` 102, `n` 110.
+-- The JSON value that is written for a body: xBRL-JSON 1.0, sections 2 and 3; the choice of prefixes and identifiers is own. The feature
+-- `xbrl:allowedDuplicates` declares a level of duplicates (OIM Common 1.0). The earlier form declares none. In bytes, `:` is 58, `f` 102,
+-- `n` 110.
 use Rattle.std.specs.Prelude.{ℕ, List, [], ◌∷◌, ◌++◌, codes, Option, Some, None}
 use Rattle.serde_json.specs.Data.{Data, string, array, object, Items, no_items, item, Members, no_members, member}
 use Rattle.oim_names.specs.Expansion.{reserved_uri}

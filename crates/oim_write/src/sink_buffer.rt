@@ -78,8 +78,7 @@ impl SinkBuffer {
     }
 
     /// Ends the text because memory was refused. The waiting bytes are written first, so the
-    /// reported
-    /// length is the length of the text so far.
+    /// reported length is the length of the text so far.
     pub fn stop<S: Sink>(&mut self, sink: &mut S) -> WriteFault
         requires { S.failures sink.old < 2 ^ 64 - 1 }
         ensures broken { Breaks (S.told sink.old) (S.told sink.new) self.old [] (written_of result) }

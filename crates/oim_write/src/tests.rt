@@ -8,8 +8,8 @@ use crate::std_sink::StdSink;
 use std::alloc::{AllocError, Global};
 use std::test::Fail;
 
-// Refuses each request for memory once; the repeated call then succeeds. Tests that need a base
-// are in the crate that reads reports.
+// Refuses each request for memory once; the repeated call then succeeds. Tests that need a base are
+// in the crate that reads reports.
 
 pub(crate) fn tell_refused(rt: &HostRuntime) {
     let _ = eprintln!(rt; "refused");

@@ -18,8 +18,7 @@ const MOST_BYTES: u32 = 2_147_483_648;
 pub(crate) const STANDARD_INPUT: &str = "-";
 
 /// The inputs of a command, and its progress. The sink is not a field: otherwise the contract of
-/// each
-/// method would have to say that the sink is unchanged.
+/// each method would have to say that the sink is unchanged.
 #[derive(Drop)]
 pub(crate) struct Inputs<'n, F, E> {
     pub alloc: Global,
@@ -71,8 +70,7 @@ impl<'n, F: Files, E: Write> Inputs<'n, F, E> {
     }
 
     /// Reads all reports under a sheet in order, up to the first that cannot be read. The bytes of
-    /// each
-    /// are dropped once it is added.
+    /// each are dropped once it is added.
     ///
     /// Errors: `Unread`, and out of memory.
     pub(crate) fn consolidate<'s>(

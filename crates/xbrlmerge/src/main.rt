@@ -1,6 +1,5 @@
 //! The command line of `oim_merge`: arguments, files, printed lines and exit statuses. Merging
-//! itself is
-//! in the libraries.
+//! itself is in the libraries.
 #![tactic(auto)]
 
 mod arguments;

@@ -10,8 +10,7 @@ use std::os::unix::fs::PermissionsExt;
 use std::rt::Files;
 
 /// The bits of a mode that are kept. The new file belongs to the user who runs the program, so
-/// setuid
-/// and setgid would then apply to another user.
+/// setuid and setgid would then apply to another user.
 const KEPT_BITS: u32 = 0o777;
 
 /// Writes the text of the request to standard output, and flushes it unless the program stopped. If

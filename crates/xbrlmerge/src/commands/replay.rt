@@ -69,8 +69,7 @@ pub(crate) fn of<'w>(matches: &ArgMatches<'w>) -> Option<Subcommand<'w>> {
 }
 
 /// Reads the schedule and the reports, runs the schedule on the replicas and writes the text of
-/// each
-/// replica to `out`. Returns the refused takes by the numbers of their reports, from 1.
+/// each replica to `out`. Returns the refused takes by the numbers of their reports, from 1.
 ///
 /// Errors: those of the files; `Event` if a line is not an event, before any report is read, or if it
 /// names something that does not exist; out of memory; `Device`.

@@ -51,8 +51,7 @@ pub(crate) fn words<'w>(alloc: Global) -> Result<Command<'w>, AllocError> {
 }
 
 /// Reads the reports and writes the line of each fact object to `out`. Returns the refused reports
-/// by
-/// their numbers, from 1.
+/// by their numbers, from 1.
 ///
 /// Errors: those of the reports, of `source_lines` and of `source_rows`.
 pub(crate) fn run<'n, F: Files, E: Write, S: Sink>(

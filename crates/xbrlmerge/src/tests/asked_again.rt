@@ -1,8 +1,7 @@
 use std::alloc::AllocError;
 
 // Repeats a call after a refused request for memory. The line on standard error reports it, and
-// says
-// if the test itself made the request.
+// says if the test itself made the request.
 
 const ROOM: usize = 1 << 12;
 

@@ -12,8 +12,7 @@ use std::alloc::AllocError;
 use std::test::Fail;
 
 // After a refused request for memory the program says so and is run again. The line on standard
-// error
-// reports it.
+// error reports it.
 
 const ROOM: usize = 1 << 16;
 
@@ -147,8 +146,7 @@ fn a_refused_sheet_ends_the_run(rt: HostRuntime) -> Result<(), Fail> {
 }
 
 /// True if the run stops with this line when standard output has this much room, and standard
-/// output
-/// then holds the first part of the text.
+/// output then holds the first part of the text.
 fn stops(
     rt: &HostRuntime,
     input: TestReader<'_>,

@@ -3,8 +3,7 @@ use crate::tests::canonical_parts::{
 };
 
 /// Arguments and the results: the status, the parts of the text on standard output, and the lines
-/// on
-/// standard error.
+/// on standard error.
 pub(super) type Row = (&'static str, u8, &'static [&'static str], &'static str);
 
 /// Arguments, the number of bytes that standard output takes, and the line that reports it.
