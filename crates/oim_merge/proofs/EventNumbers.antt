@@ -8,7 +8,7 @@ use Rattle.std.specs.Str.Parse.{AllDigits, ParsesUnsigned, digits_value}
 use Rattle.std.proofs.lemmas.Fmt.{IsAscii-decimal, decimal_digit, decimal_is_IsNumeral, decimal-digits_value, first_decimal, parse-decimal}
 use Rattle.std.proofs.lemmas.Str.{IsUtf8-from_ascii}
 use Rattle.std.proofs.lemmas.Str.Parse.{IsNumeralModel, numerals_by_value, parse_plain, tells_digits}
-use Rattle.oim_merge.specs.EventParts.{IsNumberText}
+use Rattle.oim_merge.specs.code.EventParts.{IsNumberText}
 
 -- further properties of a number's text
 pub record LooksLikeNumber (text : List ℕ) : Type 0 where

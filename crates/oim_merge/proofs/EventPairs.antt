@@ -9,7 +9,7 @@ use Rattle.std.proofs.lemmas.List.{drop-drop, drop_at, drop_more, get_or_append_
 use Rattle.std.proofs.lemmas.List.Quantifiers.{position-Some}
 use Rattle.std.proofs.lemmas.List.Sums.{position_or_len_is}
 use Rattle.std.proofs.lemmas.Str.Parse.{digit_at}
-use Rattle.oim_merge.specs.EventParts.{AreNumbersText, IsNumberText, is_space}
+use Rattle.oim_merge.specs.code.EventParts.{AreNumbersText, IsNumberText, is_space}
 
 -- no digit of a number is a space
 first_space_is : (m : ℕ) (rest : List ℕ) → m < 2 ^ 64 → position_or_len is_space (decimal m ++ 32 ∷ rest) ≡ length (decimal m)

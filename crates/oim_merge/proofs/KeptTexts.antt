@@ -12,8 +12,9 @@ use Rattle.oim_report.specs.Sheet.{Sheet}
 use Rattle.oim_report.specs.declared.refusal.Refusal.{Refusal}
 use Rattle.fact_base.specs.Contents.{Contents}
 use Rattle.oim_write.specs.Bytes.{canonical}
-use Rattle.oim_merge.specs.Held.{AreWithin, IsCurrent, IsTextAt, Stay, texts_at}
-use Rattle.oim_merge.specs.Kept.{AreKept, IsReadingOf, read_as, with_read}
+use Rattle.oim_merge.specs.code.Held.{AreWithin, IsCurrent, IsTextAt, Stay}
+use Rattle.oim_merge.specs.Replay.{texts_at}
+use Rattle.oim_merge.specs.code.Kept.{AreKept, IsReadingOf, read_as, with_read}
 use Rattle.oim_merge.specs.Replicas.{with_outcome}
 use Rattle.oim_merge.specs.Schedule.{numbered}
 use Rattle.oim_merge.proofs.Schedules.{slice_there}

@@ -23,7 +23,7 @@ use Rattle.oim_write.specs.Tree.{identifier}
 use Rattle.oim_write.proofs.NumberedFacts.{row_facts, rows_facts, rows_facts_are}
 use Rattle.oim_write.proofs.Ranks.{rank_at}
 use Rattle.oim_merge.specs.Lines.{AreLinesFrom, IsLine, LinesAreOne, evidence_text, identifier_at, line_text}
-use Rattle.oim_merge.specs.Named.{HasPlaces, IsLineBy, named}
+use Rattle.oim_merge.specs.code.Named.{HasPlaces, IsLineBy, named}
 use Rattle.oim_merge.proofs.Evidenced.{evidence_exists, one_evidence, slice_within}
 
 -- ---- lists of lines

@@ -8,7 +8,8 @@ use Rattle.oim_dims.specs.FactOrder.{fact_cmp}
 use Rattle.oim_dims.specs.declared.fact.Fact.{Fact}
 use Rattle.oim_dims.proofs.Orders.{fact_cmp_total}
 use Rattle.oim_write.proofs.Ranks.{count_at, parted}
-use Rattle.oim_merge.specs.Mentions.{lent, place}
+use Rattle.oim_merge.specs.Mentions.{place}
+use Rattle.oim_merge.specs.code.Listing.{lent}
 use Rattle.oim_merge.specs.declared.fact_list.LentFact.{LentFact}
 
 module _ (f : Fact) where

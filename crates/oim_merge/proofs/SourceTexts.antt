@@ -11,7 +11,8 @@ use Rattle.oim_write.specs.Rank.{padded, width}
 use Rattle.oim_write.specs.Sink.{AppendsFront, written_of}
 use Rattle.oim_write.specs.declared.write_fault.WriteFault.{WriteFault}
 use Rattle.oim_write.specs.declared.write_fault.WriteFault.TheVariants.{OutOfMemory, Device}
-use Rattle.oim_merge.specs.Mentions.{all_placed, place, placed, placed_line}
+use Rattle.oim_merge.specs.Mentions.{all_placed, place, placed}
+use Rattle.oim_merge.specs.code.Listing.{placed_line}
 use Rattle.oim_merge.specs.Run.{fault_of}
 use Rattle.oim_merge.specs.SourceListing.{SourcesStop}
 use Rattle.oim_merge.specs.Sources.{Mention, source_line, sources}

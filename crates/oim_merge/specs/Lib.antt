@@ -5,7 +5,6 @@ pub mod Above
 pub mod Run
 pub mod Bases
 pub mod Lines
-pub mod Named
 pub mod Listing
 pub mod Sources
 pub mod Mentions
@@ -15,9 +14,7 @@ pub mod Source
 pub mod ReadBack
 pub mod History
 pub mod EventLines
-pub mod EventParts
 pub mod Schedule
 pub mod Replicas
-pub mod Kept
 pub mod Replay
-pub mod Held
+pub mod code

@@ -5,7 +5,6 @@ use Rattle.oim_report.specs.Sheet.{Sheet}
 use Rattle.oim_report.specs.declared.refusal.Refusal.{Refusal}
 use Rattle.fact_base.specs.Body.{Body}
 use Rattle.oim_write.specs.Sink.{AppendsFront}
-use Rattle.oim_write.specs.SinkBuffer.{Breaks, Passes, Pending}
 use Rattle.oim_merge.specs.Lines.{AreLines}
 use Rattle.oim_merge.specs.Reports.{merged, refused}
 use Rattle.oim_merge.specs.Run.{StopsBefore}
@@ -23,17 +22,6 @@ pub record AppendsFrontOfLines (b : Body) (old new : Option (List ℕ)) (written
   pub text : List ℕ
   pub lines : AreLines b text
   pub front : AppendsFront old new text written
-
--- the lines of a body were pushed through a buffer
-pub record PassesLines (b : Body) (old new : Option (List ℕ)) (before after : Pending) : Type 0 where
-  pub text : List ℕ
-  pub lines : AreLines b text
-  pub passed : Passes old new before after text
-
-pub record BreaksLines (b : Body) (old new : Option (List ℕ)) (before : Pending) (written : ℕ) : Type 0 where
-  pub text : List ℕ
-  pub lines : AreLines b text
-  pub broken : Breaks old new before text written
 
 -- the lines of a body were appended, and these refusals were returned
 pub record Lists (b : Body) (refusals : List (ℕ × Refusal)) (old new : Option (List ℕ)) (told : List (ℕ × Refusal)) : Type 0 where

@@ -1,19 +1,10 @@
 -- Mentions before their lines are written (own). In bytes, `f` is 102, a space 32, a line end 10.
-use Rattle.std.specs.Prelude.{ℕ, ◌+◌, List, [], ◌∷◌, ◌++◌, map, count_by}
-use Rattle.std.specs.Fmt.{decimal}
+use Rattle.std.specs.Prelude.{ℕ, List, map, count_by}
 use Rattle.std.specs.Ordering.{is_lt}
-use Rattle.serde_json.specs.Data.{string}
-use Rattle.serde_json.specs.Written.{compact_text}
 use Rattle.oim_dims.specs.FactOrder.{fact_cmp}
 use Rattle.oim_dims.specs.declared.fact.Fact.{Fact}
-use Rattle.oim_write.specs.Rank.{padded, width}
 use Rattle.oim_merge.specs.Sources.{Mention}
-use Rattle.oim_merge.specs.declared.fact_list.LentFact.{LentFact}
 use Rattle.oim_merge.specs.declared.placed_mention.PlacedMention.{PlacedMention}
-
--- the borrowed fact
-abbrev pub lent : LentFact → Fact
-lent f = record { dimensions = f.dimensions.now; value = f.value.now }
 
 -- the number of these facts that come before a fact
 abbrev pub place : List Fact → Fact → ℕ
@@ -25,7 +16,3 @@ placed facts m = record { place = place facts m.fact; report = m.report; identif
 
 abbrev pub all_placed : List Fact → List Mention → List PlacedMention
 all_placed facts ms = map (placed facts) ms
-
--- its line, given the number of all facts
-abbrev pub placed_line : ℕ → PlacedMention → List ℕ
-placed_line count m = (102 ∷ padded (width count) (m.place + 1)) ++ 32 ∷ (decimal m.report ++ 32 ∷ (compact_text (string m.identifier) ++ 10 ∷ []))

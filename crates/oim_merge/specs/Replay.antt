@@ -1,5 +1,6 @@
 -- The result of running a schedule (own).
 use Rattle.std.specs.Prelude.{◌≡◌, ℕ, List, [], map, length, flat_map}
+use Rattle.std.specs.List.{slice_index_or}
 use Rattle.oim_report.specs.Outcome.{outcome}
 use Rattle.oim_report.specs.Sheet.{Sheet}
 use Rattle.oim_report.specs.declared.refusal.Refusal.{Refusal}
@@ -19,6 +20,10 @@ pub record Replay : Type 0 where
 
 abbrev pub world_of : List Contents → List (List ℕ) → World Contents (List ℕ)
 world_of bases sent = record { replicas = bases; sent = sent }
+
+-- these of the held texts, by their places
+abbrev pub texts_at : List (List ℕ) → List ℕ → List (List ℕ)
+texts_at texts places = map (λ place. slice_index_or texts place []) places
 
 -- the refusal of the report that an event takes
 abbrev pub refused_by : Sheet → List (List ℕ) → Event → List (ℕ × Refusal)

@@ -1,6 +1,6 @@
 ghost use Rattle.std.specs.Prelude.{◌≡◌, ◌<◌, ℕ, length, position, IfSome, MatchOption};
 ghost use Rattle.oim_merge.specs.EventLines.{IsBadLine, IsEventLine};
-ghost use Rattle.oim_merge.specs.EventParts.{AreNumbersText, IsNumberText, is_space};
+ghost use Rattle.oim_merge.specs.code.EventParts.{AreNumbersText, IsNumberText, is_space};
 
 use crate::event::Event;
 use std::str;

@@ -2,7 +2,7 @@ ghost use Rattle.std.specs.Prelude.{◌≡◌, ◌<◌, None, [], length, replic
 ghost use Rattle.std.specs.List.{slice_index_or};
 ghost use Rattle.std.specs.Result.{result_err};
 ghost use Rattle.oim_report.specs.Outcome.{outcome};
-ghost use Rattle.oim_merge.specs.Kept.{AreKept, read_as, with_read};
+ghost use Rattle.oim_merge.specs.code.Kept.{AreKept, read_as, with_read};
 ghost use Rattle.oim_merge.specs.Replicas.{joined_with, with_outcome};
 
 use crate::reading::read;

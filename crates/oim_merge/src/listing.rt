@@ -3,8 +3,9 @@ ghost use Rattle.fact_base.specs.Rows.{rows_of};
 ghost use Rattle.fact_base.specs.Shown.{shown};
 ghost use Rattle.fact_base.specs.Verdict.{IsEvidence};
 ghost use Rattle.oim_write.specs.Sink.{failures_after_write, written_of};
-ghost use Rattle.oim_merge.specs.Listing.{AppendsFrontOfLines, AppendsLines, BreaksLines, ListStops, ListingStops, Lists, ListsVerdicts, PassesLines};
-ghost use Rattle.oim_merge.specs.Named.{IsLineBy};
+ghost use Rattle.oim_merge.specs.Listing.{AppendsFrontOfLines, AppendsLines, ListStops, ListingStops, Lists, ListsVerdicts};
+ghost use Rattle.oim_merge.specs.code.Listing.{BreaksLines, PassesLines};
+ghost use Rattle.oim_merge.specs.code.Named.{IsLineBy};
 ghost use Rattle.oim_merge.specs.Run.{failures_after_run};
 
 use crate::fault::Fault;

@@ -3,7 +3,8 @@ ghost use Rattle.merge_laws.specs.Sorted.{IsSet};
 ghost use Rattle.oim_dims.specs.FactOrder.{fact_cmp};
 ghost use Rattle.oim_report.specs.Identifiers.{identifiers};
 ghost use Rattle.oim_report.specs.Outcome.{outcome};
-ghost use Rattle.oim_merge.specs.Mentions.{all_placed, lent};
+ghost use Rattle.oim_merge.specs.Mentions.{all_placed};
+ghost use Rattle.oim_merge.specs.code.Listing.{lent};
 ghost use Rattle.oim_merge.specs.Reports.{merged};
 ghost use Rattle.oim_merge.specs.Sources.{mentions, mentions_by_fact, mentions_in, mentions_of};
 

@@ -2,7 +2,7 @@ ghost use Rattle.std.specs.Prelude.{◌≡◌, ◌<◌, ◌≤◌, [], ◌∷◌
 ghost use Rattle.std.specs.List.{slice_index_or};
 ghost use Rattle.oim_report.specs.Outcome.{outcome};
 ghost use Rattle.oim_report.specs.Sheet.{Sheet as SheetSeen};
-ghost use Rattle.oim_merge.specs.Held.{AreHeld, IsCurrent, IsTextAt, Stay, sent_texts};
+ghost use Rattle.oim_merge.specs.code.Held.{AreHeld, IsCurrent, IsTextAt, Stay, sent_texts};
 ghost use Rattle.oim_merge.specs.Replicas.{with_outcome};
 ghost use Rattle.oim_write.specs.Bytes.{canonical};
 

@@ -1,7 +1,7 @@
 ghost use Rattle.std.specs.Prelude.{◌≡◌, IfOk, string_bytes};
 ghost use Rattle.serde_json.specs.Data.{string};
 ghost use Rattle.serde_json.specs.Written.{compact_text};
-ghost use Rattle.oim_merge.specs.Mentions.{placed_line};
+ghost use Rattle.oim_merge.specs.code.Listing.{placed_line};
 
 use oim_names::Text;
 use oim_write::identifier;

@@ -1,5 +1,6 @@
 ghost use Rattle.std.specs.Prelude.{◌≡◌, MatchOption, None, Some};
-ghost use Rattle.oim_merge.specs.Held.{AreWithin, texts_at, world_in};
+ghost use Rattle.oim_merge.specs.code.Held.{AreWithin, world_in};
+ghost use Rattle.oim_merge.specs.Replay.{texts_at};
 ghost use Rattle.oim_merge.specs.Schedule.{numbered};
 
 use crate::messages::Messages;
@@ -22,8 +23,8 @@ impl<'s> Model for Replayed<'s> {
     ghost use Rattle.std.specs.Prelude.{◌≡◌};
     ghost use Rattle.std.specs.Coded.{codes};
     ghost use Rattle.oim_report.specs.SheetCode.{sheet_code};
-    ghost use Rattle.oim_merge.specs.Held.{AreWithin, texts_at};
-    ghost use Rattle.oim_merge.specs.Replay.{Replay, world_of};
+    ghost use Rattle.oim_merge.specs.code.Held.{AreWithin};
+    ghost use Rattle.oim_merge.specs.Replay.{texts_at, Replay, world_of};
 
     ghost Value = { Replay };
 

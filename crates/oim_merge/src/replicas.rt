@@ -1,7 +1,7 @@
 ghost use Rattle.std.specs.Prelude.{◌≡◌, ◌<◌, None, false, IsTrue, ◌↔◌, ◌++◌, [], length, slice_set, IfOk, OnOk};
 ghost use Rattle.std.specs.List.{All, slice_index_or};
 ghost use Rattle.oim_merge.specs.Bases.{base_of};
-ghost use Rattle.oim_merge.specs.Held.{KeepReadings, sent_texts, world_in};
+ghost use Rattle.oim_merge.specs.code.Held.{KeepReadings, sent_texts, world_in};
 ghost use Rattle.oim_merge.specs.Replay.{refused_by};
 ghost use Rattle.oim_merge.specs.Replicas.{joined_with, wire};
 ghost use Rattle.oim_merge.specs.Schedule.{happens, is_outside, names_none, start};

@@ -2,7 +2,7 @@ ghost use Rattle.std.specs.Prelude.{◌≡◌, ◌-◌, ◌^◌, ◌<◌, flat_m
 ghost use Rattle.std.specs.Io.KnownBytes.{Appends};
 ghost use Rattle.oim_write.specs.Sink.{AppendsFront, failures_after_write, written_of};
 ghost use Rattle.oim_write.specs.SinkBuffer.{Breaks, Passes};
-ghost use Rattle.oim_merge.specs.Mentions.{placed_line};
+ghost use Rattle.oim_merge.specs.code.Listing.{placed_line};
 ghost use Rattle.oim_merge.specs.Run.{failures_after_run};
 ghost use Rattle.oim_merge.specs.SourceListing.{ListsSources, SourcesStop};
 

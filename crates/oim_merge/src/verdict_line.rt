@@ -1,7 +1,7 @@
 ghost use Rattle.std.specs.Prelude.{◌≡◌, ◌+◌, ◌∷◌, ◌++◌, ◌≤◌, ◌<◌, codes, IfOk, string_bytes};
 ghost use Rattle.oim_value.specs.Plain.{plain};
 ghost use Rattle.oim_merge.specs.Lines.{evidence_text, line_text};
-ghost use Rattle.oim_merge.specs.Named.{HasPlaces, named};
+ghost use Rattle.oim_merge.specs.code.Named.{HasPlaces, named};
 
 use fact_base::Evidence;
 use oim_names::Text;

@@ -16,7 +16,7 @@ use Rattle.fact_base.specs.Body.{Body}
 use Rattle.fact_base.specs.Fits.{Fits}
 use Rattle.fact_base.specs.Passed.{IsSet, Sheet, fact_object, level_of}
 use Rattle.oim_write.specs.Bytes.{canonical}
-use Rattle.oim_write.specs.Parts.{has_some, head_text, namespace_members, numbered_members, part, parts, parts_text, text_parts}
+use Rattle.oim_write.specs.code.Parts.{has_some, head_text, namespace_members, numbered_members, part, parts, parts_text, text_parts}
 use Rattle.oim_write.specs.Rank.{padded, rank, width}
 use Rattle.oim_write.specs.Tree.{identifier, members_before, members_by, name_text, prefix, xbrl_member}
 use Rattle.oim_write.specs.Uris.{uris}

@@ -6,7 +6,7 @@ use Rattle.json.specs.Tree.{json_tokens}
 use Rattle.serde_json.specs.Data.{Data, Members, no_members, member}
 use Rattle.serde_json.specs.Written.{comma_if, compact_text, items_text, members_text, outline}
 use Rattle.serde_json.proofs.Texts.{print-outline}
-use Rattle.oim_write.specs.Parts.{part, parts, text_parts}
+use Rattle.oim_write.specs.code.Parts.{part, parts, text_parts}
 use Rattle.oim_write.specs.Tree.{text_items}
 
 -- ---- written by a JSON writer

@@ -13,7 +13,8 @@ use Rattle.fact_base.specs.Rows.{Row, before_rows, rows_of}
 use Rattle.fact_base.proofs.Members.{from_map, in_map, in_one_of_both, none_there}
 use Rattle.fact_base.proofs.Sets.{is_set_of}
 use Rattle.fact_base.proofs.TextOrder.{text_cmp_exact, text_cmp_total}
-use Rattle.oim_write.specs.Uris.{Gains, dimension_names, fact_names, row_names, uris, uris_of_names, value_names}
+use Rattle.oim_write.specs.Uris.{dimension_names, fact_names, uris, uris_of_names, value_names}
+use Rattle.oim_write.specs.code.Table.{Gains, row_names}
 
 module _ {A : Type 0} where
   on_left : (xs ys : List A) (x : A) → Contains xs x → Contains (xs ++ ys) x

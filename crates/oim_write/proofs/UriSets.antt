@@ -13,7 +13,8 @@ use Rattle.fact_base.specs.Sets.{set_of}
 use Rattle.fact_base.proofs.Members.{first_or_later, in_one_of_both, none_there}
 use Rattle.fact_base.proofs.Sets.{same_sets, set_of_is_set}
 use Rattle.fact_base.proofs.TextOrder.{text_cmp_exact, text_cmp_total}
-use Rattle.oim_write.specs.Uris.{Gains, uris_of_names}
+use Rattle.oim_write.specs.Uris.{uris_of_names}
+use Rattle.oim_write.specs.code.Table.{Gains}
 
 -- ---- what a set gains
 

@@ -6,4 +6,4 @@ pub mod Bytes
 pub mod Prefixes
 pub mod Sink
 pub mod SinkBuffer
-pub mod Parts
+pub mod code

@@ -1,5 +1,5 @@
 -- The namespace URIs of the names of facts; each gets one prefix (OIM Common 1.0: prefixes carry no meaning).
-use Rattle.std.specs.Prelude.{◌↔◌, ◌⊎◌, Contains, ℕ, List, [], ◌∷◌, ◌++◌, map, flat_map, Option, Some, None}
+use Rattle.std.specs.Prelude.{ℕ, List, [], ◌∷◌, ◌++◌, map, flat_map, Option, Some, None}
 use Rattle.oim_names.specs.QName.{QName}
 use Rattle.oim_value.specs.declared.value.Value.{Value}
 use Rattle.oim_value.specs.declared.value.Value.TheVariants.{Nil, Number, Text as AText, Name as AName}
@@ -9,7 +9,6 @@ use Rattle.oim_dims.specs.declared.fact.Fact.{Fact}
 use Rattle.oim_dims.specs.declared.member.Member.{Member}
 use Rattle.oim_dims.specs.declared.member.Member.TheVariants.{Nil as NoMember, Text as MemberText, Name as MemberName}
 use Rattle.fact_base.specs.Body.{text_cmp}
-use Rattle.fact_base.specs.Rows.{Row}
 use Rattle.fact_base.specs.Sets.{set_of}
 
 abbrev pub entity_names : Option QName → List QName
@@ -45,11 +44,3 @@ uris_of_names names = map (λ n. n.uri) names
 -- the URIs of the facts' names, distinct and in byte order
 abbrev pub uris : List Fact → List (List ℕ)
 uris facts = set_of text_cmp (uris_of_names (flat_map fact_names facts))
-
--- the names of a row: of its dimensions and of its values
-abbrev pub row_names : Row → List QName
-row_names r = dimension_names r.0 ++ flat_map value_names r.1
-
--- the new set has the old URIs, the URIs of the added names, and no others
-pub record Gains (old : List (List ℕ)) (names : List QName) (new : List (List ℕ)) : Type 0 where
-  pub members : (u : List ℕ) → Contains new u ↔ (Contains old u ⊎ Contains (uris_of_names names) u)

@@ -3,7 +3,7 @@ ghost use Rattle.std.specs.Option.{option_copied};
 ghost use Rattle.serde_json.specs.Data.{object, no_members, string};
 ghost use Rattle.fact_base.specs.Passed.{member_data, option_spelled, option_unit_text, value_data};
 ghost use Rattle.oim_write.specs.Ordered.{decimals_member, defined_members, ordered_dimensions, ordered_fact, text_member};
-ghost use Rattle.oim_write.specs.Parts.{AddsMembers, AddsValue};
+ghost use Rattle.oim_write.specs.code.Parts.{AddsMembers, AddsValue};
 ghost use Rattle.oim_write.specs.Tree.{name_text};
 
 use crate::prefix_table::PrefixTable;

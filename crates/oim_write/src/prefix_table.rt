@@ -21,7 +21,7 @@ pub(crate) struct PrefixTable {
 
 impl Model for PrefixTable {
     ghost use Rattle.std.specs.Prelude.{ℕ, List};
-    ghost use Rattle.oim_write.specs.Prefixes.{IsTable};
+    ghost use Rattle.oim_write.specs.code.Table.{IsTable};
 
     ghost Value = { List (List ℕ) };
 

@@ -4,7 +4,8 @@ ghost use Rattle.fact_base.specs.Body.{text_cmp};
 ghost use Rattle.fact_base.specs.Passed.{IsSet};
 ghost use Rattle.fact_base.specs.Sets.{set_of};
 ghost use Rattle.fact_base.specs.Shown.{shown};
-ghost use Rattle.oim_write.specs.Uris.{Gains, defined_names, dimension_names, entity_names, row_names, unit_names, value_names};
+ghost use Rattle.oim_write.specs.Uris.{defined_names, dimension_names, entity_names, unit_names, value_names};
+ghost use Rattle.oim_write.specs.code.Table.{Gains, row_names};
 
 use fact_base::Row;
 use oim_dims::{Dimensions, Member};

@@ -18,13 +18,14 @@ use Rattle.oim_dims.specs.FactOrder.{fact_cmp}
 use Rattle.oim_write.specs.SinkBuffer.{Passes, Pending}
 use Rattle.oim_write.proofs.NumberedFacts.{row_facts, rows_facts, rows_facts_are}
 use Rattle.oim_merge.specs.Lines.{identifier_at, line_text}
-use Rattle.oim_merge.specs.Named.{HasPlaces, named}
+use Rattle.oim_merge.specs.code.Named.{HasPlaces, named}
 use Rattle.oim_merge.proofs.Evidenced.{evidence_exists, lines_tell_verdicts, one_evidence}
 use Rattle.oim_merge.proofs.LineLists.{named_is, places_within}
 use Rattle.oim_dims.specs.DimensionSet.{DimensionSet}
 use Rattle.row_formats.specs.CsvRows.{csv_facts, evidence_fields, fact_fields, record_text}
 use Rattle.row_formats.specs.JsonRows.{apart_data, evidence_member, evidence_members, fact_data, fact_items, row_object}
-use Rattle.row_formats.specs.Rows.{AreRows, AreShown, HasRows, HasRowsOf, IsRow, RowsAreOne, RowsTellVerdicts, header, row_text, rows_text}
+use Rattle.row_formats.specs.Rows.{AreRows, AreShown, HasRows, HasRowsOf, RowsAreOne, RowsTellVerdicts, header, row_text, rows_text}
+use Rattle.row_formats.specs.code.Listing.{IsRow}
 use Rattle.row_formats.specs.declared.row_format.RowFormat.{RowFormat}
 use Rattle.row_formats.specs.declared.row_format.RowFormat.TheVariants.{Json, Csv, SpreadsheetCsv}
 

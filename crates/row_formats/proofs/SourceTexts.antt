@@ -11,7 +11,8 @@ use Rattle.oim_write.specs.declared.write_fault.WriteFault.TheVariants.{OutOfMem
 use Rattle.oim_merge.specs.Mentions.{all_placed, place, placed}
 use Rattle.oim_merge.specs.Run.{fault_of}
 use Rattle.oim_merge.specs.Sources.{Mention}
-use Rattle.row_formats.specs.SourceRows.{SourceRowsStop, placed_row, source_header, source_row, source_text, sources_in}
+use Rattle.row_formats.specs.SourceRows.{SourceRowsStop, source_header, source_row, source_text, sources_in}
+use Rattle.row_formats.specs.code.Listing.{placed_row}
 use Rattle.row_formats.specs.declared.row_format.RowFormat.{RowFormat}
 
 add_one : (n : ℕ) → n + 1 ≡ suc n

@@ -1,9 +1,7 @@
 -- A row of a body as a line of JSON (own). In bytes, a line end is 10.
 use Rattle.std.specs.Prelude.{ℕ, suc, List, [], ◌∷◌, ◌++◌, codes}
-use Rattle.json.specs.Token.{Token}
-use Rattle.json.specs.Tree.{json_tokens}
 use Rattle.serde_json.specs.Data.{Data, unsigned, number, string, array, object, Items, no_items, item, Members, no_members, member}
-use Rattle.serde_json.specs.Written.{compact_text, outline}
+use Rattle.serde_json.specs.Written.{compact_text}
 use Rattle.oim_value.specs.Plain.{plain}
 use Rattle.oim_value.specs.declared.interval.Interval.{Interval}
 use Rattle.oim_value.specs.declared.value.Value.{Value}
@@ -26,11 +24,6 @@ fact_data identifier v =
 abbrev pub fact_items : (ℕ → List ℕ) → ℕ → List Value → Items
 fact_items name i [] = no_items
 fact_items name i (v ∷ vs) = item (fact_data (name i) v) (fact_items name (suc i) vs)
-
--- the tokens of an array's items
-abbrev pub item_tokens : Items → List Token
-item_tokens no_items = []
-item_tokens (item d ds) = json_tokens (outline d) ++ item_tokens ds
 
 -- what all facts of a row have in common
 abbrev pub common_data : Interval → Data

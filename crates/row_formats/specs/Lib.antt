@@ -4,3 +4,4 @@ pub mod CsvRows
 pub mod Rows
 pub mod Listing
 pub mod SourceRows
+pub mod code

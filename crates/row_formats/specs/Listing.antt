@@ -5,12 +5,11 @@ use Rattle.fact_base.specs.Body.{Body}
 use Rattle.fact_base.specs.Passed.{Sheet}
 use Rattle.oim_report.specs.declared.refusal.Refusal.{Refusal}
 use Rattle.oim_write.specs.Sink.{AppendsFront}
-use Rattle.oim_write.specs.SinkBuffer.{Breaks, Passes, Pending}
 use Rattle.oim_merge.specs.Reports.{merged, refused}
 use Rattle.oim_merge.specs.Run.{StopsBefore}
 use Rattle.oim_merge.specs.declared.fault.Fault.{Fault}
 use Rattle.oim_merge.specs.declared.fault.Fault.TheVariants.{OutOfMemory, Device, TooLoose, Sheet as SheetFault}
-use Rattle.row_formats.specs.Rows.{AreRows, HasRowsOf}
+use Rattle.row_formats.specs.Rows.{AreRows}
 use Rattle.row_formats.specs.declared.row_format.RowFormat.{RowFormat}
 
 -- the rows of a body were appended
@@ -24,28 +23,6 @@ pub record AppendsFrontOfRows (format : RowFormat) (b : Body) (old new : Option 
   pub text : List ℕ
   pub rows : AreRows format b text
   pub front : AppendsFront old new text written
-
--- they passed a buffer, without what stands before them
-pub record PassesRows (format : RowFormat) (b : Body) (old new : Option (List ℕ)) (before after : Pending) : Type 0 where
-  pub text : List ℕ
-  pub rows : HasRowsOf format b.facts text
-  pub passed : Passes old new before after text
-
-pub record BreaksRows (format : RowFormat) (b : Body) (old new : Option (List ℕ)) (before : Pending) (written : ℕ) : Type 0 where
-  pub text : List ℕ
-  pub rows : HasRowsOf format b.facts text
-  pub broken : Breaks old new before text written
-
--- with it
-pub record PassesAll (format : RowFormat) (b : Body) (old new : Option (List ℕ)) (before after : Pending) : Type 0 where
-  pub text : List ℕ
-  pub rows : AreRows format b text
-  pub passed : Passes old new before after text
-
-pub record BreaksAll (format : RowFormat) (b : Body) (old new : Option (List ℕ)) (before : Pending) (written : ℕ) : Type 0 where
-  pub text : List ℕ
-  pub rows : AreRows format b text
-  pub broken : Breaks old new before text written
 
 -- its rows were appended, and these refusals were told
 pub record ListsRows (format : RowFormat) (b : Body) (refusals : List (ℕ × Refusal)) (old new : Option (List ℕ)) (told : List (ℕ × Refusal)) : Type 0 where

@@ -59,12 +59,6 @@ pub record AreRows (format : RowFormat) (b : Body) (text : List ℕ) : Type 0 wh
   pub has : HasRowsOf format b.facts rows
   pub whole : text ≡ header format ++ rows
 
--- the row of a number, whose facts have these identifiers
-pub record IsRow (format : RowFormat) (name : ℕ → List ℕ) (n : ℕ) (r : Row) (text : List ℕ) : Type 0 where
-  pub evidence : Evidence
-  pub shows : IsEvidence r.1 evidence
-  pub text_is : text ≡ row_text format name n r evidence
-
 -- ---- what these come to
 
 -- a body that fits a sheet has rows in each format, and has no others

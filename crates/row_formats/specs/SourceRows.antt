@@ -7,14 +7,12 @@ use Rattle.serde_json.specs.Written.{compact_text}
 use Rattle.oim_dims.specs.declared.fact.Fact.{Fact}
 use Rattle.fact_base.specs.Passed.{Sheet}
 use Rattle.oim_report.specs.declared.refusal.Refusal.{Refusal}
-use Rattle.oim_write.specs.Rank.{padded, width}
 use Rattle.oim_write.specs.Sink.{AppendsFront}
 use Rattle.oim_write.specs.Tree.{identifier}
 use Rattle.oim_merge.specs.Reports.{merged, refused}
 use Rattle.oim_merge.specs.Sources.{Mention, mentions_by_fact}
 use Rattle.oim_merge.specs.declared.fault.Fault.{Fault}
 use Rattle.oim_merge.specs.declared.fault.Fault.TheVariants.{OutOfMemory, Device, TooLoose, Sheet as SheetFault}
-use Rattle.oim_merge.specs.declared.placed_mention.PlacedMention.{PlacedMention}
 use Rattle.row_formats.specs.CsvRows.{guarded, record_text}
 use Rattle.row_formats.specs.declared.row_format.RowFormat.{RowFormat}
 use Rattle.row_formats.specs.declared.row_format.RowFormat.TheVariants.{Json, Csv, SpreadsheetCsv}
@@ -53,10 +51,6 @@ source_row format facts m = source_text format (identifier facts m.fact) m.repor
 -- each fact object of each accepted report, in the order of facts, of reports, and of identifiers
 abbrev pub sources_in : RowFormat → Sheet → List (List ℕ) → List ℕ
 sources_in format sheet reports = source_header format ++ flat_map (source_row format (merged sheet reports).facts) (mentions_by_fact sheet reports)
-
--- one whose fact has a place among so many
-abbrev pub placed_row : RowFormat → ℕ → PlacedMention → List ℕ
-placed_row format count m = source_text format (102 ∷ padded (width count) (m.place + 1)) m.report m.identifier
 
 -- ---- what listing them leaves behind
 

@@ -4,7 +4,7 @@ ghost use Rattle.serde_json.specs.Data.{object, no_members, string};
 ghost use Rattle.oim_dims.specs.Period.{period_text};
 ghost use Rattle.fact_base.specs.Passed.{member_data, option_spelled, option_unit_text, value_data};
 ghost use Rattle.oim_write.specs.Ordered.{decimals_member, defined_members, ordered_dimensions, text_member};
-ghost use Rattle.oim_write.specs.Parts.{AddsMembers, AddsValue};
+ghost use Rattle.oim_write.specs.code.Parts.{AddsMembers, AddsValue};
 ghost use Rattle.row_formats.specs.Spelled.{braced};
 
 use crate::spelling::{spell, spell_unit};

@@ -1,5 +1,5 @@
 ghost use Rattle.std.specs.Prelude.{◌≡◌, ◌+◌, ◌<◌, IfOk};
-ghost use Rattle.oim_merge.specs.Named.{named};
+ghost use Rattle.oim_merge.specs.code.Named.{named};
 
 use oim_names::Text;
 use oim_write::identifier;

@@ -9,9 +9,9 @@ ghost use Rattle.serde_json.specs.Data.{no_members, object};
 ghost use Rattle.serde_json.specs.Written.{compact_text};
 ghost use Rattle.oim_value.specs.Plain.{plain};
 ghost use Rattle.oim_write.specs.Ordered.{defined_members};
-ghost use Rattle.oim_write.specs.Parts.{AddsValue};
+ghost use Rattle.oim_write.specs.code.Parts.{AddsValue};
 ghost use Rattle.oim_merge.specs.Lines.{verdict_shown, verdict_word};
-ghost use Rattle.oim_merge.specs.Named.{HasPlaces, named};
+ghost use Rattle.oim_merge.specs.code.Named.{HasPlaces, named};
 ghost use Rattle.row_formats.specs.CsvRows.{columns, csv_row, decimals_text, defined_text, dimension_fields, evidence_fields, fact_fields, or_empty, record_text, value_fields};
 ghost use Rattle.row_formats.specs.Spelled.{braced};
 

@@ -2,10 +2,11 @@ ghost use Rattle.std.specs.Prelude.{◌≡◌, ◌+◌, ◌<◌, ◌≤◌, code
 ghost use Rattle.serde_json.specs.Data.{array};
 ghost use Rattle.oim_value.specs.Plain.{plain};
 ghost use Rattle.fact_base.specs.Shown.{shown};
-ghost use Rattle.oim_write.specs.Parts.{Adds, AddsMembers, AddsValue};
+ghost use Rattle.oim_write.specs.code.Parts.{Adds, AddsMembers, AddsValue};
 ghost use Rattle.oim_merge.specs.Lines.{verdict_shown, verdict_word};
-ghost use Rattle.oim_merge.specs.Named.{HasPlaces, named};
-ghost use Rattle.row_formats.specs.JsonRows.{apart_data, common_data, evidence_member, evidence_members, fact_data, fact_items, item_tokens, json_row, row_data};
+ghost use Rattle.oim_merge.specs.code.Named.{HasPlaces, named};
+ghost use Rattle.row_formats.specs.JsonRows.{apart_data, common_data, evidence_member, evidence_members, fact_data, fact_items, json_row, row_data};
+ghost use Rattle.row_formats.specs.code.Listing.{item_tokens};
 
 use crate::dimensions_json::{write_decimals, write_dimensions, write_value};
 use crate::fact_names::FactNames;

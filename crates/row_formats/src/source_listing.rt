@@ -3,7 +3,8 @@ ghost use Rattle.std.specs.Io.KnownBytes.{Appends};
 ghost use Rattle.oim_write.specs.Sink.{AppendsFront, failures_after_write, written_of};
 ghost use Rattle.oim_write.specs.SinkBuffer.{Breaks, Passes};
 ghost use Rattle.oim_merge.specs.Run.{failures_after_run};
-ghost use Rattle.row_formats.specs.SourceRows.{ListsSourceRows, SourceRowsStop, placed_row, source_header};
+ghost use Rattle.row_formats.specs.SourceRows.{ListsSourceRows, SourceRowsStop, source_header};
+ghost use Rattle.row_formats.specs.code.Listing.{placed_row};
 
 use crate::row_format::RowFormat;
 use crate::source_row::{header_of, text_of};

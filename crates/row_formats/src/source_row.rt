@@ -1,7 +1,8 @@
 ghost use Rattle.std.specs.Prelude.{◌≡◌, IfOk, OnOk};
-ghost use Rattle.oim_write.specs.Parts.{AddsValue};
+ghost use Rattle.oim_write.specs.code.Parts.{AddsValue};
 ghost use Rattle.row_formats.specs.CsvRows.{record_text};
-ghost use Rattle.row_formats.specs.SourceRows.{csv_source, json_source, placed_row, source_columns, source_data, source_header, source_text};
+ghost use Rattle.row_formats.specs.SourceRows.{csv_source, json_source, source_columns, source_data, source_header, source_text};
+ghost use Rattle.row_formats.specs.code.Listing.{placed_row};
 
 use crate::csv_record::{push_three, text_of_record};
 use crate::formulas::guard;

@@ -3,10 +3,11 @@ ghost use Rattle.fact_base.specs.Rows.{rows_of};
 ghost use Rattle.fact_base.specs.Shown.{shown};
 ghost use Rattle.fact_base.specs.Verdict.{IsEvidence};
 ghost use Rattle.oim_write.specs.Sink.{failures_after_write, written_of};
-ghost use Rattle.oim_merge.specs.Named.{HasPlaces, named};
+ghost use Rattle.oim_merge.specs.code.Named.{HasPlaces, named};
 ghost use Rattle.oim_merge.specs.Run.{failures_after_run};
-ghost use Rattle.row_formats.specs.Listing.{AppendsFrontOfRows, AppendsRows, BreaksAll, BreaksRows, ListsRows, ListsVerdictRows, PassesAll, PassesRows, RowsStop, VerdictRowsStop};
-ghost use Rattle.row_formats.specs.Rows.{IsRow, header, row_text};
+ghost use Rattle.row_formats.specs.Listing.{AppendsFrontOfRows, AppendsRows, ListsRows, ListsVerdictRows, RowsStop, VerdictRowsStop};
+ghost use Rattle.row_formats.specs.code.Listing.{BreaksAll, BreaksRows, PassesAll, PassesRows, IsRow};
+ghost use Rattle.row_formats.specs.Rows.{header, row_text};
 
 use crate::fact_names::FactNames;
 use crate::row_csv::{csv_header, csv_row};

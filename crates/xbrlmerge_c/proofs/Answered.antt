@@ -5,7 +5,8 @@ use Rattle.oim_names.specs.declared.reason.Reason.{Reason}
 use Rattle.oim_report.specs.declared.refusal.Refusal.{Refusal}
 use Rattle.oim_merge.specs.declared.fault.Fault.{Fault}
 use Rattle.oim_merge.specs.declared.fault.Fault.TheVariants.{OutOfMemory, Device, TooLoose, Sheet as SheetFault}
-use Rattle.xbrlmerge_c.specs.Answers.{Answers, NoRow, StopsBy}
+use Rattle.xbrlmerge_c.specs.Answers.{NoRow, StopsBy}
+use Rattle.xbrlmerge_c.specs.code.Answers.{Answers}
 use Rattle.xbrlmerge_c.specs.Room.{Asks, Hands, HasNoText, Rejects, Room, TellsFirst}
 use Rattle.xbrlmerge_c.specs.Statuses.{done, no_memory, refused_some, sheet_refused, too_loose, too_short}
 use Rattle.xbrlmerge_c.specs.declared.output.Made.{Made}

@@ -6,3 +6,4 @@ pub mod Calls
 pub mod Answers
 pub mod Checks
 pub mod Names
+pub mod code

@@ -1,5 +1,5 @@
 ghost use Rattle.std.specs.Prelude.{◌≡◌, ◌≤◌, ◌++◌, drop, length, true, false};
-ghost use Rattle.xbrlmerge_c.specs.Answers.{Answers, AnswersRow, AnswersText};
+ghost use Rattle.xbrlmerge_c.specs.code.Answers.{Answers, AnswersRow, AnswersText};
 ghost use Rattle.xbrlmerge_c.specs.Room.{IsHanded, IsTooShort, room};
 ghost use Rattle.xbrlmerge_c.specs.Rows.{place_number, row, rows_of};
 

@@ -2,7 +2,7 @@ use Rattle.std.proofs.Common.{◌≡◌, [], ◌∷◌, Ok, Err, refl, sym, ap, 
 use Rattle.std.specs.Prelude.{MatchResult}
 use Rattle.oim_report.specs.Outcome.{outcome}
 use Rattle.oim_merge.specs.Bases.{base_of}
-use Rattle.oim_merge.specs.Kept.{read_as}
+use Rattle.oim_merge.specs.code.Kept.{read_as}
 use Rattle.oim_merge.proofs.Bases.{base_with}
 use Rattle.oim_merge.proofs.kept.read_base.Goals as goal
 

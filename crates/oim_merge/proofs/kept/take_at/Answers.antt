@@ -3,7 +3,7 @@ use Rattle.std.specs.Prelude.{IfOk}
 use Rattle.std.specs.Result.{result_err}
 use Rattle.std.proofs.lemmas.Result.{IfOk-weaker, on_ok_weaker}
 use Rattle.oim_report.specs.Outcome.{outcome}
-use Rattle.oim_merge.specs.Kept.{IsReadingOf, read_as, with_read}
+use Rattle.oim_merge.specs.code.Kept.{IsReadingOf, read_as, with_read}
 use Rattle.oim_merge.proofs.KeptTexts.{kept_is, kept_there, refusal_is, sheet_is, with_read_is}
 use Rattle.oim_merge.proofs.Steps.{read_default}
 use Rattle.oim_merge.proofs.Zips.{zip_set}

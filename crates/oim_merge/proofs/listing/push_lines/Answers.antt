@@ -11,7 +11,7 @@ use Rattle.fact_base.proofs.Members.{in_one_of_both}
 use Rattle.oim_write.proofs.NumberedFacts.{rows_facts}
 use Rattle.oim_write.proofs.Passing.{Breaks-more, Breaks-trans, Passes-trans}
 use Rattle.oim_merge.specs.Lines.{AreLinesFrom, IsLine}
-use Rattle.oim_merge.specs.Named.{IsLineBy}
+use Rattle.oim_merge.specs.code.Named.{IsLineBy}
 use Rattle.oim_merge.proofs.Evidenced.{evidence_exists}
 use Rattle.oim_merge.proofs.LineLists.{count_with_row, line_is, lines_both, lines_exist, one_line, row_filled, row_within}
 use Rattle.oim_merge.proofs.listing.push_lines.Goals as goal

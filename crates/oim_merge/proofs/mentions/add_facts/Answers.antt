@@ -1,6 +1,6 @@
 use Rattle.std.proofs.Common.{◌+◌, ◌∷◌, ◌<◌, drop, map, length, sym, ap, ◌∙◌, arith}
 use Rattle.std.proofs.lemmas.List.{drop_more}
-use Rattle.oim_merge.specs.Mentions.{lent}
+use Rattle.oim_merge.specs.code.Listing.{lent}
 use Rattle.oim_merge.proofs.MentionLists.{mention_more}
 use Rattle.oim_merge.proofs.mentions.add_facts.Goals as goal
 

@@ -5,7 +5,8 @@ use Rattle.std.proofs.lemmas.List.Sorted.{IsNonDecreasingBy-from_sort_by_key, an
 use Rattle.merge_laws.specs.Sorted.{IsSet}
 use Rattle.oim_dims.specs.FactOrder.{fact_cmp}
 use Rattle.fact_base.specs.Body.{Body}
-use Rattle.oim_merge.specs.Mentions.{all_placed, lent}
+use Rattle.oim_merge.specs.Mentions.{all_placed}
+use Rattle.oim_merge.specs.code.Listing.{lent}
 use Rattle.oim_merge.specs.Sources.{by_fact, mentions}
 use Rattle.oim_merge.specs.declared.placed_mention.PlacedMention.{PlacedMention}
 use Rattle.oim_merge.proofs.PlacedFacts.{AreOf, sorted_are}

@@ -1,6 +1,6 @@
 use Rattle.std.proofs.Common.{◌+◌, ◌∷◌, ◌≡◌, drop, map, sym, ap, ◌∙◌, arith}
 use Rattle.std.proofs.lemmas.List.{drop_more}
-use Rattle.oim_merge.specs.Mentions.{lent}
+use Rattle.oim_merge.specs.code.Listing.{lent}
 use Rattle.oim_merge.proofs.MentionLists.{mentions_more}
 use Rattle.oim_merge.proofs.mentions.mentions_of.Goals as goal
 

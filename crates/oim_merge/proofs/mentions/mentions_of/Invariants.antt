@@ -1,5 +1,6 @@
 use Rattle.std.proofs.Common.{◌≡◌, ◌+◌, ◌++◌, drop, map}
-use Rattle.oim_merge.specs.Mentions.{all_placed, lent}
+use Rattle.oim_merge.specs.Mentions.{all_placed}
+use Rattle.oim_merge.specs.code.Listing.{lent}
 use Rattle.oim_merge.specs.Sources.{mentions, mentions_from}
 use Rattle.oim_merge.proofs.mentions.mentions_of.Given as goal
 

@@ -1,5 +1,5 @@
 use Rattle.std.proofs.Common.{◌≡◌, ◌+◌, true, false, length, sym, ap, subst}
-use Rattle.oim_merge.specs.Held.{sent_texts}
+use Rattle.oim_merge.specs.code.Held.{sent_texts}
 use Rattle.oim_merge.specs.Replay.{IsReplayOf}
 use Rattle.oim_merge.specs.Schedule.{IsFirstBad}
 use Rattle.oim_merge.specs.declared.event.Event.TheVariants.{Take}

@@ -1,5 +1,5 @@
 use Rattle.std.proofs.Common.{◌≡◌}
-use Rattle.oim_merge.specs.Held.{KeepReadings, sent_texts}
+use Rattle.oim_merge.specs.code.Held.{KeepReadings, sent_texts}
 use Rattle.oim_merge.proofs.Replays.{HasRun}
 use Rattle.oim_merge.proofs.replaying.replay.Given as goal
 

@@ -1,7 +1,7 @@
 use Rattle.std.proofs.Common.{◌≡◌, take}
 use Rattle.std.specs.Prelude.{flat_map}
 use Rattle.oim_write.specs.SinkBuffer.{Passes}
-use Rattle.oim_merge.specs.Mentions.{placed_line}
+use Rattle.oim_merge.specs.code.Listing.{placed_line}
 use Rattle.oim_merge.proofs.source_listing.push_lines.Given as goal
 
 -- the lines so far were pushed

@@ -1,7 +1,7 @@
 use Rattle.std.proofs.Common.{◌≡◌, flat_map, sym, ap, subst, ◌∙◌}
 use Rattle.std.specs.Io.KnownBytes.{Appends}
 use Rattle.oim_write.specs.Sink.{AppendsFront, written_of}
-use Rattle.oim_merge.specs.Mentions.{placed_line}
+use Rattle.oim_merge.specs.code.Listing.{placed_line}
 use Rattle.oim_merge.specs.SourceListing.{SourcesStop}
 use Rattle.oim_merge.specs.Sources.{mentions_by_fact, source_line, sources}
 use Rattle.oim_merge.proofs.SourceTexts.{lines_are, stops_at}

@@ -1,7 +1,7 @@
 use Rattle.std.proofs.Common.{take}
 use Rattle.serde_json.specs.Data.{no_members}
 use Rattle.oim_write.specs.Ordered.{defined_members}
-use Rattle.oim_write.specs.Parts.{AddsMembers}
+use Rattle.oim_write.specs.code.Parts.{AddsMembers}
 use Rattle.oim_write.specs.Tree.{name_text}
 use Rattle.oim_write.proofs.fact_text.write_defined.Given as goal
 

@@ -3,7 +3,7 @@ use Rattle.std.proofs.lemmas.List.{map_push}
 use Rattle.std.proofs.lemmas.Result.{err_from_is_err_and}
 use Rattle.fact_base.specs.Rows.{Row}
 use Rattle.fact_base.specs.Shown.{rows_left, shown}
-use Rattle.oim_write.specs.Parts.{numbered_text}
+use Rattle.oim_write.specs.code.Parts.{numbered_text}
 use Rattle.oim_write.specs.Rank.{width}
 use Rattle.oim_write.specs.Sink.{written_of}
 use Rattle.oim_write.specs.SinkBuffer.{Breaks, Passes}

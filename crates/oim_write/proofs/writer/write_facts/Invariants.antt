@@ -1,7 +1,7 @@
 use Rattle.std.proofs.Common.{◌≡◌, ◌++◌, length, map}
 use Rattle.fact_base.specs.Rows.{rows_of}
 use Rattle.fact_base.specs.Shown.{rows_left, shown}
-use Rattle.oim_write.specs.Parts.{numbered_text}
+use Rattle.oim_write.specs.code.Parts.{numbered_text}
 use Rattle.oim_write.specs.SinkBuffer.{Passes}
 use Rattle.oim_write.proofs.NumberedFacts.{rows_facts}
 use Rattle.oim_write.proofs.writer.write_facts.Given as goal

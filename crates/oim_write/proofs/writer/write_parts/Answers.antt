@@ -1,6 +1,6 @@
 use Rattle.std.proofs.Common.{◌++◌, codes, false, subst}
 use Rattle.std.proofs.lemmas.Result.{err_from_is_err_and, on_ok_weaker, IfErr-weaker}
-use Rattle.oim_write.specs.Parts.{facts_text, text_parts}
+use Rattle.oim_write.specs.code.Parts.{facts_text, text_parts}
 use Rattle.oim_write.specs.Sink.{written_of}
 use Rattle.oim_write.specs.SinkBuffer.{Breaks, Passes}
 use Rattle.oim_write.proofs.Passing.{Passes-trans, Breaks-more, Breaks-trans}

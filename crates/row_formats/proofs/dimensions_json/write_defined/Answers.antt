@@ -3,7 +3,7 @@ use Rattle.std.proofs.lemmas.List.{take_more}
 use Rattle.json.specs.Token.{key}
 use Rattle.serde_json.specs.Data.{no_members}
 use Rattle.oim_write.specs.Ordered.{defined_members}
-use Rattle.oim_write.specs.Parts.{members_tokens}
+use Rattle.oim_write.specs.code.Parts.{members_tokens}
 use Rattle.row_formats.specs.Spelled.{braced}
 use Rattle.oim_write.proofs.Tokens.{Adds-is, Adds-one, Adds-trans, defined_next}
 use Rattle.row_formats.proofs.dimensions_json.write_defined.Goals as goal

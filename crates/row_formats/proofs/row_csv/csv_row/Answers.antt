@@ -1,6 +1,6 @@
 use Rattle.std.proofs.Common.{◌≡◌, [], ◌∷◌, ◌++◌, take, sym, ap, ◌∙◌, arith}
 use Rattle.std.proofs.lemmas.List.{length-take-le, take_more}
-use Rattle.oim_merge.specs.Named.{named}
+use Rattle.oim_merge.specs.code.Named.{named}
 use Rattle.row_formats.specs.CsvRows.{csv_facts, evidence_fields, fact_fields, record_text}
 use Rattle.row_formats.proofs.Pushed.{next_record}
 use Rattle.row_formats.proofs.row_csv.csv_row.Goals as goal

@@ -1,5 +1,5 @@
 use Rattle.std.proofs.Common.{◌≡◌, take}
-use Rattle.oim_merge.specs.Named.{named}
+use Rattle.oim_merge.specs.code.Named.{named}
 use Rattle.row_formats.specs.CsvRows.{csv_facts}
 use Rattle.row_formats.proofs.row_csv.csv_row.Given as goal
 

@@ -2,7 +2,7 @@ use Rattle.std.proofs.Common.{◌≡◌, List, [], ◌∷◌, ◌++◌, ℕ, ap,
 use Rattle.std.specs.Fmt.{decimal}
 use Rattle.csv.specs.Records.{fields_of}
 use Rattle.oim_merge.specs.Lines.{verdict_shown, verdict_word}
-use Rattle.oim_merge.specs.Named.{named}
+use Rattle.oim_merge.specs.code.Named.{named}
 use Rattle.row_formats.specs.CsvRows.{dimension_fields, evidence_fields, fact_fields, record_text, value_fields}
 use Rattle.row_formats.proofs.Pushed.{pushed_three}
 use Rattle.row_formats.proofs.row_csv.push_record.Goals as goal

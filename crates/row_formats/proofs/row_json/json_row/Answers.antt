@@ -1,7 +1,7 @@
 use Rattle.std.proofs.Common.{[], ◌∷◌, ◌++◌, false, ap, ◌∙◌}
 use Rattle.fact_base.specs.Shown.{shown}
 use Rattle.oim_write.proofs.PartTexts.{behind, item_is}
-use Rattle.oim_merge.specs.Named.{named}
+use Rattle.oim_merge.specs.code.Named.{named}
 use Rattle.row_formats.specs.JsonRows.{row_data}
 use Rattle.row_formats.proofs.row_json.json_row.Goals as goal
 

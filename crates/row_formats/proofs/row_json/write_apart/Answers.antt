@@ -1,6 +1,6 @@
 use Rattle.std.proofs.Common.{codes}
 use Rattle.oim_write.proofs.Tokens.{Adds-one}
-use Rattle.oim_merge.specs.Named.{named}
+use Rattle.oim_merge.specs.code.Named.{named}
 use Rattle.row_formats.specs.JsonRows.{apart_data}
 use Rattle.row_formats.proofs.Items.{closed_evidence}
 use Rattle.row_formats.proofs.row_json.write_apart.Goals as goal

@@ -1,5 +1,5 @@
 use Rattle.oim_write.proofs.Tokens.{Adds-one}
-use Rattle.oim_merge.specs.Named.{named}
+use Rattle.oim_merge.specs.code.Named.{named}
 use Rattle.row_formats.specs.JsonRows.{fact_items}
 use Rattle.row_formats.proofs.Items.{closed_array}
 use Rattle.row_formats.proofs.row_json.write_facts.Goals as goal

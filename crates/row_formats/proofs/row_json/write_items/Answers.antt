@@ -1,8 +1,9 @@
 use Rattle.std.proofs.Common.{[], ◌∷◌, ◌++◌, take, sym, ap, ◌∙◌, arith}
 use Rattle.std.proofs.lemmas.List.{length-take-le, take_more}
 use Rattle.oim_write.proofs.Tokens.{Adds-is, Adds-trans}
-use Rattle.oim_merge.specs.Named.{named}
-use Rattle.row_formats.specs.JsonRows.{fact_items, item_tokens}
+use Rattle.oim_merge.specs.code.Named.{named}
+use Rattle.row_formats.specs.JsonRows.{fact_items}
+use Rattle.row_formats.specs.code.Listing.{item_tokens}
 use Rattle.row_formats.proofs.Items.{next_fact}
 use Rattle.row_formats.proofs.row_json.write_items.Goals as goal
 

@@ -1,7 +1,8 @@
 use Rattle.std.proofs.Common.{take}
-use Rattle.oim_write.specs.Parts.{Adds}
-use Rattle.oim_merge.specs.Named.{named}
-use Rattle.row_formats.specs.JsonRows.{fact_items, item_tokens}
+use Rattle.oim_write.specs.code.Parts.{Adds}
+use Rattle.oim_merge.specs.code.Named.{named}
+use Rattle.row_formats.specs.JsonRows.{fact_items}
+use Rattle.row_formats.specs.code.Listing.{item_tokens}
 use Rattle.row_formats.proofs.row_json.write_items.Given as goal
 
 -- the facts so far are written

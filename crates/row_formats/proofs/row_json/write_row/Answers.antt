@@ -5,7 +5,7 @@ use Rattle.fact_base.specs.Shown.{shown}
 use Rattle.oim_write.specs.Ordered.{ordered_dimensions}
 use Rattle.oim_write.proofs.Tokens.{Adds-is, Adds-one, closed_object, then_member}
 use Rattle.oim_merge.specs.Lines.{verdict_shown, verdict_word}
-use Rattle.oim_merge.specs.Named.{named}
+use Rattle.oim_merge.specs.code.Named.{named}
 use Rattle.row_formats.specs.JsonRows.{evidence_members, fact_items}
 use Rattle.row_formats.specs.Spelled.{braced}
 use Rattle.row_formats.proofs.row_json.write_row.Goals as goal

@@ -1,7 +1,7 @@
 use Rattle.std.proofs.Common.{flat_map}
 use Rattle.std.proofs.lemmas.Result.{err_from_is_err_and, on_ok_weaker, IfErr-weaker}
 use Rattle.oim_write.proofs.Passing.{Passes-trans, Breaks-more, Breaks-trans}
-use Rattle.row_formats.specs.SourceRows.{placed_row}
+use Rattle.row_formats.specs.code.Listing.{placed_row}
 use Rattle.row_formats.proofs.source_listing.push_all.Goals as goal
 
 pub returns-in_err-push-clause-err : goal.returns-in_err-push-clause-err

@@ -4,7 +4,7 @@ use Rattle.std.proofs.lemmas.Result.{err_from_is_err_and}
 use Rattle.oim_write.specs.Sink.{written_of}
 use Rattle.oim_write.specs.SinkBuffer.{Breaks, Passes}
 use Rattle.oim_write.proofs.Passing.{Breaks-more, Breaks-trans, Passes-nil, Passes-trans}
-use Rattle.row_formats.specs.SourceRows.{placed_row}
+use Rattle.row_formats.specs.code.Listing.{placed_row}
 use Rattle.oim_merge.proofs.FlatLines.{lines_left, lines_more}
 use Rattle.row_formats.proofs.source_listing.push_rows.Goals as goal
 

@@ -1,7 +1,7 @@
 use Rattle.std.proofs.Common.{◌≡◌, take}
 use Rattle.std.specs.Prelude.{flat_map}
 use Rattle.oim_write.specs.SinkBuffer.{Passes}
-use Rattle.row_formats.specs.SourceRows.{placed_row}
+use Rattle.row_formats.specs.code.Listing.{placed_row}
 use Rattle.row_formats.proofs.source_listing.push_rows.Given as goal
 
 -- the lines so far passed

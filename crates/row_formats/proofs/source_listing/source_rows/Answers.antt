@@ -3,7 +3,8 @@ use Rattle.std.specs.Io.KnownBytes.{Appends}
 use Rattle.oim_write.specs.Sink.{AppendsFront, written_of}
 use Rattle.oim_merge.specs.Sources.{mentions_by_fact}
 use Rattle.oim_merge.specs.declared.placed_mention.PlacedMention.{PlacedMention}
-use Rattle.row_formats.specs.SourceRows.{SourceRowsStop, placed_row, source_header, source_row, sources_in}
+use Rattle.row_formats.specs.SourceRows.{SourceRowsStop, source_header, source_row, sources_in}
+use Rattle.row_formats.specs.code.Listing.{placed_row}
 use Rattle.row_formats.proofs.SourceTexts.{rows_are, stops_at}
 use Rattle.row_formats.proofs.source_listing.source_rows.Goals as goal
 

@@ -5,7 +5,7 @@ use Rattle.std.proofs.KnownBytes.{Appends-nil}
 use Rattle.std.proofs.lemmas.Result.{err_from_is_err_and}
 use Rattle.oim_write.specs.Sink.{AppendsFront, written_of}
 use Rattle.oim_write.proofs.Passing.{Passes-trans, Appends-passed, AppendsFront-broken, AppendsFront-flushed}
-use Rattle.row_formats.specs.SourceRows.{placed_row}
+use Rattle.row_formats.specs.code.Listing.{placed_row}
 use Rattle.row_formats.proofs.source_listing.write_rows.Goals as goal
 
 both_ok : {T E P Q S : Type 0} (r : Result T E) → (P → Q → S) → OnOk r P → OnOk r Q → OnOk r S

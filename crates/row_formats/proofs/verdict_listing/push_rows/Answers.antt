@@ -6,9 +6,10 @@ use Rattle.fact_base.specs.Shown.{rows_left, shown}
 use Rattle.oim_write.proofs.NumberedFacts.{rows_facts}
 use Rattle.oim_write.proofs.Passing.{Breaks-more, Breaks-trans, Passes-nil, Passes-trans}
 use Rattle.oim_merge.specs.Lines.{identifier_at}
-use Rattle.oim_merge.specs.Named.{named}
+use Rattle.oim_merge.specs.code.Named.{named}
 use Rattle.oim_merge.proofs.LineLists.{count_with_row, row_within}
-use Rattle.row_formats.specs.Rows.{HasRows, HasRowsOf, IsRow}
+use Rattle.row_formats.specs.Rows.{HasRows, HasRowsOf}
+use Rattle.row_formats.specs.code.Listing.{IsRow}
 use Rattle.row_formats.proofs.RowTexts.{left_have_rows, no_rows, one_row, row_before, row_is, rows_both}
 use Rattle.row_formats.proofs.verdict_listing.push_rows.Goals as goal
 

@@ -2,8 +2,9 @@ use Rattle.std.proofs.Common.{◌≡◌, [], ◌∷◌, ◌++◌, length, sym, a
 use Rattle.std.specs.List.{All}
 use Rattle.std.proofs.lemmas.List.Elements.{All-push}
 use Rattle.oim_write.specs.Bytes.{canonical}
-use Rattle.oim_merge.specs.Held.{AreWithin, IsTextAt, IsWritten, Stay, texts_at}
-use Rattle.oim_merge.specs.Kept.{AreKept}
+use Rattle.oim_merge.specs.code.Held.{AreWithin, IsTextAt, IsWritten, Stay}
+use Rattle.oim_merge.specs.Replay.{texts_at}
+use Rattle.oim_merge.specs.code.Kept.{AreKept}
 use Rattle.oim_merge.proofs.KeptTexts.{among_more, kept_new, stands_last, stay_with_more, within_longer}
 use Rattle.oim_merge.proofs.messages.Messages.place_of.Goals as goal
 

@@ -1,8 +1,8 @@
 use Rattle.std.proofs.Common.{◌≡◌, [], None, sym, subst, replicate}
 use Rattle.std.specs.List.{AllZip}
 use Rattle.oim_merge.specs.Bases.{base_of}
-use Rattle.oim_merge.specs.Held.{IsCurrent}
-use Rattle.oim_merge.specs.Kept.{AreKept}
+use Rattle.oim_merge.specs.code.Held.{IsCurrent}
+use Rattle.oim_merge.specs.code.Kept.{AreKept}
 use Rattle.oim_merge.proofs.KeptTexts.{none_is_current, none_is_kept}
 use Rattle.oim_merge.proofs.replicas.Replicas.new.Goals as goal
 

@@ -1,7 +1,7 @@
 use Rattle.std.proofs.Common.{◌≡◌, ◌-◌, [], length, set, refl, sym, ap, subst, ◌∙◌, arith}
 use Rattle.std.specs.List.{AllZip}
 use Rattle.fact_base.specs.Contents.{Contents}
-use Rattle.oim_merge.specs.Held.{AreHeld, IsCurrent, sent_texts, world_in}
+use Rattle.oim_merge.specs.code.Held.{AreHeld, IsCurrent, sent_texts, world_in}
 use Rattle.oim_merge.specs.Replicas.{wire}
 use Rattle.oim_merge.specs.Schedule.{happens}
 use Rattle.oim_merge.specs.declared.event.Event.TheVariants.{Receive}

@@ -1,6 +1,6 @@
 use Rattle.std.proofs.Common.{◌≡◌, ◌-◌, length, set, refl, sym, subst, ◌∙◌}
 use Rattle.std.proofs.lemmas.List.{with_items_is}
-use Rattle.oim_merge.specs.Kept.{AreKept}
+use Rattle.oim_merge.specs.code.Kept.{AreKept}
 use Rattle.oim_merge.proofs.KeptTexts.{current_after_change, kept_long}
 use Rattle.oim_merge.proofs.replicas.Replicas.take.Goals as goal
 

@@ -3,7 +3,7 @@ use Rattle.std.specs.Prelude.{flat_map}
 use Rattle.fact_base.specs.Body.{text_cmp}
 use Rattle.fact_base.specs.Passed.{IsSet}
 use Rattle.fact_base.specs.Shown.{rows_left}
-use Rattle.oim_write.specs.Uris.{Gains, row_names}
+use Rattle.oim_write.specs.code.Table.{Gains, row_names}
 use Rattle.oim_write.proofs.RowNames.{uris_gained}
 use Rattle.oim_write.proofs.UriSets.{gains_both, gains_none}
 use Rattle.oim_write.proofs.prefix_table.PrefixTable.of.Goals as goal

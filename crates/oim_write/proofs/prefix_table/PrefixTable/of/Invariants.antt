@@ -2,7 +2,7 @@ use Rattle.std.proofs.Common.{ℕ, List, []}
 use Rattle.std.specs.Prelude.{flat_map}
 use Rattle.fact_base.specs.Rows.{rows_of}
 use Rattle.fact_base.specs.Shown.{rows_left}
-use Rattle.oim_write.specs.Uris.{Gains, row_names}
+use Rattle.oim_write.specs.code.Table.{Gains, row_names}
 use Rattle.oim_write.proofs.prefix_table.PrefixTable.of.Given as goal
 
 -- the set and the names of the rows that are left give the names of all rows

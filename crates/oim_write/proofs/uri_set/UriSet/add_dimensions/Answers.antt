@@ -1,7 +1,8 @@
 use Rattle.std.proofs.Common.{◌∷◌, [], subst}
 use Rattle.std.specs.Prelude.{flat_map}
 use Rattle.std.proofs.lemmas.Result.{on_ok_weaker}
-use Rattle.oim_write.specs.Uris.{Gains, defined_names}
+use Rattle.oim_write.specs.Uris.{defined_names}
+use Rattle.oim_write.specs.code.Table.{Gains}
 use Rattle.oim_write.proofs.UriSets.{gains_both}
 use Rattle.oim_write.proofs.uri_set.UriSet.add_dimensions.Goals as goal
 

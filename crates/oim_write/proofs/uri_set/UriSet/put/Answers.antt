@@ -2,7 +2,7 @@ use Rattle.std.proofs.Common.{◌≡◌, List, ℕ, [], ◌∷◌, ◌++◌, sym
 use Rattle.fact_base.specs.Body.{text_cmp}
 use Rattle.fact_base.specs.Sets.{set_of}
 use Rattle.oim_names.specs.QName.{QName}
-use Rattle.oim_write.specs.Uris.{Gains}
+use Rattle.oim_write.specs.code.Table.{Gains}
 use Rattle.oim_write.proofs.UriSets.{gains_one}
 use Rattle.oim_write.proofs.uri_set.UriSet.put.Goals as goal
 

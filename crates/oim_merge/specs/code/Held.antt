@@ -1,20 +1,16 @@
 -- Replicas that store each distinct sent text once, and cache what was read from it and from the reports (own).
-use Rattle.std.specs.Prelude.{◌≡◌, ℕ, ◌<◌, List, [], length, map, Option, None, Some}
+use Rattle.std.specs.Prelude.{◌≡◌, ℕ, ◌<◌, List, [], length, Option, None, Some}
 use Rattle.std.specs.List.{All, AllZip, slice_index_or}
 use Rattle.oim_report.specs.Sheet.{Sheet}
 use Rattle.fact_base.specs.Body.{Body}
 use Rattle.fact_base.specs.Contents.{Contents}
 use Rattle.fact_base.specs.Fits.{Fits}
 use Rattle.oim_write.specs.Bytes.{canonical}
-use Rattle.oim_merge.specs.Kept.{AreKept}
-use Rattle.oim_merge.specs.Replay.{world_of}
+use Rattle.oim_merge.specs.code.Kept.{AreKept}
+use Rattle.oim_merge.specs.Replay.{world_of, texts_at}
 use Rattle.oim_merge.specs.Schedule.{World}
 use Rattle.oim_merge.specs.declared.messages.Messages.{Messages}
 use Rattle.oim_merge.specs.declared.replicas.Replicas.{Replicas}
-
--- the stored texts at these indices
-abbrev pub texts_at : List (List ℕ) → List ℕ → List (List ℕ)
-texts_at texts places = map (λ place. slice_index_or texts place []) places
 
 -- each index is within the list
 abbrev pub AreWithin : List (List ℕ) → List ℕ → Type 0
