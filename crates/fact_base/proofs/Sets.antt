@@ -1,6 +1,6 @@
 -- The members of sets.
 use Rattle.std.proofs.Common.{◌≡◌, List, [], ◌∷◌, ◌++◌, subst, inl, inr, ⊎_elim}
-use Rattle.std.specs.Prelude.{Contains}
+use Rattle.std.specs.Prelude.{◌↔◌, Contains}
 use Rattle.std.specs.Cmp.{IsTotalOrder}
 use Rattle.std.specs.declared.cmp.Ordering.{Ordering}
 use Rattle.std.specs.declared.cmp.Ordering.TheVariants.{Equal}
@@ -9,8 +9,13 @@ use Rattle.merge_laws.specs.Sorted.{IsSet, itself}
 use Rattle.merge_laws.proofs.Both.{set_with_has_item}
 use Rattle.merge_laws.proofs.Members.{set_is_its_members}
 use Rattle.merge_laws.proofs.Rising.{none_rise}
-use Rattle.fact_base.specs.Sets.{IsSetOf, set_of}
+use Rattle.fact_base.specs.Sets.{set_of}
 use Rattle.fact_base.proofs.Members.{first_there, first_or_later, in_one_of_both, later_there, none_there}
+
+-- a set rises, and has just what the list has
+pub record IsSetOf {K : Type 0} (R : K → K → Ordering) (xs set : List K) : Type 0 where
+  pub rises : IsSet R set
+  pub members : (x : K) → Contains set x ↔ Contains xs x
 
 module _ {K : Type 0} {R : K → K → Ordering} (o : IsTotalOrder R) (exact : (x y : K) → R x y ≡ Equal → x ≡ y) where
   pub set_of_is_set : (xs : List K) → IsSetOf R xs (set_of R xs)

@@ -10,9 +10,8 @@ use Rattle.oim_dims.specs.declared.member.Member.{Member}
 use Rattle.oim_dims.specs.declared.member.Member.TheVariants.{Nil, Text, Name}
 use Rattle.fact_base.specs.Passed.{IsSet}
 use Rattle.fact_base.specs.Body.{text_cmp}
-use Rattle.fact_base.specs.Sets.{IsSetOf}
 use Rattle.fact_base.proofs.Members.{first_there, in_flat_map, in_map, later_there, some_there}
-use Rattle.fact_base.proofs.Sets.{set_of_is_set}
+use Rattle.fact_base.proofs.Sets.{IsSetOf, set_of_is_set}
 use Rattle.oim_write.specs.Uris.{defined_names, dimension_names, entity_names, fact_names, unit_names, uris, uris_of_names, value_names}
 
 pub uris_are_set : (facts : List Fact) → IsSetOf text_cmp (uris_of_names (flat_map fact_names facts)) (uris facts)

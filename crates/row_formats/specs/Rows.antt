@@ -32,14 +32,6 @@ rows_text format facts n [] es = []
 rows_text format facts n (r ∷ rs) [] = []
 rows_text format facts n (r ∷ rs) (e ∷ es) = row_text format (identifier_at facts r) n r e ++ rows_text format facts (suc n) rs es
 
--- an object of JSON a line
-abbrev pub json_lines : List Fact → List Row → List Evidence → List ℕ
-json_lines facts = rows_text Json facts 1
-
--- records of CSV behind their header, a record a fact
-abbrev pub csv_lines : List Fact → List Row → List Evidence → List ℕ
-csv_lines facts rows es = header Csv ++ rows_text Csv facts 1 rows es
-
 -- the evidence of each row
 abbrev pub AreShown : List Row → List Evidence → Type 0
 AreShown = AllZip (λ r e. IsEvidence r.1 e)

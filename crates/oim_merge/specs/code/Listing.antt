@@ -11,7 +11,7 @@ use Rattle.oim_merge.specs.Lines.{AreLines}
 use Rattle.oim_merge.specs.declared.fact_list.LentFact.{LentFact}
 use Rattle.oim_merge.specs.declared.placed_mention.PlacedMention.{PlacedMention}
 
--- on their way through a buffer
+-- the lines of a body passed a buffer, or stopped in it
 pub record PassesLines (b : Body) (old new : Option (List ℕ)) (before after : Pending) : Type 0 where
   pub text : List ℕ
   pub lines : AreLines b text
@@ -26,6 +26,6 @@ pub record BreaksLines (b : Body) (old new : Option (List ℕ)) (before : Pendin
 abbrev pub lent : LentFact → Fact
 lent f = record { dimensions = f.dimensions.now; value = f.value.now }
 
--- its line, where there are so many facts
+-- the line of a mention, where there are so many facts
 abbrev pub placed_line : ℕ → PlacedMention → List ℕ
 placed_line count m = (102 ∷ padded (width count) (m.place + 1)) ++ 32 ∷ (decimal m.report ++ 32 ∷ (compact_text (string m.identifier) ++ 10 ∷ []))

@@ -15,7 +15,7 @@ use Rattle.row_formats.specs.Rows.{AreRows, HasRowsOf, row_text}
 use Rattle.row_formats.specs.declared.row_format.RowFormat.{RowFormat}
 use Rattle.row_formats.specs.SourceRows.{source_text}
 
--- they passed a buffer, without what stands before them
+-- the rows of a body passed a buffer or stopped in it, without their header
 pub record PassesRows (format : RowFormat) (b : Body) (old new : Option (List ℕ)) (before after : Pending) : Type 0 where
   pub text : List ℕ
   pub rows : HasRowsOf format b.facts text
@@ -26,7 +26,7 @@ pub record BreaksRows (format : RowFormat) (b : Body) (old new : Option (List �
   pub rows : HasRowsOf format b.facts text
   pub broken : Breaks old new before text written
 
--- with it
+-- and with it
 pub record PassesAll (format : RowFormat) (b : Body) (old new : Option (List ℕ)) (before after : Pending) : Type 0 where
   pub text : List ℕ
   pub rows : AreRows format b text
@@ -43,7 +43,7 @@ pub record IsRow (format : RowFormat) (name : ℕ → List ℕ) (n : ℕ) (r : R
   pub shows : IsEvidence r.1 evidence
   pub text_is : text ≡ row_text format name n r evidence
 
--- one whose fact has a place among so many
+-- the row of a mention whose fact has a place among so many
 abbrev pub placed_row : RowFormat → ℕ → PlacedMention → List ℕ
 placed_row format count m = source_text format (102 ∷ padded (width count) (m.place + 1)) m.report m.identifier
 
