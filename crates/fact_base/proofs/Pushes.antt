@@ -18,7 +18,7 @@ use Rattle.oim_value.specs.ValueOrder.{value_cmp}
 use Rattle.oim_dims.specs.FactOrder.{dimensions_cmp, fact_cmp}
 use Rattle.oim_dims.specs.declared.fact.Fact.{Fact}
 use Rattle.oim_dims.proofs.Orders.{dimensions_cmp_exact, dimensions_cmp_total, fact_cmp_total}
-use Rattle.oim_report.specs.Order.{IsOrderOf}
+use Rattle.oim_report.specs.Report.{IsOrderOf}
 use Rattle.oim_report.proofs.Places.{places_within}
 use Rattle.fact_base.specs.Entries.{Entry, Summed}
 use Rattle.fact_base.specs.code.Entries.{NoneAbove, entry_of, summed_of_both, with_fact, with_value}

@@ -21,7 +21,7 @@ use Rattle.oim_dims.specs.FactOrder.{dimensions_cmp}
 use Rattle.oim_dims.specs.declared.fact.Fact.{Fact}
 use Rattle.oim_dims.proofs.Orders.{dimensions_cmp_exact, dimensions_cmp_total}
 use Rattle.oim_report.specs.FactFits.{FactFits}
-use Rattle.oim_report.specs.Order.{IsOrderOf}
+use Rattle.oim_report.specs.Report.{IsOrderOf}
 use Rattle.fact_base.specs.Entries.{Entry, Summed}
 use Rattle.fact_base.specs.code.Entries.{AreEntriesOf, EntryFits, summed_of_both, with_fact}
 use Rattle.fact_base.proofs.Members.{each_by_there, each_there, first_or_later, first_there, in_flat_map, in_one_of_both, none_there, some_there}

@@ -35,7 +35,7 @@ pub struct Base<'s> {
 impl<'s> Model for Base<'s> {
     ghost use Rattle.std.specs.Prelude.{◌≡◌};
     ghost use Rattle.std.specs.Coded.{codes};
-    ghost use Rattle.oim_report.specs.SheetCode.{sheet_code};
+    ghost use Rattle.oim_report.specs.code.SheetCode.{sheet_code};
     ghost use Rattle.fact_base.specs.Contents.{Contents};
     ghost use Rattle.fact_base.specs.Entries.{facts_of_entries};
     ghost use Rattle.fact_base.specs.code.Entries.{AreStored};

@@ -9,7 +9,7 @@ ghost use Rattle.fact_base.specs.Shown.{row_of};
 ghost use Rattle.merge_laws.specs.Sorted.{IsRising, entry_key};
 ghost use Rattle.oim_dims.specs.FactOrder.{dimensions_cmp, fact_cmp};
 ghost use Rattle.oim_report.specs.Duplicates.{level_of};
-ghost use Rattle.oim_report.specs.Order.{IsOrderOf};
+ghost use Rattle.oim_report.specs.Report.{IsOrderOf};
 
 use crate::judging::verdict_of;
 use crate::ordering::in_order;

@@ -38,7 +38,7 @@ pub struct Gathering<'s> {
 
 impl<'s> Model for Gathering<'s> {
     ghost use Rattle.std.specs.Coded.{codes};
-    ghost use Rattle.oim_report.specs.SheetCode.{sheet_code};
+    ghost use Rattle.oim_report.specs.code.SheetCode.{sheet_code};
     ghost use Rattle.fact_base.specs.Body.{union};
     ghost use Rattle.fact_base.specs.Contents.{Contents};
     ghost use Rattle.fact_base.specs.Fits.{Fits};

@@ -2,7 +2,7 @@ ghost use Rattle.std.specs.Prelude.{◌≡◌, ◌<◌, length, IfOk, OnOk, OnEr
 ghost use Rattle.std.specs.List.{All};
 ghost use Rattle.std.specs.List.Sorted.{IsPermutation, IsSorted};
 ghost use Rattle.oim_dims.specs.FactOrder.{fact_cmp};
-ghost use Rattle.oim_report.specs.Order.{IsOrderOf};
+ghost use Rattle.oim_report.specs.Report.{IsOrderOf};
 ghost use Rattle.fact_base.specs.Sets.{set_of};
 
 use oim_dims::Fact;

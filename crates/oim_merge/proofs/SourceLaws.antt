@@ -17,7 +17,8 @@ use Rattle.oim_dims.specs.FactOrder.{fact_cmp}
 use Rattle.oim_dims.specs.declared.fact.Fact.{Fact}
 use Rattle.oim_dims.proofs.Orders.{fact_cmp_exact, fact_cmp_total}
 use Rattle.oim_report.specs.Document.{Document}
-use Rattle.oim_report.specs.Identifiers.{IdentifierSays, identifiers, identifiers_in, keyed}
+use Rattle.oim_report.specs.Identifiers.{IdentifierSays, identifiers, identifiers_in}
+use Rattle.oim_report.specs.Json.{keyed}
 use Rattle.oim_report.specs.Info.{bindings_of, facts_of}
 use Rattle.oim_report.specs.Outcome.{outcome}
 use Rattle.oim_report.specs.Sheet.{Sheet}

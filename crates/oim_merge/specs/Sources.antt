@@ -10,9 +10,9 @@ use Rattle.oim_names.specs.Bindings.{Binding}
 use Rattle.oim_dims.specs.FactOrder.{fact_cmp}
 use Rattle.oim_dims.specs.declared.fact.Fact.{Fact}
 use Rattle.oim_report.specs.Document.{Document, ObjectSays}
-use Rattle.oim_report.specs.Identifiers.{identifiers, keyed}
+use Rattle.oim_report.specs.Identifiers.{identifiers}
+use Rattle.oim_report.specs.Json.{keyed, json}
 use Rattle.oim_report.specs.Info.{bindings_of, facts_of}
-use Rattle.oim_report.specs.Json.{json}
 use Rattle.oim_report.specs.Outcome.{outcome}
 use Rattle.oim_report.specs.Sheet.{Sheet}
 use Rattle.oim_report.specs.declared.refusal.Refusal.{Refusal}

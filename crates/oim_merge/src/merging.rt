@@ -29,7 +29,7 @@ pub struct Consolidation<'s> {
 
 impl<'s> Model for Consolidation<'s> {
     ghost use Rattle.std.specs.Coded.{codes};
-    ghost use Rattle.oim_report.specs.SheetCode.{sheet_code};
+    ghost use Rattle.oim_report.specs.code.SheetCode.{sheet_code};
     ghost use Rattle.oim_merge.specs.Added.{Added};
 
     ghost Value = { Added };

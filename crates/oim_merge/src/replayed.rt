@@ -22,7 +22,7 @@ pub struct Replayed<'s> {
 impl<'s> Model for Replayed<'s> {
     ghost use Rattle.std.specs.Prelude.{◌≡◌};
     ghost use Rattle.std.specs.Coded.{codes};
-    ghost use Rattle.oim_report.specs.SheetCode.{sheet_code};
+    ghost use Rattle.oim_report.specs.code.SheetCode.{sheet_code};
     ghost use Rattle.oim_merge.specs.code.Held.{AreWithin};
     ghost use Rattle.oim_merge.specs.Replay.{texts_at, Replay, world_of};
 

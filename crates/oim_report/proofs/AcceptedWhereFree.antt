@@ -8,12 +8,11 @@ use Rattle.oim_value.specs.Level.{level_cmp}
 use Rattle.oim_dims.specs.declared.fact.Fact.{Fact}
 use Rattle.serde_json.specs.Data.{Data}
 use Rattle.oim_report.specs.declared.place.Place.TheVariants.{Document as AtDocument}
-use Rattle.oim_report.specs.Accepts.{AcceptedWhereFree, Accepts, IsFree}
+use Rattle.oim_report.specs.Outcome.{AcceptedWhereFree, Accepts, IsFree, all_or_first, at, document_with, fact_outcome, facts_said, outcome, then_allowed, tree_outcome, unless_above, unless_refused}
 use Rattle.oim_report.specs.Document.{Document}
 use Rattle.oim_report.specs.Duplicates.{level_of}
 use Rattle.oim_report.specs.Info.{bindings_of, facts_of}
 use Rattle.oim_report.specs.Json.{json, values}
-use Rattle.oim_report.specs.Outcome.{all_or_first, at, document_with, fact_outcome, facts_said, outcome, then_allowed, tree_outcome, unless_above, unless_refused}
 use Rattle.oim_report.specs.Refusal.{map_ok}
 use Rattle.oim_report.specs.Sheet.{Sheet}
 use Rattle.oim_report.specs.Holds.{document_holds, document_refusal}

@@ -8,7 +8,7 @@ use Rattle.oim_names.specs.declared.reason.Reason.{Reason}
 use Rattle.oim_names.specs.declared.reason.Reason.TheVariants.{MemberForm, UnknownMember, DocumentType, Namespace, BaseUrl, TaxonomyUrl, Feature, Links, Notes, DimensionsMissing, NameForm, UnboundPrefix, ReservedNamespace, MissingConcept, UnknownConcept, UnknownDimension, DimensionValue, PeriodForm, PeriodOrder, UnitForm, UnitOnOther, LanguageForm, LanguageOnNumeric, ValueForm, NumberForm, NumberDigits, DecimalsForm, DecimalsRange, DecimalsOnOther}
 use Rattle.serde_json.specs.Data.{Data}
 use Rattle.url.specs.Parts.{Parts}
-use Rattle.oim_report.specs.Faults.{all_refusals, when}
+use Rattle.oim_report.specs.code.Findings.{all_refusals, when}
 use Rattle.oim_report.specs.Info.{base_said, info, level_said, namespaces_of, said_base, said_references, taxonomy_of}
 use Rattle.std.specs.Option.{unwrap_or}
 use Rattle.oim_report.specs.Json.{any_in, given_of}

@@ -13,7 +13,8 @@ use Rattle.json.specs.Tree.{json_tokens, members_tokens, depth, members_depth}
 use Rattle.json.proofs.Printed.Trees.{value-json_tokens}
 use Rattle.serde_json.specs.Data as d
 use Rattle.serde_json.specs.Read.{of_json, of_members, max_depth, read}
-use Rattle.oim_report.specs.Pieces.{IsPiece, AreSpaces, facts_key, facts_text, put_all}
+use Rattle.oim_report.specs.Pieces.{IsPiece, put_all}
+use Rattle.oim_report.specs.code.Pieces.{AreSpaces, facts_key, facts_text}
 use Rattle.oim_report.proofs.JoinedMembers.{body, plus, closed_body, depth-plus, HasSome, Members_of, members_of, IsKeyed, behind_comma, lex_comma, after_one, room}
 use Rattle.oim_report.proofs.PieceTrees.{some_read}
 use Rattle.oim_report.proofs.MembersPut.{both_found}

@@ -7,8 +7,8 @@ use Rattle.std.proofs.lemmas.List.{map-append}
 use Rattle.std.proofs.lemmas.Str.{is_utf8-from_IsUtf8}
 use Rattle.serde_json.specs.Data.{Data, Members, member}
 use Rattle.oim_report.specs.declared.fact.given.Given.{Given as Lent}
-use Rattle.oim_report.specs.Given.{seen}
-use Rattle.oim_report.specs.SeenParts.{seen_defined}
+use Rattle.oim_report.specs.code.Given.{seen}
+use Rattle.oim_report.specs.code.SeenParts.{seen_defined}
 use Rattle.oim_report.specs.Json.{Given, given, has_colon}
 use Rattle.oim_report.specs.Parts.{defined_in}
 

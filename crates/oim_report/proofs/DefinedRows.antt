@@ -18,7 +18,7 @@ use Rattle.oim_report.specs.declared.concept_kind.ConceptKind.TheVariants.{Name}
 use Rattle.oim_report.specs.Holds.{concept, entries, explicit_text, is_some_and, names, pieces, text_at, value_text}
 use Rattle.oim_report.specs.Json.{has_colon}
 use Rattle.oim_report.specs.Names.{named, refuses_some}
-use Rattle.oim_report.specs.Rows.{any_defined, defined_name, defined_names, is_defined, refuses_in}
+use Rattle.oim_report.specs.code.Rows.{any_defined, defined_name, defined_names, is_defined, refuses_in}
 use Rattle.oim_report.specs.Sheet.{Sheet, same_concept_kind}
 use Rattle.oim_report.proofs.ComesAgain.{read_none}
 use Rattle.oim_report.proofs.Naming.{expanded}

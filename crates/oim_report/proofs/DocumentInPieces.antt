@@ -1,6 +1,6 @@
 -- A report whose facts are read in pieces.
 use Rattle.std.proofs.Common.{◌≡◌, ℕ, List, [], ◌∷◌, Bool, true, false, Option, Some, None, Result, Ok, Err, refl, sym, ap, ◌∙◌, subst}
-use Rattle.std.specs.Prelude.{codes, not, is_none, option_and_then, if◌then◌else◌}
+use Rattle.std.specs.Prelude.{codes, not, is_none, option_and_then, if◌then◌else◌, IfOk, IfSome, MatchResult, IsUtf8}
 use Rattle.std.specs.Option.{unwrap_or}
 use Rattle.std.specs.Ordering.{is_lt, partial_lt}
 use Rattle.std.proofs.lemmas.Bool.{or_parts, or_from}
@@ -20,18 +20,18 @@ use Rattle.oim_report.specs.Duplicates.{level_of}
 use Rattle.oim_report.specs.Info.{info, namespaces_of, bindings_of, taxonomy_of, features_of, facts_of, said_base, said_references, declarations, said_level, base_said, references_said, level_said, root_keys, info_keys, document_type}
 use Rattle.oim_report.specs.Holds.{document_refusal}
 use Rattle.oim_report.proofs.DocumentHolds.{document_least, has_misshapen_part, has_other_type, has_unknown_part, info_refusal, shape_refusal}
-use Rattle.oim_report.specs.Json.{json, members, given_of, is_text, object_at, any_in, any_member, is_unknown, is_no_object, is_no_array}
+use Rattle.oim_report.specs.Json.{json, members, given_of, object_at, any_in, any_member, is_unknown, is_no_object, is_no_array, json_text, without_mark}
+use Rattle.oim_report.specs.code.Findings.{is_text}
 use Rattle.oim_report.specs.Namespaces.{binds_nothing, bindings_in}
 use Rattle.oim_report.specs.Outcome.{at, facts_said, document_with, allowed, then_allowed, unless_refused, tree_outcome, outcome}
 use Rattle.oim_report.specs.Refusal.{first_holding, first_refusal, or_refusal, map_ok}
 use Rattle.oim_report.specs.Sheet.{Sheet}
 use Rattle.oim_report.proofs.PutMembers.{known_put}
-use Rattle.std.specs.Prelude.{IfOk, IfSome, MatchResult, IsUtf8}
 use Rattle.std.specs.Result.{result_ok}
 use Rattle.serde_json.specs.Read.{read}
-use Rattle.oim_report.specs.Json.{json_text, without_mark}
 use Rattle.oim_report.proofs.Texts.{passes}
-use Rattle.oim_report.specs.Pieces.{IsPiece, IsOutline}
+use Rattle.oim_report.specs.Pieces.{IsPiece}
+use Rattle.oim_report.specs.code.Pieces.{IsOutline}
 
 -- ---- the contents that do not depend on the facts
 

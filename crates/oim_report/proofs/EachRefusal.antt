@@ -2,7 +2,7 @@
 use Rattle.std.proofs.Common.{◌≡◌, List, [], ◌∷◌, ◌++◌, Bool, true, false, refl, sym, ap, ◌∙◌}
 use Rattle.std.specs.Prelude.{Option, Some, None, if◌then◌else◌}
 use Rattle.oim_names.specs.declared.reason.Reason.{Reason}
-use Rattle.oim_report.specs.Faults.{when}
+use Rattle.oim_report.specs.code.Findings.{when}
 use Rattle.oim_report.specs.Refusal.{first_refusal, or_refusal}
 
 or_refusal-assoc : (r s t : Option Reason) → or_refusal (or_refusal r s) t ≡ or_refusal r (or_refusal s t)

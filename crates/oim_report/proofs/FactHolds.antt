@@ -29,7 +29,7 @@ use Rattle.oim_report.specs.declared.concept_kind.ConceptKind.TheVariants.{Numer
 use Rattle.oim_report.specs.declared.dimension_kind.DimensionKind.{DimensionKind}
 use Rattle.oim_report.specs.declared.dimension_kind.DimensionKind.TheVariants.{Explicit, Typed}
 use Rattle.oim_report.specs.Conditions.{comes_again, concept_kind, decimals_refusal, defined_names, dimension_kind, dimension_names, fact_refusal, has_misshapen_core, in_dimensions, is_misfit, is_numeric, is_other_kind, language_refusal, member_names, names_of, period_refusal, unit_names, unit_refusal, value_names, value_refusal}
-use Rattle.oim_report.specs.Faults.{when}
+use Rattle.oim_report.specs.code.Findings.{when}
 use Rattle.oim_report.specs.Json.{text, any_member, given, given_of, is_absent, is_no_object, is_unknown, members, object_at}
 use Rattle.oim_report.specs.Names.{in_namespace, named, refuses_some}
 use Rattle.oim_report.specs.Parts.{DimensionParts, core_keys, dimension_parts, parts_of}

@@ -16,7 +16,7 @@ use Rattle.serde_json.specs.Find.{as_object, get_member}
 use Rattle.oim_report.specs.declared.concept_kind.ConceptKind.{ConceptKind}
 use Rattle.oim_report.specs.declared.dimension_kind.DimensionKind.{DimensionKind}
 use Rattle.oim_report.specs.Conditions.{comes_again, concept_kind, concept_refusal, content_refusal, decimals_refusal, defined_names, defined_refusal, dimension_kind, dimension_names, fact_refusal, form_refusal, has_misshapen_core, in_dimensions, is_faulty, is_misfit, is_numeric, is_other_kind, language_refusal, lists_unknown, member_names, names_of, period_refusal, spelled_in, unit_names, unit_refusal, value_names, value_refusal, value_refusals as first_value_refusals}
-use Rattle.oim_report.specs.Faults.{when}
+use Rattle.oim_report.specs.code.Findings.{when}
 use Rattle.oim_report.specs.Json.{Given, absent, nil, text, whole, other, is_absent, is_no_object, is_no_text}
 use Rattle.oim_report.specs.Names.{names_refusal, refuses_some}
 use Rattle.oim_report.specs.Parts.{DimensionParts, FactParts, dimension_parts, parts_of}

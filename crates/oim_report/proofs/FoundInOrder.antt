@@ -12,10 +12,11 @@ use Rattle.std.proofs.lemmas.Bool.{false≢true}
 use Rattle.oim_names.specs.Bindings.{Binding}
 use Rattle.oim_dims.specs.declared.fact.Fact.{Fact}
 use Rattle.serde_json.specs.Data.{Data, Members, no_members, member, put}
-use Rattle.oim_report.specs.FoundFacts.{AreFound, is_above, rise_after}
+use Rattle.oim_report.specs.code.FoundFacts.{AreFound, is_above, rise_after}
 use Rattle.oim_report.specs.Json.{values}
 use Rattle.oim_report.specs.Outcome.{fact_outcome, all_or_first, facts_said}
-use Rattle.oim_report.specs.Pieces.{append, put_all}
+use Rattle.oim_report.specs.Pieces.{put_all}
+use Rattle.oim_report.specs.code.Pieces.{append}
 use Rattle.oim_report.specs.Refusal.{map_ok}
 use Rattle.oim_report.specs.Sheet.{Sheet}
 use Rattle.oim_report.proofs.MembersPut.{IsBefore, IsRising, before_all, rising_stays}

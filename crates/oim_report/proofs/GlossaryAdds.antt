@@ -7,7 +7,7 @@ use Rattle.std.specs.HashMap.{HashMap, Updates, IsUnchanged, get_by}
 use Rattle.std.specs.Map.{lookup, update}
 use Rattle.std.proofs.lemmas.Map.Text.{hash_map_updates_str}
 use Rattle.oim_report.specs.declared.fact.glossary.Glossary.{Glossary}
-use Rattle.oim_report.specs.Glossary.{Adds, IsGlossary, meaning}
+use Rattle.oim_report.specs.code.Glossary.{Adds, IsGlossary, meaning}
 
 either : {A : Type 0} (R : List ℕ → A → Type 0) (g : Glossary A) (t u : List ℕ) (a b : A) → IsGlossary R g → R t a → (c : Bool) → bytes_eq t u ≡ c → cond c (Some a) (meaning g u) ≡ Some b → R u b
 either R g t u a b is says true same found =

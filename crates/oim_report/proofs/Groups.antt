@@ -10,7 +10,7 @@ use Rattle.oim_names.specs.declared.reason.Reason.TheVariants.{MemberForm, Unkno
 use Rattle.serde_json.specs.Data.{Data}
 use Rattle.oim_report.specs.declared.concept_kind.ConceptKind.{ConceptKind}
 use Rattle.oim_report.specs.Conditions.{concept_kind, comes_again, decimals_refusal, dimension_kind, dimension_names, has_misshapen_core, in_dimensions, is_misfit, is_numeric, is_other_kind, language_refusal, names_of, period_refusal, unit_refusal, value_refusal}
-use Rattle.oim_report.specs.Faults.{when}
+use Rattle.oim_report.specs.code.Findings.{when}
 use Rattle.oim_report.specs.Json.{Given, is_absent, text_of}
 use Rattle.oim_report.specs.Names.{refuses_some}
 use Rattle.oim_report.specs.Parts.{DimensionParts, FactParts}

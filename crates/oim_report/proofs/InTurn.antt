@@ -16,7 +16,7 @@ use Rattle.oim_report.specs.declared.fact.given.Given.{Given as Lent}
 use Rattle.oim_report.specs.Conditions.{comes_again, defined_refusal, dimension_kind, dimension_names, is_faulty, is_misfit, lists_unknown}
 use Rattle.oim_report.specs.Names.{named}
 use Rattle.oim_report.specs.Said.{members_with, said_member, said_members}
-use Rattle.oim_report.specs.SeenParts.{seen_defined}
+use Rattle.oim_report.specs.code.SeenParts.{seen_defined}
 use Rattle.oim_report.specs.Sheet.{Sheet}
 use Rattle.oim_report.proofs.MemberLists.{members_more, misfit_later, names_more, names_of, next_defined, seen_item, some_misfit, unknown_later}
 use Rattle.oim_report.proofs.MembersSay.{first_or_later, members_rise, none_in}

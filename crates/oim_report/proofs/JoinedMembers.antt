@@ -12,7 +12,8 @@ use Rattle.json.specs.Align.{is_good}
 use Rattle.json.proofs.Printed.Trees.{value-json_tokens}
 use Rattle.json.proofs.Unique.Spelling.{value-json_tokens_back}
 use Rattle.json.proofs.Nesting.{value-depth}
-use Rattle.oim_report.specs.Pieces.{alone, Closed}
+use Rattle.oim_report.specs.Pieces.{alone}
+use Rattle.oim_report.specs.code.Pieces.{Closed}
 use Rattle.oim_report.proofs.JsonLexemes.{NoQuote, AllGood, piece_of}
 use Rattle.oim_report.proofs.PlacedValues.{NoBad, Fits, opened, opens, split, at_token}
 

@@ -2,7 +2,8 @@
 use Rattle.std.proofs.Common.{ℕ, List, ◌∷◌, ◌++◌}
 use Rattle.serde_json.specs.Data.{Members}
 use Rattle.serde_json.specs.Read.{max_depth}
-use Rattle.oim_report.specs.Pieces.{Closed, HasMember, put_all}
+use Rattle.oim_report.specs.Pieces.{HasMember, put_all}
+use Rattle.oim_report.specs.code.Pieces.{Closed}
 use Rattle.oim_report.proofs.JoinedMembers.{plus, joined}
 use Rattle.oim_report.proofs.PieceTrees.{ReadAs, some_read}
 use Rattle.oim_report.proofs.MembersPut.{both_found}

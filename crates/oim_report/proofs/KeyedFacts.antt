@@ -5,9 +5,9 @@ use Rattle.oim_names.specs.Bindings.{Binding}
 use Rattle.oim_dims.specs.declared.fact.Fact.{Fact}
 use Rattle.serde_json.specs.Data.{Members, no_members, member}
 use Rattle.oim_report.specs.Document.{Document, ObjectSays, SaysDocument}
-use Rattle.oim_report.specs.Identifiers.{EachFactHasAnIdentifier, Identify, IdentifierSays, identifiers, identifiers_in, keyed}
+use Rattle.oim_report.specs.Identifiers.{EachFactHasAnIdentifier, Identify, IdentifierSays, identifiers, identifiers_in}
+use Rattle.oim_report.specs.Json.{keyed, values}
 use Rattle.oim_report.specs.Info.{bindings_of, facts_of}
-use Rattle.oim_report.specs.Json.{values}
 use Rattle.oim_report.specs.Sheet.{Sheet}
 use Rattle.oim_report.proofs.Documents.{outcomes_are_said}
 

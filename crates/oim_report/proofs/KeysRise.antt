@@ -11,9 +11,9 @@ use Rattle.json.specs.Lex.{tokens}
 use Rattle.serde_json.specs.Data.{Data, null, boolean, number, string, array, object, Members, no_members, member, put}
 use Rattle.serde_json.specs.Find.{get_member, as_object}
 use Rattle.serde_json.specs.Read.{of_json, of_items, of_members, number_of, read, max_depth}
-use Rattle.oim_report.specs.Identifiers.{identifiers_in, keyed, IdentifiersRise}
+use Rattle.oim_report.specs.Identifiers.{identifiers_in, IdentifiersRise}
+use Rattle.oim_report.specs.Json.{keyed, json_text, members, without_mark}
 use Rattle.oim_report.specs.Info.{facts_of}
-use Rattle.oim_report.specs.Json.{json_text, members, without_mark}
 use Rattle.oim_report.specs.PlainJson.{IsBefore}
 use Rattle.oim_report.proofs.PutMembers.{Ascends, ascends_put}
 use Rattle.oim_report.proofs.ReadUtf8.{Has, has_mapped, has_then, any}

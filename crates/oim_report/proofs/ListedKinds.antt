@@ -13,7 +13,7 @@ use Rattle.oim_names.specs.declared.reason.Reason.{Reason}
 use Rattle.oim_names.specs.declared.reason.Reason.TheVariants.{SheetKind}
 use Rattle.serde_json.specs.Data.{Data, Members, no_members, member}
 use Rattle.oim_report.specs.Json.{any_in, json}
-use Rattle.oim_report.specs.KindLaws.{same_concept_kind_is, same_dimension_kind_is}
+use Rattle.oim_report.specs.code.KindLaws.{same_concept_kind_is, same_dimension_kind_is}
 use Rattle.oim_report.specs.Listed.{ConceptsAreListed, DimensionsAreListed, SaysKind, StandsIn}
 use Rattle.oim_report.specs.Least.{least}
 use Rattle.oim_report.specs.Names.{named}

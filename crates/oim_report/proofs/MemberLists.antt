@@ -11,11 +11,11 @@ use Rattle.oim_dims.specs.declared.member.Member.{Member}
 use Rattle.oim_report.specs.declared.dimension_kind.DimensionKind.{DimensionKind}
 use Rattle.oim_report.specs.declared.fact.given.Given.{Given as Lent}
 use Rattle.oim_report.specs.Conditions.{dimension_kind, dimension_names, is_misfit, lists_unknown}
-use Rattle.oim_report.specs.Given.{seen}
+use Rattle.oim_report.specs.code.Given.{seen}
 use Rattle.oim_report.specs.Json.{Given}
 use Rattle.oim_report.specs.Names.{named}
 use Rattle.oim_report.specs.Said.{members_with, said_member}
-use Rattle.oim_report.specs.SeenParts.{seen_defined}
+use Rattle.oim_report.specs.code.SeenParts.{seen_defined}
 use Rattle.oim_report.specs.Sheet.{Sheet}
 
 -- a member is not of its dimension's kind

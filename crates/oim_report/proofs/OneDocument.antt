@@ -23,11 +23,10 @@ use Rattle.oim_dims.proofs.OneUnit.{one_unit}
 use Rattle.serde_json.specs.Data.{Data}
 use Rattle.oim_report.specs.declared.concept_kind.ConceptKind.{ConceptKind}
 use Rattle.oim_report.specs.declared.concept_kind.ConceptKind.TheVariants.{Numeric, Text, Name}
-use Rattle.oim_report.specs.Document.{ObjectSays}
+use Rattle.oim_report.specs.Document.{ObjectSays, SaysOneDocument}
 use Rattle.oim_report.specs.Fact.{GivesText, GivesTextOr, SaysDecimals, SaysDimensions, SaysEntity, SaysFact, SaysLanguage, SaysNumber, SaysPeriod, SaysUnit, SaysValue}
 use Rattle.oim_report.specs.Info.{bindings_of, facts_of, references_said, level_said}
 use Rattle.oim_report.specs.Json.{Given, absent, nil, text, whole, other, json, values}
-use Rattle.oim_report.specs.OneDocument.{SaysOneDocument}
 use Rattle.oim_report.specs.Parts.{DimensionParts, FactParts, fact_parts}
 use Rattle.oim_report.specs.Sheet.{Sheet}
 use Rattle.oim_report.proofs.OneMembers.{given_name, no_text, one_list, one_some, one_text}

@@ -7,7 +7,8 @@ use Rattle.std.proofs.lemmas.Cmp.{nat_list_cmp_total, tied_itself}
 use Rattle.serde_json.specs.Data.{Data, object, Members, no_members, member, put}
 use Rattle.serde_json.specs.Read.{read}
 use Rattle.serde_json.specs.Find.{get, get_member}
-use Rattle.oim_report.specs.Pieces.{one_data, IsPiece, IsOutline, AfterSpaces, BeforeSpaces, IsHead, IsEnd, IsTail, IsSplit, IsBeside, facts_key, facts_text, with_before, with_behind, put_all}
+use Rattle.oim_report.specs.Pieces.{one_data, IsPiece, put_all}
+use Rattle.oim_report.specs.code.Pieces.{IsOutline, AfterSpaces, BeforeSpaces, IsHead, IsEnd, IsTail, IsSplit, IsBeside, facts_key, facts_text, with_before, with_behind}
 use Rattle.oim_report.proofs.MembersPut.{IsRising, Lacks, lacks_parts, put_all_later, put_onto, rising_found}
 use Rattle.oim_report.proofs.PiecesInTurn.{both_pieces, alone_same, piece_as}
 use Rattle.oim_report.proofs.AroundFacts.{Gives, piece_gives, less_deep, led_gives, both_give, facts_give, document_gives}

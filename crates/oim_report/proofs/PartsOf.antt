@@ -11,10 +11,10 @@ use Rattle.serde_json.specs.View.{view, members_view}
 use Rattle.serde_json.specs.declared.value.Value.{Value}
 use Rattle.serde_json.proofs.Views.{Entry}
 use Rattle.oim_report.specs.declared.fact.given.Given.{Given as Lent}
-use Rattle.oim_report.specs.Given.{seen}
+use Rattle.oim_report.specs.code.Given.{seen}
 use Rattle.oim_report.specs.Json.{Given, given, given_of, any_member, has_colon, has_member, is_unknown, is_no_object}
 use Rattle.oim_report.specs.Parts.{DimensionParts, FactParts, core_keys, fact_keys, defined_in, dimension_parts, parts_of}
-use Rattle.oim_report.specs.SeenParts.{seen_defined}
+use Rattle.oim_report.specs.code.SeenParts.{seen_defined}
 use Rattle.oim_report.proofs.DefinedParts.{push_defined}
 use Rattle.oim_report.proofs.LastAt.{last_at, last_other, last_is, colon_other, colon_known, entries_ascend}
 

@@ -6,7 +6,8 @@ use Rattle.std.specs.declared.cmp.Ordering.TheVariants.{Less, Equal, Greater}
 use Rattle.json.specs.Json as j
 use Rattle.serde_json.specs.Data.{Data, array, object, no_items, Members, no_members, member, item, put}
 use Rattle.serde_json.specs.Read.{of_json, read}
-use Rattle.oim_report.specs.Pieces.{alone, one_data, HasMember, Closed, EndsWithBrace, IsPiece, put_all, append, IsNext}
+use Rattle.oim_report.specs.Pieces.{alone, one_data, HasMember, EndsWithBrace, IsPiece, put_all}
+use Rattle.oim_report.specs.code.Pieces.{Closed, append, IsNext}
 use Rattle.oim_report.proofs.PieceTrees.{ReadAs, read_as}
 use Rattle.oim_report.proofs.MembersPut.{found_onto}
 use Rattle.oim_report.proofs.JoinedPieces.{joined_as}

@@ -19,10 +19,10 @@ use Rattle.oim_value.specs.declared.level.Level.TheVariants.{Unique}
 use Rattle.oim_dims.specs.FactOrder.{fact_cmp}
 use Rattle.oim_dims.specs.declared.fact.Fact.{Fact}
 use Rattle.oim_report.specs.Duplicates.{are_duplicates, level_of}
-use Rattle.oim_report.specs.Order.{IsOrderOf, place_cmp}
+use Rattle.oim_report.specs.Report.{IsOrderOf, place_cmp}
 use Rattle.oim_dims.proofs.Orders.{fact_cmp_total}
 use Rattle.oim_report.proofs.Pairs.{level_ignores_order}
-use Rattle.oim_report.specs.Beside.{both_common, interval_at, level_beside}
+use Rattle.oim_report.specs.code.Beside.{both_common, interval_at, level_beside}
 use Rattle.oim_report.proofs.Runs.{RisesFrom, walk, walk-duplicate, walk-nil, walk-other, walk_from_first}
 
 -- the facts at some indices

@@ -17,7 +17,7 @@ use Rattle.oim_value.proofs.ValueOrders.{value_cmp_self, value_cmp_total}
 use Rattle.oim_dims.specs.DimensionSet.{DimensionSet}
 use Rattle.oim_dims.specs.FactOrder.{dimensions_cmp, fact_cmp}
 use Rattle.oim_dims.specs.declared.fact.Fact.{Fact}
-use Rattle.oim_report.specs.Beside.{both_common, both_meet, interval_at, level_beside}
+use Rattle.oim_report.specs.code.Beside.{both_common, both_meet, interval_at, level_beside}
 use Rattle.oim_report.specs.Duplicates.{allows, allows_each, allows_values, are_duplicates, level_of}
 use Rattle.oim_dims.proofs.Orders.{dimensions_cmp_total, fact_cmp_exact}
 use Rattle.oim_report.proofs.Pairs.{allows_each-push, complete_are_consistent, level_of_is, strictest, unique_are_complete}

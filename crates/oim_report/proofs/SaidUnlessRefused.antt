@@ -35,7 +35,7 @@ use Rattle.oim_report.specs.Names.{named_as, names_refusal}
 use Rattle.oim_report.specs.Parts.{DimensionParts, FactParts}
 use Rattle.oim_report.specs.Refusal.{or_refusal}
 use Rattle.oim_report.specs.Said.{all_named, fact_of, in_order, members_with, said_concept, said_decimals, said_dimensions, said_entity, said_language, said_member, said_period, said_unit, said_value, side_of, unit_with}
-use Rattle.oim_report.specs.SaidUnlessRefused.{FactsAreSaid}
+use Rattle.oim_report.specs.Outcome.{FactsAreSaid}
 use Rattle.oim_report.specs.Sheet.{Sheet}
 use Rattle.oim_report.proofs.Accepted.{EachSays, and_then_some}
 use Rattle.oim_report.proofs.FactRefused.{are_free}

@@ -1,7 +1,7 @@
 -- White space at the ends of a text.
 use Rattle.std.proofs.Common.{◌≡◌, ℕ, zero, suc, ◌+◌, ◌<◌, true, List, [], ◌∷◌, length, take, get_or, subst, arith}
 use Rattle.json.specs.Word.{is_space}
-use Rattle.oim_report.specs.Pieces.{AreSpaces}
+use Rattle.oim_report.specs.code.Pieces.{AreSpaces}
 
 one_more : (xs : List ℕ) (n d : ℕ) → n < length xs → AreSpaces (take n xs) → is_space (get_or xs n d) ≡ true → AreSpaces (take (suc n) xs)
 one_more [] n d l h s = absurd (omega (arith, l))

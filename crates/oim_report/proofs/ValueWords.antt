@@ -7,7 +7,7 @@ use Rattle.std.specs.Str.{is_utf8}
 use Rattle.oim_names.specs.declared.reason.Reason.{Reason}
 use Rattle.serde_json.specs.Data.{Data, Members, no_members, member, null, boolean, number, string, array, object, unsigned, negative, float}
 use Rattle.serde_json.specs.Find.{as_null}
-use Rattle.oim_report.specs.Faults.{when}
+use Rattle.oim_report.specs.code.Findings.{when}
 use Rattle.oim_report.specs.Json.{Given, nil, text, whole, other, given, given_of, has_colon, is_absent, is_no_text, text_of}
 use Rattle.oim_names.specs.Expansion.{Spelled}
 use Rattle.oim_report.specs.Conditions.{spelled_in}

@@ -17,7 +17,7 @@ use Rattle.oim_value.specs.Interval.{common_part, intervals_meet}
 use Rattle.oim_value.specs.ValueOrder.{name_cmp, value_cmp}
 use Rattle.oim_value.proofs.Meeting.{meets_is_reflexive, meets_is_symmetric}
 use Rattle.oim_value.proofs.ValueOrders.{value_cmp_self}
-use Rattle.oim_report.specs.Beside.{both_common, both_meet, interval_at}
+use Rattle.oim_report.specs.code.Beside.{both_common, both_meet, interval_at}
 use Rattle.oim_report.specs.Duplicates.{values_meet, ValuesMeetIsMeets}
 
 never : {P : Type 0} → false ≡ true → P

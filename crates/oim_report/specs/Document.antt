@@ -31,3 +31,7 @@ pub record SaysDocument (sheet : Sheet) (bytes : List ℕ) (document : Document)
   pub facts : AllZip (ObjectSays sheet (bindings_of tree)) (values (facts_of tree)) document.facts
   pub references : references_said tree ≡ Some document.references
   pub level : level_said tree ≡ Some document.level
+
+-- the documents that a report's bytes say under a sheet are one (own)
+abbrev pub SaysOneDocument : Type 0
+SaysOneDocument = (sheet : Sheet) (bytes : List ℕ) (d e : Document) → SaysDocument sheet bytes d → SaysDocument sheet bytes e → d ≡ e

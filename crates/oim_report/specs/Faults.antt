@@ -5,7 +5,6 @@ use Rattle.std.specs.List.{filter_map}
 use Rattle.std.specs.Ordering.{is_lt}
 use Rattle.std.specs.Result.{result_err}
 use Rattle.oim_names.specs.Bindings.{Binding}
-use Rattle.oim_names.specs.declared.reason.Reason.{Reason}
 use Rattle.oim_names.specs.declared.reason.Reason.TheVariants.{NotJson, DisallowedDuplicates}
 use Rattle.oim_value.specs.Level.{level_cmp}
 use Rattle.oim_value.specs.declared.level.Level.TheVariants.{All as AllLevel}
@@ -13,25 +12,16 @@ use Rattle.oim_dims.specs.declared.fact.Fact.{Fact}
 use Rattle.serde_json.specs.Data.{Data}
 use Rattle.oim_report.specs.declared.place.Place.TheVariants.{Document as AtDocument, Fact as AtFact}
 use Rattle.oim_report.specs.declared.refusal.Refusal.{Refusal}
-use Rattle.oim_report.specs.Accepts.{Accepts}
+use Rattle.oim_report.specs.Outcome.{Accepts, at, outcome}
 use Rattle.oim_report.specs.Document.{Document}
 use Rattle.oim_report.specs.Duplicates.{level_of}
 use Rattle.oim_report.specs.Info.{bindings_of, facts_of, level_said}
 use Rattle.oim_report.specs.Json.{json, values}
-use Rattle.oim_report.specs.Outcome.{at, outcome}
 use Rattle.oim_report.specs.Parts.{fact_parts}
 use Rattle.oim_report.specs.Said.{said_fact}
 use Rattle.oim_report.specs.Sheet.{Sheet}
 use Rattle.oim_report.specs.Holds.{document_holds, holds}
 use Rattle.oim_report.specs.Least.{told}
-
--- the refusal, if its condition applies
-abbrev pub when : Bool → Reason → Option Reason
-when holds reason = if holds then Some reason else None
-
--- the refusals in a list of optional refusals
-abbrev pub all_refusals : List (Option Reason) → List Reason
-all_refusals refusals = filter_map (λ r. r) refusals
 
 -- ---- the facts
 

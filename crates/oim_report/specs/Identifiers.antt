@@ -1,22 +1,17 @@
 -- The identifiers of a report's facts (xBRL-JSON 1.0, section 2: the keys of `facts`; their order is own).
-use Rattle.std.specs.Prelude.{◌≡◌, ℕ, List, [], ◌∷◌, map, Ok, Option, Some, option_map}
+use Rattle.std.specs.Prelude.{◌≡◌, ℕ, List, map, Ok, Option, Some, option_map}
 use Rattle.std.specs.List.{AllZip}
 use Rattle.std.specs.List.Sorted.{IsStrictlySortedBy}
 use Rattle.std.specs.Ordering.{nat_cmp}
 use Rattle.std.specs.Cmp.Lexicographic.{slice_cmp}
 use Rattle.oim_names.specs.Bindings.{Binding}
 use Rattle.oim_dims.specs.declared.fact.Fact.{Fact}
-use Rattle.serde_json.specs.Data.{Data, Members, no_members, member}
+use Rattle.serde_json.specs.Data.{Data}
 use Rattle.oim_report.specs.Document.{Document, ObjectSays}
 use Rattle.oim_report.specs.Info.{bindings_of, facts_of}
-use Rattle.oim_report.specs.Json.{json}
+use Rattle.oim_report.specs.Json.{json, keyed}
 use Rattle.oim_report.specs.Outcome.{outcome}
 use Rattle.oim_report.specs.Sheet.{Sheet}
-
--- the members with their keys, in byte order of the keys
-abbrev pub keyed : Members → List (List ℕ × Data)
-keyed no_members = []
-keyed (member key d ms) = (key, d) ∷ keyed ms
 
 -- the identifiers of fact objects
 abbrev pub identifiers_in : List (List ℕ × Data) → List (List ℕ)

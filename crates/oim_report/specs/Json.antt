@@ -65,10 +65,6 @@ text_of (text t) = Some t
 text_of (whole n) = None
 text_of other = None
 
--- the value is this text
-abbrev pub is_text : List ℕ → Given → Bool
-is_text t g = option_map_or (λ u. bytes_eq u t) (text_of g) false
-
 -- ---- members
 
 -- the value at a key of an object's members
@@ -86,6 +82,11 @@ within outer key d = option_and_then (get key) (get outer d)
 -- the members, or none if there is no object
 abbrev pub members : Option Members → Members
 members ms = unwrap_or ms no_members
+
+-- the members with their keys, in byte order of these
+abbrev pub keyed : Members → List (List ℕ × Data)
+keyed no_members = []
+keyed (member key d ms) = (key, d) ∷ keyed ms
 
 -- the values of members, in byte order of their keys
 abbrev pub values : Members → List Data

@@ -1,5 +1,5 @@
--- The text under which a taxonomy reference is kept (xBRL-JSON 1.0, `taxonomy` and `baseURL` of a report; the kept form is own).
-use Rattle.std.specs.Prelude.{◌≡◌, ℕ, ◌&&◌, ◌||◌, Bool, true, false, not, nat_le, if◌then◌else◌, List, length, codes, bytes_eq, Option, Some, None, is_none, Ok, Err}
+-- The text under which a taxonomy reference is kept (xBRL-JSON 1.0, `taxonomy` and `baseURL` of a report; the form that is kept is own).
+use Rattle.std.specs.Prelude.{◌≡◌, ℕ, ◌&&◌, ◌||◌, Bool, true, false, not, nat_le, if◌then◌else◌, List, length, codes, bytes_eq, Option, Some, None, Ok, Err}
 use Rattle.std.specs.Option.{option_map_or}
 use Rattle.std.specs.Str.{is_utf8}
 use Rattle.url.specs.Parser.{Parsed, parse_url}
@@ -45,10 +45,7 @@ is_within_limit text = nat_le (length text) MOST_REFERENCE_BYTES
 abbrev pub base_url : List ℕ → Option Parts
 base_url text = if is_within_limit text then web_url (parse_url None text) else None
 
-abbrev pub is_base_refused : List ℕ → Bool
-is_base_refused text = is_none (base_url text)
-
--- there is a text within the limit
+-- whether there is a text, and it is within the limit
 abbrev pub is_text_within_limit : Option (List ℕ) → Bool
 is_text_within_limit text = option_map_or is_within_limit text false
 

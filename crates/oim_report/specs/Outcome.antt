@@ -1,7 +1,8 @@
--- The outcome of a report's bytes: their document, or the first refusal (own).
-use Rattle.std.specs.Prelude.{◌≢◌, ℕ, ◌+◌, List, [], ◌∷◌, map, if◌then◌else◌, Option, Some, None, option_and_then, Result, Ok, Err}
+-- What a report's bytes say, or the first refusal (own).
+use Rattle.std.specs.Prelude.{◌≢◌, ℕ, ◌+◌, List, [], ◌∷◌, map, if◌then◌else◌, Option, Some, None, option_and_then, Result, Ok, Err, ◌≡◌, ◌↔◌, false, ◌⊎◌, ◌++◌, length, true}
 use Rattle.std.specs.Option.{unwrap_or}
 use Rattle.std.specs.Ordering.{is_lt}
+use Rattle.std.specs.List.{AllByRecursion}
 use Rattle.oim_names.specs.Bindings.{Binding}
 use Rattle.oim_names.specs.declared.reason.Reason.{Reason}
 use Rattle.oim_names.specs.declared.reason.Reason.TheVariants.{OutOfMemory, NotJson, MemberForm, DisallowedDuplicates}
@@ -13,16 +14,17 @@ use Rattle.serde_json.specs.Data.{Data, Members}
 use Rattle.oim_report.specs.declared.place.Place.{Place}
 use Rattle.oim_report.specs.declared.place.Place.TheVariants.{Document as AtDocument, Fact as AtFact}
 use Rattle.oim_report.specs.declared.refusal.Refusal.{Refusal}
-use Rattle.oim_report.specs.Document.{Document}
+use Rattle.oim_report.specs.Document.{Document, SaysDocument}
 use Rattle.oim_report.specs.Duplicates.{level_of}
 use Rattle.oim_report.specs.Info.{bindings_of, facts_of, references_said, level_said}
 use Rattle.oim_report.specs.Json.{json, values}
-use Rattle.oim_report.specs.Parts.{fact_parts}
+use Rattle.oim_report.specs.Parts.{fact_parts, FactParts}
 use Rattle.oim_report.specs.Refusal.{map_ok}
 use Rattle.oim_report.specs.Said.{said_fact}
 use Rattle.oim_report.specs.Sheet.{Sheet}
-use Rattle.oim_report.specs.Holds.{document_refusal, holds}
-use Rattle.oim_report.specs.Least.{least}
+use Rattle.oim_report.specs.Holds.{document_refusal, holds, document_holds}
+use Rattle.oim_report.specs.Least.{least, IsLeast}
+use Rattle.oim_report.specs.Conditions.{fact_refusal}
 
 abbrev pub at : Place → Reason → Refusal
 at place reason = record { reason = reason; place = place }
@@ -80,3 +82,67 @@ outcome sheet bytes = tree_outcome sheet (json bytes)
 -- no report is refused for lack of memory, which is not a condition of a report
 abbrev pub OutcomesWantNoMemory : Type 0
 OutcomesWantNoMemory = (sheet : Sheet) (bytes : List ℕ) (place : Place) → outcome sheet bytes ≢ Err (at place OutOfMemory)
+
+-- ---- what is not refused says something
+
+-- an object's parts that no condition refuses say a fact, so that MemberForm for want of one is never answered (own)
+abbrev pub FactsAreSaid : Type 0
+FactsAreSaid = (sheet : Sheet) (bs : List Binding) (p : FactParts) → fact_refusal sheet bs p ≡ None → (f : Fact) × (said_fact sheet bs p ≡ Some f)
+
+-- ---- which reports are accepted, by the conditions and not by the outcome (own)
+
+-- no condition holds for a fact object
+abbrev pub IsFree : Sheet → List Binding → Data → Type 0
+IsFree sheet bs d = (r : Reason) → holds sheet bs d r ≡ false
+
+-- the bytes are JSON, no condition holds for the document or a fact, they say this document, and the level of its facts is not above the declared one
+pub record Accepts (sheet : Sheet) (bytes : List ℕ) (d : Document) : Type 0 where
+  pub tree : Data
+  pub read : json bytes ≡ Some tree
+  pub document : (r : Reason) → document_holds tree r ≡ false
+  pub facts : AllByRecursion (IsFree sheet (bindings_of tree)) (values (facts_of tree))
+  pub said : SaysDocument sheet bytes d
+  pub level : is_lt (level_cmp d.level (level_of d.facts)) ≡ false
+
+-- a report is accepted as a document exactly if that holds
+abbrev pub AcceptedWhereFree : Type 0
+AcceptedWhereFree = (sheet : Sheet) (bytes : List ℕ) (d : Document) → (outcome sheet bytes ≡ Ok d) ↔ Accepts sheet bytes d
+
+-- ---- which are refused and why, by the conditions and not by the outcome (own)
+
+-- the first refused object of several, after `earlier` others
+pub record RefusesOne (sheet : Sheet) (bs : List Binding) (earlier : ℕ) (objects : List Data) (r : Refusal) : Type 0 where
+  pub before : List Data
+  pub object : Data
+  pub after : List Data
+  pub reason : Reason
+  pub are : objects ≡ before ++ object ∷ after
+  pub free : AllByRecursion (IsFree sheet bs) before
+  pub refused : IsLeast (holds sheet bs object) reason
+  pub answer : r ≡ at (AtFact (earlier + length before)) reason
+
+-- the level of what is said is above the declared one
+pub record RefusesLevel (sheet : Sheet) (bytes : List ℕ) (r : Refusal) : Type 0 where
+  pub document : Document
+  pub said : SaysDocument sheet bytes document
+  pub above : is_lt (level_cmp document.level (level_of document.facts)) ≡ true
+  pub answer : r ≡ at AtDocument DisallowedDuplicates
+
+-- for a document without a condition that holds: the first fact with one, or else the level
+abbrev pub RefusesFacts : Sheet → List ℕ → Data → Refusal → Type 0
+RefusesFacts sheet bytes tree r =
+    RefusesOne sheet (bindings_of tree) 1 (values (facts_of tree)) r
+    ⊎ (AllByRecursion (IsFree sheet (bindings_of tree)) (values (facts_of tree)) × RefusesLevel sheet bytes r)
+
+-- for JSON: the least condition of the document that holds, or else the facts
+abbrev pub RefusesTree : Sheet → List ℕ → Data → Refusal → Type 0
+RefusesTree sheet bytes tree r =
+    ((reason : Reason) × IsLeast (document_holds tree) reason × (r ≡ at AtDocument reason)) ⊎ (((reason : Reason) → document_holds tree reason ≡ false) × RefusesFacts sheet bytes tree r)
+
+abbrev pub Refuses : Sheet → List ℕ → Refusal → Type 0
+Refuses sheet bytes r =
+    ((json bytes ≡ None) × (r ≡ at AtDocument NotJson)) ⊎ ((tree : Data) × (json bytes ≡ Some tree) × RefusesTree sheet bytes tree r)
+
+-- a report is refused so exactly if that holds
+abbrev pub RefusedWhereHeld : Type 0
+RefusedWhereHeld = (sheet : Sheet) (bytes : List ℕ) (r : Refusal) → (outcome sheet bytes ≡ Err r) ↔ Refuses sheet bytes r

@@ -1,6 +1,5 @@
--- The text of an object's members is read in pieces, each as the only object of an array (own).
-use Rattle.std.specs.Prelude.{◌≡◌, ℕ, codes, List, [], ◌∷◌, ◌++◌, true, Option, Some, None, ⊤}
-use Rattle.json.specs.Word.{is_space}
+-- The text of an object's members, read in pieces, each as the one object of an array (own).
+use Rattle.std.specs.Prelude.{◌≡◌, ℕ, List, [], ◌∷◌, ◌++◌, Some, ⊤}
 use Rattle.serde_json.specs.Data.{Data, array, object, no_items, item, Members, no_members, member, put}
 use Rattle.serde_json.specs.Read.{read}
 
@@ -16,12 +15,6 @@ abbrev pub HasMember : Members → Type 0
 HasMember no_members = ⊥
 HasMember (member k d ms) = ⊤
 
--- the last byte, if there is one, is a closing brace
-abbrev pub Closed : List ℕ → Type 0
-Closed [] = ⊤
-Closed (x ∷ []) = x ≡ 125
-Closed (x ∷ y ∷ xs) = Closed (y ∷ xs)
-
 -- the last byte is a closing brace
 abbrev pub EndsWithBrace : List ℕ → Type 0
 EndsWithBrace [] = ⊥
@@ -36,12 +29,7 @@ pub record IsPiece (piece : List ℕ) (found : Members) : Type 0 where
 
 -- ---- the members of several pieces
 
-abbrev pub append : Members → Members → Members
-append no_members ns = ns
-append (member k d ms) ns = member k d (append ms ns)
-
--- the members are added to an object one after another; the last member of a repeated key stays (RFC 8259, section 4, as
--- `serde_json` reads it)
+-- the members put one after another into an object that has others: of a repeated key the last one stays (RFC 8259, section 4, as `serde_json` reads it)
 abbrev pub put_all : Members → Members → Members
 put_all no_members onto = onto
 put_all (member k d ms) onto = put_all ms (put k d onto)
@@ -52,102 +40,4 @@ PiecesAreTheWhole = (a b : List ℕ) (found more : Members) → IsPiece a found 
 
 -- ---- the next piece of a text
 
--- a piece, and the remaining text after a comma
-abbrev pub with_rest : List ℕ → Option (List ℕ) → List ℕ
-with_rest piece None = piece
-with_rest piece (Some rest) = piece ++ 44 ∷ rest
-
-pub record IsNext (text : List ℕ) (found : Members) (rest : Option (List ℕ)) : Type 0 where
-  pub piece : List ℕ
-  pub splits : text ≡ with_rest piece rest
-  pub is : IsPiece piece found
-
 -- ---- a document with a member `facts`
-
--- white space (RFC 8259)
-abbrev pub AreSpaces : List ℕ → Type 0
-AreSpaces [] = ⊤
-AreSpaces (x ∷ xs) = (is_space x ≡ true) × AreSpaces xs
-
--- `"facts"`
-abbrev pub facts_key : List ℕ
-facts_key = 34 ∷ 102 ∷ 97 ∷ 99 ∷ 116 ∷ 115 ∷ 34 ∷ []
-
--- white space, followed by the rest
-pub record AfterSpaces (text rest : List ℕ) : Type 0 where
-  pub spaces : List ℕ
-  pub are : AreSpaces spaces
-  pub splits : text ≡ spaces ++ rest
-
--- the front, followed by white space
-pub record BeforeSpaces (text front : List ℕ) : Type 0 where
-  pub spaces : List ℕ
-  pub are : AreSpaces spaces
-  pub splits : text ≡ front ++ spaces
-
--- the member `facts`, with white space wherever JSON allows it
-abbrev pub facts_text : List ℕ → List ℕ → List ℕ → List ℕ → List ℕ
-facts_text s3 s4 facts s5 = facts_key ++ (s3 ++ 58 ∷ (s4 ++ 123 ∷ (facts ++ (s5 ++ 125 ∷ []))))
-
--- other members before these, if there are any
-abbrev pub with_before : Option (List ℕ) → List ℕ → List ℕ → List ℕ
-with_before None spaces rest = rest
-with_before (Some before) spaces rest = before ++ (spaces ++ 44 ∷ rest)
-
--- other members after these, if there are any
-abbrev pub with_behind : List ℕ → List ℕ → Option (List ℕ) → List ℕ
-with_behind front spaces None = front
-with_behind front spaces (Some behind) = front ++ (spaces ++ 44 ∷ behind)
-
--- the text before the key `facts`
-pub record IsHead (text : List ℕ) (before : Option (List ℕ)) : Type 0 where
-  pub s0 : List ℕ
-  pub s1 : List ℕ
-  pub s2 : List ℕ
-  pub are : AreSpaces s0 × AreSpaces s1 × AreSpaces s2
-  pub splits : text ≡ s0 ++ 123 ∷ with_before before s1 s2
-
--- the text after the closing brace of `facts`
-pub record IsEnd (text : List ℕ) (behind : Option (List ℕ)) : Type 0 where
-  pub s6 : List ℕ
-  pub s7 : List ℕ
-  pub s8 : List ℕ
-  pub are : AreSpaces s6 × AreSpaces s7 × AreSpaces s8
-  pub splits : text ≡ with_behind [] s6 behind ++ (s7 ++ 125 ∷ s8)
-
--- the text after the key `facts`
-pub record IsTail (text facts : List ℕ) (behind : Option (List ℕ)) : Type 0 where
-  pub s3 : List ℕ
-  pub s4 : List ℕ
-  pub s5 : List ℕ
-  pub rest : List ℕ
-  pub are : AreSpaces s3 × AreSpaces s4 × AreSpaces s5
-  pub splits : text ≡ s3 ++ 58 ∷ (s4 ++ 123 ∷ (facts ++ (s5 ++ 125 ∷ rest)))
-  pub ends : IsEnd rest behind
-
--- the texts of the members before `facts`, in it, and after it
-pub record IsSplit (text : List ℕ) (before : Option (List ℕ)) (facts : List ℕ) (behind : Option (List ℕ)) : Type 0 where
-  pub head : List ℕ
-  pub tail : List ℕ
-  pub splits : text ≡ head ++ (facts_key ++ tail)
-  pub head_is : IsHead head before
-  pub tail_is : IsTail tail facts behind
-
--- two texts of members, joined by a comma, give these members
-pub record AreBoth (before behind : List ℕ) (all : Members) : Type 0 where
-  pub found : Members
-  pub more : Members
-  pub first : IsPiece before found
-  pub second : IsPiece behind more
-  pub both : IsPiece (before ++ 44 ∷ behind) all
-
--- the members other than `facts`
-abbrev pub IsBeside : Option (List ℕ) → Option (List ℕ) → Members → Type 0
-IsBeside None None found = ⊥
-IsBeside (Some before) None found = IsPiece before found
-IsBeside None (Some behind) found = IsPiece behind found
-IsBeside (Some before) (Some behind) found = AreBoth before behind found
-
--- the document without its member `facts`, if `facts` is the text of that object's members; its result does not depend on them
-abbrev pub IsOutline : List ℕ → Data → List ℕ → Type 0
-IsOutline text tree facts = (before : Members) × (tree ≡ object before) × ((found : Members) → IsPiece facts found → read text ≡ Some (object (put (codes "facts") (object found) before)))

@@ -1,9 +1,14 @@
--- A report that was read (own).
-use Rattle.std.specs.Prelude.{◌≡◌, ℕ, List, All, Ok}
+-- What a report is, once it is read (own).
+use Rattle.std.specs.Prelude.{◌≡◌, ℕ, List, All, Ok, length, slice_get}
+use Rattle.std.specs.List.{range_with_len}
+use Rattle.std.specs.List.Sorted.{IsPermutation, IsSorted}
+use Rattle.std.specs.Option.{option_cmp}
+use Rattle.std.specs.declared.cmp.Ordering.{Ordering}
+use Rattle.oim_dims.specs.FactOrder.{fact_cmp}
+use Rattle.oim_dims.specs.declared.fact.Fact.{Fact}
 use Rattle.oim_report.specs.Document.{Document, SaysDocument}
 use Rattle.oim_report.specs.FactFits.{FactFits}
 use Rattle.oim_report.specs.Kept.{IsKeptReference}
-use Rattle.oim_report.specs.Order.{IsOrderOf}
 use Rattle.oim_report.specs.Outcome.{outcome}
 use Rattle.oim_report.specs.Sheet.{Sheet}
 
@@ -13,7 +18,16 @@ pub record Reading : Type 0 where
   pub document : Document
   pub order : List ℕ
 
--- each fact fits the sheet, each reference is kept as it is, and the facts are sorted in the order of the indices
+-- compares the facts at two places
+abbrev pub place_cmp : List Fact → ℕ → ℕ → Ordering
+place_cmp facts i j = option_cmp fact_cmp (slice_get facts i) (slice_get facts j)
+
+-- each place of a list once, so that the facts at them do not fall
+pub record IsOrderOf (facts : List Fact) (places : List ℕ) : Type 0 where
+  pub each_once : IsPermutation (range_with_len 0 (length facts)) places
+  pub rising : IsSorted (place_cmp facts) places
+
+-- each fact fits the sheet, each reference is its own kept text, and the facts at the places of the order do not fall
 pub record IsReading (r : Reading) : Type 0 where
   pub facts : All (FactFits r.sheet) r.document.facts
   pub references : All IsKeptReference r.document.references

@@ -96,10 +96,6 @@ members_with sheet bs es (d ∷ ds) =
 abbrev pub said_members : Sheet → List Binding → List (List ℕ × Given) → Option (List (QName × Member))
 said_members sheet bs = members_with sheet bs []
 
--- the dimensions of a concept with these members, and nothing else
-abbrev pub concept_with : QName → List (QName × Member) → DimensionSet
-concept_with concept members = record { concept = concept; entity = None; period = Forever; unit = None; language = None; members = members }
-
 -- ---- the value
 
 -- without decimals a number is exact

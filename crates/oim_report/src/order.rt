@@ -1,5 +1,5 @@
 ghost use Rattle.std.specs.Prelude.{◌≡◌, IfOk};
-ghost use Rattle.oim_report.specs.Order.{IsOrderOf, place_cmp};
+ghost use Rattle.oim_report.specs.Report.{IsOrderOf, place_cmp};
 
 use oim_dims::Fact;
 use std::alloc::{AllocError, Global};

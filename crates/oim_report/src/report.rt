@@ -2,8 +2,7 @@ ghost use Rattle.std.specs.Prelude.{◌≡◌, All};
 ghost use Rattle.oim_report.specs.Duplicates.{level_of};
 ghost use Rattle.oim_report.specs.FactFits.{FactFits};
 ghost use Rattle.oim_report.specs.Kept.{IsKeptReference};
-ghost use Rattle.oim_report.specs.Order.{IsOrderOf};
-ghost use Rattle.oim_report.specs.Report.{IsReading};
+ghost use Rattle.oim_report.specs.Report.{IsOrderOf, IsReading};
 
 use crate::sheet::Sheet;
 use oim_dims::Fact;
@@ -28,7 +27,7 @@ impl<'s> Model for Report<'s> {
     ghost use Rattle.oim_report.specs.Duplicates.{level_of};
     ghost use Rattle.oim_report.specs.Report.{IsReading, Reading};
     ghost use Rattle.std.specs.Coded.{codes};
-    ghost use Rattle.oim_report.specs.SheetCode.{sheet_code};
+    ghost use Rattle.oim_report.specs.code.SheetCode.{sheet_code};
 
     ghost Value = { Reading };
 

@@ -31,7 +31,7 @@ pub struct Sheet {
 
 impl Model for Sheet {
     ghost use Rattle.oim_report.specs.Sheet.{Sheet as Listed};
-    ghost use Rattle.oim_report.specs.SheetCode.{sheet_code};
+    ghost use Rattle.oim_report.specs.code.SheetCode.{sheet_code};
 
     ghost Value = { Listed };
 

@@ -1,5 +1,5 @@
 ghost use Rattle.std.specs.Prelude.{◌≡◌};
-ghost use Rattle.oim_report.specs.Faults.{when};
+ghost use Rattle.oim_report.specs.code.Findings.{when};
 
 use oim_names::Reason;
 

@@ -1,6 +1,7 @@
 ghost use Rattle.std.specs.Prelude.{◌≡◌, ◌⊎◌, Some, IfOk, IfErr, IsTrue};
 ghost use Rattle.url.specs.Parser.{Gives, parse_url};
-ghost use Rattle.oim_report.specs.Kept.{base_url, is_base_refused, is_web};
+ghost use Rattle.oim_report.specs.Kept.{base_url, is_web};
+ghost use Rattle.oim_report.specs.code.Findings.{is_base_refused};
 
 use crate::limits::MOST_REFERENCE_BYTES;
 use oim_names::Reason;

@@ -3,7 +3,8 @@ ghost use Rattle.std.specs.Result.{result_err};
 ghost use Rattle.serde_json.specs.View.{view};
 ghost use Rattle.std.specs.List.{find};
 ghost use Rattle.oim_report.specs.Info.{document_type};
-ghost use Rattle.oim_report.specs.Json.{given_of, is_text};
+ghost use Rattle.oim_report.specs.Json.{given_of};
+ghost use Rattle.oim_report.specs.code.Findings.{is_text};
 ghost use Rattle.oim_report.specs.Holds.{document_holds};
 
 use crate::document::json_tree::{is_no_array, is_no_object, object_at, unknown_in, within};

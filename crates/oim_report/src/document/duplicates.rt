@@ -1,7 +1,7 @@
 ghost use Rattle.std.specs.Prelude.{◌≡◌};
-ghost use Rattle.oim_report.specs.Beside.{both_common, both_meet, interval_at, level_beside};
+ghost use Rattle.oim_report.specs.code.Beside.{both_common, both_meet, interval_at, level_beside};
 ghost use Rattle.oim_report.specs.Duplicates.{level_of};
-ghost use Rattle.oim_report.specs.Order.{IsOrderOf};
+ghost use Rattle.oim_report.specs.Report.{IsOrderOf};
 
 use oim_dims::Fact;
 use oim_value::{Interval, Level, Value, common, interval_of, meets};

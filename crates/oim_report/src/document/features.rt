@@ -2,7 +2,7 @@ ghost use Rattle.std.specs.Prelude.{◌≡◌, ◌∷◌, [], None, IfErr, IsSom
 ghost use Rattle.std.specs.Result.{result_ok};
 ghost use Rattle.oim_names.specs.QName.{prefix_part, local_part};
 ghost use Rattle.serde_json.specs.View.{view, members_view};
-ghost use Rattle.oim_report.specs.Given.{seen};
+ghost use Rattle.oim_report.specs.code.Given.{seen};
 ghost use Rattle.oim_report.specs.Info.{declarations, features_of, is_allowed_duplicates, level_said, said_level};
 
 use crate::document::json_tree::within;

@@ -3,7 +3,7 @@ ghost use Rattle.std.specs.BTreeMap.{insert_entry};
 ghost use Rattle.std.specs.String.{string_cmp};
 ghost use Rattle.oim_names.specs.Bindings.{Binding};
 ghost use Rattle.serde_json.specs.Data.{Members, no_members};
-ghost use Rattle.oim_report.specs.FoundFacts.{AreFound, rise_after};
+ghost use Rattle.oim_report.specs.code.FoundFacts.{AreFound, rise_after};
 ghost use Rattle.oim_report.specs.Outcome.{facts_said};
 ghost use Rattle.oim_report.specs.Pieces.{put_all};
 ghost use Rattle.oim_report.specs.Sheet.{Sheet as ASheet};

@@ -1,7 +1,7 @@
 ghost use Rattle.std.specs.Prelude.{◌≡◌, ◌⊎◌, Some, None, Ok, Err, IfOk, IfErr};
 ghost use Rattle.serde_json.specs.View.{view, members_view};
-ghost use Rattle.oim_report.specs.Identifiers.{identifiers, identifiers_in, keyed, tree_identifiers};
-ghost use Rattle.oim_report.specs.Json.{json};
+ghost use Rattle.oim_report.specs.Identifiers.{identifiers, identifiers_in, tree_identifiers};
+ghost use Rattle.oim_report.specs.Json.{keyed, json};
 ghost use Rattle.oim_report.specs.Outcome.{at, outcome};
 
 use crate::document::json_tree::{object_at, read_json};

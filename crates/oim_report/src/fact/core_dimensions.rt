@@ -4,9 +4,9 @@
 ghost use Rattle.std.specs.Prelude.{◌≡◌, Some, None, false, IfOk, OnOk};
 ghost use Rattle.oim_names.specs.Expansion.{ExpandsEntity};
 ghost use Rattle.oim_report.specs.Conditions.{language_refusal, period_refusal, unit_refusal};
-ghost use Rattle.oim_report.specs.Given.{seen};
-ghost use Rattle.oim_report.specs.Glossary.{IsGlossary};
-ghost use Rattle.oim_report.specs.Glossaries.{TextSaysLanguage, TextSaysPeriod, TextSaysUnit};
+ghost use Rattle.oim_report.specs.code.Given.{seen};
+ghost use Rattle.oim_report.specs.code.Glossary.{IsGlossary};
+ghost use Rattle.oim_report.specs.code.Glossaries.{TextSaysLanguage, TextSaysPeriod, TextSaysUnit};
 ghost use Rattle.oim_report.specs.Json.{is_no_text};
 ghost use Rattle.oim_report.specs.Said.{said_entity, said_language, said_period, said_unit};
 

@@ -1,10 +1,10 @@
 ghost use Rattle.std.specs.Prelude.{◌≡◌, Some, None, false, IfOk, OnOk};
 ghost use Rattle.oim_report.specs.Conditions.{dimension_refusals, has_misshapen_core};
-ghost use Rattle.oim_report.specs.Given.{seen};
-ghost use Rattle.oim_report.specs.Glossaries.{AreGlossaries};
+ghost use Rattle.oim_report.specs.code.Given.{seen};
+ghost use Rattle.oim_report.specs.code.Glossaries.{AreGlossaries};
 ghost use Rattle.oim_report.specs.Refusal.{first_refusal};
 ghost use Rattle.oim_report.specs.Said.{said_concept, said_dimensions};
-ghost use Rattle.oim_report.specs.SeenParts.{seen_dimensions};
+ghost use Rattle.oim_report.specs.code.SeenParts.{seen_dimensions};
 
 use crate::concept_kind::ConceptKind;
 use crate::fact::core_dimensions::{read_entity, read_language, read_period, read_unit};

@@ -1,7 +1,7 @@
 ghost use Rattle.std.specs.Prelude.{◌≡◌, Some, None, IfSome, not};
 ghost use Rattle.oim_report.specs.Conditions.{form_refusal, has_misshapen_core, in_dimensions};
 ghost use Rattle.oim_report.specs.Json.{is_absent};
-ghost use Rattle.oim_report.specs.SeenParts.{seen_parts};
+ghost use Rattle.oim_report.specs.code.SeenParts.{seen_parts};
 
 use crate::fact::parts::{DimensionParts, FactParts};
 

@@ -1,10 +1,10 @@
 ghost use Rattle.std.specs.Prelude.{◌≡◌, ◌⊎◌, Ok, Err, Some, None, IfOk, IfErr, OnOk};
 ghost use Rattle.serde_json.specs.View.{view};
 ghost use Rattle.oim_report.specs.Conditions.{content_refusal, form_refusal};
-ghost use Rattle.oim_report.specs.Glossaries.{AreGlossaries};
+ghost use Rattle.oim_report.specs.code.Glossaries.{AreGlossaries};
 ghost use Rattle.oim_report.specs.Outcome.{fact_outcome};
 ghost use Rattle.oim_report.specs.Said.{fact_of};
-ghost use Rattle.oim_report.specs.SeenParts.{seen_dimensions, seen_parts};
+ghost use Rattle.oim_report.specs.code.SeenParts.{seen_dimensions, seen_parts};
 
 use crate::fact::dimensions_reader::read_dimensions;
 use crate::fact::fact_form::well_formed;

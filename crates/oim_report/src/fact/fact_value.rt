@@ -1,7 +1,7 @@
 ghost use Rattle.std.specs.Prelude.{◌≡◌, Some, None, IfOk};
 ghost use Rattle.std.specs.Result.{result_err};
 ghost use Rattle.oim_report.specs.Conditions.{decimals_refusal, value_refusals};
-ghost use Rattle.oim_report.specs.Given.{seen};
+ghost use Rattle.oim_report.specs.code.Given.{seen};
 ghost use Rattle.oim_report.specs.Json.{text as a_text, whole};
 ghost use Rattle.oim_report.specs.Refusal.{first_refusal};
 ghost use Rattle.oim_report.specs.Said.{said_decimals, said_value};

@@ -1,6 +1,6 @@
 ghost use Rattle.std.specs.Prelude.{◌≡◌, option_map};
 ghost use Rattle.serde_json.specs.View.{view};
-ghost use Rattle.oim_report.specs.Given.{seen};
+ghost use Rattle.oim_report.specs.code.Given.{seen};
 ghost use Rattle.oim_report.specs.Json.{given, given_of, is_absent, is_no_text, text_of};
 
 use serde_json::Value;

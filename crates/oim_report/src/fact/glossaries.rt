@@ -1,6 +1,6 @@
 ghost use Rattle.std.specs.Prelude.{List, IfOk};
 ghost use Rattle.oim_names.specs.Bindings.{Binding};
-ghost use Rattle.oim_report.specs.Glossaries.{AreGlossaries};
+ghost use Rattle.oim_report.specs.code.Glossaries.{AreGlossaries};
 ghost use Rattle.oim_report.specs.Sheet.{Sheet};
 
 use crate::concept_kind::ConceptKind;

@@ -1,6 +1,6 @@
 ghost use Rattle.std.specs.Prelude.{◌≡◌, ℕ, List, None, IfOk};
 ghost use Rattle.std.specs.Option.{option_copied};
-ghost use Rattle.oim_report.specs.Glossary.{Adds, meaning};
+ghost use Rattle.oim_report.specs.code.Glossary.{Adds, meaning};
 
 use crate::limits::MOST_MEANINGS;
 use std::alloc::{AllocError, Global};

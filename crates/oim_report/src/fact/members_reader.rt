@@ -1,11 +1,11 @@
 ghost use Rattle.std.specs.Prelude.{◌≡◌, Some, None, false, IfOk, OnOk};
 ghost use Rattle.oim_names.specs.Expansion.{Expands};
 ghost use Rattle.oim_report.specs.Conditions.{defined_refusal, is_misfit};
-ghost use Rattle.oim_report.specs.Given.{seen};
-ghost use Rattle.oim_report.specs.Glossary.{IsGlossary};
-ghost use Rattle.oim_report.specs.Glossaries.{AreGlossaries};
-ghost use Rattle.oim_report.specs.Said.{concept_with, said_member, said_members};
-ghost use Rattle.oim_report.specs.SeenParts.{seen_defined};
+ghost use Rattle.oim_report.specs.code.Given.{seen};
+ghost use Rattle.oim_report.specs.code.Glossary.{IsGlossary, concept_with};
+ghost use Rattle.oim_report.specs.code.Glossaries.{AreGlossaries};
+ghost use Rattle.oim_report.specs.Said.{said_member, said_members};
+ghost use Rattle.oim_report.specs.code.SeenParts.{seen_defined};
 
 use crate::dimension_kind::DimensionKind;
 use crate::fact::given::Given;

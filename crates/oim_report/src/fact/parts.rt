@@ -3,7 +3,7 @@ ghost use Rattle.serde_json.specs.Find.{as_object};
 ghost use Rattle.serde_json.specs.View.{view, members_view};
 ghost use Rattle.oim_report.specs.Json.{has_member, is_no_object};
 ghost use Rattle.oim_report.specs.Parts.{dimension_parts, fact_parts, parts_of};
-ghost use Rattle.oim_report.specs.SeenParts.{seen_dimensions, seen_parts};
+ghost use Rattle.oim_report.specs.code.SeenParts.{seen_dimensions, seen_parts};
 
 use crate::document::json_tree::{has_colon, has_member, is_no_object};
 use crate::fact::given::Given;

@@ -1,5 +1,5 @@
 ghost use Rattle.std.specs.Prelude.{◌≡◌, [], ◌++◌, ◌∷◌, map, OnOk};
-ghost use Rattle.oim_report.specs.Faults.{all_refusals};
+ghost use Rattle.oim_report.specs.code.Findings.{all_refusals};
 ghost use Rattle.oim_report.specs.Outcome.{at};
 
 use crate::place::Place;

@@ -5,7 +5,7 @@ ghost use Rattle.oim_names.specs.Bindings.{Binding};
 ghost use Rattle.serde_json.specs.View.{view};
 ghost use Rattle.oim_report.specs.Holds.{holds};
 ghost use Rattle.oim_report.specs.Json.{members, object_at};
-ghost use Rattle.oim_report.specs.Rows.{lacks_text};
+ghost use Rattle.oim_report.specs.code.Rows.{lacks_text};
 ghost use Rattle.oim_report.specs.Sheet.{Sheet};
 
 use crate::document::json_tree::{has_member, is_no_object, object_at, unknown_in};

@@ -7,7 +7,7 @@ ghost use Rattle.oim_report.specs.Holds.{as_text, is_kind, names, pieces, value_
 ghost use Rattle.oim_report.specs.Json.{members, object_at};
 ghost use Rattle.oim_report.specs.Names.{refuses_some};
 ghost use Rattle.oim_names.specs.Expansion.{a_name, an_entity, refuses};
-ghost use Rattle.oim_report.specs.Rows.{any_defined, is_defined, refuses_in};
+ghost use Rattle.oim_report.specs.code.Rows.{any_defined, is_defined, refuses_in};
 
 use crate::concept_kind::ConceptKind;
 use crate::dimension_kind::DimensionKind;

@@ -1,7 +1,7 @@
 ghost use Rattle.std.specs.Prelude.{◌≡◌, Ok, IfSome};
 ghost use Rattle.serde_json.specs.Data.{Members};
 ghost use Rattle.serde_json.specs.View.{members_view};
-ghost use Rattle.oim_report.specs.FoundFacts.{AreFound};
+ghost use Rattle.oim_report.specs.code.FoundFacts.{AreFound};
 ghost use Rattle.oim_report.specs.Outcome.{facts_said};
 ghost use Rattle.oim_report.specs.Pieces.{IsPiece};
 

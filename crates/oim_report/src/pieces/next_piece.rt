@@ -1,6 +1,6 @@
 ghost use Rattle.std.specs.Prelude.{◌≡◌, ◌∷◌, ◌++◌, Some, IfSome, option_map};
 ghost use Rattle.serde_json.specs.View.{members_view};
-ghost use Rattle.oim_report.specs.Pieces.{IsNext, with_rest};
+ghost use Rattle.oim_report.specs.code.Pieces.{IsNext, with_rest};
 
 use crate::pieces::piece::read_piece;
 use crate::pieces::spaces::strip_front;

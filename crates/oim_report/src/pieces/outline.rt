@@ -1,6 +1,6 @@
 ghost use Rattle.std.specs.Prelude.{◌≡◌, ◌∷◌, ◌++◌, Some, IfSome, option_map};
 ghost use Rattle.serde_json.specs.View.{view, members_view};
-ghost use Rattle.oim_report.specs.Pieces.{AreBoth, IsBeside, IsEnd, IsHead, IsOutline, IsSplit, IsTail};
+ghost use Rattle.oim_report.specs.code.Pieces.{AreBoth, IsBeside, IsEnd, IsHead, IsOutline, IsSplit, IsTail};
 
 use crate::pieces::piece::read_piece;
 use crate::pieces::spaces::{strip_back, strip_front, trim_back};

@@ -1,6 +1,6 @@
 ghost use Rattle.std.specs.Prelude.{◌≡◌, ◌≤◌, ◌++◌, length, drop, take, Some, IfSome};
 ghost use Rattle.json.specs.Word.{is_space};
-ghost use Rattle.oim_report.specs.Pieces.{AreSpaces, AfterSpaces, BeforeSpaces};
+ghost use Rattle.oim_report.specs.code.Pieces.{AreSpaces, AfterSpaces, BeforeSpaces};
 
 fn is_space(byte: u8) -> bool
     ensures { result ≡ is_space byte }

@@ -21,7 +21,7 @@ impl<K: Kind> Model for Gathered<K> {
     ghost use Rattle.std.specs.FinMap as map;
     ghost use Rattle.std.specs.FinMap.{FinMap, is_sorted};
     ghost use Rattle.oim_value.specs.ValueOrder.{name_cmp};
-    ghost use Rattle.oim_report.specs.SheetCode.{listing_code};
+    ghost use Rattle.oim_report.specs.code.SheetCode.{listing_code};
 
     ghost Value = { FinMap name_cmp K };
 

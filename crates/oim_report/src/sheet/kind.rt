@@ -31,7 +31,7 @@ pub(crate) trait Kind: Copy + Debug + Drop {
 
 impl Kind for ConceptKind {
     ghost use Rattle.oim_report.specs.Sheet.{concept_kind_named, same_concept_kind};
-    ghost use Rattle.oim_report.specs.KindLaws.{same_concept_kind_is, same_concept_kind-itself};
+    ghost use Rattle.oim_report.specs.code.KindLaws.{same_concept_kind_is, same_concept_kind-itself};
 
     ghost kind_named = { concept_kind_named };
 
@@ -57,7 +57,7 @@ impl Kind for ConceptKind {
 
 impl Kind for DimensionKind {
     ghost use Rattle.oim_report.specs.Sheet.{dimension_kind_named, same_dimension_kind};
-    ghost use Rattle.oim_report.specs.KindLaws.{same_dimension_kind_is, same_dimension_kind-itself};
+    ghost use Rattle.oim_report.specs.code.KindLaws.{same_dimension_kind_is, same_dimension_kind-itself};
 
     ghost kind_named = { dimension_kind_named };
 

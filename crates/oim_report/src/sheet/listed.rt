@@ -1,8 +1,8 @@
 ghost use Rattle.std.specs.Prelude.{◌≡◌, Some, IfSome, option_map};
 ghost use Rattle.oim_report.specs.Conditions.{concept_kind, dimension_kind};
-ghost use Rattle.oim_report.specs.Given.{seen};
-ghost use Rattle.oim_report.specs.Glossary.{IsGlossary};
-ghost use Rattle.oim_report.specs.Glossaries.{NamesConcept};
+ghost use Rattle.oim_report.specs.code.Given.{seen};
+ghost use Rattle.oim_report.specs.code.Glossary.{IsGlossary};
+ghost use Rattle.oim_report.specs.code.Glossaries.{NamesConcept};
 ghost use Rattle.oim_report.specs.Json.{text as a_text};
 ghost use Rattle.oim_report.specs.Names.{named};
 ghost use Rattle.oim_report.specs.Said.{said_concept};

@@ -2,7 +2,7 @@ ghost use Rattle.std.specs.Prelude.{◌≡◌, codes, Ok, Some};
 ghost use Rattle.std.specs.FinMap as map;
 ghost use Rattle.oim_report.specs.declared.concept_kind.ConceptKind.TheVariants.{Name, Numeric, Text};
 ghost use Rattle.oim_report.specs.declared.dimension_kind.DimensionKind.TheVariants.{Explicit, Typed};
-ghost use Rattle.oim_report.specs.Examples.{bindings, in_first, name_fact, nil_fact, number_fact, numbered, odd_fact, product_fact, ratio_fact, text_fact, undated, zero_fact};
+ghost use Rattle.oim_report.specs.code.Examples.{bindings, in_first, name_fact, nil_fact, number_fact, numbered, odd_fact, product_fact, ratio_fact, text_fact, undated, zero_fact};
 ghost use Rattle.oim_report.specs.FactObject.{fact_object};
 ghost use Rattle.oim_report.specs.Outcome.{fact_outcome};
 ghost use Rattle.oim_report.specs.Sheet.{Sheet};

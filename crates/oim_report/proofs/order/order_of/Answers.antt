@@ -5,7 +5,7 @@ use Rattle.std.proofs.lemmas.Fn.{always_returns_same}
 use Rattle.std.proofs.lemmas.Iterator.{YieldsList-from_range}
 use Rattle.std.proofs.lemmas.Iterator.Adapters.{items_from_extend}
 use Rattle.oim_report.proofs.Places.{place_cmp_ranks}
-use Rattle.oim_report.specs.Order.{place_cmp}
+use Rattle.oim_report.specs.Report.{place_cmp}
 use Rattle.oim_report.proofs.order.order_of.Goals as goal
 
 pub returns : goal.returns

@@ -1,12 +1,11 @@
-use Rattle.std.proofs.Common.{◌≡◌, Some, Ok, false, sym, ◌∙◌, subst, ap}
+use Rattle.std.proofs.Common.{◌≡◌, Some, Ok, false, sym, ◌∙◌, subst, ap, None}
 use Rattle.std.specs.Ordering.{is_lt}
 use Rattle.oim_value.specs.Level.{level_cmp}
 use Rattle.serde_json.specs.View.{view}
 use Rattle.oim_report.specs.Duplicates.{level_of}
 use Rattle.oim_report.specs.Holds.{document_refusal}
 use Rattle.oim_report.specs.Info.{bindings_of, references_said, level_said}
-use Rattle.std.proofs.Common.{None}
-use Rattle.oim_report.specs.Order.{IsOrderOf}
+use Rattle.oim_report.specs.Report.{IsOrderOf}
 use Rattle.oim_report.specs.Outcome.{facts_said}
 use Rattle.oim_report.proofs.AcceptedFacts.{facts_fit}
 use Rattle.oim_report.proofs.Documents.{bindings_are_namespaces}

@@ -1,7 +1,7 @@
 use Rattle.std.proofs.Common.{◌≡◌, true, false, sym, ◌∙◌}
 use Rattle.std.specs.Ordering.{is_eq}
 use Rattle.oim_value.specs.ValueOrder.{value_cmp}
-use Rattle.oim_report.specs.Beside.{both_meet, interval_at}
+use Rattle.oim_report.specs.code.Beside.{both_meet, interval_at}
 use Rattle.oim_report.proofs.Ties.{equal_values_tie}
 use Rattle.oim_report.proofs.document.duplicates.level_beside.Goals as goal
 

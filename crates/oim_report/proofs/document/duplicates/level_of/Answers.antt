@@ -6,7 +6,7 @@ use Rattle.oim_value.specs.declared.level.Level.TheVariants.{Unique}
 use Rattle.oim_report.proofs.Places.{facts_at, first_within, level_of_none, pass_ends, pass_starts, pass_with_duplicate, pass_with_other, rest_within}
 use Rattle.oim_report.proofs.Runs.{walk}
 use Rattle.oim_report.proofs.Ties.{equal_dimensions_tie, level_max_is}
-use Rattle.oim_report.specs.Beside.{both_common, interval_at, level_beside}
+use Rattle.oim_report.specs.code.Beside.{both_common, interval_at, level_beside}
 use Rattle.oim_report.specs.Duplicates.{are_duplicates, level_of}
 use Rattle.oim_report.proofs.document.duplicates.level_of.Goals as goal
 use Rattle.oim_report.proofs.document.duplicates.level_of.Goals.{then-eq, else-eq}

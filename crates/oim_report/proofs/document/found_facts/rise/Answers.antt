@@ -1,7 +1,7 @@
 use Rattle.std.proofs.Common.{◌≡◌, ◌+◌, Some, true, false, drop, string_bytes, sym, ap, ◌∙◌}
 use Rattle.std.specs.Ordering.{is_lt}
 use Rattle.std.specs.String.{string_cmp}
-use Rattle.oim_report.specs.FoundFacts.{rise_after}
+use Rattle.oim_report.specs.code.FoundFacts.{rise_after}
 use Rattle.oim_report.proofs.FoundInOrder.{at_index, goes_on, stops}
 use Rattle.oim_report.proofs.document.found_facts.rise.Goals as goal
 

@@ -1,5 +1,5 @@
 use Rattle.std.proofs.Common.{◌≡◌, None, Some, drop, string_bytes}
-use Rattle.oim_report.specs.FoundFacts.{rise_after}
+use Rattle.oim_report.specs.code.FoundFacts.{rise_after}
 use Rattle.oim_report.proofs.document.found_facts.rise.Given as goal
 
 -- all ascend exactly if the remaining ones do

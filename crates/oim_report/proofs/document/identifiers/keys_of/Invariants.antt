@@ -1,6 +1,7 @@
 use Rattle.std.proofs.Common.{◌≡◌, ◌++◌}
 use Rattle.serde_json.specs.View.{members_view}
-use Rattle.oim_report.specs.Identifiers.{identifiers_in, keyed}
+use Rattle.oim_report.specs.Identifiers.{identifiers_in}
+use Rattle.oim_report.specs.Json.{keyed}
 use Rattle.oim_report.proofs.document.identifiers.keys_of.Given as goal
 
 abbrev pub invariant-loop-key : goal.invariant-loop-key

@@ -1,5 +1,5 @@
 use Rattle.std.proofs.Common.{◌≡◌, Some, option_map, sym, ap, ◌∙◌}
-use Rattle.oim_report.specs.Given.{seen}
+use Rattle.oim_report.specs.code.Given.{seen}
 use Rattle.oim_report.specs.Json.{text_of}
 use Rattle.oim_report.proofs.Readings.{unit_said}
 use Rattle.oim_report.proofs.fact.core_dimensions.read_unit.Goals as goal

@@ -1,7 +1,7 @@
 use Rattle.std.proofs.Common.{◌||◌}
 use Rattle.std.proofs.lemmas.Bool.{or_parts}
 use Rattle.oim_report.specs.Json.{is_no_text}
-use Rattle.oim_report.specs.SeenParts.{seen_dimensions}
+use Rattle.oim_report.specs.code.SeenParts.{seen_dimensions}
 use Rattle.oim_report.proofs.fact.dimensions_reader.read_dimensions.Goals as goal
 
 pub read_unit-requires-clause-form : goal.read_unit-requires-clause-form

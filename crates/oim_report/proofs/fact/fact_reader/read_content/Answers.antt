@@ -1,6 +1,6 @@
 use Rattle.std.proofs.Common.{◌≡◌, Some, option_map, ap, sym, ◌∙◌}
 use Rattle.oim_report.specs.Conditions.{concept_kind}
-use Rattle.oim_report.specs.SeenParts.{seen_dimensions, seen_parts}
+use Rattle.oim_report.specs.code.SeenParts.{seen_dimensions, seen_parts}
 use Rattle.oim_report.proofs.FactRefused.{by_none}
 use Rattle.oim_report.proofs.SaidNames.{no_name_refused}
 use Rattle.oim_report.proofs.fact.fact_reader.read_content.Goals as goal

@@ -1,4 +1,4 @@
-use Rattle.oim_report.specs.Given.{seen}
+use Rattle.oim_report.specs.code.Given.{seen}
 use Rattle.oim_report.proofs.Readings.{number_said}
 use Rattle.oim_report.proofs.fact.fact_value.read_text.Goals as goal
 

@@ -1,6 +1,6 @@
 use Rattle.std.proofs.Common.{◌≡◌, ◌+◌, ◌≤◌, [], length}
 use Rattle.serde_json.specs.View.{members_view}
-use Rattle.oim_report.specs.Glossaries.{AreGlossaries}
+use Rattle.oim_report.specs.code.Glossaries.{AreGlossaries}
 use Rattle.oim_report.specs.Json.{values}
 use Rattle.oim_report.specs.Outcome.{fact_outcome}
 use Rattle.oim_report.proofs.Facts.{facts_after}

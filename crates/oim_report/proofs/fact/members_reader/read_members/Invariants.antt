@@ -1,5 +1,5 @@
 use Rattle.std.proofs.Common.{◌≡◌, ◌≤◌, length, vec_len, vec_capacity}
-use Rattle.oim_report.specs.Glossaries.{AreGlossaries}
+use Rattle.oim_report.specs.code.Glossaries.{AreGlossaries}
 use Rattle.oim_report.proofs.InTurn.{AreFound}
 use Rattle.oim_report.proofs.fact.members_reader.read_members.Given as goal
 

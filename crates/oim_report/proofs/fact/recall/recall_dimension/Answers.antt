@@ -1,5 +1,5 @@
 use Rattle.std.proofs.Common.{sym}
-use Rattle.oim_report.specs.Glossaries.{NamesDimension}
+use Rattle.oim_report.specs.code.Glossaries.{NamesDimension}
 use Rattle.oim_report.proofs.GlossaryAdds.{still}
 use Rattle.oim_report.proofs.fact.recall.recall_dimension.Goals as goal
 

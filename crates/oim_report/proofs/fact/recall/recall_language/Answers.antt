@@ -1,7 +1,7 @@
 use Rattle.std.proofs.Common.{◌≡◌, Bool, true, false, refl, ◌∙◌}
 use Rattle.std.specs.Prelude.{IsTrue}
 use Rattle.oim_dims.specs.Language.{is_language}
-use Rattle.oim_report.specs.Glossaries.{TextSaysLanguage}
+use Rattle.oim_report.specs.code.Glossaries.{TextSaysLanguage}
 use Rattle.oim_report.proofs.GlossaryAdds.{still}
 use Rattle.oim_report.proofs.fact.recall.recall_language.Goals as goal
 

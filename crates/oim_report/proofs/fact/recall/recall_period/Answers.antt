@@ -1,5 +1,5 @@
 use Rattle.std.proofs.Common.{sym, ◌∙◌}
-use Rattle.oim_report.specs.Glossaries.{TextSaysPeriod}
+use Rattle.oim_report.specs.code.Glossaries.{TextSaysPeriod}
 use Rattle.oim_report.proofs.GlossaryAdds.{still}
 use Rattle.oim_report.proofs.fact.recall.recall_period.Goals as goal
 

@@ -1,5 +1,5 @@
 use Rattle.std.proofs.Common.{sym, subst}
-use Rattle.oim_report.specs.Glossaries.{TextSaysUnit}
+use Rattle.oim_report.specs.code.Glossaries.{TextSaysUnit}
 use Rattle.oim_report.proofs.GlossaryAdds.{still}
 use Rattle.oim_report.proofs.fact.recall.recall_unit.Goals as goal
 

@@ -1,6 +1,6 @@
 use Rattle.std.proofs.Common.{◌≡◌, Some, rules, string_bytes, sym, ap, ◌∙◌}
 use Rattle.serde_json.specs.View.{view, members_view}
-use Rattle.oim_report.specs.Rows.{defined_name, defined_names}
+use Rattle.oim_report.specs.code.Rows.{defined_name, defined_names}
 use Rattle.oim_report.specs.declared.dimension_kind.DimensionKind.TheVariants.{Explicit}
 use Rattle.oim_report.proofs.ComesAgain.{again_after, next, none_before}
 use Rattle.oim_report.proofs.DefinedRows.{first_name}

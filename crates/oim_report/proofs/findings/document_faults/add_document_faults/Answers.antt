@@ -5,7 +5,7 @@ use Rattle.std.proofs.lemmas.Result.{IfOk-equal}
 use Rattle.serde_json.specs.View.{view}
 use Rattle.oim_names.specs.declared.reason.Reason.TheVariants.{MemberForm, UnknownMember, DocumentType, Namespace, BaseUrl, TaxonomyUrl, Feature}
 use Rattle.oim_report.specs.declared.place.Place.TheVariants.{Document}
-use Rattle.oim_report.specs.Faults.{all_refusals, when}
+use Rattle.oim_report.specs.code.Findings.{all_refusals, when}
 use Rattle.oim_report.specs.Info.{base_said, bindings_of, declarations, features_of, namespaces_of, said_level, said_references, taxonomy_of}
 use Rattle.oim_report.specs.Json.{any_in}
 use Rattle.oim_report.specs.Namespaces.{binds_nothing}

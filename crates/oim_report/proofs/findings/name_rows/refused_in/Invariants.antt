@@ -1,6 +1,6 @@
 use Rattle.std.proofs.Common.{◌≡◌}
 use Rattle.serde_json.specs.View.{members_view}
-use Rattle.oim_report.specs.Rows.{any_defined, refuses_in}
+use Rattle.oim_report.specs.code.Rows.{any_defined, refuses_in}
 use Rattle.oim_report.proofs.findings.name_rows.refused_in.Given as goal
 
 abbrev pub invariant-loop-key : goal.invariant-loop-key

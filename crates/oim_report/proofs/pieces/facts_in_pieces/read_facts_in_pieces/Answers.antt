@@ -2,9 +2,10 @@ use Rattle.std.proofs.Common.{rules, ◌≡◌, ◌++◌, List, option_map, Ok, 
 use Rattle.oim_names.specs.Bindings.{Binding}
 use Rattle.serde_json.specs.Data.{Members, no_members}
 use Rattle.serde_json.specs.View.{members_view}
-use Rattle.oim_report.specs.FoundFacts.{AreFound}
+use Rattle.oim_report.specs.code.FoundFacts.{AreFound}
 use Rattle.oim_report.specs.Outcome.{facts_said}
-use Rattle.oim_report.specs.Pieces.{IsNext, IsPiece, append, put_all}
+use Rattle.oim_report.specs.Pieces.{IsPiece, put_all}
+use Rattle.oim_report.specs.code.Pieces.{IsNext, append}
 use Rattle.oim_report.specs.Sheet.{Sheet}
 use Rattle.oim_report.proofs.FoundInOrder.{none_found, found_append, found_by, weaker}
 use Rattle.oim_report.proofs.PiecesInTurn.{one_more, last_one}

@@ -1,7 +1,7 @@
 use denote.Text.{Utf8}
 use denote.Shadow.{shadow}
 use Rattle.serde_json.specs.Data.{Members}
-use Rattle.oim_report.specs.FoundFacts.{AreFound}
+use Rattle.oim_report.specs.code.FoundFacts.{AreFound}
 use Rattle.oim_report.proofs.PiecesInTurn.{IsUpTo}
 use Rattle.oim_report.proofs.pieces.facts_in_pieces.read_facts_in_pieces.Given as goal
 

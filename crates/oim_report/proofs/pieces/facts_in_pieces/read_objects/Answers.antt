@@ -2,10 +2,10 @@ use Rattle.std.proofs.Common.{rules, ◌≡◌, ◌++◌, ◌∷◌, [], Ok, Lis
 use Rattle.oim_names.specs.Bindings.{Binding}
 use Rattle.serde_json.specs.Data.{no_members, member}
 use Rattle.serde_json.specs.View.{view, members_view}
-use Rattle.oim_report.specs.FoundFacts.{AreFound}
-use Rattle.oim_report.specs.Glossaries.{AreGlossaries}
+use Rattle.oim_report.specs.code.FoundFacts.{AreFound}
+use Rattle.oim_report.specs.code.Glossaries.{AreGlossaries}
 use Rattle.oim_report.specs.Outcome.{fact_outcome}
-use Rattle.oim_report.specs.Pieces.{append}
+use Rattle.oim_report.specs.code.Pieces.{append}
 use Rattle.oim_report.specs.Sheet.{Sheet}
 use Rattle.oim_report.proofs.DocumentInPieces.{taken, taken_case}
 use Rattle.oim_report.proofs.FoundInOrder.{none_found, found_one, found_by, one_further}

@@ -1,9 +1,9 @@
 use Rattle.std.proofs.Common.{◌≡◌}
 use Rattle.serde_json.specs.Data.{Members}
 use Rattle.serde_json.specs.View.{members_view}
-use Rattle.oim_report.specs.FoundFacts.{AreFound}
-use Rattle.oim_report.specs.Glossaries.{AreGlossaries}
-use Rattle.oim_report.specs.Pieces.{append}
+use Rattle.oim_report.specs.code.FoundFacts.{AreFound}
+use Rattle.oim_report.specs.code.Glossaries.{AreGlossaries}
+use Rattle.oim_report.specs.code.Pieces.{append}
 use Rattle.oim_report.proofs.pieces.facts_in_pieces.read_objects.Given as goal
 
 abbrev pub invariant-loop-identifier : goal.invariant-loop-identifier

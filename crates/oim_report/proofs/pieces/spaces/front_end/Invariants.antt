@@ -1,5 +1,5 @@
 use Rattle.std.proofs.Common.{length, take, ◌≤◌, ◌-◌}
-use Rattle.oim_report.specs.Pieces.{AreSpaces}
+use Rattle.oim_report.specs.code.Pieces.{AreSpaces}
 use Rattle.oim_report.proofs.pieces.spaces.front_end.Given as goal
 
 abbrev pub invariant-loop-at : goal.invariant-loop-at

@@ -4,7 +4,7 @@ use Rattle.std.specs.Str.{chars, is_utf8}
 use Rattle.oim_dims.specs.Unit.{denominator_pieces, numerator_pieces, unit_text}
 use Rattle.oim_dims.specs.declared.fact.Fact.{Fact}
 use Rattle.serde_json.proofs.OnLiterals.{serde_json_on_literals}
-use Rattle.oim_report.specs.Examples.{bindings, name_fact, nil_fact, number_fact, numbered, odd_fact, product_fact, ratio_fact, text_fact, undated, zero_fact}
+use Rattle.oim_report.specs.code.Examples.{bindings, name_fact, nil_fact, number_fact, numbered, odd_fact, product_fact, ratio_fact, text_fact, undated, zero_fact}
 use Rattle.oim_report.specs.FactObject.{fact_object}
 use Rattle.oim_report.specs.Parts.{fact_parts}
 use Rattle.oim_report.specs.ReadBack.{parts_given}

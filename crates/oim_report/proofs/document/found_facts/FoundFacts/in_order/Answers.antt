@@ -1,7 +1,7 @@
 use Rattle.std.proofs.Common.{◌≡◌, List, None, Ok, map, sym, ap, ◌∙◌}
 use Rattle.oim_names.specs.Bindings.{Binding}
 use Rattle.serde_json.specs.Data.{Members, no_members}
-use Rattle.oim_report.specs.FoundFacts.{AreFound, rise_after}
+use Rattle.oim_report.specs.code.FoundFacts.{AreFound, rise_after}
 use Rattle.oim_report.specs.Outcome.{facts_said}
 use Rattle.oim_report.specs.Pieces.{put_all}
 use Rattle.oim_report.specs.Sheet.{Sheet}

@@ -1,5 +1,5 @@
 use Rattle.oim_names.specs.Expansion.{Expands, ExpandsEntity}
-use Rattle.oim_report.specs.Glossaries.{NamesConcept, NamesDimension, TextSaysLanguage, TextSaysPeriod, TextSaysUnit}
+use Rattle.oim_report.specs.code.Glossaries.{NamesConcept, NamesDimension, TextSaysLanguage, TextSaysPeriod, TextSaysUnit}
 use Rattle.oim_report.proofs.GlossaryAdds.{none_wrong}
 use Rattle.oim_report.proofs.fact.glossaries.Glossaries.with_room.Goals as goal
 

@@ -3,7 +3,7 @@ use Rattle.std.specs.Str.{IsUtf8}
 use Rattle.serde_json.specs.Data.{Members}
 use Rattle.serde_json.specs.View.{view, members_view}
 use Rattle.oim_report.specs.Json.{Given, has_colon}
-use Rattle.oim_report.specs.SeenParts.{seen_defined}
+use Rattle.oim_report.specs.code.SeenParts.{seen_defined}
 use Rattle.oim_report.proofs.LastAt.{text_other}
 use Rattle.oim_report.proofs.PartsOf.{dimensions_after, dimensions_colon, dimensions_unknown, dimensions_whole, lent}
 use Rattle.oim_report.proofs.fact.parts.DimensionParts.of_members.Goals as goal

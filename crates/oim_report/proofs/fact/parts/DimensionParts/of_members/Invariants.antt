@@ -1,6 +1,6 @@
 use Rattle.std.proofs.Common.{◌≡◌, [], false, None}
 use Rattle.serde_json.specs.View.{members_view}
-use Rattle.oim_report.specs.SeenParts.{seen_defined}
+use Rattle.oim_report.specs.code.SeenParts.{seen_defined}
 use Rattle.oim_report.proofs.PartsOf.{dimensions_after, lent}
 use Rattle.oim_report.proofs.fact.parts.DimensionParts.of_members.Given as goal
 

@@ -1,5 +1,5 @@
 use Rattle.std.proofs.Common.{◌≡◌, ◌++◌, map, drop}
-use Rattle.oim_report.specs.Faults.{all_refusals}
+use Rattle.oim_report.specs.code.Findings.{all_refusals}
 use Rattle.oim_report.specs.Outcome.{at}
 use Rattle.oim_report.proofs.findings.fault_list.Faults.add.Given as goal
 

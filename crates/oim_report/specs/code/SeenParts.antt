@@ -4,7 +4,7 @@ use Rattle.std.specs.Borrow.{Bor}
 use Rattle.oim_report.specs.declared.fact.given.Given.{Given as Lent}
 use Rattle.oim_report.specs.declared.fact.parts.DimensionParts.{DimensionParts as LentDimensions}
 use Rattle.oim_report.specs.declared.fact.parts.FactParts.{FactParts as LentFact}
-use Rattle.oim_report.specs.Given.{seen}
+use Rattle.oim_report.specs.code.Given.{seen}
 use Rattle.oim_report.specs.Json.{Given}
 use Rattle.oim_report.specs.Parts.{DimensionParts, FactParts}
 

@@ -1,8 +1,12 @@
--- The meanings of texts that were read (own).
-use Rattle.std.specs.Prelude.{◌≡◌, ◌⊎◌, ℕ, List, Option, Some}
+-- What texts that were read stand for (own).
+use Rattle.std.specs.Prelude.{◌≡◌, ◌⊎◌, ℕ, List, Option, Some, None}
 use Rattle.std.specs.Str.{bytes_eq}
 use Rattle.std.specs.HashMap.{get_by}
 use Rattle.std.specs.Map.{update}
+use Rattle.oim_names.specs.QName.{QName}
+use Rattle.oim_dims.specs.DimensionSet.{DimensionSet}
+use Rattle.oim_dims.specs.declared.member.Member.{Member}
+use Rattle.oim_dims.specs.declared.period.Period.TheVariants.{Forever}
 use Rattle.oim_report.specs.declared.fact.glossary.Glossary.{Glossary}
 
 -- the meaning of a text, if it was added
@@ -16,3 +20,7 @@ Adds g t a h = ((u : List ℕ) → meaning h u ≡ meaning g u) ⊎ ((u : List �
 -- R holds for each text and its meaning
 pub record IsGlossary {A : Type 0} (R : List ℕ → A → Type 0) (g : Glossary A) : Type 0 where
   pub each : (t : List ℕ) (a : A) → meaning g t ≡ Some a → R t a
+
+-- the dimensions of a concept with these members, and nothing else
+abbrev pub concept_with : QName → List (QName × Member) → DimensionSet
+concept_with concept members = record { concept = concept; entity = None; period = Forever; unit = None; language = None; members = members }

@@ -1,0 +1,22 @@
+-- What code tests on the way to a refusal.
+use Rattle.std.specs.Prelude.{ℕ, List, Bool, false, bytes_eq, is_none, if◌then◌else◌, Option, Some, None}
+use Rattle.std.specs.Option.{option_map_or}
+use Rattle.std.specs.List.{filter_map}
+use Rattle.oim_names.specs.declared.reason.Reason.{Reason}
+use Rattle.oim_report.specs.Json.{Given, text_of}
+use Rattle.oim_report.specs.Kept.{base_url}
+
+-- whether this text is given
+abbrev pub is_text : List ℕ → Given → Bool
+is_text t g = option_map_or (λ u. bytes_eq u t) (text_of g) false
+
+abbrev pub is_base_refused : List ℕ → Bool
+is_base_refused text = is_none (base_url text)
+
+-- a refusal, where its condition holds
+abbrev pub when : Bool → Reason → Option Reason
+when holds reason = if holds then Some reason else None
+
+-- those that there are
+abbrev pub all_refusals : List (Option Reason) → List Reason
+all_refusals refusals = filter_map (λ r. r) refusals
