@@ -95,3 +95,4 @@ pub mod Outlines
 pub mod FoundInOrder
 pub mod SpacesAtEnds
 pub mod DocumentInPieces
+pub mod ReadBack

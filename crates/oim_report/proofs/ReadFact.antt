@@ -27,7 +27,8 @@ use Rattle.oim_report.specs.Outcome.{fact_or, fact_outcome}
 use Rattle.oim_report.proofs.ByParts.{by_parts, parts_outcome}
 use Rattle.oim_report.specs.Said.{said_value, said_dimensions, said_fact}
 use Rattle.oim_report.specs.Sheet.{Sheet}
-use Rattle.oim_report.specs.ReadBack.{SpellsFact, option_given, dimensions_given, value_given, parts_given, ConceptReadsBack, EntityReadsBack, PeriodReadsBack, UnitReadsBack, LanguageReadsBack, MembersReadBack, ValueReadsBack, FactObjectReadsBack, FormsAreAccepted, NamesAreAccepted}
+use Rattle.oim_report.specs.ReadBack.{SpellsFact, option_given, dimensions_given, value_given, parts_given, FactObjectReadsBack, FormsAreAccepted, NamesAreAccepted}
+use Rattle.oim_report.proofs.ReadBack.{ConceptReadsBack, EntityReadsBack, PeriodReadsBack, UnitReadsBack, LanguageReadsBack, MembersReadBack, ValueReadsBack}
 use Rattle.oim_report.proofs.NameRefusals.{names_append}
 use Rattle.oim_report.proofs.ReadMembers.{dimensions_back}
 use Rattle.oim_report.proofs.ReadParts.{concept_back, entity_part_back, period_part_back, language_back}

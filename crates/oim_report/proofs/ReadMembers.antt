@@ -26,7 +26,8 @@ use Rattle.oim_report.specs.Fact.{SaysMember, SaysDimension}
 use Rattle.oim_report.specs.FactFits.{MemberFits, DimensionFits}
 use Rattle.oim_report.specs.Said.{said_member, members_with}
 use Rattle.oim_report.specs.Sheet.{Sheet}
-use Rattle.oim_report.specs.ReadBack.{SpellsMember, SpellsDimension, with_given, member_given, defined_given, DimensionsReadBack}
+use Rattle.oim_report.specs.ReadBack.{SpellsMember, SpellsDimension, with_given, member_given, defined_given}
+use Rattle.oim_report.proofs.ReadBack.{DimensionsReadBack}
 use Rattle.oim_report.proofs.Spelled.{expands, name_back, spelled_apart}
 use Rattle.oim_report.proofs.AcceptedNames.{one_name}
 use Rattle.oim_report.proofs.NameRefusals.{names_append}

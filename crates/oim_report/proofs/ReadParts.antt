@@ -12,7 +12,7 @@ use Rattle.oim_report.specs.declared.concept_kind.ConceptKind.{ConceptKind}
 use Rattle.oim_report.specs.declared.concept_kind.ConceptKind.TheVariants.{Numeric, Text, Name}
 use Rattle.oim_report.specs.Conditions.{concept_kind, is_numeric}
 use Rattle.oim_report.specs.Json.{text}
-use Rattle.oim_report.specs.ReadBack.{ConceptsReadBack, EntitiesReadBack, PeriodsReadBack, LanguagesReadBack}
+use Rattle.oim_report.proofs.ReadBack.{ConceptsReadBack, EntitiesReadBack, PeriodsReadBack, LanguagesReadBack}
 use Rattle.oim_report.proofs.Spelled.{expands, expands_entity, name_back, entity_back}
 use Rattle.oim_report.proofs.AcceptedNames.{one_name}
 

@@ -22,7 +22,8 @@ use Rattle.oim_report.specs.Conditions.{is_other_kind, piece_names}
 use Rattle.oim_report.specs.FactFits.{FitsName}
 use Rattle.oim_report.specs.Names.{names_refusal}
 use Rattle.oim_report.specs.Said.{all_named, with_name, in_order, side_of, unit_with, unit_of}
-use Rattle.oim_report.specs.ReadBack.{SpellsName, UnitsReadBack}
+use Rattle.oim_report.specs.ReadBack.{SpellsName}
+use Rattle.oim_report.proofs.ReadBack.{UnitsReadBack}
 use Rattle.oim_report.proofs.MemberOrder.{other_way}
 use Rattle.oim_report.proofs.Spelled.{some_number, expands, named_back}
 use Rattle.oim_report.proofs.AcceptedNames.{names_zip}

@@ -12,7 +12,7 @@ use Rattle.oim_value.proofs.Denoted.{short_numbers_denote}
 use Rattle.oim_value.proofs.ShortLaws.{plain_reads_back}
 use Rattle.oim_report.specs.declared.concept_kind.ConceptKind.TheVariants.{Numeric, Text, Name}
 use Rattle.oim_report.specs.Fact.{SaysNumber}
-use Rattle.oim_report.specs.ReadBack.{ValuesReadBack}
+use Rattle.oim_report.proofs.ReadBack.{ValuesReadBack}
 use Rattle.oim_report.proofs.Spelled.{expands, name_back}
 use Rattle.oim_report.proofs.AcceptedNames.{one_name}
 

@@ -1,35 +1,30 @@
 -- A written fact is read as itself.
 use Rattle.std.specs.Prelude.{◌≡◌, ◌≢◌, ⊤, ℕ, List, [], ◌∷◌, ◌++◌, All, IsTrue, Option, Some, None, Ok, IfSome, false}
-use Rattle.std.specs.List.{list_all, flat_map}
+use Rattle.std.specs.List.{list_all}
 use Rattle.std.specs.Char.{is_ascii_alphanumeric}
 use Rattle.std.specs.Ordering.{nat_cmp, match_ordering}
 use Rattle.std.specs.Cmp.Lexicographic.{slice_cmp}
-use Rattle.std.specs.FinMap as map
 use Rattle.oim_names.specs.QName.{QName}
 use Rattle.oim_names.specs.Bindings.{Binding, uri_of}
-use Rattle.oim_names.specs.Expansion.{Expands, a_name, an_entity}
 use Rattle.oim_value.specs.Plain.{plain}
 use Rattle.oim_value.specs.declared.value.Value.{Value}
 use Rattle.oim_value.specs.declared.value.Value.TheVariants.{Nil, Number, Text as AText, Name as AName}
-use Rattle.oim_dims.specs.DimensionSet.{DimensionSet, rises}
-use Rattle.oim_dims.specs.Period.{IsPeriod, period_text}
-use Rattle.oim_dims.specs.Unit.{Measures, IsUnit}
+use Rattle.oim_dims.specs.DimensionSet.{DimensionSet}
+use Rattle.oim_dims.specs.Period.{period_text}
+use Rattle.oim_dims.specs.Unit.{Measures}
 use Rattle.oim_dims.specs.declared.fact.Fact.{Fact}
 use Rattle.oim_dims.specs.declared.member.Member.{Member}
 use Rattle.oim_dims.specs.declared.member.Member.TheVariants.{Nil as NoMember, Text as MemberText, Name as MemberName}
-use Rattle.oim_dims.specs.declared.period.Period.{Period}
 use Rattle.serde_json.specs.Data.{Data}
-use Rattle.oim_report.specs.declared.concept_kind.ConceptKind.{ConceptKind}
 use Rattle.oim_report.specs.Json.{Given, absent, nil, text, whole}
 use Rattle.oim_report.specs.Names.{names_refusal}
 use Rattle.oim_report.specs.Parts.{DimensionParts, FactParts, fact_parts}
-use Rattle.oim_report.specs.Conditions.{form_refusal, spelled_in, concept_kind, defined_names, names_of, unit_names, value_names, concept_refusal, defined_refusal, period_refusal, unit_refusal, language_refusal, value_refusal, decimals_refusal, fact_refusal}
-use Rattle.oim_report.specs.Fact.{SaysEntity, SaysPeriod, SaysUnit, SaysLanguage, SaysMembers, SaysValue, SaysFact}
-use Rattle.oim_report.specs.FactFits.{FitsName, EntityFits, MeasuresFit, LanguageFits, DimensionFits, ValueFits, FactFits}
+use Rattle.oim_report.specs.Conditions.{form_refusal, names_of, fact_refusal}
+use Rattle.oim_report.specs.Fact.{SaysFact}
+use Rattle.oim_report.specs.FactFits.{FactFits}
 use Rattle.oim_report.specs.FactObject.{option_spelled, option_unit_text, fact_object}
 use Rattle.oim_report.specs.Outcome.{fact_outcome}
 use Rattle.oim_report.specs.PlainJson.{IsPlainJson}
-use Rattle.oim_report.specs.Said.{said_concept, said_entity, said_period, said_unit, said_language, said_members, said_value}
 use Rattle.oim_report.specs.Sheet.{Sheet}
 
 -- ---- names that a function from names to texts spells
@@ -129,72 +124,6 @@ module _ (spelled : QName → List ℕ) where
 -- the object of a fact has these parts
 abbrev pub FactObjectHasParts : Type 0
 FactObjectHasParts = (sheet : Sheet) (bs : List Binding) (spelled : QName → List ℕ) (f : Fact) → FactFits sheet f → SpellsFact bs spelled f → fact_parts (fact_object spelled f) ≡ Some (parts_given spelled f)
-
--- ---- part by part: the written part says this part and no other, and is not refused
-
-pub record ConceptReadsBack (sheet : Sheet) (bs : List Binding) (spelled : QName → List ℕ) (n : QName) (kind : ConceptKind) : Type 0 where
-  pub says : Expands bs (spelled n) n
-  pub said : said_concept bs (text (spelled n)) ≡ Some n
-  pub listed : concept_kind sheet bs (text (spelled n)) ≡ Some kind
-  pub accepted : concept_refusal sheet bs (text (spelled n)) ≡ None
-  pub names : names_refusal bs (spelled_in a_name (text (spelled n))) ≡ None
-
-abbrev pub ConceptsReadBack : Type 0
-ConceptsReadBack = (sheet : Sheet) (bs : List Binding) (spelled : QName → List ℕ) (n : QName) (kind : ConceptKind) → FitsName n → SpellsName bs spelled n → map.get sheet.concepts n ≡ Some kind → ConceptReadsBack sheet bs spelled n kind
-
-pub record EntityReadsBack (bs : List Binding) (spelled : QName → List ℕ) (entity : Option QName) : Type 0 where
-  pub says : SaysEntity bs (option_given (option_spelled spelled entity)) entity
-  pub said : said_entity bs (option_given (option_spelled spelled entity)) ≡ Some entity
-  pub names : names_refusal bs (spelled_in an_entity (option_given (option_spelled spelled entity))) ≡ None
-
-abbrev pub EntitiesReadBack : Type 0
-EntitiesReadBack = (bs : List Binding) (spelled : QName → List ℕ) (entity : Option QName) → EntityFits entity → IfSome entity (SpellsName bs spelled) → EntityReadsBack bs spelled entity
-
-pub record PeriodReadsBack (p : Period) : Type 0 where
-  pub says : SaysPeriod (option_given (period_text p)) p
-  pub said : said_period (option_given (period_text p)) ≡ Some p
-  pub accepted : period_refusal (option_given (period_text p)) ≡ None
-
-abbrev pub PeriodsReadBack : Type 0
-PeriodsReadBack = (p : Period) → IsPeriod p → PeriodReadsBack p
-
-pub record UnitReadsBack (bs : List Binding) (spelled : QName → List ℕ) (kind : ConceptKind) (unit : Option Measures) : Type 0 where
-  pub says : SaysUnit bs (option_given (option_unit_text spelled unit)) unit
-  pub said : said_unit bs (option_given (option_unit_text spelled unit)) ≡ Some unit
-  pub accepted : unit_refusal (Some kind) (option_given (option_unit_text spelled unit)) ≡ None
-  pub names : names_refusal bs (unit_names (option_given (option_unit_text spelled unit))) ≡ None
-
-abbrev pub UnitsReadBack : Type 0
-UnitsReadBack = (bs : List Binding) (spelled : QName → List ℕ) (kind : ConceptKind) (unit : Option Measures) → IfSome unit IsUnit → IfSome unit (MeasuresFit kind) → IfSome unit (SpellsMeasures bs spelled) → UnitReadsBack bs spelled kind unit
-
-pub record LanguageReadsBack (kind : ConceptKind) (language : Option (List ℕ)) : Type 0 where
-  pub says : SaysLanguage (option_given language) language
-  pub said : said_language (option_given language) ≡ Some language
-  pub accepted : language_refusal (Some kind) (option_given language) ≡ None
-
-abbrev pub LanguagesReadBack : Type 0
-LanguagesReadBack = (kind : ConceptKind) (language : Option (List ℕ)) → LanguageFits kind language → LanguageReadsBack kind language
-
--- several dimensions of both kinds, each with its member
-pub record MembersReadBack (sheet : Sheet) (bs : List Binding) (spelled : QName → List ℕ) (es : List (QName × Member)) : Type 0 where
-  pub says : SaysMembers sheet bs (defined_given spelled es) es
-  pub said : said_members sheet bs (defined_given spelled es) ≡ Some es
-  pub accepted : defined_refusal sheet bs (defined_given spelled es) ≡ None
-  pub names : names_refusal bs (flat_map (defined_names sheet bs) (defined_given spelled es)) ≡ None
-
-abbrev pub DimensionsReadBack : Type 0
-DimensionsReadBack = (sheet : Sheet) (bs : List Binding) (spelled : QName → List ℕ) (es : List (QName × Member)) → IsTrue (rises es) → All (DimensionFits sheet) es → All (SpellsDimension bs spelled) es → MembersReadBack sheet bs spelled es
-
-pub record ValueReadsBack (bs : List Binding) (spelled : QName → List ℕ) (kind : ConceptKind) (v : Value) : Type 0 where
-  pub says : SaysValue bs kind (value_given spelled v) (decimals_given spelled v) v
-  pub said : said_value bs (Some kind) (value_given spelled v) (decimals_given spelled v) ≡ Some v
-  pub value_accepted : value_refusal (Some kind) (value_given spelled v) ≡ None
-  pub decimals_accepted : decimals_refusal (Some kind) (decimals_given spelled v) ≡ None
-  pub names : names_refusal bs (value_names (Some kind) (value_given spelled v)) ≡ None
-
--- a value is nil, a number with its decimals, a text or a name
-abbrev pub ValuesReadBack : Type 0
-ValuesReadBack = (bs : List Binding) (spelled : QName → List ℕ) (kind : ConceptKind) (v : Value) → ValueFits kind v → SpellsValue bs spelled v → ValueReadsBack bs spelled kind v
 
 -- ---- all parts at once
 

@@ -19,7 +19,7 @@ ghost use Rattle.oim_report.specs.Sheet.{SheetOutcomesWantNoMemory, SheetRefused
 ghost use Rattle.oim_report.specs.Document.{SaysOneDocument};
 ghost use Rattle.oim_report.specs.Least.{LeastIsAnswered};
 ghost use Rattle.oim_report.specs.PlainJson.{PlainHasNoFloat, PlainTextReadsBack, ReadHasUtf8};
-ghost use Rattle.oim_report.specs.ReadBack.{ConceptsReadBack, DimensionsReadBack, EntitiesReadBack, FactObjectHasParts, FactObjectIsPlain, FactObjectReadsBack, FormsAreAccepted, LanguagesReadBack, NamesAreAccepted, PeriodsReadBack, UnitsReadBack, ValuesReadBack};
+ghost use Rattle.oim_report.specs.ReadBack.{FactObjectHasParts, FactObjectIsPlain, FactObjectReadsBack, FormsAreAccepted, NamesAreAccepted};
 
 use url::Url;
 
@@ -141,45 +141,7 @@ pub fn fact_object_has_parts()
     ensures { FactObjectHasParts }
 {}
 
-/// A written concept is read as itself.
-pub fn concepts_read_back()
-    ensures { ConceptsReadBack }
-{}
-
-/// A written entity, or none, is read as itself.
-pub fn entities_read_back()
-    ensures { EntitiesReadBack }
-{}
-
-/// A written period is read as itself. Forever is written as no period, and is read back as
-/// forever.
-pub fn periods_read_back()
-    ensures { PeriodsReadBack }
-{}
-
-/// A written unit, or none, is read as itself.
-pub fn units_read_back()
-    ensures { UnitsReadBack }
-{}
-
-/// A written language, or none, is read as itself.
-pub fn languages_read_back()
-    ensures { LanguagesReadBack }
-{}
-
-/// The written members of taxonomy-defined dimensions, of both kinds, are read as themselves
-/// together.
-pub fn dimensions_read_back()
-    ensures { DimensionsReadBack }
-{}
-
-/// A written value is read as itself, whether it is nil, a number with its decimals, a text or a
-/// name.
-pub fn values_read_back()
-    ensures { ValuesReadBack }
-{}
-
-/// No condition on form or names refuses the object of a written fact.
+/// No condition on form or names refuses what is written.
 pub fn written_facts_are_accepted()
     ensures form { FormsAreAccepted }
     ensures names { NamesAreAccepted }
