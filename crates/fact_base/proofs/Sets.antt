@@ -12,7 +12,7 @@ use Rattle.merge_laws.proofs.Rising.{none_rise}
 use Rattle.fact_base.specs.Sets.{set_of}
 use Rattle.fact_base.proofs.Members.{first_there, first_or_later, in_one_of_both, later_there, none_there}
 
--- a set rises, and has just what the list has
+-- the set ascends and has exactly the items of the list
 pub record IsSetOf {K : Type 0} (R : K → K → Ordering) (xs set : List K) : Type 0 where
   pub rises : IsSet R set
   pub members : (x : K) → Contains set x ↔ Contains xs x

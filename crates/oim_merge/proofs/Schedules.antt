@@ -9,7 +9,7 @@ use Rattle.oim_merge.specs.declared.event.Event.{Event}
 use Rattle.oim_merge.specs.declared.event.Event.TheVariants.{Take, Join, Send, Receive, Restart}
 use Rattle.oim_merge.proofs.Evidenced.{slice_within}
 
--- one event more
+-- after one event more
 take_suc : {A : Type 0} (xs : List A) (k : ℕ) (d : A) → k < length xs → take (suc k) xs ≡ take k xs ++ get_or xs k d ∷ []
 take_suc [] k d h = absurd (omega (arith, h))
 take_suc (x ∷ xs) zero d h = refl

@@ -141,7 +141,7 @@ pub fn fact_object_has_parts()
     ensures { FactObjectHasParts }
 {}
 
-/// No condition on form or names refuses what is written.
+/// No condition on form or names refuses the object of a written fact.
 pub fn written_facts_are_accepted()
     ensures form { FormsAreAccepted }
     ensures names { NamesAreAccepted }

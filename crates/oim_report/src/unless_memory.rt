@@ -6,7 +6,7 @@ use std::alloc::AllocError;
 
 /// Returns the value that was read, or None if it was refused.
 ///
-/// Errors: out of memory, which is no refusal here.
+/// Errors: out of memory, which is not a refusal here.
 pub(crate) fn unless_memory<T: Drop>(read: Result<T, Reason>) -> Result<Option<T>, AllocError>
     ensures { IfOk result (λ found. (found ≡ result_ok read) × (read ≢ Err Reason.OutOfMemory)) }
 {

@@ -13,7 +13,7 @@ pub(crate) struct FactNames {
 }
 
 impl FactNames {
-    /// The identifier of the fact at a place, from 0.
+    /// The identifier of the fact at an index, from 0.
     pub(crate) fn at(&self, alloc: Global, place: usize) -> Result<Text, AllocError>
         requires { self.now.before + place < self.now.count }
         ensures { IfOk result (λ text. text ≡ named self.now.before self.now.count place) }

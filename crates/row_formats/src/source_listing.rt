@@ -17,7 +17,7 @@ use std::alloc::Global;
 /// each accepted report to the sink, as `source_lines` appends a line (own). The refused reports are
 /// answered, by their numbers from 1.
 ///
-/// Errors: `Device` where the sink failed; `OutOfMemory`.
+/// Errors: `Device` if the sink failed; `OutOfMemory`.
 pub fn source_rows<S: Sink>(
     alloc: Global,
     sheet: &Sheet,

@@ -24,7 +24,7 @@ use std::mem;
 /// number from 1, the verdict, its dimensions, its facts and the evidence, as `verdict_lines` judges
 /// it (own). The refused reports are answered, by their numbers from 1.
 ///
-/// Errors: `Device` where the sink failed; `OutOfMemory`.
+/// Errors: `Device` if the sink failed; `OutOfMemory`.
 pub fn verdict_rows<S: Sink>(
     alloc: Global,
     sheet: &Sheet,

@@ -79,7 +79,7 @@ pub extern "C" fn xbrlmerge_check(
 
 /// What the report comes to, or its refusal.
 ///
-/// Errors: out of memory, which is no refusal here.
+/// Errors: out of memory, which is not a refusal here.
 fn checked_or_refused(
     alloc: Global,
     sheet: &Sheet,
