@@ -22,7 +22,7 @@ passed true true c h = absurd (cc)
 passed true false true h = absurd (cc)
 passed true false false h = (refl, refl, refl)
 
--- an option with a value that does not pass the test
+-- an option that is not None has a value, which does not pass the test
 there : (u : Option (List ℕ)) → is_none u ≡ false → option_map_or (λ v. bytes_eq v reserved_uri) u false ≡ false → (v : List ℕ) × (u ≡ Some v) × (v ≢ reserved_uri)
 there None h k = absurd (cc)
 there (Some v) h k = (v, refl, other_bytes v reserved_uri k)

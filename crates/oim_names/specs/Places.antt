@@ -2,7 +2,7 @@
 use Rattle.std.specs.Prelude.{ℕ, List, length, ◌+◌, ◌-◌, ◌*◌, ◌%◌}
 use Rattle.std.specs.List.{slice_index_or}
 
--- the byte at a distance from a text's end; a shorter text gives its first byte, and an empty one 0
+-- the byte at a distance from a text's end; the first byte if the text is shorter, and 0 if it is empty
 abbrev pub byte_from_end : List ℕ → ℕ → ℕ
 byte_from_end t back = slice_index_or t (length t - back) 0
 

@@ -56,8 +56,8 @@ impl Aliases {
     /// Binds the prefix to the URI. Binding it to the same URI again changes nothing.
     ///
     /// Errors: `Namespace` if the prefix is empty or has white space or a colon, if the URI is
-    /// empty, or if the prefix is bound to another URI (XML Namespaces 1.0, section 3; that a
-    /// binding may not change is this project's rule); `OutOfMemory`.
+    /// empty, or if the prefix is bound to another URI (XML Namespaces 1.0, section 3; the last
+    /// rule is own); `OutOfMemory`.
     pub fn add(&mut self, prefix: &str, uri: &str) -> Result<(), Reason>
         ensures ok { OnOk result (self.new ≡ bound self.old prefix.now uri.now) }
         ensures refused { (result ≡ Err Reason.Namespace) ↔ IsTrue (is_refused_binding self.old prefix.now uri.now) }

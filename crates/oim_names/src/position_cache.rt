@@ -60,8 +60,8 @@ fn class_of(text: &str) -> usize
     (text.len() % CLASSES + 31 * four) % CLASSES
 }
 
-/// Returns the byte at this distance from the end. A shorter text gives its first byte, and an
-/// empty one 0.
+/// Returns the byte at this distance from the end. For a shorter text it is the first byte, and for
+/// an empty one 0.
 fn byte_from_end(text: &str, back: usize) -> usize
     ensures is { result ≡ byte_from_end text.now back }
     ensures bounded { result < 256 }
