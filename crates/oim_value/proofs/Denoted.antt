@@ -27,7 +27,7 @@ no_positive zero n some e = omega arith
 no_positive (suc x) zero some e = cc
 no_positive (suc x) (suc n) some e = cc
 
--- if a product has a number on the right, the quotient is that number
+-- if z times p is n with a sign, then z is n / p with this sign
 quotient : (b : Bool) (z : ℤ) (p n : ℕ) → 0 < p → z *ℤ pos p ≡ signed b n → z ≡ signed b (n / p)
 quotient b z p n some e =
     let size : unsigned_abs z * p ≡ n = sym (magnitude z p) ∙ ap unsigned_abs e ∙ unsigned_abs-signed b n in

@@ -114,7 +114,7 @@ one_number p q = omega (arith, ints, p, q)
 one_interval : (d e : Interval) → d.low ≡ e.low → d.high ≡ e.high → d ≡ e
 one_interval d e low high = λ i. record { low = low i; high = high i }
 
--- a property of each end holds for the end that is reached
+-- if some interval has P and all intervals have Q, some interval has both
 at_reached : (P Q : Interval → Type 0) (is : List Interval) → Any P is → All Q is → (i : Interval) × P i × Q i
 at_reached P Q is some each = (some.1, some.4, subst Q some.3 (each some.0 some.1 some.2))
 
@@ -127,7 +127,7 @@ high_most d e is ds es = let at = at_reached (λ i. i.high ≡ d.high) (λ i. e.
 pub ends_are_one : EndsAreOne
 ends_are_one is d e ds es = one_interval d e (one_number (low_most d e is ds es) (low_most e d is es ds)) (one_number (high_most e d is es ds) (high_most d e is ds es))
 
--- ---- what lies between them
+-- ---- numbers between the ends
 
 pub within_ends_is_within_each : WithinEndsIsWithinEach
 within_ends_is_within_each is e z ends = (

@@ -138,7 +138,7 @@ plain_is_plain m writable =
     (without_trailing-without_trailing (with_leading_zeros UNIT_PLACES (decimal r)))
     value
 
--- ---- a plain text is the plain text
+-- ---- a number has no other plain text
 
 pub no_pos : (j x : ℕ) → 0 < j → neg_ℤ (pos j) ≡ pos x → ⊥
 no_pos zero x some e = omega arith

@@ -48,7 +48,7 @@ different_meet_as_numbers (AName m) (Number n e) other meet = absurd meet
 different_meet_as_numbers (AName m) (AText t) other meet = absurd meet
 different_meet_as_numbers (AName m) (AName n) other meet = absurd (other (ap AName meet))
 
--- ---- any two among values that meet in twos
+-- ---- any two members, if each two values meet
 
 pub each_two_meet_by_members : EachTwoMeetByMembers
 each_two_meet_by_members vs = (
@@ -70,7 +70,7 @@ each_two_meet_by_members vs = (
 
 -- ---- numbers and their intervals
 
--- the interval of a value, and any interval for a value without one
+-- the interval of a value, or some interval if the value has none
 abbrev interval_at : Value → Interval
 interval_at (Number m d) = interval m d
 interval_at other = interval (pos 0) None
@@ -204,9 +204,9 @@ different_meet_between_ends kind vs two different alike = (
       each_two_from vs all ((all_meet_iff_ends_meet (map interval_at vs) between.0 (all_points vs) (subst (AreEnds between.0) (intervals_are vs all) between.1.ends)).1 between.1.points),
 )
 
--- ---- where low is above high
+-- ---- the low end is above the high end
 
--- a test that holds somewhere holds at the first index where it does
+-- if some value passes a test, the first index of such a value is in range
 first_place : (p : Value → Bool) (vs : List Value) (k : ℕ) → k < length vs → p (get_or vs k Nil) ≡ true → position_or_len p vs < length vs
 first_place p vs k lt is_so = elim (cases_lt (position_or_len p vs) (length vs)) [
   | inl inside ↦ inside
@@ -259,7 +259,7 @@ crossed_ends_are_apart vs e ends over =
           absurd (omega (arith, ints, under, high.1, low.1, over));
     }
 
--- ---- values that rise are different
+-- ---- ascending values are different
 
 pub rising_are_different : (vs : List Value) → IsStrictlySortedBy value_cmp vs → AreDifferent vs
 rising_are_different [] rises = λ i j d under within. absurd (omega (arith, within))

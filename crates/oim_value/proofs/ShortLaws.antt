@@ -18,7 +18,7 @@ use Rattle.oim_value.proofs.PlainLemmas.{decimal_digits, decimal_value, zeros_di
 use Rattle.oim_value.proofs.PlainLaws.{plain_is_plain, fraction_digits_are, fraction_length, fraction_value, no_pos, short_is_writable, parts_of_plain, without_trailing-without_trailing}
 use Rattle.oim_value.proofs.Units.{denotes_from, short_signed, ten_to}
 
--- ---- a text denotes one number at most
+-- ---- a text denotes at most one number
 
 cancel : (a b k : ℕ) → 0 < k → a * k ≡ b * k → a ≡ b
 cancel a b k some e = (same_from_place a 0 b 0 k some some (omega (arith, e))).0
@@ -38,7 +38,7 @@ same_factor (negsuc a) (negsuc b) k some e = let s : suc a ≡ suc b = same_size
 pub denotes_one : DenotesOne
 denotes_one t m n p q = same_factor m n (10 ^ length (fraction_part t)) (ten_some (length (fraction_part t))) (p.value ∙ sym q.value)
 
--- ---- what a short text denotes is kept
+-- ---- a short text denotes a short number
 
 short_counts : (t : List ℕ) → is_short t ≡ true → counted t ≤ MOST_DIGITS
 short_counts t e = grind (arith, nat_tests)
@@ -58,7 +58,7 @@ short_is_kept t m d short =
     let same : m ≡ z = denotes_one t m z d (denotes_from t i f n p z refl refl d.form refl refl (omega arith) refl) in
     rw same (short_signed (is_negative t) n p (few_digits (without_leading i) (without_trailing f) (digits_without_leading i parts.0) (digits_without_trailing f parts.1) few) (omega arith))
 
--- ---- the plain text of a number that is kept is short
+-- ---- the plain text of a short number is short
 
 length-onto_digit : (d : ℕ) (ds : List ℕ) → length (onto_digit d ds) ≤ suc (length ds)
 length-onto_digit d [] = elim (eqb d 48) as (λ b. length (cond b [] (d ∷ [])) ≤ 1) [ true ↦ omega arith | false ↦ omega arith ]
@@ -133,7 +133,7 @@ plain_is_short m h =
     short_from (plain m) (integer_digits s) (fraction_digits s) parts.integer parts.fraction
     (rw (without_trailing-without_trailing (with_leading_zeros UNIT_PLACES (decimal (s % 10 ^ UNIT_PLACES)))) (omega (arith, h.within)))
 
--- ---- reading gives the number back
+-- ---- a short number is read back
 
 accepted : (t : List ℕ) → is_number t ≡ true → is_short t ≡ true → number_refusal t ≡ None
 accepted t form short = rw (form, short)

@@ -61,7 +61,7 @@ CommonIsAssociative = (a b c : Interval) → common_part (common_part a b) c ≡
 abbrev pub CommonIsCommutative : Type 0
 CommonIsCommutative = (a b : Interval) → common_part a b ≡ common_part b a
 
--- an interval is the common part of itself and itself
+-- the common part of an interval with itself is the interval
 abbrev pub CommonIsIdempotent : Type 0
 CommonIsIdempotent = (a : Interval) → common_part a a ≡ a
 

@@ -19,7 +19,7 @@ level_entry Complete = record { place = 1; text = codes "complete" }
 level_entry Consistent = record { place = 2; text = codes "consistent" }
 level_entry All = record { place = 3; text = codes "all" }
 
--- every level, at the index of its rank
+-- every level, in the order of ranks
 abbrev pub levels : List Level
 levels = Unique ∷ Complete ∷ Consistent ∷ All ∷ []
 

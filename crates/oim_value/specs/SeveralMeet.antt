@@ -36,7 +36,8 @@ pub record MeetBetween (vs : List Value) (e : Interval) : Type 0 where
 abbrev pub DifferentMeetAsNumbers : Type 0
 DifferentMeetAsNumbers = (x y : Value) → x ≢ y → Meets x y → IsTrue (has_interval x) × IsTrue (has_interval y)
 
--- different values, each nil or of one kind, meet in twos exactly if none is nil and the interval between the ends is not empty
+-- each two of several different values, each nil or of one kind, meet exactly if none is nil and the interval between the ends is
+-- not empty
 abbrev pub DifferentMeetBetweenEnds : Type 0
 DifferentMeetBetweenEnds = (kind : ℕ) (vs : List Value) → 2 ≤ length vs → AreDifferent vs → AreNilOrOfKind kind vs → EachTwoValuesMeet vs ↔ ((e : Interval) × MeetBetween vs e)
 

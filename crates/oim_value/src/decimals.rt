@@ -14,10 +14,10 @@ enum Places {
     Infinite,
 }
 
-/// How precisely a number is reported (Open Information Model, `decimals`): to so many places after
-/// the point, to a place before the point if the number is negative, or exactly. Contracts see the
-/// number of places, or None if the number is exact. Finite decimals are ordered by number, and
-/// infinite ones come last.
+/// How precisely a number is reported (Open Information Model, `decimals`): to a number of places
+/// after the point, to a place before the point if that number is negative, or exactly. Contracts
+/// see the number of places, or None if the number is exact. Finite decimals are ordered by number,
+/// and infinite ones come last.
 #[derive(Clone, Copy, Debug, PartialEq, Eq, PartialOrd, Ord)]
 pub struct Decimals {
     places: Places,

@@ -73,7 +73,7 @@ pub(crate) fn skip_trailing_zeros(digits: &[u8]) -> &[u8]
     &digits[..end]
 }
 
-/// Returns the number whose digits are those of `start` followed by `digits`.
+/// Appends `digits` to the digits of the number `start`.
 pub(crate) fn append_digits(start: u64, digits: &[u8]) -> u64
     requires digits { list_all is_ascii_digit digits.now ≡ true }
     requires fits { digits_value_after 10 start digits.now < 2 ^ 64 }

@@ -70,7 +70,7 @@ pub fn read_fixed(text: &str) -> Result<Fixed, Reason>
     Ok(scaled(number, fraction.len() as u32, negative))
 }
 
-// Returns the number whose digits are those of both parts.
+// Returns the number with the digits of both parts.
 fn number_of(integer: &[u8], fraction: &[u8]) -> u64
     requires integer { list_all is_ascii_digit integer.now ≡ true }
     requires fraction { list_all is_ascii_digit fraction.now ≡ true }

@@ -36,7 +36,7 @@ pub fn short_numbers_denote()
     ensures { ShortNumbersDenote }
 {}
 
-/// A text of at most 18 significant digits denotes a number of at most 18.
+/// A text with at most 18 significant digits denotes a number with at most 18 significant digits.
 pub fn short_is_kept()
     ensures { ShortIsKept }
 {}
@@ -65,7 +65,7 @@ pub fn plain_tells_apart()
     ensures { PlainTellsApart }
 {}
 
-/// Values are ordered by kind, and the values of one kind in the order of the kind.
+/// Values are ordered by kind. Values of the same kind have the order of that kind.
 pub fn values_are_ordered()
     ensures { (x y : Seen) → ⟦<Value as Ord>⟧.cmp x y ≡ value_cmp x y }
 {}
@@ -124,13 +124,14 @@ pub fn meets_by_common_point()
     ensures part { MeetsByCommonPart }
 {}
 
-/// Each value meets itself, and two values meet in either order.
+/// Each value meets itself. If one value meets another, the other meets it.
 pub fn values_meet_both_ways()
     ensures reflexive { MeetsIsReflexive }
     ensures symmetric { MeetsIsSymmetric }
 {}
 
-/// Each two of several values meet exactly if any two members of the list do.
+/// Each two values of a list meet exactly if any two of its members do, so order and repeats do not
+/// matter.
 pub fn each_two_meet_by_members()
     ensures { EachTwoMeetByMembers }
 {}
@@ -150,9 +151,10 @@ pub fn all_meet_iff_ends_meet()
     ensures { AllMeetIffEndsMeet }
 {}
 
-/// Several different values, each nil or of one kind, meet in twos exactly if all are numbers and
-/// the greatest low end of their intervals is at most the least high end. If it is above, the first
-/// number with the least high end and the first with the greatest low end do not meet.
+/// Take several different values, each nil or of one kind. Each two of them meet exactly if all are
+/// numbers and the greatest low end of their intervals is at most the least high end. If it is
+/// above, the first number with the least high end and the first with the greatest low end do not
+/// meet.
 pub fn different_meet_between_ends()
     ensures numbers { DifferentMeetAsNumbers }
     ensures between { DifferentMeetBetweenEnds }
