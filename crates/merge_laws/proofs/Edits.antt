@@ -62,7 +62,7 @@ module _ {K E : Type 0} {R : K → K → Ordering} (key : E → K) (o : IsTotalO
       ] refl
 
   module _ (join : E → E → E) where
-    -- an item without its key in the list is inserted at the index of the gap
+    -- a new item is inserted at the index of its key
     pub placed : (x : E) (es : List E) → has_key R key (key x) es ≡ false → take (place_of R key (key x) es) es ++ x ∷ drop (place_of R key (key x) es) es ≡ with_item R key join x es
     placed x [] has = refl
     placed x (e ∷ es) has =
@@ -74,7 +74,7 @@ module _ {K E : Type 0} {R : K → K → Ordering} (key : E → K) (o : IsTotalO
               ∙ ap (λ s. e ∷ s) (placed x es (sym (not_here (key x) e es p) ∙ has))
         ] refl
 
-    -- an item with its key in the list is joined at the index of the key
+    -- an item whose key is in the list is joined with the item there
     pub replaced : (x : E) (es : List E) (d : E) → IsRising R key es → has_key R key (key x) es ≡ true → set es (place_of R key (key x) es) (join (get_or es (place_of R key (key x) es) d) x) ≡ with_item R key join x es
     replaced x [] d h has = absurd (true≢false (sym has))
     replaced x (e ∷ es) d h has =
@@ -111,7 +111,7 @@ module _ {K E : Type 0} {R : K → K → Ordering} (key : E → K) (o : IsTotalO
       let told = tells_ok (has_key R key k es) (place_of R key k es) i at in
       item_there k es d h told.0 ∙ ap (λ n. Some (get_or es n d)) told.1
 
-  -- an item that is in the list is not new; another item is inserted at its gap
+  -- an item whose key is in the list is not new; any other is new, with the index of its key
   pub not_new : (f : E) (es : List E) (i : ℕ) → Ok i ≡ found_at R key (key f) es → new_item R key es f ≡ []
   not_new f es i at = ap (λ b. cond b [] ((place_of R key (key f) es, f) ∷ [])) (tells_ok _ _ i at).0
 

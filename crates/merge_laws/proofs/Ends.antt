@@ -1,4 +1,4 @@
--- What a summary records about its values.
+-- The contents of a summary.
 use Rattle.std.proofs.Common.{◌≡◌, ℕ, zero, suc, ◌<◌, Bool, true, false, List, [], ◌∷◌, length, get_or, Option, Some, None, refl, sym, ap, subst, ◌∙◌, arith}
 use mathlib.Core.Bool.{◌||◌, true≢false}
 use Rattle.std.specs.Prelude.{Contains, IfSome, is_some}

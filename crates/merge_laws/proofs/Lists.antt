@@ -11,7 +11,7 @@ use Rattle.std.proofs.lemmas.List.{reverse-append, reverse-reverse, take_more}
 use Rattle.std.proofs.lemmas.Grind.{flat_map-append}
 use Rattle.merge_laws.specs.Sorted.{IsRising}
 
--- induction from the end: a property of the empty list that one more item at the end keeps holds for each list
+-- induction from the end of a list
 pub from_end : {A : Type 0} (P : List A → Type 0) → P [] → ((xs : List A) (x : A) → P xs → P (xs ++ x ∷ [])) → (xs : List A) → P xs
 from_end {A} P none more xs = subst P (reverse-reverse xs) (turned (reverse xs))
   where

@@ -1,4 +1,4 @@
--- What `put` changes in a map.
+-- The changes that `put` makes to a map.
 use Rattle.std.proofs.Common.{◌≡◌, ℕ, ◌<◌, List, length, get_or, set, Result, Ok, Err, OnOk, OnErr, refl, sym, ap, subst, ◌∙◌}
 use Rattle.std.specs.declared.cmp.Ordering.{Ordering}
 use Rattle.std.specs.Cmp.{IsTotalOrder}
@@ -26,7 +26,7 @@ module _ {K V : Type 0} {R : K → K → Ordering} (o : IsTotalOrder R) (P : V �
     values = all_with entry_key o (merged_entries merged) (λ _ _. refl) (λ e. P e.1) (λ e f. closed e.1 f.1) (k, v) es p m.values;
   }
 
-  -- if memory for a merge is refused, nothing changes
+  -- putting the same value back changes nothing
   pub put_back : (es : List (K × V)) (m : V) (i : ℕ) (x : K × V) → i < length es → x ≡ get_or es i x → m ≡ x.1 → set es i (x.0, m) ≡ es
   put_back es m i x within read same = (λ n. set es i (x.0, same n)) ∙ ap (set es i) read ∙ set-get_or es i x
 

@@ -58,7 +58,7 @@ module _ {K E : Type 0} {R : K → K → Ordering} (key : E → K) (o : IsTotalO
             record { below = subst (λ i. AllBelow key o k (take i (e ∷ es))) behind (lower, rest.below); above = subst (λ i. Below key o k (drop i (e ∷ es))) behind rest.above }
       ] refl
 
-  -- for a lower key, only the items below matter
+  -- a look-up of a lower key needs only the items below
   below_finds : (w k : K) (es : List E) → IsRising R key es → R w k ≡ Less → item_at R key w (take (place_of R key k es) es) ≡ item_at R key w es
   below_finds w k [] h p = refl
   below_finds w k (e ∷ es) h p =
@@ -103,7 +103,7 @@ module _ {K E : Type 0} {R : K → K → Ordering} (key : E → K) (o : IsTotalO
       let place = sym (below_places (key f) k es h b.0) in
       λ i. cond (is_some (found i)) [] ((place i, f) ∷ []) ++ below_news k es fs h b.1 i
 
-  -- the result of adding the other items to the items
+  -- the state after some of the other items were added
   pub record IsTaken (es fs out : List E) : Type 0 where
     pub rises : IsRising R key out
     pub at : (q : K) → item_at R key q out ≡ option_or (item_at R key q es) (item_at R key q fs)

@@ -1,4 +1,4 @@
--- What a summary records of several values (own).
+-- The summary of several values (own).
 use Rattle.std.specs.Prelude.{◌≡◌, ◌↔◌, Bool, true, false, ◌||◌, is_some, IsTrue, List, [], ◌∷◌, Contains, Option, Some, None, IfSome}
 use Rattle.std.specs.List.{list_any}
 use Rattle.oim_value.specs.Ends.{AreEnds, intervals_of, has_interval}

@@ -41,7 +41,8 @@ SummaryOfOne = (v : Value) → summary_of_all (v ∷ []) ≡ summary_of v
 abbrev pub SummaryOfBoth : Type 0
 SummaryOfBoth = (vs ws : List Value) → summary_of_all (vs ++ ws) ≡ both_summaries (summary_of_all vs) (summary_of_all ws)
 
--- the summary of the union of two sets, in any order in which only equal values compare as equal, is the merge of their summaries
+-- the summary of the union of two sets is the merge of their summaries; the sets may have any order in which only equal values
+-- compare as equal
 abbrev pub SummaryOfUnion : Type 0
 SummaryOfUnion = (R : Value → Value → Ordering) → ((v w : Value) → R v w ≡ Equal → v ≡ w) → (vs ws : List Value) → summary_of_all (set_union R vs ws) ≡ both_summaries (summary_of_all vs) (summary_of_all ws)
 

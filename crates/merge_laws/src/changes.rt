@@ -10,7 +10,7 @@ use crate::search::find_from;
 use oim_names::{Copied, Key};
 use std::alloc::{AllocError, Global};
 
-/// What merging another map into a map changes.
+/// The changes that merging another map makes to a map.
 #[derive(Drop)]
 pub(crate) struct Changes<K: Drop, V: Drop> {
     /// The merged values of the keys that both maps have, each with the index of its key.
@@ -19,7 +19,7 @@ pub(crate) struct Changes<K: Drop, V: Drop> {
     pub(crate) new_entries: Vec<(usize, (K, V))>,
 }
 
-/// Returns what merging the other entries changes. It copies what the map takes from them.
+/// Returns the changes that merging the other entries makes. New keys and values are copied.
 pub(crate) fn changes_by<K: Key, V: Merge>(
     alloc: Global,
     entries: &[(K, V)],
@@ -41,8 +41,8 @@ pub(crate) fn changes_by<K: Key, V: Merge>(
     Ok(changes)
 }
 
-/// Returns what merging the other entries changes. It consumes them, so nothing is copied: new
-/// entries are moved, and a value of a shared key is merged into the other entry.
+/// Returns the changes that merging the other entries makes. It consumes them, so nothing is
+/// copied: new entries are moved, and the value of a shared key is merged into the other entry.
 pub(crate) fn changes_of<K: Key, V: Merge>(
     alloc: Global,
     entries: &[(K, V)],
@@ -66,8 +66,8 @@ pub(crate) fn changes_of<K: Key, V: Merge>(
 }
 
 impl<K: Key, V: Merge> Changes<K, V> {
-    // Adds what one more entry changes, and returns the index of its key. The key is above all keys
-    // before index `from`.
+    // Adds the changes that one more entry makes, and returns the index of its key. The key is
+    // above all keys before index `from`.
     fn add(
         &mut self,
         alloc: Global,

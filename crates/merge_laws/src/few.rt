@@ -7,7 +7,7 @@ use oim_names::{Copied, Key};
 use std::alloc::{AllocError, Global};
 use std::marker::Model;
 
-/// A list of items. Contracts see the items. A single item is stored in the list itself and takes
+/// A list whose contracts see only its items. A single item is stored in the list itself and takes
 /// no memory on the heap.
 #[derive(Drop)]
 pub(crate) struct Few<T: Key> {

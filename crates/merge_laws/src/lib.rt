@@ -1,4 +1,4 @@
-//! Merges with laws: order, grouping and repetition of what is merged do not matter.
+//! Merges with laws: the order, grouping and repetition of values do not matter.
 #![tactic(auto)]
 
 mod changes;

@@ -52,7 +52,7 @@ pub(crate) fn find<K: Key, E: Keyed<K>>(items: &[E], key: &K) -> Result<usize, u
 }
 
 /// Does the same as `find` for a key above all keys before index `from`. It searches from there in
-/// steps that double, so a near key is found soon.
+/// steps that double, so a near key takes few steps.
 pub(crate) fn find_from<K: Key, E: Keyed<K>>(
     items: &[E],
     key: &K,

@@ -144,7 +144,7 @@ fn copies_of<K: Copied, V: Copied>(
     Ok(copies)
 }
 
-/// Merging gives the keys of both maps. At a shared key, the values are merged in a copy, so that
+/// A merged map has the keys of both. At a shared key, the values are merged in a copy, so that
 /// nothing changes if memory is refused. Other entries of the map stay, and new ones are copied.
 impl<K: Key, V: Merge> Merge for SortedMap<K, V> {
     ghost use Rattle.merge_laws.specs.Sorted.{IsMap};

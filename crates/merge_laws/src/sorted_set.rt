@@ -152,7 +152,7 @@ fn new_of<T: Key>(alloc: Global, items: &[T], others: Vec<T>) -> Result<Vec<(usi
     Ok(news)
 }
 
-/// Merging gives the union. Items of the set stay, and new ones are copied.
+/// A merged set is the union. Items of the set stay, and new ones are copied.
 impl<T: Key> Merge for SortedSet<T> {
     ghost use Rattle.merge_laws.specs.Sorted.{IsSet};
     ghost use Rattle.merge_laws.specs.Union.{set_union};

@@ -24,7 +24,7 @@ fn merges_to(rt: &HostRuntime, first: &mut Items, items: &[&str], all: &[&str]) 
 
 const ALL: [&str; 3] = ["a", "b", "c"];
 
-// Returns whether a set that merges another and then all items has all items.
+// Returns whether a set has all items after it merges another set, and after it merges all items.
 fn is_union(rt: &HostRuntime, items: &[&str], others: &[&str]) -> bool {
     match set(rt, items) {
         Ok(mut first) => {
@@ -44,7 +44,7 @@ fn a_union_has_the_items_in_either_order(rt: HostRuntime) {
     assert!(rt; is_union(&rt, &["b", "c"], &["c", "a"]));
 }
 
-// Returns whether a copy still has only its items after its original has merged others.
+// Returns whether a copy keeps exactly its items after the original has merged others.
 fn copy_stays(rt: &HostRuntime, original: &mut Items, items: &[&str]) -> bool {
     match copied(rt, original) {
         Ok(copy) => merges_to(rt, original, &["b", "c"], &ALL) && has_just(&copy, items),

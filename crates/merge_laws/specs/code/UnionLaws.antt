@@ -88,7 +88,7 @@ module _ {K : Type 0} {R : K → K → Ordering} (o : IsTotalOrder R) where
   pub set_commutes : ((x y : K) → R x y ≡ Equal → x ≡ y) → (xs ys : List K) → IsSet R xs → IsSet R ys → set_union R xs ys ≡ set_union R ys xs
   set_commutes exact xs ys g h = union_commutes itself o older (λ _ _. refl) (λ _. Unit {0}) (λ x y _ _ e. exact x y e) xs ys g h (any xs) (any ys)
 
--- the laws of maps whose values have the laws
+-- the laws of maps, if the values have the laws of merging
 module _ {K V : Type 0} {R : K → K → Ordering} (o : IsTotalOrder R) (P : V → Type 0) (merged : V → V → V) where
   abbrev Has : K × V → Type 0
   Has e = P e.1

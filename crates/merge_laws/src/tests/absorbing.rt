@@ -135,7 +135,7 @@ fn put_two(rt: &HostRuntime, map: &mut SummaryAt) -> Result<(), AllocError> {
     put_at(rt, map, "j", &rounded("7"))
 }
 
-// Absorbs a map of two keys.
+// Absorbs a map with two keys.
 fn absorb_two(rt: &HostRuntime, map: &mut SummaryAt) -> Result<(), AllocError> {
     let mut other = SortedMap::new(rt.alloc());
     put_two(rt, &mut other)?;
