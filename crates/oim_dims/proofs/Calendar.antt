@@ -41,7 +41,7 @@ date_is date y m d h few_y few_m few_d =
 pub is_real : (y m d : ℕ) → 1 ≤ y → IsCivilDate (pos y) m d → (nat_le 1 y && is_in_range 1 12 m && is_in_range 1 (days_in_month (pos y) m) d) ≡ true
 is_real y m d low h = grind (arith, nat_tests)
 
--- a comparison of numbers and its test
+-- a comparison that holds passes its test
 pub le_true : (a b : ℤ) → a ≤ℤ b → int_le a b ≡ true
 le_true a b h = grind (arith, ints)
 

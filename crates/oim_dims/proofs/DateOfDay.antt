@@ -9,7 +9,7 @@ use Rattle.jiff_core.proofs.SignedLemmas.{signed_arith}
 use Rattle.oim_dims.specs.DateTime.{greatest, year_of, month_of, day_of}
 use Rattle.oim_dims.proofs.Calendar.{first_day, le_true}
 
--- the greatest number that passes the test, and nothing above it passes
+-- the greatest number up to a limit that passes the test
 record IsGreatest (p : ℕ → Bool) (n k g : ℕ) : Type 0 where
   low : k ≤ g
   high : g ≤ n
@@ -39,7 +39,7 @@ greatest_passes p (suc n) k low high here =
       ]
     ] refl
 
--- a comparison of numbers, from its test
+-- a comparison that passes its test holds
 le_is : (a b : ℤ) → int_le a b ≡ true → a ≤ℤ b
 le_is a b h = grind (arith, ints)
 
@@ -68,7 +68,7 @@ month_holds y z within m g =
       | inr le ↦ let e : m ≡ 12 = omega (arith, g.high) in let here' = rw e at here in (here, rw e (omega (arith, signed_arith, within, days_from_civil-day_count (pos y) 1 1, days_from_civil-day_count (pos y) 12 1, day_count-last_of_year (pos y), day_count-day (pos y) 12 31 1 (omega arith) (omega arith))))
     ]
 
--- the day of the month is that day
+-- the day of the month has this day number
 day_holds : (y m : ℕ) (z : ℤ) → z <ℤ (days_from_civil (pos y) m 1 +ℤ pos (days_in_month (pos y) m)) → (n : ℕ) → IsGreatest (λ j. int_le (days_from_civil (pos y) m j) z) 31 1 n → (n ≤ days_in_month (pos y) m) × (days_from_civil (pos y) m n ≡ z)
 day_holds y m z within n g =
     let here : days_from_civil (pos y) m n ≤ℤ z = le_is _ _ g.here in

@@ -1,4 +1,4 @@
--- What a text's form shows of its parts.
+-- The form of a date-time, and the digits of its parts.
 use Rattle.std.proofs.Common.{◌≡◌, ℕ, zero, suc, ◌+◌, ◌-◌, ◌<◌, Bool, true, false, List, [], ◌∷◌, length, get_or, take, drop, refl, sym, ◌∙◌, add-one, arith}
 use Rattle.std.specs.Prelude.{◌==◌, slice_range}
 use Rattle.std.proofs.lemmas.Bool.{and_parts}

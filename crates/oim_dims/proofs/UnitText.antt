@@ -20,7 +20,7 @@ use Rattle.oim_dims.proofs.Prefixes.{bound_back}
 use Rattle.oim_dims.proofs.Sides.{unopened, closed, one_side}
 use Rattle.oim_dims.proofs.Cuts.{cut, no_place}
 
--- a piece has none of the characters that units are built with
+-- a piece has no reserved characters
 plain_piece : (t : List ℕ) → is_piece t ≡ true → list_any is_mark t ≡ false
 plain_piece t h = not-true (list_any is_mark t) (and_parts (not (length t == 0)) (not (list_any is_mark t)) h).1
 
@@ -60,7 +60,7 @@ each_spelled : (bs : List Binding) (f : QName → List ℕ) (ns : List QName) �
 each_spelled bs f [] h = tt
 each_spelled bs f (n ∷ ns) h = (h 0 n (omega arith), each_spelled bs f ns (All-tail (λ m. Spells bs (f m) m) n ns h))
 
--- texts without marks pass no test for one of the marks
+-- a text without reserved characters has none that passes the test
 without : (p : ℕ → Bool) → ((c : ℕ) → is_mark c ≡ false → p c ≡ false) → (xs : List ℕ) → list_any is_mark xs ≡ false → list_any p xs ≡ false
 without p under [] h = refl
 without p under (x ∷ xs) h =
@@ -107,7 +107,7 @@ split_joined bs (t ∷ u ∷ ts) (n ∷ m ∷ ns) z h =
     slice_split_at is_star t 42 (join_with_byte 42 (u ∷ ts)) (none_all is_star t (without is_star under_star t (plain_piece t z.0.piece))) refl
     ∙ ap (λ x. t ∷ x) (split_joined bs (u ∷ ts) (m ∷ ns) z.1 (omega arith))
 
--- a text without an opening parenthesis is its own inner text
+-- `inner` does not change a side without an opening parenthesis
 no_opening : (s : List ℕ) → list_any is_opening s ≡ false → s ≡ inner s
 no_opening s h = unopened s (λ rest is. absurd (cc (rw is at h)))
 

@@ -1,4 +1,4 @@
--- What a fact is about (OIM Common 1.0, dimensions; xBRL-JSON 1.0, the core dimensions).
+-- The dimensions of a fact (OIM Common 1.0, dimensions; xBRL-JSON 1.0, the core dimensions).
 use Rattle.std.specs.Prelude.{◌≡◌, ◌⊎◌, ◌↔◌, ℕ, Bool, true, false, ◌&&◌, ◌||◌, if◌then◌else◌, List, [], ◌∷◌, Option, Contains, IsTrue, IfSome}
 use Rattle.std.specs.List.{list_any}
 use Rattle.std.specs.Ordering.{is_lt, is_eq}
@@ -48,7 +48,7 @@ pub record IsDimensionSet (d : DimensionSet) : Type 0 where
   pub unit : IfSome d.unit IsUnit
   pub period : HasMoments d.period
 
--- a list has a name exactly if it has the name with some member
+-- a name is in the list exactly if it is there with a member
 abbrev pub NamesAreThere : Type 0
 NamesAreThere = (n : QName) (es : List (QName × Member)) → IsTrue (has_name n es) ↔ ((m : Member) × Contains es (n, m))
 
@@ -57,6 +57,6 @@ pub record IsOneMore (old new : List (QName × Member)) (e : QName × Member) : 
   pub rises : IsTrue (rises new)
   pub members : (f : QName × Member) → Contains new f ↔ (Contains old f ⊎ (f ≡ e))
 
--- adding a member of a new name adds exactly one
+-- adding a member with a new name adds exactly that member
 abbrev pub MembersGrow : Type 0
 MembersGrow = (n : QName) (m : Member) (es : List (QName × Member)) → IsTrue (rises es) → ¬ (IsTrue (has_name n es)) → IsOneMore es (with_member n m es) (n, m)

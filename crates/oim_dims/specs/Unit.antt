@@ -11,7 +11,7 @@ use Rattle.oim_names.specs.declared.reason.Reason.{Reason}
 use Rattle.oim_value.specs.ValueOrder.{name_cmp}
 use Rattle.oim_names.specs.declared.reason.Reason.TheVariants.{UnitForm, NameForm, UnboundPrefix, ReservedNamespace}
 
--- the characters that units are built with: ( ) * /
+-- the reserved characters of a unit: ( ) * /
 abbrev pub is_mark : ℕ → Bool
 is_mark c = c == 40 || c == 41 || c == 42 || c == 47
 
@@ -37,7 +37,7 @@ each_piece p t = list_all p (numerator_pieces t) && list_all p (denominator_piec
 abbrev pub some_piece : (List ℕ → Bool) → List ℕ → Bool
 some_piece p t = list_any p (numerator_pieces t) || list_any p (denominator_pieces t)
 
--- one or more characters, none of which units are built with
+-- one or more characters, none of them reserved
 abbrev pub is_piece : List ℕ → Bool
 is_piece p = not (length p == 0) && not (list_any is_mark p)
 
@@ -51,7 +51,7 @@ pub record Measures : Type 0 where
   pub numerators : List QName
   pub denominators : List QName
 
--- the pieces name these measures, each as often as it occurs
+-- the pieces name exactly these measures, with repeats
 pub record NamesEach (bs : List Binding) (ps : List (List ℕ)) (names : List QName) : Type 0 where
   pub spelled : List QName
   pub expands : AllZip (Expands bs) ps spelled
@@ -99,7 +99,7 @@ pub record IsUnit (m : Measures) : Type 0 where
   pub some : m.numerators ≢ []
   pub unit : m ≢ pure_alone
 
--- a measure can be written if its URI has a prefix and the first such prefix has no character that units are built with
+-- a measure can be written if its URI has a prefix, and the first such prefix has no reserved character
 abbrev pub is_writable : List Binding → QName → Bool
 is_writable bs n = option_map_or (λ p. not (list_any is_mark p)) (prefix_of bs n.uri) false
 

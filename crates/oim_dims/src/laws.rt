@@ -48,8 +48,8 @@ pub fn texts_denote_one_unit()
     ensures refused { OthersAreRefused }
 {}
 
-/// A set has a dimension exactly if the dimension has a member. Adding a member of a new name adds
-/// exactly one.
+/// A set has a dimension exactly if the dimension has a member. Adding a member with a new name
+/// adds exactly that member.
 pub fn members_grow()
     ensures there { NamesAreThere }
     ensures more { MembersGrow }

@@ -7,8 +7,8 @@ use oim_names::{Copied, Key, Reason, Text};
 use std::alloc::{AllocError, Global};
 use std::cmp::Ordering;
 
-/// When a fact holds (OIM Common 1.0, the core dimension period). Periods are ordered by the order
-/// of the variants. A duration that was read ends after its start.
+/// When a fact holds (OIM Common 1.0, the core dimension period). Periods are ordered by kind, in
+/// the order of the variants. A duration that was read ends after its start.
 #[derive(Clone, Copy, Debug, PartialEq, Eq, PartialOrd, Ord)]
 pub enum Period {
     /// The fact has no period: it always holds.
@@ -66,7 +66,7 @@ fn from_to(start: Option<Moment>, end: Option<Moment>) -> Result<Period, Reason>
 }
 
 /// Writes a period, or returns `None` for forever. Hours range from 00 to 23. The text of an
-/// instant reads back, and that of a duration does if the duration ends after its start.
+/// instant reads back, and so does the text of a duration that ends after its start.
 ///
 /// Errors: out of memory.
 pub fn write_period(alloc: Global, period: &Period) -> Result<Option<Text>, AllocError>

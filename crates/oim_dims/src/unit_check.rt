@@ -74,7 +74,7 @@ fn is_piece(piece: &str) -> bool
     !piece.is_empty() && !has_mark(piece.as_bytes())
 }
 
-/// Returns whether a text has a character that units are built with.
+/// Returns whether a text has a reserved character.
 pub(crate) fn has_mark(text: &[u8]) -> bool
     ensures { result ≡ list_any is_mark text.now }
 {

@@ -326,7 +326,7 @@ fn kinds_of_members_are_ordered(rt: HostRuntime) -> Result<(), Fail> {
 type Row = (&'static str, &'static [Part]);
 
 // Dimension sets in ascending order. Absent parts are less than present ones, earlier parts count
-// before later ones, and a list is less than one that it begins.
+// before later ones, and a list is less than a longer one that begins with it.
 const RISING: [Row; 10] = [
     ("eg:A", &[]),
     ("eg:A", &[Part::Member("eg:a", Kind::Nil)]),

@@ -236,7 +236,7 @@ fn units_are_written_and_read_back(rt: HostRuntime) -> Result<(), Fail> {
 // A prefix for only one of the measures.
 const FEW: [(&str, &str); 1] = [("x", "http://example.org/u")];
 
-// Two prefixes for the other measure. The first has a character that units are built with.
+// Two prefixes for the other measure. The first has a reserved character.
 const HIDDEN: [(&str, &str); 3] = [
     ("x", "http://example.org/u"),
     ("e*g", "http://example.org/t"),

@@ -6,7 +6,7 @@ use Rattle.oim_dims.specs.DateTime.{has_date, day_number, year, month, day}
 use Rattle.oim_dims.proofs.Calendar.{date_is, day_range, is_real}
 use Rattle.oim_dims.proofs.moment.read_day.Goals as goal
 
--- a date of the calendar has the day number of the text's numbers
+-- the date with the text's numbers has this day number
 day_is : (t : List ℕ) (y m d : ℕ) (z : ℤ) → y ≡ year t → m ≡ month t → d ≡ day t → (nat_le 1 y && is_in_range 1 12 m && is_in_range 1 (days_in_month (pos y) m) d) ≡ true → z ≡ days_from_civil (pos y) m d → Some z ≡ (if has_date t then Some (day_number t) else None)
 unfolding has_date day_number
 day_is t y m d z ey em ed real is = let here = rw (ey, em, ed) at real in let number = rw (ey, em, ed) at is in rw here (ap Some number)
