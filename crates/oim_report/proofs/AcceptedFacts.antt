@@ -1,4 +1,4 @@
--- A fact that an object says and nothing refuses is said member by member, and fits the sheet.
+-- If nothing refuses an object, it says its fact member by member, and the fact fits the sheet.
 use Rattle.std.proofs.Common.{◌≡◌, ℕ, ◌+◌, List, [], ◌∷◌, map as each_of, Some, None, Result, Ok, Err, refl, subst, arith}
 use Rattle.std.specs.Prelude.{All}
 use Rattle.std.specs.List.{AllZip}

@@ -41,7 +41,7 @@ fact_told sheet bs d = refl
 
 -- ---- the document
 
--- the references are refused; if the base is refused, they are tested as if there were none
+-- the references are refused; if the base is refused, they are tested as if there were no base
 abbrev pub refuses_references : Data → Bool
 refuses_references tree = is_none (said_references (unwrap_or (base_said tree) None) (taxonomy_of tree))
 

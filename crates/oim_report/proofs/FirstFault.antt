@@ -40,7 +40,7 @@ first_name bs ns = three (refuses_some NameForm bs ns) (refuses_some UnboundPref
 
 -- ---- the form
 
--- a member that is no object, if it exists, is missing or an object
+-- a member that is not refused as no object is missing or an object
 pub missing : (o : Option Data) → is_no_object o ≡ false → is_none (option_map dimension_parts (option_and_then as_object o)) ≡ is_none o
 missing None h = refl
 missing (Some null) h = absurd (cc)

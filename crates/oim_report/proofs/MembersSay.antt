@@ -1,4 +1,4 @@
--- The members that are said are those of the keys, and they fit.
+-- The result has exactly the members that the keys say, and they fit.
 use Rattle.std.proofs.Common.{◌≡◌, ◌≢◌, ◌⊎◌, inl, inr, ⊎_elim, ℕ, zero, suc, ◌<◌, length, get_or, List, [], ◌∷◌, Bool, true, false, ◌||◌, Option, Some, None, refl, sym, ap, subst, ◌∙◌, arith}
 use Rattle.std.specs.Prelude.{All, Contains, IsTrue, is_none, option_and_then}
 use Rattle.std.specs.List.{list_any}
@@ -158,7 +158,7 @@ walked sheet bs ds es none e = walk sheet bs ds [] es refl (once_by sheet bs ds 
 pub members_rise : (sheet : Sheet) (bs : List Binding) (ds : List (List ℕ × Given)) (es : List (QName × Member)) → defined_refusal sheet bs ds ≡ None → said_members sheet bs ds ≡ Some es → IsTrue (rises es)
 members_rise sheet bs ds es none e = (walked sheet bs ds es none e).rising
 
--- each member is said by a key
+-- some key says each member
 by_key : (sheet : Sheet) (bs : List Binding) (ds : List (List ℕ × Given)) (es : List (QName × Member)) → IsWalked sheet bs ds [] es → (e : QName × Member) → Contains es e → (d : List ℕ × Given) × Contains ds d × SaysDimension sheet bs d e
 by_key sheet bs ds es walk e c = ⊎_elim (λ none. absurd (none_in e none)) (λ found. found) (walk.others e c)
 

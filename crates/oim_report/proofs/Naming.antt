@@ -10,7 +10,7 @@ use Rattle.oim_names.specs.declared.reason.Reason.TheVariants.{OutOfMemory}
 use Rattle.oim_names.proofs.Bytes.{other_bytes, bytes_not_eq}
 use Rattle.oim_report.specs.Names.{in_namespace, named_as}
 
--- the function returns a name that the text expands to
+-- if a text expands to a name, the function returns it
 pub expanded : (has_form : List ℕ → Bool) (bs : List Binding) (t : List ℕ) (n : QName) → ExpandsAs has_form bs t n → named_as has_form bs t ≡ Some n
 expanded has_form bs t n e =
     let free : bytes_eq n.uri reserved_uri ≡ false = bytes_not_eq n.uri reserved_uri e.allowed in
@@ -39,7 +39,7 @@ made true (Some u) t n h =
     let is = in_allowed u t n h in
     record { form = refl; uri = ap Some is.0; allowed = subst (λ v. v ≢ reserved_uri) is.0 is.1; part = is.2 }
 
--- the text expands to the name that the function returns
+-- if the function returns a name, the text expands to it
 pub stands : (has_form : List ℕ → Bool) (bs : List Binding) (t : List ℕ) (n : QName) → named_as has_form bs t ≡ Some n → ExpandsAs has_form bs t n
 stands has_form bs t n h =
     let is = made (has_form t) (uri_of bs (prefix_part t)) t n h in

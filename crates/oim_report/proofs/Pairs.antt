@@ -97,7 +97,7 @@ pub level_ignores_order : LevelIgnoresOrder
 unfolding level_of
 level_ignores_order fs gs p = λ i. strictest (allows_each-IsPermutation Unique fs gs p i) (allows_each-IsPermutation Complete fs gs p i) (allows_each-IsPermutation Consistent fs gs p i)
 
--- ---- each later level allows what a level allows
+-- ---- a level allows whatever a stricter level does
 
 either : (a b c : Bool) → (b ≡ true → c ≡ true) → (a || b) ≡ true → (a || c) ≡ true
 either true b c f h = refl

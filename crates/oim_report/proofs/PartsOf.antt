@@ -44,7 +44,7 @@ dimensions_found c e p u l n ds unknown = record {
   unknown = unknown;
 }
 
--- the parts after these members, if these were found before them
+-- the parts after these members, given the parts that were found before them
 abbrev pub dimensions_after : (c e p u l n : Option Data) → List (List ℕ × Given) → Bool → Members → DimensionParts
 dimensions_after c e p u l n ds unknown ms = record {
   concept = given_of (last_at (codes "concept") c ms);
@@ -115,7 +115,7 @@ fact_found v p ds ls unknown = record {
   unknown = unknown;
 }
 
--- the parts after these members, if these were found before them
+-- the parts after these members, given the parts that were found before them
 abbrev pub fact_after : (v p ds ls : Option Data) → Bool → Members → FactParts
 fact_after v p ds ls unknown ms = fact_found (last_at (codes "value") v ms) (last_at (codes "decimals") p ms) (last_at (codes "dimensions") ds ms) (last_at (codes "links") ls ms) (any_member (is_unknown fact_keys) ms || unknown)
 

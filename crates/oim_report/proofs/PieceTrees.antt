@@ -10,7 +10,7 @@ use Rattle.serde_json.specs.Read.{of_json, of_items, of_members, number_of, max_
 use Rattle.oim_report.specs.Pieces.{alone, one_data, HasMember}
 use Rattle.oim_report.proofs.JoinedMembers.{one, Reads, HasSome}
 
--- `serde_json` reads the text as members, which give these members
+-- `serde_json` reads the text as members, whose data are these members
 pub record ReadAs (a : List ℕ) (found : d.Members) : Type 0 where
   pub ms : Members
   pub reads : Reads max_depth a ms

@@ -29,7 +29,7 @@ use Rattle.oim_report.proofs.Runs.{RisesFrom, walk, walk-duplicate, walk-nil, wa
 abbrev pub facts_at : List Fact → List ℕ → List Fact
 facts_at facts places = filter_map (slice_get facts) places
 
--- the facts at one index and more
+-- the facts at the first index and at the others
 pub facts_at-cons : (facts : List Fact) (place : ℕ) (places : List ℕ) (d : Fact) → place < length facts → facts_at facts (place ∷ places) ≡ get_or facts place d ∷ facts_at facts places
 facts_at-cons facts place places d within = ap (λ (o : Option Fact). cons_option o (facts_at facts places)) (slice_get-get_or facts place d within)
 
@@ -87,7 +87,7 @@ rises_from_first facts place (next ∷ places) d within up =
 pub place_cmp_ranks : (facts : List Fact) → IsStrictWeakOrder (λ i j. is_lt (place_cmp facts i j))
 place_cmp_ranks facts = ranks_by (options_total fact_cmp_total) (slice_get facts)
 
--- an order without indices has no facts
+-- facts with an empty order have the level `Unique`
 pub level_of_none : (facts : List Fact) (places : List ℕ) → IsOrderOf facts places → length places ≡ 0 → Unique ≡ level_of facts
 unfolding level_of
 level_of_none [] places order none = refl

@@ -56,7 +56,7 @@ module _ {K X : Type 0} {R : K → K → Ordering} (o : IsTotalOrder R) where
       let in_rest : i < length es = omega (arith, within) in
       ap (λ r. cond (is_eq r) (Some e.1) (find R k es)) (turned_less o e.0 k (below_at e.0 es i d parts.0 in_rest)) ∙ found_at es i d parts.1 in_rest
 
-  -- a key that no entry has has no value
+  -- there is no value at a key that no entry has
   pub found_nowhere : (es : List (K × X)) (q : K) → ((j : ℕ) (d : K × X) → j < length es → is_eq (R q (get_or es j d).0) ≡ false) → find R q es ≡ None
   found_nowhere [] q apart = refl
   found_nowhere (e ∷ es) q apart = ap (λ b. cond b (Some e.1) (find R q es)) (apart 0 e (omega arith)) ∙ found_nowhere es q (λ j d lt. apart (suc j) d (omega (arith, lt)))

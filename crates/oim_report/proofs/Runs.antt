@@ -23,7 +23,7 @@ use Rattle.oim_dims.proofs.Orders.{dimensions_cmp_total, fact_cmp_exact}
 use Rattle.oim_report.proofs.Pairs.{allows_each-push, complete_are_consistent, level_of_is, strictest, unique_are_complete}
 use Rattle.oim_report.proofs.ValuesMeet.{both_meet-both_common, lesser_meets, values_meet_self}
 
--- how two facts compare by their dimensions
+-- the order of two facts by dimensions alone
 abbrev dims : Fact → Fact → Ordering
 dims f g = dimensions_cmp f.dimensions g.dimensions
 
@@ -116,7 +116,7 @@ apart_each l fs last h below less =
 same_allowed : (l : Level) (f g : Fact) → dims f g ≡ Equal → allows l f g ≡ allows_values l f.value g.value
 same_allowed l f g h = ap (λ (o : Ordering). not (is_eq o) || allows_values l f.value g.value) h
 
--- the level of a fact after a lesser fact with the same dimensions
+-- two different facts with the same dimensions are consistent exactly if their intervals meet
 lesser_allowed : (f g : Fact) → dims f g ≡ Equal → value_cmp f.value g.value ≡ Less → allows Consistent f g ≡ both_meet (interval_at f.value) (interval_at g.value)
 lesser_allowed f g same less = same_allowed Consistent f g same ∙ lesser_meets f.value g.value less
 

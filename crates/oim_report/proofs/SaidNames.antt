@@ -1,4 +1,4 @@
--- No name in a fact that is said is refused.
+-- No name in a fact that an object says is refused.
 use Rattle.std.proofs.Common.{◌≡◌, ℕ, List, [], ◌∷◌, ◌++◌, map, Bool, true, false, Option, Some, None, refl, ap, ◌∙◌}
 use Rattle.std.specs.Prelude.{if◌then◌else◌, option_map, option_and_then}
 use Rattle.std.specs.List.{flat_map}
@@ -82,7 +82,7 @@ unit bs nil u e = refl
 unit bs (whole k) u e = refl
 unit bs other u e = refl
 
--- ---- the dimensions that a taxonomy defines
+-- ---- taxonomy-defined dimensions
 
 member : (bs : List Binding) (kind : Option DimensionKind) (g : Given) (m : Member) → said_member bs kind g ≡ Some m → names_refusal bs (member_names kind g) ≡ None
 member bs (Some Explicit) (text t) m e = let n = map_some MemberName (named bs t) m e in one bs t n.0 n.1
@@ -116,7 +116,7 @@ value bs None g decimals v e = refl
 
 -- ---- the fact
 
--- no name of a fact that is said is refused
+-- if an object says a fact, none of its names is refused
 said_names : (sheet : Sheet) (bs : List Binding) (p : FactParts) (ds : DimensionParts) (f : Fact) → fact_of sheet bs p ds ≡ Some f → names_refusal bs (names_of sheet bs ds p.value) ≡ None
 said_names sheet bs p ds f e =
     let kind = concept_kind sheet bs ds.concept in

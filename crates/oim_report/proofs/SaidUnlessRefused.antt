@@ -129,7 +129,7 @@ language_is_said kind nil form none = absurd (cc)
 language_is_said kind (whole n) form none = absurd (cc)
 language_is_said kind other form none = absurd (cc)
 
--- ---- the dimensions that a taxonomy defines
+-- ---- taxonomy-defined dimensions
 
 member_is_said : (bs : List Binding) (kind : Option DimensionKind) (g : Given) → names_refusal bs (member_names kind g) ≡ None → is_misfit kind g ≡ false → (m : Member) × (said_member bs kind g ≡ Some m)
 member_is_said bs (Some Explicit) (text t) none fits = let n = one_said is_name bs t none in (MemberName n.0, ap (option_map MemberName) n.1)

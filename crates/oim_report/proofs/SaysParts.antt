@@ -51,7 +51,7 @@ with_form has_form bs t n true form e =
     let u = and_then_some (λ v. in_namespace v t) (uri_of bs (prefix_part t)) n e in
     in_uri has_form bs t u.0 n (bytes_eq u.0 reserved_uri) form u.1 refl u.2
 
--- a text that is named expands to the name
+-- if the function names a text, the text expands to the name
 pub named_expands : (has_form : List ℕ → Bool) (bs : List Binding) (t : List ℕ) (n : QName) → named_as has_form bs t ≡ Some n → ExpandsAs has_form bs t n
 named_expands has_form bs t n e = with_form has_form bs t n (has_form t) refl e
 

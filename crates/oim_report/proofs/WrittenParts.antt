@@ -142,7 +142,7 @@ module _ (entity language period unit : Option (List ℕ)) (concept : List ℕ) 
       (text_known core_keys (codes "period") period and_unit refl
       (text_known core_keys (codes "unit") unit only_concept refl refl)))
 
--- ---- the dimensions that a taxonomy defines
+-- ---- taxonomy-defined dimensions
 
 -- the texts of a dimension are UTF-8, and its key has a colon
 record IsWritten (spelled : QName → List ℕ) (e : QName × Member) : Type 0 where

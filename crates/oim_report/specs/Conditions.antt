@@ -1,5 +1,5 @@
--- Why a fact object is refused (OIM Common 1.0; xBRL-JSON 1.0, section 3.1; own where marked). The conditions are in one group
--- for each part. A condition on a part that is missing does not apply.
+-- Why a fact object is refused (OIM Common 1.0; xBRL-JSON 1.0, section 3.1; own where marked). Each part has a group of
+-- conditions. A condition on a part that is missing does not apply.
 use Rattle.std.specs.Prelude.{ℕ, List, [], ◌∷◌, ◌++◌, map, Bool, true, false, not, ◌||◌, ◌&&◌, if◌then◌else◌, Option, Some, None, is_none, option_and_then}
 use Rattle.std.specs.Option.{option_map_or}
 use Rattle.std.specs.Result.{result_err}
@@ -88,7 +88,7 @@ member_names None g = []
 abbrev pub defined_names : Sheet → List Binding → List ℕ × Given → List Spelled
 defined_names sheet bs d = a_name d.0 ∷ member_names (dimension_kind sheet bs d.0) d.1
 
--- the pieces of a unit that has the form of a unit
+-- the pieces of a text that has the form of a unit
 abbrev pub piece_names : List ℕ → List Spelled
 piece_names t = if is_unit_text t then map a_name (numerator_pieces t ++ denominator_pieces t) else []
 

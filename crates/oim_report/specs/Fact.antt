@@ -65,14 +65,14 @@ SaysMember bs Typed g (MemberName n) = ⊥
 SaysMember bs Typed g (MemberText t) = g ≡ text t
 SaysMember bs Typed g NoMember = g ≡ nil
 
--- a key and its value say a dimension with its member, which the sheet lists
+-- a key says a dimension that the sheet lists, and its value says the member
 pub record SaysDimension (sheet : Sheet) (bs : List Binding) (d : List ℕ × Given) (said : QName × Member) : Type 0 where
   pub name : Expands bs d.0 said.0
   pub kind : DimensionKind
   pub listed : map.get sheet.dimensions said.0 ≡ Some kind
   pub member : SaysMember bs kind d.1 said.1
 
--- each key says a member, and each member is said by a key
+-- each key says a member, and some key says each member
 pub record SaysMembers (sheet : Sheet) (bs : List Binding) (defined : List (List ℕ × Given)) (said : List (QName × Member)) : Type 0 where
   pub each : All (λ d. (e : QName × Member) × Contains said e × SaysDimension sheet bs d e) defined
   pub others : All (λ e. Any (λ d. SaysDimension sheet bs d e) defined) said

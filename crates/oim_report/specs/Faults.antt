@@ -25,7 +25,7 @@ use Rattle.oim_report.specs.Least.{told}
 
 -- ---- the facts
 
--- the faults of several fact objects, if the first is at place n
+-- the faults of several fact objects, whose places are counted from n
 abbrev pub faults_from : Sheet → List Binding → ℕ → List Data → List Refusal
 faults_from sheet bs n [] = []
 faults_from sheet bs n (d ∷ ds) = map (at (AtFact n)) (told (holds sheet bs d)) ++ faults_from sheet bs (n + 1) ds
@@ -69,6 +69,6 @@ first_of (r ∷ rs) = Some r
 abbrev pub NoFaultsWhereAccepted : Type 0
 NoFaultsWhereAccepted = (sheet : Sheet) (bytes : List ℕ) → (faults sheet bytes ≡ []) ↔ ((d : Document) × Accepts sheet bytes d)
 
--- the first fault is the refusal that the outcome has
+-- the first fault is the refusal in the outcome
 abbrev pub FirstFaultIsAnswered : Type 0
 FirstFaultIsAnswered = (sheet : Sheet) (bytes : List ℕ) → first_of (faults sheet bytes) ≡ result_err (outcome sheet bytes)

@@ -52,7 +52,7 @@ no_text d = is_none (as_text d)
 abbrev pub no_text_or_null : Data → Bool
 no_text_or_null d = no_text d && is_none (as_null d)
 
--- the members with their keys; a test of an optional item
+-- the members with their keys; some item passes a test
 abbrev pub entries : Members → List (List ℕ × Data)
 entries no_members = []
 entries (member key d ms) = (key, d) ∷ entries ms
@@ -69,7 +69,7 @@ lacks_moment t = is_none (moment_of (start_part t)) || is_none (moment_of (end_p
 abbrev pub runs_backward : List ℕ → Bool
 runs_backward t = is_some_and (λ start. is_some_and (λ end. int_lt end start) (moment_of (end_part t))) (moment_of (start_part t))
 
--- the pieces of a unit that has the form of a unit
+-- the pieces of a text that has the form of a unit
 abbrev pub pieces : List ℕ → List (List ℕ)
 pieces t = if is_unit_text t then numerator_pieces t ++ denominator_pieces t else []
 

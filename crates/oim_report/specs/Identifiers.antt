@@ -20,7 +20,7 @@ identifiers_in objects = map (λ o. o.0) objects
 abbrev pub tree_identifiers : Data → List (List ℕ)
 tree_identifiers tree = identifiers_in (keyed (facts_of tree))
 
--- the identifiers that a file's bytes give, or None if they are not JSON
+-- the identifiers in a file's bytes, or None if they are not JSON
 abbrev pub identifiers : List ℕ → Option (List (List ℕ))
 identifiers bytes = option_map tree_identifiers (json bytes)
 
@@ -39,7 +39,7 @@ pub record Identify (sheet : Sheet) (bytes : List ℕ) (document : Document) (is
   pub are : identifiers_in (keyed (facts_of tree)) ≡ is
   pub say : AllZip (IdentifierSays sheet (bindings_of tree)) (keyed (facts_of tree)) document.facts
 
--- the bytes of an accepted report give the identifiers of its facts, and no others
+-- the bytes of an accepted report contain exactly the identifiers of its facts
 abbrev pub EachFactHasAnIdentifier : Type 0
 EachFactHasAnIdentifier =
     (sheet : Sheet) (bytes : List ℕ) (d : Document) → outcome sheet bytes ≡ Ok d → (is : List (List ℕ)) × (identifiers bytes ≡ Some is) × Identify sheet bytes d is

@@ -20,8 +20,8 @@ json_text text = if is_utf8 text then read text else None
 abbrev pub json : List ℕ → Option Data
 json bytes = json_text (without_mark bytes)
 
--- ---- the value at a key, with the differences that matter to sheets and reports; a text is a string in UTF-8, as every string
--- that was read
+-- ---- the value at a key, in the kinds that sheets and reports distinguish; a text is a string in UTF-8, as every string that
+-- was read
 
 pub data Given : Type 0 where
   absent : Given
@@ -120,7 +120,7 @@ is_unknown known key d = not (has_colon key) && not (list_any (λ k. bytes_eq k 
 abbrev pub is_object : Data → Bool
 is_object d = is_some (as_object d)
 
--- there is a value that is no object; no array
+-- there is a value that is no object; there is one that is no array
 abbrev pub is_no_object : Option Data → Bool
 is_no_object d = option_map_or (λ v. not (is_object v)) d false
 

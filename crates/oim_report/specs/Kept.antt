@@ -69,7 +69,7 @@ KeptIsUtf8 =
     (base : Option Parts) (reference text : List ℕ) → is_utf8 reference ≡ true → kept base reference ≡ Some text →
     is_utf8 text ≡ true
 
--- a reference in the text under which it is kept: without a base it is kept as it is, and it is UTF-8 within the limit
+-- a kept reference: it is kept as it is without a base, is UTF-8, and is within the limit
 pub record IsKeptReference (text : List ℕ) : Type 0 where
   pub kept : kept None text ≡ Some text
   pub short : is_within_limit text ≡ true

@@ -28,7 +28,7 @@ use Rattle.oim_report.specs.Parts.{DimensionParts, FactParts}
 use Rattle.oim_report.specs.Conditions.{concept_kind, dimension_kind}
 use Rattle.oim_report.specs.Sheet.{Sheet}
 
--- an optional part: the given value if it is absent
+-- a part that may be absent, with the value that it then has
 abbrev pub said_text : {A : Type 0} → A → (List ℕ → Option A) → Given → Option A
 said_text none says absent = Some none
 said_text none says (text t) = says t
@@ -79,7 +79,7 @@ unit_of bs t =
 abbrev pub said_unit : List Binding → Given → Option (Option Measures)
 said_unit bs = said_text None (unit_of bs)
 
--- ---- the dimensions that a taxonomy defines
+-- ---- taxonomy-defined dimensions
 
 abbrev pub said_member : List Binding → Option DimensionKind → Given → Option Member
 said_member bs (Some Explicit) (text t) = option_map MemberName (named bs t)

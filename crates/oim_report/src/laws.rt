@@ -67,8 +67,8 @@ pub fn sheet_outcomes_want_no_memory()
     ensures { SheetOutcomesWantNoMemory }
 {}
 
-/// A sheet is refused exactly if its bytes are not JSON, or else for the condition with the least
-/// number that applies.
+/// A sheet is refused exactly for the first reason that applies: its bytes are not JSON, or else
+/// the condition with the least number.
 pub fn sheet_refused_where_held()
     ensures { SheetRefusedWhereHeld }
 {}
@@ -111,9 +111,9 @@ pub fn accepted_where_free()
     ensures { AcceptedWhereFree }
 {}
 
-/// A report is refused for exactly one condition, the first of these. Its bytes are not JSON; the
-/// least condition that applies to the document; the least condition of the first fact that has
-/// one, at its place; the level of its facts is above the declared one.
+/// A report is refused for exactly one reason, the first that applies: its bytes are not JSON; the
+/// least condition of the document; the least condition of the first fact that has one, at its
+/// place; the level of its facts is above the declared one.
 pub fn refused_where_held()
     ensures { RefusedWhereHeld }
 {}
@@ -179,7 +179,8 @@ pub fn fact_object_is_plain()
 {}
 
 /// For any conditions, `least` returns the one with the least number that applies. `told` lists
-/// those that apply and are not hidden. Its numbers strictly ascend, and its first is the least.
+/// those that apply and are not hidden. The numbers in that list strictly ascend, and it begins
+/// with the least.
 pub fn least_is_answered()
     ensures { LeastIsAnswered }
 {}

@@ -32,7 +32,7 @@ impl Refusal {
     }
 }
 
-/// Returns a refusal of the document.
+/// A reason alone is a refusal of the document.
 impl From<Reason> for Refusal {
     ghost from_gives = { λ reason refusal. refusal ≡ at Document reason };
 

@@ -1,4 +1,4 @@
--- Sheets as the values of a type, which a code tells apart.
+-- An encoding that distinguishes sheets.
 use Rattle.std.specs.Prelude.{◌≡◌, ℕ, zero, suc, List, refl}
 use Rattle.std.specs.Coded.{Coded, code_by, coded×, coded_ℕ, coded_list}
 use Rattle.std.specs.FinMap as map

@@ -8,9 +8,8 @@ use oim_value::{Interval, Level, Value, common, interval_of, meets};
 
 /// Returns the strictest level of duplicates that allows the facts with their repeats
 /// (`xbrl:allowedDuplicates` of OIM Common 1.0). `order` is the result of `order_of`. It takes no
-/// memory and visits each fact once. That is enough: sorted values with the same dimensions are
-/// consistent in twos exactly if all are equal, or all are numbers whose intervals have a common
-/// part.
+/// memory and visits each fact once. That is enough: each two of sorted values meet exactly if all
+/// are equal, or all are numbers whose intervals have a common part.
 pub(crate) fn level_of(facts: &[Fact], order: &[usize]) -> Level
     requires { IsOrderOf facts.now order.now }
     ensures { result ≡ level_of facts.now }

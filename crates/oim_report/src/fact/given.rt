@@ -5,7 +5,7 @@ ghost use Rattle.oim_report.specs.Json.{given, given_of, is_absent, is_no_text, 
 
 use serde_json::Value;
 
-/// The value at a key of an object, with the differences that matter to sheets and reports.
+/// The value at a key of an object, in the kinds that sheets and reports distinguish.
 #[derive(Clone, Copy, Debug)]
 pub(crate) enum Given<'a> {
     /// There is no value.

@@ -23,7 +23,7 @@ use oim_names::{Aliases, Reason};
 use serde_json::Value;
 use std::alloc::{AllocError, Global};
 
-/// Appends each condition of a document that applies.
+/// Appends every condition that applies to the document.
 ///
 /// Errors: out of memory.
 pub(crate) fn add_document_faults(

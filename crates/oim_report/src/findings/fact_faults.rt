@@ -14,7 +14,7 @@ use oim_names::{Aliases, Reason};
 use serde_json::Value;
 use std::alloc::{AllocError, Global};
 
-/// Appends each condition of a fact object that applies, with the fact's place.
+/// Appends every condition that applies to a fact object, with the fact's place.
 ///
 /// Errors: out of memory.
 pub(crate) fn add_fact_faults(
@@ -57,7 +57,7 @@ pub(crate) fn add_fact_faults(
     add_each(alloc, sheet, aliases, object, place, reasons, faults)
 }
 
-// Appends those of these reasons that apply.
+// Appends the given conditions, if they apply.
 fn add_each(
     alloc: Global,
     sheet: &Sheet,

@@ -13,8 +13,7 @@ use oim_names::Aliases;
 use serde_json::{Map, Value};
 use std::alloc::{AllocError, Global};
 
-/// Appends each condition of each fact that applies. Facts are visited in byte order of their
-/// identifiers.
+/// Appends every condition that applies to a fact, fact by fact, in byte order of the identifiers.
 ///
 /// Errors: out of memory.
 pub(crate) fn add_facts_faults(

@@ -43,7 +43,7 @@ impl Faults {
         Ok(())
     }
 
-    /// Appends the refusals among these, with the place.
+    /// Appends the given refusals, with the place.
     ///
     /// Errors: out of memory.
     pub(crate) fn add(

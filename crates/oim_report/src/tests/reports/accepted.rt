@@ -147,7 +147,7 @@ const KEPT: &[Table] = &[
         ],
         end: NO_FACTS,
     },
-    // facts keep their places
+    // facts are listed by identifier, and ordered by dimensions and value
     Table {
         start: FACTS,
         rows: &[(

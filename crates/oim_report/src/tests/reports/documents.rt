@@ -171,7 +171,7 @@ const INFO: [Table; 3] = [
         ],
         end: "}}}",
     },
-    // the base is a web address
+    // the base is an http or https URL
     Table {
         start: BOUND,
         rows: &[

@@ -14,7 +14,7 @@ struct Long<'t> {
 }
 
 const LIMITS: [Long; 4] = [
-    // nesting ends at 127
+    // JSON is nested at most 127 levels deep
     Long {
         start: r#"{"documentInfo":{"documentType":"https://xbrl.org/2021/xbrl-json"},"eg:x":"#,
         piece: "[",

@@ -1,4 +1,4 @@
--- A string that was read is UTF-8, so that it is a text.
+-- A string that was read is UTF-8, so it is a text.
 use Rattle.oim_report.proofs.Givens.{string_gives}
 use Rattle.oim_report.proofs.fact.given.Given.of_value.Goals as goal
 
