@@ -61,7 +61,7 @@ body_of_both ds es = same_bodies
     (ap (set_of fact_cmp) (flat_map-append (λ (d : Document). d.facts) ds es) ∙ set_of-both fact_cmp_total fact_cmp_exact (all_facts ds) (all_facts es))
     (ap (set_of text_cmp) (flat_map-append (λ (d : Document). d.references) ds es) ∙ set_of-both text_cmp_total text_cmp_exact (all_references ds) (all_references es))
 
--- ---- what fits
+-- ---- bodies that fit
 
 pub accepted_fits : AcceptedFits
 accepted_fits sheet docs accepted =

@@ -19,7 +19,7 @@ use Rattle.fact_base.specs.code.Judged.{AreSummarised}
 use Rattle.fact_base.proofs.EntryFacts.{in_facts_with}
 use Rattle.fact_base.proofs.Members.{each_by_there, each_there}
 
--- the rank among the kinds of values that a concept's kind has
+-- the rank of a concept's kind among the kinds of values
 abbrev kind_number : Option ConceptKind → ℕ
 kind_number None = 0
 kind_number (Some Numeric) = 1

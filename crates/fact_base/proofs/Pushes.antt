@@ -116,7 +116,7 @@ turned_up Less up = absurd (true≢false up)
 turned_up Equal up = refl
 turned_up Greater up = refl
 
--- the facts at two neighbouring indices of an order
+-- dimensions do not descend between neighbouring indices of an order
 dimensions_rise : (facts : List Fact) (places : List ℕ) (i : ℕ) (f g : Fact) → IsOrderOf facts places → i + 1 < length places → f ≡ get_or facts (get_or places i 0) f → g ≡ get_or facts (get_or places (i + 1) 0) g → is_gt (dimensions_cmp f.dimensions g.dimensions) ≡ false
 dimensions_rise facts places i f g order within here there =
     let p : ℕ = get_or places i 0 in

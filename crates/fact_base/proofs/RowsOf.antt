@@ -90,7 +90,7 @@ module _ (f : Fact) where
   later_below : (r : Row) (rs : List Row) → IsBelow (r ∷ rs) → IsBelow rs
   later_below r rs below g at = below g (Contains-append_right (facts_with r.0 r.1) (facts_of_rows rs) g at)
 
-  -- a row of greater dimensions is followed by rows of greater dimensions
+  -- if the first row has greater dimensions than a fact, so have all rows
   below_rows : (r : Row) (rs : List Row) → dimensions_cmp f.dimensions r.0 ≡ Less → AllByRecursion (λ q. dimensions_cmp r.0 q.0 ≡ Less) rs → AllByRecursion (λ q. dimensions_cmp f.dimensions q.0 ≡ Less) (r ∷ rs)
   below_rows r rs less rest = (less, chained rs rest)
     where

@@ -1,4 +1,4 @@
--- Storing merged entries again makes the union.
+-- The entries and references of a base after others are added.
 use Rattle.std.proofs.Common.{◌≡◌, ℕ, List, [], ◌∷◌, ◌++◌, append-nil, length, get_or, false, Result, Ok, Err, sym, ap, subst, ◌∙◌, inl, inr, ⊎_elim, arith}
 use Rattle.std.specs.Prelude.{Contains, IsPermutation}
 use mathlib.Core.Bool.{true≢false}
@@ -101,7 +101,7 @@ all_there references others rise all = is_set_of text_cmp_total text_cmp_exact r
   λ h. ⊎_elim (λ l. l) (each_there (Contains references) others r all) ((in_one_of_both references others r).0 h),
 ))
 
--- the set of other references, added to sorted references
+-- adding the set of other references to sorted references makes the set of both
 pub set_among : (references others : List (List ℕ)) → IsSet text_cmp references → set_union text_cmp references (set_of text_cmp others) ≡ set_of text_cmp (references ++ others)
 set_among references others rise =
     let set = set_of_is_set text_cmp_total text_cmp_exact others in

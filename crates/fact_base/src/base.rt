@@ -143,7 +143,7 @@ impl<'s> Base<'s> {
         Ok(())
     }
 
-    /// Does what `join` does, and moves what is new.
+    /// Does what `join` does, and moves the new facts and references.
     ///
     /// Errors: out of memory; the base is then unchanged, and the other is lost.
     pub fn absorb(&mut self, other: Base<'_>) -> Result<(), AllocError>

@@ -20,14 +20,14 @@ use oim_names::Copied;
 use oim_value::{Level, Value};
 use std::alloc::{AllocError, Global};
 
-/// What a base stores: its dimension sets in order, each with its values and their summary.
+/// The contents of a base: its dimension sets in order, each with its values and their summary.
 pub(crate) type Entries = SortedMap<Dimensions, (SortedSet<Value>, Summary)>;
 
 /// A dimension set with its values and their summary.
 type Entry = (Dimensions, (SortedSet<Value>, Summary));
 
-/// Returns the entries of facts, which `order` visits once each in ascending order. So each fact is
-/// added to the last entry or after it: it is copied once, without a look-up.
+/// Returns the entries of facts. `order` visits each fact once, in ascending order, so each is
+/// added to the last entry or after it. It is copied once, without a look-up.
 pub(crate) fn entries_of(
     alloc: Global,
     facts: &[Fact],

@@ -86,8 +86,8 @@ fn take_text(rt: &HostRuntime, base: &mut Base<'_>, text: &str) -> bool {
     }
 }
 
-// Adds a report of three texts, which differs from others by the second one. It returns false if
-// the report is refused.
+// Adds a report whose text has three parts, of which only the second differs between reports. It
+// returns false if the report is refused.
 fn add(rt: &HostRuntime, base: &mut Base<'_>, start: &str, text: &str, end: &str) -> bool {
     match joined(rt, start, text, end) {
         Ok(report) => take_text(rt, base, report.as_str()),

@@ -185,8 +185,8 @@ fn absorbs_value(rt: &HostRuntime, base: &mut Base<'_>, value: &str, before: &Ba
     }
 }
 
-// Returns whether a base of two values has all values after it absorbs one, and after it absorbs
-// the value again.
+// Returns whether a base of two values has all values after it absorbs a third, and after it
+// absorbs the third again.
 fn has_what_is_given_up(rt: &HostRuntime, before: &Base<'_>, all: &Base<'_>) -> bool {
     match base_of(rt, all.sheet(), &[NINE, ONE]) {
         Some(mut base) => {

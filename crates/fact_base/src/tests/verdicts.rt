@@ -294,8 +294,7 @@ fn add_several(rt: &HostRuntime, base: &mut Base<'_>) -> bool {
     true
 }
 
-// Returns whether there are two rows of two values, and the level is the one of values that do not
-// meet.
+// Returns whether there are two rows of two values, and their level is `All`.
 fn has_several(base: &Base<'_>) -> bool {
     base.row_count() == 2
         && base.fact_count() == 4
