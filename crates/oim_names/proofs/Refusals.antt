@@ -33,7 +33,7 @@ named_kept has_form bs t n e =
     let differs : bytes_eq n.uri reserved_uri ≡ false = bytes_not_eq n.uri reserved_uri e.allowed in
     rw (e.form, e.uri, differs) refl
 
--- a text that nothing refuses expands to the URI of its prefix with its local part
+-- if nothing refuses a text, it expands to the URI of its prefix with its local part
 pub kept_named : (has_form : List ℕ → Bool) (bs : List Binding) (t : List ℕ) → refusal_as has_form bs t ≡ None → (n : QName) × ExpandsAs has_form bs t n
 kept_named has_form bs t none =
     let tests = passed (has_form t) (is_none (uri_of bs (prefix_part t))) (option_map_or (λ v. bytes_eq v reserved_uri) (uri_of bs (prefix_part t)) false) none in
