@@ -63,7 +63,7 @@ all_meet_iff_ends_meet is e points ends = (
 
 -- ---- there are ends
 
--- indices grow by one after an item is added at the front
+-- some item has a property if an item after the first has it
 later : {A : Type 0} (P : A → Type 0) (x : A) (xs : List A) → Any P xs → Any P (x ∷ xs)
 later P x xs a = (suc a.0, a.1, omega (arith, a.2), a.3, a.4)
 

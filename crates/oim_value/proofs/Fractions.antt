@@ -47,7 +47,7 @@ no_first : (d p w : ℕ) → 0 < p → d * p + w ≡ 0 → (d ≡ 0) × (w ≡ 0
 no_first zero p w some h = (refl, omega arith)
 no_first (suc d) p w some h = absurd (omega arith)
 
--- digits of value zero are zeros
+-- digits of value zero are all trailing zeros
 pub without_trailing-nothing : (ds : List ℕ) → list_all is_ascii_digit ds ≡ true → digits_value_after 10 0 ds ≡ 0 → without_trailing ds ≡ []
 without_trailing-nothing [] e h = refl
 without_trailing-nothing (d ∷ ds) e h =

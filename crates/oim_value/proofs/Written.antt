@@ -19,7 +19,7 @@ onto_some : (d : ℕ) (ds : List ℕ) → 0 < length ds → onto_digit d ds ≡ 
 onto_some d [] some = absurd (omega arith)
 onto_some d (e ∷ ds) some = refl
 
--- digits before significant digits are significant
+-- digits before significant digits are not dropped
 without_trailing-append : (xs ys : List ℕ) → 0 < length (without_trailing ys) → without_trailing (xs ++ ys) ≡ xs ++ without_trailing ys
 without_trailing-append [] ys some = refl
 without_trailing-append (x ∷ xs) ys some =
