@@ -1,4 +1,4 @@
--- Items that are inserted at the indices that searches found, from the last on, make the union.
+-- Inserting items from the last on, each at the index that a search found, makes the union.
 use Rattle.std.proofs.Common.{◌≡◌, suc, ◌+◌, ◌≤◌, arith, true, false, not, cond, List, [], ◌∷◌, ◌++◌, append-nil, take, drop, take-append-drop, Option, Some, None, refl, sym, ap, subst, ◌∙◌, ℕ}
 use Rattle.std.specs.Prelude.{reverse, is_some}
 use Rattle.std.specs.Option.{option_or}

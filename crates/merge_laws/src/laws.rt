@@ -46,8 +46,8 @@ pub fn map_is_its_values<K: Key, V: Merge>()
 {}
 
 /// Suppose that the merge of two values passes a test of key and value if both values pass it. Then
-/// all entries of a union pass it if the entries of both maps do, and all entries of a map after
-/// `put` pass it if its entries and the new one do.
+/// all entries of a union pass it if the entries of both maps do. All entries of a map after `put`
+/// pass it if its entries and the new one do.
 pub fn map_keeps_what_merging_keeps<K: Key, V: Merge>()
     ensures union { MapUnionKeeps K.cmp V.merged }
     ensures put { MapWithKeeps K.cmp V.merged }
