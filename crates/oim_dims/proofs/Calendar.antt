@@ -29,7 +29,7 @@ day_range y m d low h =
     let number = days_from_civil-day_count (pos y) m d in
     (omega (arith, signed_arith, before, number, zero_day, day_count-last_of_year (pos 0), days_in_year_bounds (pos 0)), omega (arith, signed_arith, number, day_count_bounds (pos y) m d h))
 
--- the date that jiff makes of three numbers
+-- a date that jiff makes of three numbers is a date of the calendar
 pub date_is : (date : Date) (y m d : ℕ) → IsYmd (to_z w16 y) (to_z w8 m) (to_z w8 d) date → y < 10000 → m < 100 → d < 100 → IsCivilDate (pos y) m d × (epoch_day date ≡ days_from_civil (pos y) m d)
 date_is date y m d h few_y few_m few_d =
     let ey : date.year ≡ pos y = omega (arith, ints, h.0) in
@@ -37,7 +37,7 @@ date_is date y m d h few_y few_m few_d =
     let ed : date.day ≡ d = omega (arith, ints, h.2) in
     (rw (ey, em, ed) at (civil date), rw (ey, em, ed) refl)
 
--- the tests that the calendar has a date
+-- a date of the calendar passes the tests
 pub is_real : (y m d : ℕ) → 1 ≤ y → IsCivilDate (pos y) m d → (nat_le 1 y && is_in_range 1 12 m && is_in_range 1 (days_in_month (pos y) m) d) ≡ true
 is_real y m d low h = grind (arith, nat_tests)
 

@@ -85,7 +85,7 @@ parts z h =
 clock_shows : (h n s : ℕ) → h < 24 → n < 60 → s < 60 → (nat_le n 59 && nat_le s 59 && nat_le (3600 * h + 60 * n + s) DAY_SECONDS) ≡ true
 clock_shows h n s hh hn hs = grind (arith, nat_tests)
 
--- the numbers in the text of a moment
+-- the text of a moment's parts denotes the moment
 spelled_back : (z : ℤ) (y m d h n s : ℕ) → IsMoment z → AreParts z y m d h n s → moment_of (spelled y m d h n s) ≡ Some z
 unfolding has_date has_time day_number second_of_day
 spelled_back z y m d h n s moment p =

@@ -14,7 +14,7 @@ use Rattle.oim_dims.specs.declared.member.Member.{Member}
 use Rattle.oim_value.specs.ValueOrder.{name_cmp}
 use Rattle.oim_dims.specs.DimensionSet.{is_below, rises, has_name, with_member, MembersGrow, NamesAreThere}
 
--- the index is not before i
+-- the name belongs at index i or later
 pub record IsPast (n : QName) (es : List (QName × Member)) (i : ℕ) : Type 0 where
   pub split : (m : Member) → with_member n m es ≡ take i es ++ with_member n m (drop i es)
   pub none : has_name n es ≡ has_name n (drop i es)

@@ -95,7 +95,7 @@ is_opening c = c == 40
 under_opening : (c : ℕ) → is_mark c ≡ false → is_opening c ≡ false
 under_opening c h = grind (arith, nat_tests)
 
--- the pieces of a product are its measures
+-- splitting a product at `*` returns the texts of its measures
 split_joined : (bs : List Binding) (ts : List (List ℕ)) (ns : List QName) → AllZip (Spells bs) ts ns → 0 < length ns → slice_split is_star (join_with_byte 42 ts) ≡ ts
 split_joined bs [] [] z h = absurd (omega arith)
 split_joined bs [] (n ∷ ns) z h = absurd z

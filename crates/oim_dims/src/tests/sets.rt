@@ -241,7 +241,7 @@ fn listed(
     Ok(members)
 }
 
-// Returns whether the set accepts nil members with these names as its members.
+// Returns whether `set_members` accepts nil members with these names.
 fn takes(rt: &HostRuntime, aliases: &Aliases, set: &mut Dimensions, names: &[&str]) -> bool {
     match listed(rt, aliases, names) {
         Ok(members) => set.set_members(members).is_ok(),
