@@ -1,5 +1,4 @@
--- The text of a document's members: members before `facts`, the object `facts`, whose text is read in pieces, and members after
--- it.
+-- The text of a document: the members before `facts`, the pieces of `facts`, and the members after it.
 use Rattle.std.proofs.Common.{◌≡◌, ℕ, ◌≤◌, Bool, true, false, ◌||◌, ◌==◌, inl, inr, ◌⊎◌, List, [], ◌∷◌, ◌++◌, Some, option_map, option_and_then, refl, sym, ap, ◌∙◌, subst, arith, append_assoc, append-nil}
 use Rattle.std.specs.Prelude.{codes}
 use Rattle.std.proofs.lemmas.Bool.{eqb-true}

@@ -68,7 +68,7 @@ module _ {K : Type 0} where
   put_as : (m : FinMap name_cmp K) (n : QName) (k : K) → map.contains_key m n ≡ false → (if map.contains_key m n then m else map.insert m n k) ≡ map.insert m n k
   put_as m n k new = ap (λ b. if b then m else map.insert m n k) new
 
-  -- the test of the other names, after a new name
+  -- a new name is no repeat, and the other names are tested after it
   pub next : (m after : FinMap name_cmp K) (n : QName) (k : K) (ns : List QName) → map.contains_key m n ≡ false → after ≡ (if map.contains_key m n then m else map.insert m n k) → again_after after ns ≡ again_after m (n ∷ ns)
   next m after n k ns new put =
       ap (λ m. again_after m ns) (put ∙ put_as m n k new)
@@ -86,7 +86,7 @@ refused_by bs t r (Some n) refused is = let no : None ≡ Some r = sym (named_ke
 pub refused_none : (bs : List Binding) (t : List ℕ) (r : Reason) → name_refusal bs t ≡ Some r → named bs t ≡ None
 refused_none bs t r refused = refused_by bs t r (named bs t) refused refl
 
--- the result of reading a text that names nothing
+-- a text names nothing if reading it returns a refusal
 pub read_none : (bs : List Binding) (t : List ℕ) (read : Result QName Reason) → None ≡ result_ok read → read ≢ Err OutOfMemory → IfErr read (λ r. (r ≡ OutOfMemory) ⊎ (name_refusal bs t ≡ Some r)) → named bs t ≡ None
 read_none bs t (Ok m) is other e = absurd (cc)
 read_none bs t (Err r) is other (inl memory) = absurd (other (ap Err memory))

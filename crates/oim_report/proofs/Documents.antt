@@ -43,7 +43,7 @@ in_members : (o : Option Members) → any_in binds_nothing o ≡ false → any_m
 in_members None e = refl
 in_members (Some ms) e = e
 
--- the bindings of an accepted report are bindings to namespaces
+-- the prefixes of an accepted report are bound to namespaces
 pub bindings_are_namespaces : (tree : Data) → document_refusal tree ≡ None → AreNamespaces (bindings_of tree)
 bindings_are_namespaces tree e =
     let groups = none_of (shape_refusal tree) _ (document_least tree ∙ e) in

@@ -20,7 +20,7 @@ pub still : {A : Type 0} (R : List ℕ → A → Type 0) (g h : Glossary A) (t :
 still R g h t a is says (inl same) = record { each = λ u b found. is.each u b (sym (same u) ∙ found) }
 still R g h t a is says (inr new) = record { each = λ u b found. either R g t u a b is says (bytes_eq t u) refl (sym (new u) ∙ found) }
 
--- an empty glossary has no wrong meaning
+-- a glossary without meanings has no wrong one
 pub none_wrong : {A : Type 0} (R : List ℕ → A → Type 0) (g : Glossary A) → ((t : List ℕ) → meaning g t ≡ None) → IsGlossary R g
 none_wrong R g empty = record { each = λ t a found. let none = sym (empty t) ∙ found in cc }
 

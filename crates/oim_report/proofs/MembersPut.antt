@@ -123,7 +123,7 @@ pub rising_stays : (ms : Members) → IsRising ms → put_all ms no_members ≡ 
 rising_stays no_members h = refl
 rising_stays (member k d ms) h = put_all_later k d ms no_members (lacks_before k ms h.0) ∙ ap (put k d) (rising_stays ms h.1) ∙ put_first k d ms h.0
 
--- adding members to others adds the last member last
+-- a member may be added before or after the others are added to an object
 pub put_onto : (k : List ℕ) (d : Data) (ms onto : Members) → IsRising ms → put_all (put k d ms) onto ≡ put k d (put_all ms onto)
 put_onto k d no_members onto h = refl
 put_onto k d (member l e ms) onto h =

@@ -172,7 +172,7 @@ module _ (sheet : Sheet) (bs : List Binding) where
       member = says_member bs spelled w.fits.kind e.1 w.fits.member w.spells.member;
     }
 
-    -- different names have different keys
+    -- the keys of members with other names do not name this dimension
     other_names : (n : QName) (es : List Entry) → All IsWritten es → All (λ (e : Entry). e.0 ≢ n) es → All (NamesNo n) (defined_given spelled es)
     other_names n [] w h = All-nil (NamesNo n)
     other_names n (e ∷ es) w h =

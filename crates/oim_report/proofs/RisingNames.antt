@@ -116,7 +116,7 @@ module _ {X : Type 0} where
   pub empty_list : map.from_sorted {R = name_cmp} [] ≡ map.empty {X = X}
   empty_list = empty_of_len _ (len-entries _ ∙ ap length (entries-from_sorted name_cmp [] tt))
 
-  -- a name that is listed keeps its kind, and another is added
+  -- adding a listed name does not change the map
   pub listed_stays : (m : FinMap name_cmp X) (q : QName) (v k : X) → map.get m q ≡ Some k → m ≡ (if map.contains_key m q then m else map.insert m q v)
   listed_stays m q v k h = sym (ap (λ (a : Option X). cond (is_some a) m (map.insert m q v)) h)
 

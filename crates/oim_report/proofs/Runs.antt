@@ -179,13 +179,13 @@ level_other before last f shared known less =
     free : (l : Level) → (allows_each l (before ++ last ∷ []) && list_all (λ g. allows l g f) (before ++ last ∷ [])) ≡ allows_each l (before ++ last ∷ [])
     free l = ap (λ b. allows_each l (before ++ last ∷ []) && b) (apart_each l (before ++ last ∷ []) last f known.below less) ∙ and_true (allows_each l (before ++ last ∷ []))
 
--- if the last fact is not allowed, neither is the list
+-- a level that does not allow a fact beside the last one does not allow the list
 refused_at_end : (l : Level) (before : List Fact) (last f : Fact) → allows l last f ≡ false → (allows_each l (before ++ last ∷ []) && list_all (λ g. allows l g f) (before ++ last ∷ [])) ≡ false
 refused_at_end l before last f h =
     ap (λ b. allows_each l (before ++ last ∷ []) && b) (each_push (λ g. allows l g f) before last ∙ ap (λ b. list_all (λ g. allows l g f) before && b) h ∙ and_false _)
     ∙ and_false _
 
--- a fact that is allowed beside the last one may be repeated
+-- a level that allows the last fact twice allows it again in the list
 again : (l : Level) (before : List Fact) (last : Fact) → allows l last last ≡ true → (allows_each l (before ++ last ∷ []) && list_all (λ g. allows l g last) (before ++ last ∷ [])) ≡ allows_each l (before ++ last ∷ [])
 again l before last h = absorbed _ _ (λ each. each_push (λ g. allows l g last) before last ∙ and_from _ _ (and_parts (allows_each l before) _ (sym (allows_each-push l before last) ∙ each)).1 h)
   where

@@ -1,4 +1,4 @@
--- Parts of a fact object that no condition refuses say a fact. Each says its part of the fact.
+-- If no condition refuses the parts of a fact object, they say a fact. Each part says its part of the fact.
 use Rattle.std.proofs.Common.{◌≡◌, ℕ, List, [], ◌∷◌, ◌++◌, map, Bool, true, false, not, ◌||◌, Option, Some, None, Result, Ok, Err, refl, sym, ap, ◌∙◌}
 use Rattle.std.specs.Prelude.{if◌then◌else◌, is_none, option_map, option_and_then}
 use Rattle.std.specs.List.{flat_map, list_any}
@@ -144,7 +144,7 @@ member_is_said bs (Some Typed) (whole n) none fits = absurd (cc)
 member_is_said bs (Some Typed) other none fits = absurd (cc)
 member_is_said bs None g none fits = absurd (cc)
 
--- a dimension that the sheet does not list cannot have a member
+-- if no condition refuses the keys, they say members
 members_are_said : (sheet : Sheet) (bs : List Binding) (es : List (QName × Member)) (ds : List (List ℕ × Given)) → names_refusal bs (flat_map (defined_names sheet bs) ds) ≡ None → list_any (λ d. is_misfit (dimension_kind sheet bs d.0) d.1) ds ≡ false → (said : List (QName × Member)) × (members_with sheet bs es ds ≡ Some said)
 members_are_said sheet bs es [] none fit = (es, refl)
 members_are_said sheet bs es (d ∷ ds) none fit =
@@ -215,7 +215,7 @@ content_is_said sheet bs p ds form none =
     let each : EachSays sheet bs ds d = record { concept = c.1; entity = e.1; period = t.1; unit = u.1; language = l.1; members = m.1 } in
     (record { dimensions = d; value = v.0 }, with_value sheet bs p ds d v.0 (together sheet bs ds d each) v.1)
 
--- the dimensions, if there are any
+-- an object with dimensions says a fact if no condition refuses it
 dimensions_say : (sheet : Sheet) (bs : List Binding) (p : FactParts) (o : Option DimensionParts) → is_none o ≡ false → option_map_or has_misshapen_core o false ≡ false → option_and_then (content_refusal sheet bs p) o ≡ None → (f : Fact) × (option_and_then (fact_of sheet bs p) o ≡ Some f)
 dimensions_say sheet bs p None some form none = absurd (cc)
 dimensions_say sheet bs p (Some ds) some form none = content_is_said sheet bs p ds form none

@@ -41,7 +41,7 @@ module _ {X : Type 0} where
   onto m [] = m
   onto m (e ∷ es) = onto (with_entry m e) es
 
-  -- an entry is found only if the map did not have its name
+  -- a look-up in a map with a new entry finds the entries of the map first
   at_one : (m : FinMap name_cmp X) (e : QName × X) (q : QName) (rest : Option X) → first_of (map.get (with_entry m e) q) rest ≡ first_of (map.get m q) (cond (eq_by_cmp name_cmp q e.0) (Some e.1) rest)
   at_one m e q rest =
       elim (map.get m e.0) as (λ o. map.get m e.0 ≡ o → first_of (map.get (cond (is_some o) m (map.insert m e.0 e.1)) q) rest ≡ first_of (map.get m q) (cond (eq_by_cmp name_cmp q e.0) (Some e.1) rest)) [

@@ -95,7 +95,7 @@ IsUtf8-one c ascii =
 
 -- ---- a string
 
--- the bytes so far of a character that is not finished; there are none after an escape has begun
+-- the bytes of an unfinished character; there are none after an escape has begun
 abbrev open_run : Within → List ℕ → List ℕ
 open_run plain run = run
 open_run after_backslash run = []

@@ -87,7 +87,7 @@ meets_each i j k h =
     and_from _ _ (and_from _ _ (le_to i.low k.high (omega (arith, ints, clamps))) (le_to k.low i.high (omega (arith, ints, clamps))))
     (and_from _ _ (le_to j.low k.high (omega (arith, ints, clamps))) (le_to k.low j.high (omega (arith, ints, clamps))))
 
--- an interval that meets two intervals that meet also meets their common part
+-- an interval that meets two intervals meets their common part
 meets_common : (i j k : Interval) → (intervals_meet i k && intervals_meet j k) ≡ true → intervals_meet (common_part i j) k ≡ true
 meets_common i j k h =
     let both = and_parts (intervals_meet i k) (intervals_meet j k) h in

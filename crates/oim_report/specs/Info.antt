@@ -60,7 +60,7 @@ abbrev pub is_allowed_duplicates : List Binding → List ℕ → Bool
 is_allowed_duplicates bs key =
     option_map_or (λ u. bytes_eq u reserved_uri) (uri_of bs (prefix_part key)) false && bytes_eq (local_part key) (codes "allowedDuplicates")
 
--- the values at keys that are the feature
+-- the values of all members that declare the feature
 abbrev pub declarations : List Binding → Members → List Given
 declarations bs no_members = []
 declarations bs (member key d ms) = if is_allowed_duplicates bs key then given d ∷ declarations bs ms else declarations bs ms

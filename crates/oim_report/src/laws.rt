@@ -125,7 +125,7 @@ pub fn faults_begin_with_the_refusal()
     ensures first { FirstFaultIsAnswered }
 {}
 
-/// Parts of a fact object that no condition refuses say a fact.
+/// If no condition refuses the parts of a fact object, they say a fact.
 pub fn facts_are_said_unless_refused()
     ensures { FactsAreSaid }
 {}

@@ -27,7 +27,7 @@ const FACTS: &str =
 
 // The expected outcome of a report.
 enum Answer<'t> {
-    /// It is refused for a reason with this number, and if a fact is refused, at this place.
+    /// The document is refused for the reason with this number.
     InDocument(u8),
     InFact(u8, u64),
     Read,

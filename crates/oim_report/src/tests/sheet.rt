@@ -6,7 +6,7 @@ use std::test::Fail;
 // Sheets with the reason for which they are refused, if any.
 const SHEETS: [(Option<Reason>, &[&str]); 9] = [
     (Some(Reason::NotJson), &["", "{"]),
-    // a sheet has its form
+    // the form of a sheet
     (
         Some(Reason::MemberForm),
         &[

@@ -11,7 +11,7 @@ use oim_names::{Aliases, Reason};
 use std::test::Fail;
 
 const FAULTS: [(Reason, &[&str]); 24] = [
-    // a fact has its form
+    // the form of a fact
     (
         MemberForm,
         &[
@@ -47,7 +47,7 @@ const FAULTS: [(Reason, &[&str]); 24] = [
         ],
     ),
     (DimensionsMissing, &[r#"{"value":"1"}"#]),
-    // each name of a fact has its form
+    // the form of each name of a fact
     (
         NameForm,
         &[
@@ -99,7 +99,7 @@ const FAULTS: [(Reason, &[&str]); 24] = [
             r#"{"value":"1","dimensions":{"concept":"eg:A","eg:Sku":"a","zz:Sku":"a"}}"#,
         ],
     ),
-    // core dimensions have their forms
+    // the forms of core dimensions
     (
         PeriodForm,
         &[r#"{"value":"1","dimensions":{"concept":"eg:A","period":"2020-12-31"}}"#],
@@ -129,7 +129,7 @@ const FAULTS: [(Reason, &[&str]); 24] = [
         LanguageOnNumeric,
         &[r#"{"value":"1","dimensions":{"concept":"eg:A","language":"en"}}"#],
     ),
-    // values and decimals have their forms
+    // the forms of values and decimals
     (
         ValueForm,
         &[
