@@ -57,7 +57,7 @@ from_facts_with s vs f h =
     let found = from_map (λ (w : Value). let g : Fact = record { dimensions = s; value = w } in g) vs f h in
     (ap (λ (g : Fact). g.dimensions) found.1.1, subst (Contains vs) (ap (λ (g : Fact). g.value) found.1.1) found.1.0)
 
--- a value is among the values of an entry, if there is one
+-- there is an entry, and the value is among its values
 abbrev pub Holds : Option Summed → Value → Type 0
 Holds None v = ⊥
 Holds (Some kept) v = Contains kept.0 v

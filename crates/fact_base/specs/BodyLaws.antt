@@ -22,7 +22,7 @@ pub record HasWhatDocumentsHave (docs : List Document) (b : Body) : Type 0 where
 abbrev pub BodyHasWhatDocumentsHave : Type 0
 BodyHasWhatDocumentsHave = (docs : List Document) → HasWhatDocumentsHave docs (body docs)
 
--- exactly the facts and references of one body or the other
+-- a body has exactly the facts and references of one body or the other
 pub record HasBoth (a b both : Body) : Type 0 where
   pub rises : IsBody both
   pub facts : (f : Fact) → Contains both.facts f ↔ (Contains a.facts f ⊎ Contains b.facts f)
