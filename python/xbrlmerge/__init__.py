@@ -124,8 +124,8 @@ class Sources(List[Source]):
 
 
 class Columns(Dict[str, List[Any]]):
-    """Columns by their names, as pandas.DataFrame and pyarrow.table take them; `text` has the JSON objects, one a line, that
-    the program prints, and `refusals` the reports that were refused."""
+    """Columns by their names, as pandas.DataFrame takes them; `text` has the JSON objects, one a line, that the program
+    prints, and `refusals` the reports that were refused."""
 
     def __init__(self, names: Iterable[str], rows: Iterable[Tuple[Any, ...]], text: bytes, refusals: List[Refusal]) -> None:
         found = [*rows]
