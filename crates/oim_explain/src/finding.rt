@@ -15,7 +15,7 @@ pub(crate) struct Finding<'a> {
 }
 
 impl<'a> Finding<'a> {
-    /// Returns a refusal of the document.
+    /// A reason alone is a refusal of the document.
     pub(crate) fn of_document(reason: Reason, found: Found<'a>) -> Finding<'a> {
         Finding {
             fact: None,
