@@ -30,10 +30,11 @@ numerator_pieces t = side_pieces (before_first is_slash t)
 unfoldable pub denominator_pieces : List ℕ → List (List ℕ)
 denominator_pieces t = if list_any is_slash t then side_pieces (after_first is_slash t) else []
 
--- each piece of both sides passes a test; some piece passes it
+-- each piece of both sides passes a test
 abbrev pub each_piece : (List ℕ → Bool) → List ℕ → Bool
 each_piece p t = list_all p (numerator_pieces t) && list_all p (denominator_pieces t)
 
+-- some piece of either side passes a test
 abbrev pub some_piece : (List ℕ → Bool) → List ℕ → Bool
 some_piece p t = list_any p (numerator_pieces t) || list_any p (denominator_pieces t)
 
