@@ -53,7 +53,7 @@ turned v w h = (values_meet_is_meets w v).1 (meets_is_symmetric v w ((values_mee
 pub values_meet_turns : (v w : Value) → values_meet v w ≡ values_meet w v
 values_meet_turns v w = both_ways (values_meet v w) (values_meet w v) (turned v w) (turned w v)
 
--- two different values in order meet only by their intervals
+-- if one value is less than another, they meet exactly if their intervals do
 pub lesser_meets : (v w : Value) → value_cmp v w ≡ Less → values_meet v w ≡ both_meet (interval_at v) (interval_at w)
 lesser_meets Nil Nil h = cc
 lesser_meets (Number m d) (Number n e) h = refl

@@ -125,18 +125,20 @@ is_misfit (Some Typed) (text t) = false
 is_misfit (Some Typed) nil = false
 is_misfit kind g = true
 
--- the names of dimensions, and the test that one of them is repeated
+-- the names of dimensions
 abbrev pub dimension_names : List Binding → List (List ℕ × Given) → List QName
 dimension_names bs defined = filter_map (λ d. named bs d.0) defined
 
+-- a name is repeated
 abbrev pub comes_again : List QName → Bool
 comes_again [] = false
 comes_again (n ∷ ns) = list_any (λ m. is_eq (name_cmp n m)) ns || comes_again ns
 
--- the sheet does not list a dimension; or a member is not of its dimension's kind, or a dimension is repeated
+-- the sheet does not list a dimension
 abbrev pub lists_unknown : Sheet → List Binding → List (List ℕ × Given) → Bool
 lists_unknown sheet bs defined = list_any (λ d. is_none (dimension_kind sheet bs d.0)) defined
 
+-- a member is not of its dimension's kind, or a dimension is repeated
 abbrev pub is_faulty : Sheet → List Binding → List (List ℕ × Given) → Bool
 is_faulty sheet bs defined =
     list_any (λ d. is_misfit (dimension_kind sheet bs d.0) d.1) defined || comes_again (dimension_names bs defined)

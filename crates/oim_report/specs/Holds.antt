@@ -39,10 +39,11 @@ use Rattle.oim_report.specs.Sheet.{Sheet, same_concept_kind, same_dimension_kind
 abbrev pub is_some_and : {A : Type 0} → (A → Bool) → Option A → Bool
 is_some_and test o = option_map_or test o false
 
--- the text of a string, which is always UTF-8 if it was read; a whole number
+-- the text of a string, which is always UTF-8 if it was read
 abbrev pub as_text : Data → Option (List ℕ)
 as_text d = option_and_then (λ s. if is_utf8 s then Some s else None) (as_str d)
 
+-- a whole number
 abbrev pub as_whole : Data → Option ℤ
 as_whole d = option_and_then as_integer (as_number d)
 
@@ -52,11 +53,12 @@ no_text d = is_none (as_text d)
 abbrev pub no_text_or_null : Data → Bool
 no_text_or_null d = no_text d && is_none (as_null d)
 
--- the members with their keys; some item passes a test
+-- the members with their keys
 abbrev pub entries : Members → List (List ℕ × Data)
 entries no_members = []
 entries (member key d ms) = (key, d) ∷ entries ms
 
+-- some item passes a test
 abbrev pub any_item : (Data → Bool) → Items → Bool
 any_item test no_items = false
 any_item test (item d ds) = test d || any_item test ds
@@ -92,10 +94,11 @@ module _ (sheet : Sheet) (bs : List Binding) (fact : Data) (dimensions : Members
   abbrev pub value_text : Option (List ℕ)
   value_text = option_and_then as_text (get (codes "value") fact)
 
-  -- the expanded name of the concept; the test that the sheet lists it with this kind
+  -- the expanded name of the concept
   abbrev pub concept : Option QName
   concept = option_and_then (named bs) (text_at (codes "concept"))
 
+  -- the sheet lists the concept with this kind
   abbrev pub is_kind : ConceptKind → Bool
   is_kind k = is_some_and (same_concept_kind k) (option_and_then (map.get sheet.concepts) concept)
 

@@ -120,9 +120,10 @@ is_unknown known key d = not (has_colon key) && not (list_any (λ k. bytes_eq k 
 abbrev pub is_object : Data → Bool
 is_object d = is_some (as_object d)
 
--- there is a value that is no object; there is one that is no array
+-- there is a value that is no object
 abbrev pub is_no_object : Option Data → Bool
 is_no_object d = option_map_or (λ v. not (is_object v)) d false
 
+-- there is a value that is no array
 abbrev pub is_no_array : Option Data → Bool
 is_no_array d = option_map_or (λ v. not (is_some (as_array v))) d false

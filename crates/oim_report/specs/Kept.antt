@@ -40,8 +40,7 @@ kept base reference = kept_by (parse_url None reference) base reference
 abbrev pub is_within_limit : List ℕ → Bool
 is_within_limit text = nat_le (length text) MOST_REFERENCE_BYTES
 
--- the URL against which references are resolved: a text within the limit that parses as an http or https URL (the restriction to
--- these is own)
+-- the URL against which references are resolved: a text within the limit that parses as an http or https URL (own: other URLs are refused)
 abbrev pub base_url : List ℕ → Option Parts
 base_url text = if is_within_limit text then web_url (parse_url None text) else None
 
