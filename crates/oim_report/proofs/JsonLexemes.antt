@@ -1,4 +1,4 @@
--- A prefix of a text that ends with a closing brace has the same lexemes whatever follows it.
+-- If a prefix of a text ends with a closing brace, its lexemes do not depend on what follows.
 use Rattle.std.proofs.Common.{◌≡◌, ℕ, suc, zero, ◌≤◌, Bool, true, false, cond, ◌&&◌, ◌||◌, ◌==◌, nat_lt, List, [], ◌∷◌, ◌++◌, length, Option, Some, None, option_and_then, refl, sym, ap, ◌∙◌, subst, arith, append_assoc}
 use Rattle.std.proofs.lemmas.Bool.{false≢true, true≢false, eqb-true, and_parts}
 use Rattle.std.proofs.lemmas.List.{length-append}

@@ -87,7 +87,7 @@ said_member bs (Some Typed) (text t) = Some (MemberText t)
 said_member bs (Some Typed) nil = Some NoMember
 said_member bs kind g = None
 
--- the members after those of several keys were added one after another
+-- the members, extended by the members of several keys
 abbrev pub members_with : Sheet → List Binding → List (QName × Member) → List (List ℕ × Given) → Option (List (QName × Member))
 members_with sheet bs es [] = Some es
 members_with sheet bs es (d ∷ ds) =
