@@ -107,14 +107,14 @@ def check(parser: argparse.ArgumentParser, options: argparse.Namespace) -> None:
 
 
 def outputs_of(options: argparse.Namespace) -> list[str]:
-    """Returns the files that are written."""
+    """Returns the output files."""
     names = ["page.html", "contradictions.csv", "rows.csv", *["merged.json"] * (not options.texts)]
     names += ["sheet.json"] * bool(options.taxonomy) + ["changes.csv"] * options.normalise
     return [*(os.path.join(options.output, name) for name in names), *[options.near] * bool(options.near)]
 
 
 def inputs_of(options: argparse.Namespace) -> list[str]:
-    """Returns the files that are read. Errors: ValueError if a name or a report has two meanings."""
+    """Returns the input files. Errors: ValueError if a name or a report has two meanings."""
     inputs = [*options.labels, *(options.taxonomy or []), *[options.sheet] * bool(options.sheet)]
     if options.texts:
         return [*inputs, *options.texts, *[options.sources] * bool(options.sources), *(word.partition("=")[2] for word in options.words)]
@@ -132,7 +132,7 @@ def main() -> Status:
 
 
 def run_program(options: argparse.Namespace, progress: Progress) -> Status:
-    """Writes what the program makes of the reports."""
+    """Writes the output of the program for the reports."""
     program, reports = program_at(options.program), reports_of(options.words)
     with tempfile.TemporaryDirectory(prefix=".new-", dir=os.path.abspath(options.output)) as folder:
         return write(Run(program, options, reports, folder, progress).inputs(), options, progress)
@@ -163,7 +163,7 @@ def write(inputs: Inputs, options: argparse.Namespace, progress: Progress) -> St
 
 
 def summary(reader: Reader) -> str:
-    """Returns how many rows there are of each kind."""
+    """Returns the number of rows of each kind, as text."""
     of = reader.counts
     rows = counted(of["inconsistent"] + of["consistent"] + of["complete"], "row")
     return f"{rows}: {counted(of['inconsistent'], 'contradiction')}, {of['consistent']} consistent, {of['complete']} reported once"

@@ -7,16 +7,16 @@ from typing import Any, Mapping, NamedTuple, Optional
 
 from process import shortened
 
-SPACE = " \t\r\n"  # the white space of XML and xBRL-JSON; other characters of Unicode that look so are part of a name
+SPACE = " \t\r\n"  # the white space of XML and xBRL-JSON; other Unicode spaces are part of a name
 PART = re.compile(rf"[^{SPACE}:]+")
 NAME = re.compile(f"({PART.pattern}):({PART.pattern})")
-XBRL = "https://xbrl.org/2021"  # no concept and no dimension of a report is in this namespace
+XBRL = "https://xbrl.org/2021"  # the reserved namespace, which has no concept and no dimension of a report
 
 Uris = Mapping[str, str]  # by prefix
 
 
 class Name(NamedTuple):
-    """A namespace and a local part. Equal namespaces are one object (`sys.intern`), so that comparing costs nothing."""
+    """A namespace and a local part. Equal namespaces are one object (`sys.intern`), which makes comparing cheap."""
 
     uri: str
     local: str
@@ -27,7 +27,7 @@ class Name(NamedTuple):
 
 
 def expanded(text: Any, uris: Uris) -> Optional[Name]:
-    """Returns an expanded name, None where the text is no name or its prefix is not bound."""
+    """Returns an expanded name, or None if the text is not a name or its prefix is not bound."""
     parts = NAME.fullmatch(text) if isinstance(text, str) else None
     uri = parts and uris.get(parts[1])
     return Name(uri, parts[2]) if parts and uri else None

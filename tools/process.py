@@ -1,4 +1,4 @@
-"""What the tools share as processes: exit statuses, lines on standard error, and signals that end them."""
+"""Exit statuses, lines on standard error, and signals, as all tools handle them."""
 from __future__ import annotations
 
 import contextlib
@@ -11,11 +11,11 @@ from types import FrameType
 from typing import Callable, Iterable, Iterator, NoReturn, Optional
 
 STOPPING = (signal.SIGHUP, signal.SIGINT, signal.SIGTERM)
-MOST_CHARACTERS = 80  # of a text from a file that a line shows, as many as `xbrlmerge explain` shows
+MOST_CHARACTERS = 80  # shown characters of a text from a file, as in `xbrlmerge explain`
 
 
 class Status(enum.IntEnum):
-    """How a tool ends, unless a signal ends it."""
+    """The exit status of a tool, unless a signal ends it."""
 
     DONE = 0
     LOOK = 1  # done, with something to look at: a loss, an omission, a contradiction
@@ -24,7 +24,7 @@ class Status(enum.IntEnum):
 
 
 class NotDone(Exception):
-    """Why a tool cannot do what it was asked. Each argument is a line for standard error."""
+    """Why a tool failed. Each argument is a line for standard error."""
 
 
 class Stopped(BaseException):
@@ -38,7 +38,7 @@ class Stopped(BaseException):
 def run(main: Callable[[], Status]) -> NoReturn:
     """Ends the process with the status that `main` returns.
 
-    Any exception of `main` becomes a line on standard error and NOT_DONE, so a traceback never ends in status 1. A failed
+    Any exception of `main` becomes a line on standard error and NOT_DONE, so an exception never leads to status 1. A failed
     write on standard output or standard error is NOT_DONE as well. After a signal in STOPPING the process cleans up, and
     then ends by that signal.
     """
@@ -58,7 +58,7 @@ def run(main: Callable[[], Status]) -> NoReturn:
 
 
 def finished(main: Callable[[], Status]) -> Status:
-    """Returns the status of a tool after printing why it failed, if it did."""
+    """Prints why a tool failed, if it did, and returns its status."""
     try:
         status, lines = outcome(main)
         print_lines(lines)
@@ -75,7 +75,7 @@ def outcome(main: Callable[[], Status]) -> tuple[Status, tuple[str, ...]]:
         return status, ()
     except NotDone as fault:
         return Status.NOT_DONE, tuple(map(str, fault.args))
-    except Exception as fault:  # files from strangers can raise any
+    except Exception as fault:  # input from untrusted sources can cause any exception
         return Status.NOT_DONE, (sentence(fault),)
 
 
@@ -101,13 +101,13 @@ def sentence(fault: Exception) -> str:
 
 def stop(number: int, _frame: Optional[FrameType]) -> NoReturn:
     for each in STOPPING:
-        signal.signal(each, signal.SIG_IGN)  # so that nothing interrupts the cleaning up
+        signal.signal(each, signal.SIG_IGN)  # so that nothing interrupts the cleanup
     raise Stopped(number)
 
 
 @contextlib.contextmanager
 def signals_held() -> Iterator[None]:
-    """Holds the signals in STOPPING back until the block ends."""
+    """Blocks the signals in STOPPING until the block ends."""
     before = signal.pthread_sigmask(signal.SIG_BLOCK, STOPPING)
     try:
         yield
@@ -116,10 +116,11 @@ def signals_held() -> Iterator[None]:
 
 
 def fill_standard_files() -> None:
-    """Opens the null device for each standard file that is closed, the wrong way round, so that each use of it fails.
+    """Opens the null device for each closed standard stream, in the wrong direction, so that each use of it fails.
 
-    Without this the next file that is opened takes the number, and lines for standard error go into it. Both files are
-    buffered, whatever PYTHONUNBUFFERED says: an unbuffered one may take a part of the bytes and raise nothing.
+    Otherwise the next file that is opened would get its number, and lines for standard error would go into that file.
+    Both streams are buffered, whatever PYTHONUNBUFFERED says: an unbuffered stream may take a part of the bytes and
+    raise nothing.
     """
     for number, mode in enumerate((os.O_WRONLY, os.O_RDONLY, os.O_RDONLY)):
         try:
@@ -131,13 +132,13 @@ def fill_standard_files() -> None:
 
 
 def are_flushed() -> bool:
-    """Returns whether standard output and standard error took everything. One that did not is closed."""
+    """Returns whether standard output and standard error took all bytes. A stream that did not is closed."""
     taken = True
     for file in (sys.stdout, sys.stderr):
         try:
             file.flush()
         except OSError:
-            os.dup2(os.open(os.devnull, os.O_WRONLY), file.fileno())  # Python would flush again and end in status 120
+            os.dup2(os.open(os.devnull, os.O_WRONLY), file.fileno())  # Python would flush it again and exit with status 120
             taken = False
     return taken
 
@@ -145,7 +146,7 @@ def are_flushed() -> bool:
 def print_lines(lines: Iterable[str]) -> None:
     """Prints lines on standard error, after the name of the tool.
 
-    Print notes before the output is written: when standard error takes none of them, nothing is done.
+    Print notes before the output is written: if standard error fails, the tool then stops before it changes anything.
     Errors: OSError.
     """
     name = os.path.basename(sys.argv[0]).removesuffix(".py")
@@ -155,12 +156,12 @@ def print_lines(lines: Iterable[str]) -> None:
 
 
 def printable(text: str) -> str:
-    """Returns a text with the escapes of JSON for the characters that are not printable."""
+    """Returns a text in which characters that are not printable are JSON escapes."""
     if text.isprintable():
         return text
     return "".join(each if each.isprintable() else json.dumps(each)[1:-1] for each in text)
 
 
 def shortened(text: str) -> str:
-    """Returns the first MOST_CHARACTERS of a text and two dots, or all of a shorter one."""
+    """Returns a text, cut after MOST_CHARACTERS with two dots if it is longer."""
     return text if len(text) <= MOST_CHARACTERS else text[:MOST_CHARACTERS] + ".."

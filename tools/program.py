@@ -23,7 +23,7 @@ def add_program(parser: argparse.ArgumentParser) -> None:
 
 
 def program_at(given: Optional[str]) -> str:
-    """Returns the path of the program: the one that is given, or one of those beside the tool, or the one on the PATH."""
+    """Returns the path of the program: the given one, or one beside the tool, or the one on the PATH."""
     places = [place for place in BESIDE if os.path.isfile(place) and os.access(place, os.X_OK)]
     found = given or next(iter(places), None) or shutil.which(NAME)
     if not found:
@@ -32,7 +32,7 @@ def program_at(given: Optional[str]) -> str:
 
 
 class Program:
-    """The program, a sheet, and a folder for what it prints."""
+    """The program, a sheet, and a folder for its output."""
 
     def __init__(self, path: str, sheet: str, folder: str) -> None:
         self.path, self.sheet, self.folder = path, os.path.abspath(sheet), folder
@@ -41,7 +41,7 @@ class Program:
         return os.path.join(self.folder, name)
 
     def run(self, command: str, words: Sequence[str]) -> tuple[int, list[str]]:
-        """Runs a command whose output goes into the file of that name. Returns its status and its other lines."""
+        """Runs a command and writes its output to the file of the same name. Returns its status and its other lines."""
         with open(self.place(command), "wb") as out:
             run = [self.path, command, "--sheet", self.sheet, *words]
             done = subprocess.run(run, stdin=subprocess.DEVNULL, stdout=out, stderr=subprocess.PIPE, cwd=self.folder)  # nosec B603
@@ -59,7 +59,7 @@ class Program:
         return refusals
 
     def reasons(self, command: str, status: int, lines: list[str]) -> list[str]:
-        """Returns why a command failed, for a sheet in the words of `explain`."""
+        """Returns why a command failed. A refused sheet is described in the words of `explain`."""
         if any(line.startswith("sheet: ") for line in lines):
             lines = [line for line in self.run("explain", [])[1] if not line.startswith("sheet: ")] or lines
         if any(line.startswith("device: ") for line in lines):

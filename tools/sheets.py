@@ -1,4 +1,4 @@
-"""Concept sheets, under the conditions by which `xbrlmerge` accepts one."""
+"""Concept sheets, with the conditions under which `xbrlmerge` accepts them."""
 from __future__ import annotations
 
 from typing import Any, Mapping
@@ -6,7 +6,7 @@ from typing import Any, Mapping
 from names import PART, XBRL, Name, expanded, uris_of
 from process import shortened
 
-SETS = "xbrlmerge:sets"  # a member that the program passes over
+SETS = "xbrlmerge:sets"  # a member that the program ignores
 TABLES = {"concepts": ("numeric", "text", "name"), "dimensions": ("explicit", "typed")}
 MEMBERS = (*TABLES, "namespaces")
 Kinds = Mapping[Name, str]

@@ -1,7 +1,7 @@
 """Reads text files whole, within a limit."""
 import functools
 
-LONGEST = 1 << 31  # characters; `xbrlmerge` reads files of so many bytes
+LONGEST = 1 << 31  # characters; `xbrlmerge` reads files of at most this many bytes
 PIECE = 1 << 20
 
 

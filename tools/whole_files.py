@@ -15,7 +15,7 @@ PERMISSIONS = 0o777  # without setuid, setgid and the sticky bit
 
 @dataclass(frozen=True)
 class Output:
-    """A file to make or replace at `place`, and a folder beside it that only this run uses."""
+    """A file to write at `place`, and a folder beside it for this run only."""
 
     place: str
     folder: str
@@ -29,7 +29,7 @@ class Output:
         return os.path.join(self.folder, "old")
 
     def keep_old(self) -> None:
-        """Keeps the file that is replaced: as a link, or as a copy where the file system has no links."""
+        """Keeps the file that will be replaced: as a link, or as a copy if the file system has no links."""
         if os.path.exists(self.place):
             try:
                 os.link(self.place, self.old)
@@ -44,11 +44,11 @@ class Output:
 
 
 def write_files(texts: Iterable[tuple[str, Iterable[str]]]) -> None:
-    """Writes every file of a list of paths and their pieces, or none.
+    """Writes all files or none. `texts` has their paths and pieces.
 
     Each is written in a new folder beside its place, then moved there. It keeps the permissions of the file that it
-    replaces, and its owner and group where that is permitted. A signal that `process.run` handles removes what was made.
-    Errors: OSError, and what the pieces raise. Then every place is as it was.
+    replaces, and its owner and group if that is permitted. A signal that `process.run` handles removes the new files.
+    Errors: OSError, and exceptions of the pieces. Every place is then unchanged.
     """
     with files_written(texts):
         pass
@@ -68,21 +68,21 @@ def write_beside(path: str, pieces: Iterable[str], folders: contextlib.ExitStack
     """Writes a file in a folder beside its place. The folder is removed when the stack ends."""
     place = os.path.realpath(path)
     if os.path.exists(place) and not os.path.isfile(place):
-        raise OSError(f"{path} is there and is no file that can be replaced")
+        raise OSError(f"{path} exists and is not a file that can be replaced")
     try:
-        with signals_held():  # between making the folder and noting it
+        with signals_held():  # a signal must not come between making the folder and recording it
             folder = folders.enter_context(tempfile.TemporaryDirectory(prefix=".new-", dir=os.path.dirname(place)))
         output = Output(place, folder)
         with open(output.new, "x", encoding="utf-8", newline="") as file:
             file.writelines(pieces)
             copy_permissions(place, file.fileno())
-    except OSError as fault:  # which names no file, or the new folder
+    except OSError as fault:  # the message names no file, or the new folder
         raise OSError(f"{path}: {fault.strerror or fault}") from None
     return output
 
 
 def copy_permissions(place: str, file: int) -> None:
-    """Gives an open file the owner, group and permissions of the one at a place, as far as that is permitted."""
+    """Gives an open file the owner, group and permissions of the file at a place, if that is permitted."""
     if os.path.exists(place):
         old = os.stat(place)
         for owner, group in ((old.st_uid, -1), (-1, old.st_gid)):
@@ -93,10 +93,10 @@ def copy_permissions(place: str, file: int) -> None:
 
 
 def put_in_place(outputs: list[Output]) -> None:
-    """Moves all outputs to their places, or leaves every place as it was."""
+    """Moves all outputs to their places, or leaves every place unchanged."""
     if len({output.place for output in outputs}) < len(outputs):
         raise OSError("two outputs are one file")
-    for output in outputs[:-1]:  # when the last one can't be moved, these move back
+    for output in outputs[:-1]:  # if the last one cannot be moved, these are moved back
         output.keep_old()
     moved: list[Output] = []
     try:

@@ -57,7 +57,7 @@ def untidy_dimensions(chance, concept):
 
 
 def fact_text(members):
-    """Returns the text of an object whose values are texts of JSON."""
+    """Returns the JSON text of an object whose values are JSON texts."""
     return "{%s}" % ",".join(f"{json.dumps(key)}:{value}" for key, value in members.items())
 
 
@@ -92,7 +92,7 @@ def report(facts, members, space):
 
 
 def roughened(chance, text):
-    """Spells a tidy report as other tools might, by nothing that carries a meaning."""
+    """Spells a tidy report as other tools might. The meaning stays the same."""
     tree = json.loads(text)
     facts = {}
     for name, fact in tree["facts"].items():
@@ -110,7 +110,7 @@ def roughened(chance, text):
 
 
 def rough_number(chance, value):
-    """Gives a number of the fixtures an exponent, now and then."""
+    """Gives a number in the fixtures an exponent, now and then."""
     return f"{value}E0" if value[-1].isdigit() and chance.random() < 0.4 else value
 
 

@@ -17,7 +17,7 @@ from support import content  # noqa: E402
 
 
 class RoomTest(unittest.TestCase):
-    """Tests that have a folder, `room`, each its own."""
+    """Tests each of which has its own folder, `room`."""
 
     def setUp(self):
         room = tempfile.TemporaryDirectory()
@@ -28,14 +28,14 @@ class RoomTest(unittest.TestCase):
         return os.path.join(self.room, name)
 
     def write(self, name, text):
-        """Writes a text, or bytes, and returns the place of the file."""
+        """Writes a text, or bytes, and returns the path of the file."""
         with open(self.place(name), "wb") as file:
             file.write(text if isinstance(text, bytes) else text.encode())
         return self.place(name)
 
 
 def stub_program(folder):
-    """Writes the program that prints what it finds in its folder, and returns its path."""
+    """Writes the program that prints the files in its folder, and returns its path."""
     path = os.path.join(folder, "xbrlmerge")
     with open(path, "w", encoding="utf-8") as file:
         file.write(f"#!{sys.executable} -IS\n{content('tests/tools/stub_program.py')}")
@@ -44,12 +44,12 @@ def stub_program(folder):
 
 
 def run(tool, *words):
-    """Runs a tool, and returns its status and what it prints on standard error."""
+    """Runs a tool, and returns its status and its standard error."""
     return run_whole(tool, *words)[:2]
 
 
 def run_whole(tool, *words):
-    """Runs a tool, and returns its status and what it prints on standard error and on standard output, there as bytes."""
+    """Runs a tool, and returns its status, its standard error, and its standard output as bytes."""
     argv, out = mock.patch.object(sys, "argv", [tool.__name__, *words]), io.TextIOWrapper(io.BytesIO())
     with argv, contextlib.redirect_stderr(io.StringIO()) as told, contextlib.redirect_stdout(out), warnings.catch_warnings():
         warnings.simplefilter("ignore", ResourceWarning)  # a process that ends leaves files open
@@ -59,9 +59,9 @@ def run_whole(tool, *words):
 
 
 def growth(run_at, size):
-    """Returns how many times as much time a run takes at four times a size: 4 where time is in proportion, 16 at squares.
+    """Returns the ratio of the times of a run at four times a size and at that size: 4 for linear time, 16 for quadratic.
 
-    It is the least of three measures each, of the time of this process alone. What a run takes at any size lowers it.
+    Each time is the least of three measurements of this process. Time that does not depend on the size lowers the ratio.
     """
     def least(at):
         return min(seconds(run_at, at) for _ in range(3))

@@ -1,8 +1,8 @@
-"""Makes fixtures: the lines that `xbrlmerge verdicts` prints of the reports that a merged text is of.
+"""Makes fixtures: the lines that `xbrlmerge verdicts` prints for the reports of a merged text.
 
     python3 tests/tools/lines_of_verdicts.py MERGED > LINES
 
-It compares every pair, knows values that are texts, numbers or null, and takes names as they are spelled.
+It compares every pair. Values must be texts, numbers or null, and names are compared as they are spelled.
 """
 import fractions
 import itertools
@@ -17,7 +17,7 @@ def interval(fact):
 
 
 def is_number(fact):
-    """In the fixtures a value that reads as a number is one."""
+    """In the fixtures a value that reads as a number is a number."""
     try:
         return fact["value"] is not None and bool(fractions.Fraction(fact["value"]) + 1 or 1)
     except ValueError:
@@ -31,7 +31,7 @@ def meet(one, other):
 
 
 def plain(number):
-    """Writes a number whose denominator has no factors but 2 and 5."""
+    """Writes a number whose denominator has no prime factors but 2 and 5."""
     places = next(n for n in itertools.count() if (number * 10**n).denominator == 1)
     digits = str(abs(number * 10**places)).rjust(places + 1, "0")
     text = digits[: len(digits) - places] + ("." + digits[len(digits) - places :] if places else "")

@@ -1,4 +1,4 @@
-"""A small repository in a folder of its own, in which a script of tests/ runs."""
+"""A small repository in its own folder, in which a script of tests/ runs."""
 import os
 import shutil
 import subprocess
@@ -8,7 +8,7 @@ from in_process import TESTS
 
 
 class SmallTree:
-    """A folder with a copy of a script and the files that a test writes. The test's end removes it."""
+    """A folder with a copy of a script and the files that a test writes. It is removed when the test ends."""
 
     def __init__(self, test, script):
         self.folder = tempfile.mkdtemp()

@@ -1,4 +1,4 @@
-"""Tests of tools/contradictions on the merged text beside them, whose lines of verdicts were made by hand."""
+"""Tests of tools/contradictions on the merged text beside them. Its lines of verdicts were made by hand."""
 import base64
 import csv
 import hashlib
@@ -21,7 +21,7 @@ VOID = ("meta", "line", "rect", "circle")
 
 
 class Seen(html.parser.HTMLParser):
-    """The tags of a page, the texts that are shown, and what is behind abbreviations."""
+    """The tags of a page, the shown texts, and the texts behind abbreviations."""
 
     def __init__(self, page):
         super().__init__()
@@ -62,7 +62,7 @@ class ToolTest(in_process.RoomTest):
         return page, cells
 
     def check_refused(self, told, *inputs):
-        """A line tells why, and nothing is written, not even in part."""
+        """A line says why, and nothing is written, not even in part."""
         before = set(os.listdir(self.room))
         done = self.run_tool(*inputs)
         self.assertEqual((done.returncode, done.stdout), (3, b""), done.stderr)
@@ -100,7 +100,7 @@ class Pages(ToolTest):
     def test_only_numbers_have_a_line(self):
         self.assertEqual(self.seen.tags.count("svg"), 4 + 2 + 2 + 1)
         self.assertEqual(self.text.count("not reported as a number"), 1)
-        # of 4.75 to 4.95, the gap from 4.815 to 4.93 begins at 0.325 and ends at 0.9
+        # between 4.75 and 4.95, the gap from 4.815 to 4.93 begins at 0.325 and ends at 0.9
         self.assertEqual(self.text.count('style="--a:32.50%;--b:90.00%"'), 4)
         self.assertIn('<line x1="27.50%" x2="32.50%" y1="13" y2="13"/><circle cx="30.00%" cy="13" r="5"/>', self.text)
 
@@ -160,7 +160,7 @@ class Providers(ToolTest):
 
 
 class Texts(ToolTest):
-    """Small texts of one concept that is numeric, eg:A, and one that is a text, eg:T."""
+    """Small texts of one numeric concept, eg:A, and one text concept, eg:T."""
 
     def merged(self, *facts):
         width = len(str(len(facts)))

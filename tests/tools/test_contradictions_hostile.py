@@ -1,4 +1,4 @@
-"""Tests of tools/contradictions on texts that are made to take long, to fill the page, or to fail."""
+"""Tests of tools/contradictions on texts that should take long, fill the page, or make it fail."""
 import csv
 import itertools
 import json
@@ -22,7 +22,7 @@ SHEET = {"namespaces": URIS, "concepts": CONCEPTS, "dimensions": DIMENSIONS}
 
 
 def number(value, **dimensions):
-    """Returns a fact. Whole numbers that differ are apart."""
+    """Returns a fact. Whole numbers that differ contradict each other."""
     return {"decimals": 1, "dimensions": {"concept": "e:A", **dimensions}, "value": str(value)}
 
 
@@ -34,7 +34,7 @@ def typed(size):
     return {f"e:d{each}": "" for each in range(size)}
 
 
-# facts of a size, in the order of a merged text; rows alternate between two providers
+# facts of this size, in the order of a merged text; rows alternate between two providers
 LONG = {
     "a row of numbers": (lambda size: [number(each) for each in range(size)], False),
     "a row of texts": (lambda size: [text(f"t{each:07}") for each in range(size)], False),
@@ -54,7 +54,7 @@ class Hostile(ToolTest):
         self.sheet, self.near = self.write("sheet.json", json.dumps(SHEET)), self.place("near.csv")
 
     def words(self, facts, is_near=False, providers="ab"):
-        """Writes facts, their lines and who said them, each row by the next of the providers. Returns the words of a run."""
+        """Writes facts, their lines and their providers, which take turns row by row. Returns the arguments of a run."""
         names = [f"f{rank:0{len(str(len(facts)))}}" for rank in range(1, len(facts) + 1)]
         tree = {"documentInfo": {"namespaces": URIS}, "facts": dict(zip(names, facts))}
         merged, lines, sources, start = self.write("merged.json", json.dumps(tree)), [], [], 0
@@ -83,7 +83,7 @@ class Hostile(ToolTest):
                 self.assertLess(in_process.growth(run, size), 9)
 
     def kept_words(self, facts, is_near):
-        """Returns the words of a run whose inputs the next ones leave as they are."""
+        """Returns the arguments of a run whose inputs are not changed by the next call."""
         words = self.words(facts, is_near)
         for name in ("merged.json", "lines", "sources"):
             kept = self.write(f"{len(facts)}.{len(content(words[1]))}.{name}", content(self.place(name)))
@@ -106,9 +106,9 @@ class Hostile(ToolTest):
         status, told = in_process.run(contradictions, *self.words(facts, is_near=True))
         pairs = {tuple(row["fact"] for row in pair) for pair in zip(*[iter(self.rows_near())] * 2)}
         self.assertEqual(status, 1)
-        self.assertIn("contradictions: --near: 3950 pairs of rows were not compared", told)  # of 100 * 99 / 2
+        self.assertIn("contradictions: --near: 3950 pairs of rows were not compared", told)  # out of 100 * 99 / 2
         distances = {int(two[1:]) - int(one[1:]) for one, two in pairs}
-        self.assertEqual(distances, {1, 3, 5, 7, 9, 11})  # the next ones first; every other row has the same provider
+        self.assertEqual(distances, {1, 3, 5, 7, 9, 11})  # neighbours first; every other row has the same provider
         self.assertLess(len(pairs), 1_001)
 
     def test_as_many_pairs_as_are_compared_are_all_listed(self):

@@ -1,4 +1,4 @@
-"""Tests of tools/contradictions on a large text, and of its labels and its table of rows that look alike."""
+"""Tests of tools/contradictions on a large text, with labels and with the table of similar rows."""
 import csv
 import json
 import os
@@ -75,7 +75,7 @@ INPUTS = (test_contradictions.MERGED, test_contradictions.SHEET, test_contradict
 
 
 class Nearby(test_contradictions.ToolTest):
-    """Texts of providers A and B; the dimensions of each fact tell rows apart."""
+    """Texts of the providers A and B. Rows differ in the dimensions of their facts."""
 
     URIS = {"n1": "http://a.example", "n2": "https://a.example", "n3": "http://b.example/t"}
     SHEET = {
@@ -91,7 +91,7 @@ class Nearby(test_contradictions.ToolTest):
         return self.write(name, json.dumps({"documentInfo": {"namespaces": self.URIS}, "facts": named}))
 
     def near(self, one, other, others=()):
-        """Returns the lines of the table, of A's row, B's and those of both, which stand in the order of the text."""
+        """Returns the lines of the table for rows of A, of B and of both, in the order of the text."""
         rows = sorted([(one, "A"), (other, "B"), *((each, "AB") for each in others)], key=lambda row: self.order(row[0]))
         facts = [({"dimensions": dimensions, "value": "1"}, who) for dimensions, who in rows]
         merged = self.text("merged.json", [fact for fact, _ in facts])

@@ -29,7 +29,7 @@ OTHER_TOOLS = """{"documentInfo":{"documentType":"https://xbrl.org/2021/xbrl-jso
 
 
 class Stubbed(ToolTest):
-    """A folder `bin` with the program, which has the lines of the examples."""
+    """A folder `bin` with the program, which prints the lines of the examples."""
 
     def setUp(self):
         super().setUp()
@@ -40,7 +40,7 @@ class Stubbed(ToolTest):
             shutil.copy(example(name), os.path.join(self.bin, f"{command}.out"))
 
     def prints(self, command, out=None, err=None, status=None):
-        """Prepares what a command prints."""
+        """Prepares the output of a command."""
         for part, text in (("out", out), ("err", err), ("status", status)):
             if text is not None:
                 self.write(os.path.join("bin", f"{command}.{part}"), str(text))
@@ -50,7 +50,7 @@ class Stubbed(ToolTest):
             self.prints(command, text)
 
     def refuses(self, refusals, *faults):
-        """Has each command refuse, and `explain` print faults: each a sentence, and what else its object has."""
+        """Makes each command refuse, and `explain` print faults. Each has a sentence and further members."""
         for command in ("merge", "verdicts", "sources"):
             self.prints(command, err=refusals, status=1)
         usual = {"number": 1, "name": "NotJson", "identifier": None, "part": None}
@@ -62,7 +62,7 @@ class Stubbed(ToolTest):
         return subprocess.run(run, capture_output=True, text=True, **options)
 
     def refused_run(self, told, *words, status=3, **options):
-        """Runs the tool, which has to refuse in one sentence and leave every file as it was."""
+        """Runs the tool, which must refuse with one sentence and leave every file unchanged."""
         before = sorted(os.walk(self.room))
         done = self.run_on(*words, **options)
         self.assertEqual((done.returncode, done.stdout), (status, ""), done.stderr)
@@ -296,7 +296,7 @@ class BadInputs(Stubbed):
 
     def test_reports_that_change_meanwhile(self):
         self.prints("verdicts", err="report 1: 1 NotJson at document\n", status=1)
-        self.refused_run("has changed while it was read", *REPORTS)
+        self.refused_run("changed while it was read", *REPORTS)
         self.prints("verdicts", "1 f1 f1 complete\n", "", 0)
         self.refused_run("verdicts: ValueError: ", *REPORTS)
 

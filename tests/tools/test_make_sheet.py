@@ -45,7 +45,7 @@ def run(*words):
 
 
 def pack(package, folder):
-    """Makes a package of the files of a folder."""
+    """Makes a package of the files in a folder."""
     with zipfile.ZipFile(package, "w", zipfile.ZIP_DEFLATED) as made:
         for at, _, names in os.walk(folder):
             for name in names:
@@ -55,7 +55,7 @@ def pack(package, folder):
 
 class ToolTest(in_process.RoomTest):
     def check_refused(self, status, told, *words):
-        """Nothing is written, and a line tells why."""
+        """Nothing is written, and a line says why."""
         done = run(*words)
         self.assertEqual((done.returncode, done.stdout), (status, b""), done.stderr)
         self.assertIn(told, done.stderr.decode())

@@ -1,4 +1,4 @@
-"""Tests of tools/make_sheet, and of labels, on files that are made to take long, to leave their folder or to fail."""
+"""Tests of tools/make_sheet, and of labels, on files that should take long, leave their folder, or make it fail."""
 import json
 import os
 import resource
@@ -33,7 +33,7 @@ ARC = '<link:labelArc xlink:from="{}" xlink:to="{}"/>'
 
 
 def each(form, size, *more):
-    """Returns a form for each number below a size: its fields are the number and the next one, spelled as `more` says."""
+    """Fills a form for each number below a size, with the number and the next one, spelled as `more` says."""
     return "".join(form.format(*(spelled.format(number, number + 1) for spelled in more)) for number in range(size))
 
 
@@ -56,7 +56,7 @@ def rewrites_of_each_length(size):
     }
 
 
-# packages of a size
+# packages of this size
 LONG = {
     "chains of heads": lambda size: {"a.xsd": SCHEMA % each(HEAD, size, "C{0}", "this:C{1}")},
     "a ring of heads": lambda size: {"a.xsd": SCHEMA % (each(HEAD, size, "C{0}", "this:C{1}") + HEAD.format(f"C{size}", "this:C0"))},
@@ -129,7 +129,7 @@ class Long(HostileTest):
 
     def test_labels_and_arcs(self):
         def packed(size):
-            """Returns a package in which so many arcs lead from so many concepts to so many labels, each of which is long."""
+            """Returns a package with this many arcs from this many concepts to this many long labels."""
             items = each(HEAD.replace("<xs:element", '<xs:element id="made_{}"'), size, "{0}", "C{0}", "xbrli:item")
             labels = each(LABEL, size, "labels", "x" * 50 + "{0}")
             arcs = each(ARC, size, "0", "labels") + each(ARC, size, "{0}", "labels")
@@ -169,7 +169,7 @@ class Long(HostileTest):
                 self.refused("it has more than 1000 levels", package)
             _, peak = tracemalloc.get_traced_memory()
             tracemalloc.stop()
-            self.assertLess(peak, 80_000_000)  # expat goes on to the end of what it was given, which is 1 MB
+            self.assertLess(peak, 80_000_000)  # expat reads to the end of its input, which is 1 MB
 
     def test_files_of_a_package(self):
         package = self.pack({f"{number}.xsd": SCHEMA % "" for number in range(5)})
@@ -320,7 +320,7 @@ class Statuses(HostileTest):
             self.assertEqual(run(*words).returncode, 2)
 
     def test_signals(self):
-        self.assertEqual(signal.getsignal(signal.SIGTERM), signal.SIG_DFL)  # a run in this process leaves it as it was
+        self.assertEqual(signal.getsignal(signal.SIGTERM), signal.SIG_DFL)  # a run in this process does not change it
 
 
 class Unions(HostileTest):

@@ -21,7 +21,7 @@ REPORTS = os.path.join(in_process.TESTS, "normalise")
 
 
 def part_at(tree, pointer):
-    """Returns the object that has what a pointer points at, and its key there."""
+    """Returns the object that contains the target of a pointer, and its key there."""
     *path, key = (step.replace("~1", "/").replace("~0", "~") for step in pointer.split("/")[1:])
     for step in path:
         tree = tree[step]
@@ -29,7 +29,7 @@ def part_at(tree, pointer):
 
 
 def undo(tree, changes):
-    """Takes changes back, the last one first."""
+    """Undoes changes, the last one first."""
     for change in reversed(changes):
         part, key = part_at(tree, change["pointer"])
         if "moved" in change:
@@ -43,11 +43,11 @@ class ToolTest(in_process.RoomTest):
         self.out, self.changes = self.place("out.json"), self.place("changes.jsonl")
 
     def run_tool(self, *words):
-        """Runs the command in this process, and returns its status and what it tells on standard error."""
+        """Runs the command in this process, and returns its status and its standard error."""
         return in_process.run(normalise, *words)
 
     def refusing(self, faults, **also):
-        """Makes a program that refuses facts, and perhaps the document. Returns the options that have it asked."""
+        """Makes a program that refuses facts, and perhaps the document. Returns the options that use it."""
         os.makedirs(self.place("bin"), exist_ok=True)
         told = [{"place": "fact 1", "identifier": fact, **dict(zip(("number", "name"), why.split()))} for fact, why in faults.items()]
         self.write("bin/explain.out", "".join(json.dumps(fault) + "\n" for fault in [*told, *[also] * bool(also)]))
@@ -55,12 +55,12 @@ class ToolTest(in_process.RoomTest):
         return ["--drop-unreadable", "--program", in_process.stub_program(self.place("bin"))]
 
     def normalised(self, report, *options):
-        """Returns the status, what is told, the output and the changes, and looks at what holds of every run."""
+        """Returns the status, standard error, the output and the changes, after checking what holds for every run."""
         with mock.patch.object(process, "MOST_CHARACTERS", sys.maxsize):
             self.run_tool(report, self.out, self.changes, *options)
         tree = read_json(self.out)
         undo(tree, self.changes_told())
-        self.assertEqual(tree, read_json(report), "the changes, taken back, do not give the report")
+        self.assertEqual(tree, read_json(report), "undoing the changes does not give the report")
         status, told = self.run_tool(report, self.out, self.changes, *options)
         self.assertIn(status, (0, 1), told)
         out, changes = content(self.out), self.changes_told()
@@ -77,7 +77,7 @@ class ToolTest(in_process.RoomTest):
 
 
 class Reports(ToolTest):
-    """Reports of several shapes, each with what comes out of it."""
+    """Reports of several shapes, each with its result."""
 
     def test_each_report_comes_out_as_it_stands_beside_it(self):
         for case in map(json.loads, content(os.path.join(REPORTS, "cases.jsonl")).splitlines()):
@@ -100,7 +100,7 @@ class Reports(ToolTest):
 
 
 class Docs(ToolTest):
-    """docs/GUIDE.md has each rule with an example: options, a fact before, and after or the word dropped."""
+    """docs/GUIDE.md has an example of each rule: options, a fact before, and the fact after or `dropped`."""
 
     SHEET = {
         "namespaces": {"eg": "http://example.org/t"},
@@ -133,7 +133,7 @@ drop-links drop-notes drop-unknown dates zones drop-null drop-unreadable""".spli
 
 
 class Drawn(ToolTest):
-    """Properties of drawn reports. `normalised` looks at idempotence, and that the changes tell all."""
+    """Properties of drawn reports. `normalised` checks idempotence, and that the changes are complete."""
 
     def setUp(self):
         super().setUp()
@@ -172,7 +172,7 @@ class Drawn(ToolTest):
                 self.assertEqual(*(self.numbers_read(self.tree_of(text)) for text in (out, tidy)))
 
     def numbers_read(self, tree):
-        """Returns the facts of a report with what its numbers denote."""
+        """Returns the facts of a report with numbers as values."""
         for fact in tree["facts"].values():
             if fact["value"] and fact["dimensions"]["concept"] in ("eg:A", "eg:B"):
                 fact["value"] = Decimal(fact["value"])
@@ -189,7 +189,7 @@ class Drawn(ToolTest):
 
 class Numbers(ToolTest):
     def value_of(self, token):
-        """Returns what becomes of the value of a numeric fact, as JSON."""
+        """Returns the expected value of a numeric fact, as JSON."""
         sheet = self.write("sheet.json", json.dumps(Docs.SHEET))
         fact = '{"value":%s,"dimensions":{"concept":"eg:A"}}' % token
         text = '{"documentInfo":{"namespaces":{"eg":"http://example.org/t"}},"facts":{"f":%s}}' % fact
@@ -216,7 +216,7 @@ class Numbers(ToolTest):
         for token in ("1E18", "1E-19", "1.0000000000000000001e0", "1e999999999", "1e99999999999999999999", "1e-999999999"):
             value, told = self.value_of(token)
             self.assertEqual(value, f'"{token}"')
-            self.assertIn("/facts/f/value is left: without its exponent more than 18 digits count", told)
+            self.assertIn("/facts/f/value is left: it has more than 18 digits without its exponent", told)
 
     def test_what_is_no_number_is_left(self):
         for token in ('"INF"', '"NaN"', '"1,000"', '"e5"', '"0x1E2"', '"\u0661E1"', "null", "{}", "[1]"):
@@ -225,7 +225,7 @@ class Numbers(ToolTest):
 
 class Periods(ToolTest):
     def period_of(self, period, *options):
-        """Returns what becomes of a period, and how often something of it is left."""
+        """Returns the resulting period, and the number of lines about it."""
         fact = '{"value":null,"dimensions":{"period":%s}}' % json.dumps(period)
         _, told, out, _ = self.normalised(self.write("report.json", '{"facts":{"f":%s}}' % fact), *options)
         return self.tree_of(out)["facts"]["f"]["dimensions"]["period"], len(told.splitlines())
@@ -269,7 +269,7 @@ class Periods(ToolTest):
 
 
 class Unreadable(ToolTest):
-    """What the program refuses, by a program that prints prepared lines."""
+    """Facts that the program refuses; the program prints prepared lines."""
 
     def setUp(self):
         super().setUp()
@@ -302,7 +302,7 @@ class Unreadable(ToolTest):
 
 class BadInputs(ToolTest):
     def check_refused(self, told, *words):
-        """A line tells why, and nothing is written, not even in part."""
+        """A line says why, and nothing is written, not even in part."""
         before = set(os.listdir(self.room))
         status, lines = self.run_tool(*words)
         self.assertEqual((status, len(lines.splitlines())), (3, 1), lines)
@@ -313,22 +313,22 @@ class BadInputs(ToolTest):
         self.check_refused(told, self.write("bad.json", text), self.out, self.changes)
 
     def test_members_that_stand_twice(self):
-        self.check_report('the member "a" stands twice in the root: 1 and 2.50', '{"a":1,"a":2.50}')
-        self.check_report('"k" stands twice in /facts/~1~0/0: null and null', '{"facts":{"/~":[{"k":null,"k":null}]}}')
+        self.check_report('the member "a" is repeated in the root: 1 and 2.50', '{"a":1,"a":2.50}')
+        self.check_report('"k" is repeated in /facts/~1~0/0: null and null', '{"facts":{"/~":[{"k":null,"k":null}]}}')
         both = '{"facts":{"f":{"dimensions":{"concept":"a:A","xbrl:concept":"a:B"}}}}'
-        self.check_report('/facts/f/dimensions/xbrl:concept and concept are one member, which stands twice: "a:A" and "a:B"', both)
+        self.check_report('/facts/f/dimensions/xbrl:concept and concept are the same member: "a:A" and "a:B"', both)
 
     def test_what_is_no_json(self):
         for text in ("", "{", '{"a":NaN}', '{"a":01}', '{"a":"\\ud800"}', b'{"a":"\xff"}', "[" * 100_000, '{"a":"\n"}'):
             self.check_report("bad.json", text)
-        self.check_report("no report", "[]")
+        self.check_report("not a report", "[]")
 
     def test_files_that_are_missing_or_that_cannot_be_written(self):
         report = self.write("good.json", "{}")
         self.check_refused("nowhere", self.place("nowhere"), self.out, self.changes)
         self.check_refused("nowhere", report, self.out, self.changes, "--sheet", self.place("nowhere"))
         self.check_refused("/no", report, self.out, os.path.join(self.room, "no", "x"))
-        self.check_refused("no file", report, self.out, self.room)
+        self.check_refused("not a file", report, self.out, self.room)
 
     def test_files_that_were_there_stay_where_it_fails(self):
         self.write("out.json", "of a run before")

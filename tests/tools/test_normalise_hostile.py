@@ -1,4 +1,4 @@
-"""Tests of tools/normalise on reports that are made to take long, to fill the list of changes, or to fail."""
+"""Tests of tools/normalise on reports that should take long, fill the list of changes, or make it fail."""
 import json
 import os
 import random
@@ -13,7 +13,7 @@ from drawn_reports import OPTIONS as ALL
 from support import content
 from test_normalise import TOOL, ToolTest, normalise
 
-SPACES = "\u00a0\u2003\u3000\x85\x1f"  # white space of Unicode that the format takes as other characters
+SPACES = "\u00a0\u2003\u3000\x85\x1f"  # Unicode white space that is not white space in the format
 SHEET = {
     "namespaces": {"eg": "http://example.org/t", "long": "http://example.org/" + "u" * 5_000},
     "concepts": {"eg:A": "numeric", "eg:Q": "name", "eg:S": "text", "eg:T": "text"},
@@ -34,7 +34,7 @@ def twins(size):
     return '{"facts":{%s,"k":1,"k":2}}' % ",".join(f'"f{number}":1' for number in range(size))
 
 
-# reports of a size, each with options
+# reports of this size, each with options
 LONG = {
     "zeros before digits": (lambda size: report({"f": fact("0" * size + "x")}), ALL),
     "digits in whole": (lambda size: report({"f": fact("1" * size)}), ALL),
@@ -44,7 +44,7 @@ LONG = {
     "zeros before an exponent": (lambda size: report({"f": fact("1" + "0" * size + "e-5")}), []),
     "digits of an exponent": (lambda size: report({"f": fact("1e" + "9" * size)}), []),
     "digits of decimals": (lambda size: '{"facts":{"f":{"value":"1","decimals":%s}}}' % ("9" * size), ALL),
-    "members that stand twice": (twins, []),
+    "repeated members": (twins, []),
     "members that are unknown": (lambda size: report({"f": {f"m{number}": 1 for number in range(size)}}), []),
     "dimensions": (lambda size: report({"f": fact(**{f"eg:d{number}": "" for number in range(size)})}), ALL),
     "names of a set": (lambda size: report({"f": fact(" ".join(f"eg:n{number}" for number in range(size)), "eg:S")}), []),
@@ -108,11 +108,11 @@ class Long(ToolTest):
         text = report({f"f{number}": fact("long:a eg:b", "eg:S") for number in range(400)})
         status, told = self.run_tool(*self.words(text))
         self.assertEqual((status, os.listdir(self.room).count("out.json")), (3, 0))
-        self.assertIn("the names of its sets, spelled with their URIs, are over 16 times as long", told)
+        self.assertIn("the names of its sets, with their URIs, have more than 16 times its length", told)
 
 
 class Exact(ToolTest):
-    """What was wrong, and silent."""
+    """Cases that were once wrong without a message."""
 
     def setUp(self):
         super().setUp()
@@ -177,7 +177,7 @@ class Exact(ToolTest):
 
 
 class Numbers(unittest.TestCase):
-    """Numbers with exponents, against the decimal module at a precision that holds them."""
+    """Numbers with exponents, compared with the decimal module at sufficient precision."""
 
     def test_drawn_exponents(self):
         from decimal import Context, Decimal

@@ -14,7 +14,7 @@ class Pages(unittest.TestCase):
         self.tree = SmallTree(self, "pages.py")
 
     def ran(self, page, text):
-        """Returns the status for one page, the words that count, and what is wrong."""
+        """Returns the status for one page, the counted words, and what is wrong."""
         self.tree.put(page, text)
         status, counted, wrong = self.tree.run(page)
         return status, int(counted[0].split()[0]), [it.removeprefix("pages: ") for it in wrong]

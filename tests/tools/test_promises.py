@@ -80,7 +80,7 @@ class Promises(unittest.TestCase):
         self.tree.put("crates/shop/src/laws.rt", LAWS)
 
     def problems(self, page, *words):
-        """Returns the status of tests/promises, its lines without what each begins with, and the page after it."""
+        """Returns the status of tests/promises, its lines without their common beginning, and the page afterwards."""
         path = self.tree.put("docs/PROVED.md", page)
         status, _, lines = self.tree.run(*words)
         with open(path, encoding="utf-8") as file:

@@ -1,4 +1,4 @@
-"""The program, the Python module, the man page and the changelog have one version."""
+"""The program, the Python module, the man page and the changelog have the same version."""
 import re
 import unittest
 
@@ -6,7 +6,7 @@ from in_process import content
 
 
 def found(path, pattern):
-    """Returns what the pattern's group matches, at each place of a file."""
+    """Returns the text that the pattern's group matches, at each place in a file."""
     return re.findall(pattern, content(path), re.MULTILINE)
 
 
@@ -20,7 +20,7 @@ class Version(unittest.TestCase):
 
     def test_man_page_and_module_have_that_of_the_program(self):
         self.assertEqual(found("docs/xbrlmerge.1", r'^\.TH XBRLMERGE 1 "" "xbrlmerge ([^"]*)"'), [self.program])
-        # PEP 440 writes the version of a development build so
+        # the spelling of a development build in PEP 440
         self.assertEqual(found("python/pyproject.toml", r'^version = "(.*)"$'), [self.program.replace("-dev", ".dev0")])
 
     def test_an_unreleased_build_has_the_next_version(self):

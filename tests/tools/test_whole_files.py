@@ -1,4 +1,4 @@
-"""Tests of tools/whole_files: outputs that are written whole or not at all."""
+"""Tests of tools/whole_files: outputs are written completely or not at all."""
 import os
 import signal
 import stat

@@ -1,6 +1,6 @@
 """Makes a large merged text with contradictions, its sheet, its lines of verdicts and the texts of three providers.
 
-    python3 tests/tools/workload.py FOLDER [CONTRADICTIONS]
+   python3 tests/tools/workload.py FOLDER [CONTRADICTIONS]
 """
 import json
 import os
@@ -15,7 +15,7 @@ TEXT = "The group has {} mills in {} regions, of which some were sold in the yea
 
 
 def dimensions_of(chance, rank):
-    """Returns the dimensions of a row; those of two ranks differ."""
+    """Returns the dimensions of a row; each rank has different ones."""
     concept = "Text" if rank % 50 == 0 else f"Concept{chance.randrange(400):03}OfTheConsolidatedStatements"
     made = {"concept": f"n3:{concept}", "entity": f"n1:7437{rank:016}", "period": f"20{chance.randrange(10, 24)}-01-01T00:00:00"}
     if concept == "Text":

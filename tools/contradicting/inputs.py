@@ -1,4 +1,4 @@
-"""What a page is made of: texts that are named, or those that the program makes of reports."""
+"""The inputs of a page: named texts, or texts that the program makes from reports."""
 from __future__ import annotations
 
 import argparse
@@ -21,14 +21,14 @@ from sheet_making.making import kinds_in
 from sheet_making.sheets import sheet_text
 from sheets import Sheet
 
-File = tuple[str, Iterator[str]]  # the name of a file that is written beside the page, and its pieces
+File = tuple[str, Iterator[str]]  # the name of a file beside the page, and its pieces
 
 ADVICE = "--taxonomy PACKAGE, in place of --sheet, makes a sheet that lists all concepts and dimensions of a taxonomy"
 
 
 @dataclass
 class Inputs:
-    """The inputs of a page, the files that are written beside it, and what there is to look at."""
+    """The inputs of a page, the files to write beside it, and what the user should look at."""
 
     text: Text
     sheet: Sheet
@@ -65,7 +65,7 @@ class Run:
         paths = self.normalised() if self.options.normalise else [report.path for report in self.reports]
         found = [self.read(command, paths) for command in ("merge", "verdicts", "sources")]
         if found[1:] != found[:-1]:
-            raise NotDone("a report or the sheet has changed while it was read")
+            raise NotDone("a report or the sheet changed while it was read")
         merged, verdicts, sources = map(self.program.place, ("merge", "verdicts", "sources"))
         names = [report.provider for report in self.reports]
         files = [("merged.json", pieces_of_file(merged)), *self.files]
@@ -73,7 +73,7 @@ class Run:
                       self.refusals(found[0], paths), files, self.losses, self.notes)
 
     def sheet(self) -> str:
-        """Returns the path of the sheet, which is made first if taxonomies are named."""
+        """Returns the path of the sheet. If taxonomies are named, it makes the sheet first."""
         if not self.options.taxonomy:
             check_files([self.options.sheet])
             return str(self.options.sheet)
@@ -104,7 +104,7 @@ class Run:
         return self.program.read_reports(command, paths)
 
     def refusals(self, found: dict[int, str], paths: list[str]) -> Refusals:
-        """Returns the refused reports, explained."""
+        """Returns the refused reports with their faults."""
         refusals = Refusals("" if self.options.taxonomy else ADVICE)
         for number, refusal in sorted(found.items()):
             path = self.reports[number - 1].path
@@ -120,7 +120,7 @@ def counted(count: int, word: str, words: Optional[str] = None) -> str:
 
 @contextlib.contextmanager
 def output_folder(path: str) -> Iterator[None]:
-    """Makes a folder, unless it is there. If the block fails, a folder that was made here is removed."""
+    """Makes a folder unless it exists. If the block fails, a folder that was made here is removed."""
     is_made = not os.path.isdir(path)
     if is_made and os.path.lexists(path):
         raise NotDone(f"{path} is a file; -o needs a folder")
@@ -131,5 +131,5 @@ def output_folder(path: str) -> Iterator[None]:
     except BaseException:
         with contextlib.suppress(OSError):
             if is_made:
-                os.rmdir(path)  # which only removes an empty one
+                os.rmdir(path)  # only removes an empty folder
         raise

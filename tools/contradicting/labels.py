@@ -15,18 +15,18 @@ STANDARD = "http://www.xbrl.org/2003/role/label"
 
 
 class Label(NamedTuple):
-    """A label, which counts before those of dialects when its language is the one that is wanted."""
+    """A label. One in the wanted language comes before one in a dialect."""
 
     is_of_dialect: bool
     text: str
 
     def counts_before(self, other: Optional[Label]) -> bool:
-        """Returns whether it takes the place of a label that came before it. Texts are not compared: they may be long."""
+        """Returns whether it replaces an earlier label. Texts are not compared, because they may be long."""
         return other is None or self.is_of_dialect < other.is_of_dialect
 
 
 class Labelled(Taxonomy):
-    """A taxonomy with its label linkbases: the files that end in .xml, of the folders and packages that are named."""
+    """A taxonomy with its label linkbases: the .xml files in the named folders and packages."""
 
     def __init__(self, files: Files, language: str) -> None:
         self.language = language.lower()
@@ -43,7 +43,7 @@ class Labelled(Taxonomy):
             self.identified[place, part.identifier] = part.name
 
     def name_at(self, href: str, base: str) -> Optional[Name]:
-        """Returns the name that a reference in the document at `base` means."""
+        """Returns the name to which a reference in the document at `base` leads."""
         location, _, identifier = href.partition("#")
         return self.identified.get((self.rewrites.place_of(location, base)[0], identifier))
 
@@ -53,7 +53,7 @@ class Labelled(Taxonomy):
 
 
 class Link:
-    """The parts of an extended link. Several labels may have one place in it; the one that counts is kept."""
+    """The parts of an extended link. If several labels have the same place in it, the preferred one is kept."""
 
     def __init__(self, level: int) -> None:
         self.level = level
@@ -74,7 +74,7 @@ class Linkbase(Visitor):
     def __init__(self, taxonomy: Labelled, place: str) -> None:
         self.taxonomy, self.place = taxonomy, place
         self.link: Optional[Link] = None
-        self.opened: Optional[tuple[str, bool]] = None  # the label that is being read: its place, and whether of a dialect
+        self.opened: Optional[tuple[str, bool]] = None  # the label being read: its place, and whether of a dialect
         self.pieces: list[str] = []
 
     def start(self, element: Element, level: int) -> None:

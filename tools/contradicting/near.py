@@ -1,4 +1,4 @@
-"""Finds rows that nobody calls duplicates and everybody should look at."""
+"""Finds pairs of rows that are not duplicates but may be a mistake."""
 from __future__ import annotations
 
 import datetime
@@ -11,8 +11,8 @@ from contradicting.tables import DIMENSIONS, Cell, cell, check_lengths, dimensio
 from names import Name
 
 COLUMNS = ["pair", "differs", "row", "fact", *DIMENSIONS, *"value decimals low high providers label".split()]
-MOST_PAIRS = 1_000  # compared for each set of rows that differ only in the same dimension
-MOST_FACTS = 10_000  # that these pairs have, at most one pair more
+MOST_PAIRS = 1_000  # pairs compared for each set of rows that differ only in the same dimension
+MOST_FACTS = 10_000  # the most facts in these pairs; one more pair may exceed it
 WORD = (1 << 64) - 1
 
 Axis = Union[str, Name]
@@ -20,7 +20,7 @@ Items = dict[Axis, object]
 
 
 class Kept(NamedTuple):
-    """A row that may have a partner, and who holds it."""
+    """A row that may have a partner, and the providers that report it."""
 
     dimensions: Dimensions
     facts: Mapping[str, Fact]
@@ -31,10 +31,10 @@ class Kept(NamedTuple):
 class Near:
     """Pairs of rows that differ in one dimension only, perhaps by mistake, and that no provider reports both.
 
-    A mistake may be: an entity, a concept or an explicit member of the same local part in another namespace; letter case or
-    white space; moments at most a day apart; another unit or language; a dimension that one of the two lacks.
-    Of the rows that differ only in the same dimension, pairs of neighbours are compared first, and there are limits;
-    `cut` counts the pairs that are not compared.
+    The difference may be: an entity, a concept or an explicit member with the same local part in another namespace; letter
+    case or white space; moments at most a day apart; another unit or language; a dimension that one of the two lacks.
+    Rows that differ only in the same dimension are sorted, and neighbours are compared, up to a limit. `cut` counts the
+    pairs that are not compared.
     """
 
     def __init__(self, providers: Sequence[str]) -> None:
@@ -43,7 +43,7 @@ class Near:
         self.items: dict[int, Items] = {}
 
     def wants(self, holders: Mapping[str, Holders]) -> bool:
-        """Returns whether a row can have a partner: some provider reports it, and some does not."""
+        """Returns whether a row can have a partner: some providers report it, and some do not."""
         who = names_of(holders)
         return bool(who) and who < self.everybody
 
@@ -51,7 +51,7 @@ class Near:
         self.kept[number] = Kept(dimensions, facts, holders, frozenset(names_of(holders)))
 
     def pairs(self) -> list[tuple[int, int, Axis]]:
-        """Returns two numbers of rows and the dimension in which these differ, in order."""
+        """Returns the numbers of two rows and the dimension in which they differ, in order."""
         self.items = {number: items_of(kept.dimensions) for number, kept in self.kept.items()}
         found: dict[tuple[int, int], Axis] = {}
         for numbers in self.groups():
@@ -61,7 +61,7 @@ class Near:
     def groups(self) -> Iterator[list[int]]:
         """Yields the numbers of two or more rows that differ in one dimension only, in order.
 
-        Dimensions are compared by a sum of hashes, so leaving one out is a subtraction. `difference` compares them again.
+        Dimensions are compared by a sum of hashes, so leaving one out is a subtraction. `difference` checks the result.
         """
         sums = {number: sum(map(hash, items.items())) for number, items in self.items.items()}
         whole = {total & WORD: number for number, total in sums.items()}
@@ -79,7 +79,7 @@ class Near:
         yield from alike.values()
 
     def compared(self, numbers: list[int]) -> Iterator[tuple[tuple[int, int], Axis]]:
-        """Yields the pairs of a group that are listed, within the limits."""
+        """Yields the pairs of a group that are listed, up to the limits."""
         count, facts = len(numbers) * (len(numbers) - 1) // 2, 0
         pairs = itertools.chain.from_iterable(zip(numbers, numbers[step:]) for step in range(1, len(numbers)))
         for done, (one, other) in enumerate(pairs):
@@ -92,7 +92,7 @@ class Near:
                 yield (one, other), axis
 
     def difference(self, first: int, second: int) -> Optional[Axis]:
-        """Returns the only dimension in which two rows differ, or None if there are several or a mistake is unlikely."""
+        """Returns the only dimension in which two rows differ. None if there are several, or if a mistake is unlikely."""
         one, other = self.items[first], self.items[second]
         axes = [axis for axis in {**one, **other} if one.get(axis) != other.get(axis)]
         if len(axes) != 1:
@@ -102,12 +102,12 @@ class Near:
         return axes[0] if shared else None
 
     def notes(self) -> list[str]:
-        """Returns what to say of the pairs that were not compared."""
+        """Returns the message about the pairs that were not compared."""
         told = f"{self.cut} pairs of rows were not compared: of rows that differ in the same dimension alone, at most"
         return [f"--near: {told} {MOST_PAIRS} pairs, or about {MOST_FACTS} facts, are"] if self.cut else []
 
     def table(self, pairs: list[tuple[int, int, Axis]], labels: Mapping[Name, str]) -> Iterator[Sequence[str]]:
-        """Yields the lines of the table: of each pair, the facts of both rows."""
+        """Yields the lines of the table: the facts of both rows in each pair."""
         listed = (self.kept[number] for pair in pairs for number in pair[:2])
         check_lengths((kept.dimensions, len(kept.facts)) for kept in listed)
         yield COLUMNS
@@ -121,13 +121,13 @@ class Near:
 
 
 def items_of(dimensions: Dimensions) -> Items:
-    """Returns what a row is about, by dimension; what is absent is not there."""
+    """Returns the values of a row's dimensions; absent ones are left out."""
     core: Items = {key: value for key, value in dimensions._asdict().items() if value and key != "members"}
     return {**core, **{axis: (member,) for axis, member in dimensions.members}}
 
 
 def buckets(axis: Axis, value: object) -> list[object]:
-    """Returns keys. Two values share a key if they may differ only by mistake."""
+    """Returns keys. Two values share a key if they may differ by mistake."""
     of = value[0] if isinstance(axis, Name) and isinstance(value, tuple) else value
     if axis == "period":
         days = [datetime.date.fromisoformat(moment[:10]).toordinal() for moment in str(of).split("/")]

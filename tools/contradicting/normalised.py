@@ -1,4 +1,4 @@
-"""Brings reports into the profile before the program reads them, by the rules of tools/normalise."""
+"""Normalises reports before the program reads them, by the rules of tools/normalise."""
 from __future__ import annotations
 
 import argparse
@@ -21,17 +21,17 @@ COLUMNS = ["provider", "report", *"fact number pointer rule loss".split(), *VALU
 
 
 class Normalised:
-    """Reports in a folder, as they are after normalising, with a table of the changes."""
+    """Normalised reports in a folder, with a table of the changes."""
 
     def __init__(self, program: Program, options: argparse.Namespace, folder: str) -> None:
         self.normaliser, self.folder = Normaliser(sheet_at(program.sheet), options, program), folder
         self.table = os.path.join(folder, "changes")
         self.paths: list[str] = []
         self.losses = 0
-        self.notes: list[str] = []  # about reports that are left as they are
+        self.notes: list[str] = []  # messages about reports that are left as they are
 
     def add(self, report: Report) -> None:
-        """Normalises the next report. One that the rules cannot read is left as it is, so that the program refuses it."""
+        """Normalises the next report. If the rules cannot read it, it is copied, and the program refuses it."""
         try:
             tree, length = read_json_of_length(report.path)
             log = self.normaliser.normalise(tree, length)
@@ -46,7 +46,7 @@ class Normalised:
         self.losses += self.write_changes(report, log)
 
     def write_changes(self, report: Report, log: Log) -> int:
-        """Adds the changes of a report to the table. Returns how many lose something."""
+        """Adds the changes of a report to the table. Returns the number of those that lose something."""
         changes = [json.loads(line, parse_int=Number, parse_float=Number) for line in log.lines]
         source = [cell(report.provider), cell(written(report.path))]
         with open(self.table, "a", encoding="utf-8", newline="") as file:
@@ -62,7 +62,7 @@ class Normalised:
 
 
 def shown(change: dict[str, Tree], key: str) -> str:
-    """Returns what a change has under a key, as a text."""
+    """Returns the value under a key of a change, as text."""
     value = change.get(key)
     if key in VALUES and key in change:
         return text_of(value)

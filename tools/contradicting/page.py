@@ -1,6 +1,6 @@
 """The page of contradictions: the largest differences first, then an index by concept, and groups with the other rows.
 
-It shows 80 characters of an identifier, a URI or a text, because it repeats them. The table has them whole.
+It shows at most 80 characters of an identifier, a URI or a text, because it repeats them. The table has them in full.
 """
 from __future__ import annotations
 
@@ -33,7 +33,7 @@ def part(name: str) -> str:
 
 
 def page(rows: list[Row], reader: Reader, labels: Labels, refusals: Refusals) -> Iterator[str]:
-    """Yields the pieces of the page. Its policy permits no script but its own."""
+    """Yields the pieces of the page. Its policy permits only its own script."""
     script = part("page.js")
     known = base64.b64encode(hashlib.sha256(script.encode()).digest()).decode()
     policy = f"default-src 'none'; style-src 'unsafe-inline'; script-src 'sha256-{known}'"
@@ -58,7 +58,7 @@ characters near the first difference; contradictions.csv has them whole.</p>
 
 
 def counts(reader: Reader, refusals: Refusals) -> Iterator[tuple[int, str]]:
-    """Yields how many rows there are of each kind, how many a single provider reported, and how many reports are refused."""
+    """Yields the counts: rows of each kind, rows that only one provider reported, and refused reports."""
     yield from ((reader.counts[verdict], word) for verdict, word in WORDS.items())
     if reader.providers:
         yield reader.counts["alone"], f"of these reported by {reader.said_by(1)}"
@@ -78,13 +78,13 @@ def refused(refusals: Refusals) -> Iterator[str]:
 
 
 def order(row: Row) -> tuple[int, Decimal, int]:
-    """Rows with a text or nil come first, then those with the largest difference in shares of the larger value."""
+    """Sorts rows with a text or nil first, then by the difference as a share of the larger value."""
     share = row.share()
     return (0, Decimal(0), row.number) if share is None else (1, -share, row.number)
 
 
 def by_concept(rows: Iterable[Row], reader: Reader, labels: Labels) -> Iterator[str]:
-    """Yields the index, and then the groups with the rows that are not before it."""
+    """Yields the index, and then the groups with the remaining rows."""
     concepts: dict[Name, list[Row]] = {}
     rest: dict[Name, list[Row]] = {}
     for place, row in enumerate(rows):
@@ -107,7 +107,7 @@ def by_concept(rows: Iterable[Row], reader: Reader, labels: Labels) -> Iterator[
 
 
 def group(rows: list[Row], start: int, anchor: str, reader: Reader, labels: Labels) -> Iterator[str]:
-    """Yields the pieces of some rows of one concept. They are the text of a data block until the group is opened."""
+    """Yields the pieces for some rows of one concept. They are the text of a data block until the group is opened."""
     concept, last = concept_of(rows[0]), min(start + CHUNK, len(rows))
     name = f"<bdi>{escaped(labels[concept])}</bdi>" if concept in labels else shown_name(concept)
     told = f"{start + 1} to {last} of {len(rows)} rows" if len(rows) > CHUNK else f"{last} row{'s' * (last > 1)}"
@@ -118,7 +118,7 @@ def group(rows: list[Row], start: int, anchor: str, reader: Reader, labels: Labe
 
 
 def dimensions_of(row: Row) -> Dimensions:
-    """Returns the dimensions of a row, which one that contradicts itself has."""
+    """Returns the dimensions of a row, which must contain a contradiction."""
     if row.dimensions is None:
         raise LookupError(f"row {row.number} does not contradict itself")
     return row.dimensions
@@ -129,7 +129,7 @@ def concept_of(row: Row) -> Name:
 
 
 def heading(concept: Name, labels: Labels, tag: str) -> str:
-    """Returns a concept whose namespace can be opened, with the keyboard too."""
+    """Returns a concept as an element that shows its namespace when it is opened, by keyboard too."""
     label, local = labels.get(concept), escaped(concept.local)
     first = f"<bdi>{escaped(label)}</bdi>" if label else f"<bdi>{local}</bdi>"
     rest = f"<p>{escaped(concept.uri)}" + f" {local}" * bool(label)
@@ -165,12 +165,12 @@ class NumberLine(NamedTuple):
     gap: Optional[Interval]
 
     def place(self, number: Decimal) -> str:
-        """Returns where a number lies on the line."""
+        """Returns the place of a number on the line."""
         return f"{(number - self.low) * 100 / (self.high - self.low):.2f}%" if self.low < self.high else "50%"
 
 
 def number_line(row: Row) -> Optional[NumberLine]:
-    """Returns the line of a row, or None if it has no number. A nil value has no place on it."""
+    """Returns the line of a row, or None if it has no number. A nil value is not on the line."""
     intervals = [fact.interval() for fact in row.facts.values() if isinstance(fact.value, Decimal)]
     return NumberLine(min(low for low, _ in intervals), max(high for _, high in intervals), row.gap) if intervals else None
 
@@ -188,13 +188,13 @@ def below(line: NumberLine, unit: str) -> str:
 
 
 def start_of_cut(values: Iterable[Value]) -> int:
-    """Returns where the shown part of the texts of a row begins: a little before the first character that differs."""
+    """Returns where the shown parts of a row's texts begin: a little before the first difference."""
     texts = [value for value in values if isinstance(value, str)]
     return max(len(os.path.commonprefix(texts)) - MOST_CHARACTERS // 2, 0) if len(texts) > 1 else 0
 
 
 def details(row: Row) -> Iterator[tuple[str, str]]:
-    """Yields what a dimension set is made of, each with a word for it."""
+    """Yields the dimensions of a row, each with a heading."""
     of, last = dimensions_of(row), [*row.facts.values()][-1]  # nil comes first, so the last is not nil
     start, _, end = of.period.rpartition("/")
     since = f"{day(start, False)} to " if start else "at the end of " * end.endswith("T00:00:00")
@@ -207,7 +207,7 @@ def details(row: Row) -> Iterator[tuple[str, str]]:
 
 
 def drawn(fact: Fact, line: NumberLine) -> str:
-    """Returns the interval of a fact on a number line, to scale, over the gap."""
+    """Returns the interval of a fact on a number line, to scale, with the gap."""
     if not isinstance(fact.value, Decimal):
         return '<td class="line nil"><i>not reported as a number</i>'
     low, high = fact.interval()
@@ -218,7 +218,7 @@ def drawn(fact: Fact, line: NumberLine) -> str:
 
 
 def shown(value: Union[Value, int], start: int = 0) -> str:
-    """Returns the text of the page for a value, a member, a name or a number. Of a longer text a part from `start` on."""
+    """Returns the HTML for a value, a member, a name or a number. A long text is shown from `start` on."""
     if isinstance(value, Name):
         return shown_name(value)
     if isinstance(value, str):

@@ -1,4 +1,4 @@
-"""Shows on a terminal what is being done."""
+"""Shows the progress on a terminal."""
 from __future__ import annotations
 
 import sys
@@ -7,7 +7,7 @@ CLEAR = "\r\x1b[K"
 
 
 class Progress:
-    """A line on standard error, if that is a terminal. It is gone when the block ends."""
+    """A line on standard error, if that is a terminal. It is erased when the block ends."""
 
     def __init__(self) -> None:
         self.is_shown = sys.stderr.isatty()

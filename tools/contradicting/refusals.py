@@ -1,4 +1,4 @@
-"""The reports that the program refuses, and the faults that it finds in each."""
+"""The reports that the program refuses, and their faults."""
 from __future__ import annotations
 
 import json
@@ -6,13 +6,13 @@ from typing import Any, Iterable, Iterator, Mapping, NamedTuple
 
 from process import shortened
 
-MOST_LINES = 20  # of one report
-MOST_NAMES, MOST_PRINTED = 1_000, 20  # that a sheet lacks: those that are kept, and those that a line has
-LACKING = {"UnknownConcept": "concept", "UnknownDimension": "dimension"}  # what another sheet may mend
+MOST_LINES = 20  # shown faults of one report
+MOST_NAMES, MOST_PRINTED = 1_000, 20  # names that a sheet lacks: how many are kept and shown
+LACKING = {"UnknownConcept": "concept", "UnknownDimension": "dimension"}  # refusals that another sheet may avoid
 
 
 class Refused(NamedTuple):
-    """A refused report, the first of its faults as lines, and how many it has."""
+    """A refused report, its first faults as lines, and the number of its faults."""
 
     path: str
     lines: tuple[str, ...]
@@ -25,7 +25,7 @@ class Refused(NamedTuple):
 
 
 class Refusals:
-    """The refused reports, and the concepts and dimensions of theirs that the sheet lacks."""
+    """The refused reports, and the concepts and dimensions in them that the sheet lacks."""
 
     def __init__(self, advice: str = "") -> None:
         self.advice = advice
@@ -33,7 +33,7 @@ class Refusals:
         self.lacking: dict[str, dict[str, None]] = {"concept": {}, "dimension": {}}
 
     def add(self, path: str, refusal: str, faults: Iterable[Mapping[str, Any]]) -> None:
-        """Adds a report with its faults. If there are none, the refusal stands for them."""
+        """Adds a report with its faults. If there are none, the refusal is used instead."""
         first, count = [], 0
         for count, fault in enumerate(faults, 1):
             if count <= MOST_LINES:
@@ -44,7 +44,7 @@ class Refusals:
         self.reports.append(Refused(path, tuple(first or [refusal]), count or 1))
 
     def lacking_lines(self, most: int = MOST_NAMES) -> Iterator[str]:
-        """Yields which concepts and dimensions the sheet lacks, and what to do about it."""
+        """Yields the concepts and dimensions that the sheet lacks, and how to add them."""
         for kind, names in self.lacking.items():
             if names:
                 count = f"{len(names)}{' or more' * (len(names) == MOST_NAMES)} {kind}{'s' * (len(names) > 1)}"
@@ -54,7 +54,7 @@ class Refusals:
             yield self.advice
 
     def lines(self) -> Iterator[str]:
-        """Yields what to print about all of them."""
+        """Yields the lines to print about all refused reports."""
         for report in self.reports:
             yield from (f"{report.path}: {line}" for line in report.shown())
         yield from self.lacking_lines(MOST_PRINTED)

@@ -1,4 +1,4 @@
-"""The reports that are named on the command line, each with its provider."""
+"""The reports on the command line, with their providers."""
 from __future__ import annotations
 
 import os
@@ -9,16 +9,16 @@ from process import NotDone
 
 
 class Report(NamedTuple):
-    """A file with a report, and the name of the provider that made it."""
+    """A file with a report, and the name of its provider."""
 
     provider: str
     path: str
 
 
 def reports_of(words: Iterable[str]) -> list[Report]:
-    """Returns the reports that words name as FILE or NAME=FILE. A file that is repeated under one name is returned once.
+    """Returns the reports that are named as FILE or NAME=FILE. A file that is repeated under one name is returned once.
 
-    Without NAME the provider has the name of the file. Errors: ValueError if a name or a file has two meanings.
+    Without NAME the provider is named after the file. Errors: ValueError if a name or a file has two meanings.
     """
     reports: dict[str, Report] = {}
     first: dict[str, tuple[bool, str]] = {}
@@ -35,7 +35,7 @@ def reports_of(words: Iterable[str]) -> list[Report]:
 
 
 def report_of(word: str) -> tuple[bool, Report]:
-    """Returns whether a word names a provider, and its report. What has a / before the first = is a path."""
+    """Returns whether an argument names a provider, and its report. An argument with a / before the first = is a path."""
     name, sign, path = word.partition("=")
     is_named = bool(sign) and "/" not in name
     if is_named and not (name and path):
@@ -50,7 +50,7 @@ def written(name: str) -> str:
 
 
 def check_files(paths: Iterable[str]) -> None:
-    """Refuses what the program could not read several times. Errors: NotDone, OSError."""
+    """Raises an error for files that the program could not read several times. Errors: NotDone, OSError."""
     for path in paths:
         if not stat.S_ISREG(os.stat(path).st_mode):
             raise NotDone(f"{path} is not a regular file")

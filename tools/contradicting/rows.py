@@ -1,4 +1,4 @@
-"""The rows of a merged text, and what the lines of `verdicts` say of them."""
+"""The rows of a merged report, and their verdicts as `verdicts` printed them."""
 from __future__ import annotations
 
 import collections
@@ -37,19 +37,19 @@ class Dimensions(NamedTuple):
 
 
 class Fact(NamedTuple):
-    """A fact, whose row has its dimensions."""
+    """A fact. Its row has its dimensions."""
 
     value: Value
     decimals: Optional[int]
 
     def interval(self) -> Interval:
-        """Returns the least and the greatest number that the value stands for."""
+        """Returns the least and the greatest number that round to the value."""
         if not isinstance(self.value, Decimal):
-            raise TypeError(f"{self.value} is no number")
+            raise TypeError(f"{self.value} is not a number")
         return interval_of(self.value, self.decimals)
 
     def precision(self) -> tuple[Union[int, str], Union[Decimal, str], Union[Decimal, str]]:
-        """Returns the decimals and the interval of a number, nothing of others."""
+        """Returns the decimals and the interval of a number; nothing for other values."""
         if not isinstance(self.value, Decimal):
             return "", "", ""
         low, high = self.interval()
@@ -57,7 +57,7 @@ class Fact(NamedTuple):
 
 
 class Row(NamedTuple):
-    """The facts of one row by identifier, its verdict, and who reported each.
+    """The facts of one row by identifier, its verdict, and the providers of each fact.
 
     The gap is the interval between the two facts that contradict each other, or None if they are not numbers.
     """
@@ -71,7 +71,7 @@ class Row(NamedTuple):
 
     @property
     def pair(self) -> tuple[str, str]:
-        """The identifiers of the two facts that don't meet."""
+        """The identifiers of the two facts that contradict each other."""
         return self.said["one"], self.said["two"]
 
     def share(self) -> Optional[Decimal]:
@@ -83,7 +83,7 @@ class Row(NamedTuple):
 
 
 class RowObserver(Protocol):
-    """Takes rows that need not contradict themselves."""
+    """Receives rows that are not contradictions."""
 
     def wants(self, holders: Mapping[str, Holders]) -> bool: ...
 
@@ -91,7 +91,7 @@ class RowObserver(Protocol):
 
 
 class FactSources(Protocol):
-    """Knows who said a fact. Each fact has to be asked for once, in order."""
+    """Knows the providers of a fact. Ask for each fact once, in order."""
 
     names: list[str]
 
@@ -105,7 +105,7 @@ def dimensions_given(fact: tuple[str, Tree]) -> Any:
 
 
 def contradiction(row: Row) -> Optional[Row]:
-    """Returns a row with its gap, None where its facts do not show that it contradicts itself."""
+    """Returns a row with its gap, or None if its facts do not contradict each other."""
     one, two = (row.facts.get(name) for name in row.pair)
     if not one or not two or one is two:
         return None
@@ -116,7 +116,7 @@ def contradiction(row: Row) -> Optional[Row]:
 
 
 class Reader:
-    """Reads the rows of a merged text along with their lines, and who said their facts."""
+    """Reads the rows of a merged report together with their lines and providers."""
 
     def __init__(
         self, text: Text, sheet: Sheet, sources: FactSources, near: Optional[RowObserver], listed: list[Any]
@@ -149,11 +149,11 @@ class Reader:
         self.listed.append((row.number, verdict, names[0], names[-1], self.said_by(len(who)), ", ".join(sorted(who))))
 
     def said_by(self, count: int) -> str:
-        """Returns how many of the providers report a row, in words, or an empty text if there are no providers."""
+        """Returns in words how many of the providers report a row. The text is empty if there are no providers."""
         return f"{count} of {self.providers}" if self.providers else ""
 
     def row(self, number: int, facts: dict[str, Tree], line: str) -> Optional[Row]:
-        """Returns a row, None where its line does not fit it. Of one that contradicts itself all facts are expanded."""
+        """Returns a row, or None if its line does not fit. The facts of a contradiction are all expanded."""
         with using(self.text.path):
             is_numeric = [self.kind(tree) == "numeric" for tree in facts.values()][0]
         names = [*facts]
@@ -169,7 +169,7 @@ class Reader:
         return Row(number, None, {}, said, holders, None) if is_shown else None
 
     def kind(self, tree: Tree) -> str:
-        """Returns the kind of a fact, whose value has to be of it."""
+        """Returns the kind of a fact, after checking its value."""
         concept = tree["dimensions"]["concept"]
         if concept not in self.kinds:
             self.kinds[concept] = self.sheet.concepts[self.text.name(concept)]
@@ -213,7 +213,7 @@ def check_texts(*values: Any) -> None:
 
 
 def checked_period(period: str) -> str:
-    """Returns a period, which is absent, a moment or two of them."""
+    """Returns a period, which is empty, or has one moment or two."""
     moments = period.split("/") if period else []
     if len(moments) > 2 or not all(map(MOMENT.fullmatch, moments)):
         raise ValueError(f"it has a period in another form: {shortened(period)}")
@@ -223,7 +223,7 @@ def checked_period(period: str) -> str:
 
 
 def zip_all(groups: Iterable[Any], lines: Iterable[str]) -> Iterator[tuple[Any, str]]:
-    """Yields each group with its line; there have to be as many of both."""
+    """Yields each group with its line; there must be as many groups as lines."""
     for group, line in itertools.zip_longest(groups, lines):
         if group is None or line is None or not line.endswith("\n"):
             raise ValueError("it does not have a line for each row of the text")
@@ -240,7 +240,7 @@ def interval_of(value: Decimal, decimals: Optional[int]) -> Interval:
 
 
 def is_common(said: re.Match[str], facts: Mapping[str, Tree]) -> bool:
-    """Returns whether a line shows the interval that the numbers of facts have in common."""
+    """Returns whether a line shows the common interval of these facts."""
     if any(fact["value"] is None for fact in facts.values()):
         return False
     lows, highs = zip(*(interval_of(Decimal(fact["value"]), fact.get("decimals")) for fact in facts.values()))
@@ -248,7 +248,7 @@ def is_common(said: re.Match[str], facts: Mapping[str, Tree]) -> bool:
 
 
 def day(moment: str, is_end: bool) -> str:
-    """Returns a moment as people say it: midnight is the day that begins or, at an end, the day that ended."""
+    """Returns a moment as people write it: midnight is the day that begins or, at an end, the day before."""
     read = datetime.datetime.fromisoformat(moment)
     is_midnight = read.time() == datetime.time() and (not is_end or read > datetime.datetime.min)
     return str(read.date() - datetime.timedelta(days=is_end)) if is_midnight else moment.replace("T", " ")

@@ -25,13 +25,13 @@ Holders = tuple[Holder, ...]  # of one fact
 class Sources:
     """The lines of `sources`, in the order of the facts. `reports` has the provider of each report.
 
-    The names are those of the providers that have a report which is not refused.
+    `names` has the providers of the reports that are not refused.
     """
 
     def __init__(self, path: str, reports: list[str], refused: Container[int] = ()) -> None:
         self.path, self.reports = path, reports
         self.names = [name for number, name in enumerate(reports, 1) if number not in refused]
-        self.head: Optional[tuple[str, str, str]] = None  # a fact, its report and its identifier there
+        self.head: Optional[tuple[str, str, str]] = None  # the fact, the number of the report, and the identifier in it
         with using(path):
             self.file = open(path, encoding="utf-8", newline="\n")
             self.advance()
@@ -46,11 +46,11 @@ class Sources:
             raise ValueError(f"{line[:80]!r} is not a line of the sources of {len(self.reports)} reports")
         else:
             identifier = json.loads(found[3])
-            identifier.encode()  # refuses halves of characters, which can't be written
+            identifier.encode()  # fails for unpaired surrogates
             self.head = found[1], self.reports[int(found[2]) - 1], identifier
 
     def holders(self, name: str, _: Tree) -> Holders:
-        """Returns who reported a fact, with the identifiers. Ask for each fact once, in order."""
+        """Returns the providers of a fact with the identifiers. Ask for each fact once, in order."""
         found: dict[str, list[str]] = {}
         with using(self.path):
             while self.head and self.head[0] == name:
@@ -61,7 +61,7 @@ class Sources:
         return tuple(Holder(provider, tuple(identifiers)) for provider, identifiers in found.items())
 
     def finish(self) -> None:
-        """Refuses lines of facts that are not there."""
+        """Raises an error if there are lines for other facts."""
         with using(self.path):
             if self.head:
                 raise ValueError(f"it has a source of {self.head[0]}, which does not exist, or is in the wrong place")
@@ -82,21 +82,21 @@ class OwnTexts:
 
 
 def names_of(holders: Mapping[str, Holders]) -> set[str]:
-    """Returns the names of those who said the facts of a row."""
+    """Returns the names of the providers of a row."""
     return {holder.name for each in holders.values() for holder in each}
 
 
 def providers(holders: Holders) -> str:
-    """Returns the names of those who said a fact, as a text."""
+    """Returns the names of the providers of a fact, as a text."""
     return ", ".join(holder.name for holder in holders)
 
 
 def identifiers(holders: Holders) -> str:
-    """Returns the identifiers of each provider, if they are known, as a text."""
+    """Returns each provider's identifiers as a text, if they are known."""
     return "; ".join(f"{holder.name}: {', '.join(holder.identifiers)}" for holder in holders if holder.identifiers)
 
 
 def told(holders: Holders) -> str:
-    """Returns both, as a text, with each name and each identifier shortened."""
+    """Returns both as a text, with long names and identifiers cut."""
     brief = ((shortened(holder.name), ", ".join(map(shortened, holder.identifiers))) for holder in holders)
     return "; ".join(" ".join(each).strip() for each in brief)

@@ -1,4 +1,4 @@
-"""The table of what contradicts, with names as {URI}local and nothing that a spreadsheet would work out."""
+"""The table of contradictions. Names are {URI}local, and no cell can be read as a formula."""
 from __future__ import annotations
 
 import csv
@@ -12,14 +12,14 @@ from contradicting.sources import identifiers, providers
 from names import Name
 from process import NotDone
 
-SIGNS = "=+-@\uff1d\uff0b\uff0d\uff20"  # that a formula begins with
-SKIPPED = "[\\s\x00-\x20\ufeff'\"]+"  # what a spreadsheet may skip before them
+SIGNS = "=+-@\uff1d\uff0b\uff0d\uff20"  # characters that begin a formula
+SKIPPED = "[\\s\x00-\x20\ufeff'\"]+"  # characters that a spreadsheet may skip before a formula
 BEFORE_FORMULA = re.compile(f"{SKIPPED}|(?<![^;|])(?=[{re.escape(SIGNS)}])")
 SEPARATOR = re.compile("[\t\r\n]")
 DIMENSIONS = "concept entity period unit language dimensions".split()
 COLUMNS = ["row", "fact", *DIMENSIONS, *"value decimals low high evidence providers identifiers said_by label".split()]
 LISTED = "row verdict first last said_by providers".split()
-LONGEST_ROW, LONGEST_TABLE = 1 << 24, 1 << 30  # characters of the dimensions of one row, and of all lines
+LONGEST_ROW, LONGEST_TABLE = 1 << 24, 1 << 30  # characters in the dimensions of one row, and in all lines
 
 Cell = Union[Value, int]
 
@@ -57,7 +57,7 @@ safe_again = functools.lru_cache(10_000)(safe)  # short texts are repeated in ma
 
 
 def guarded(found: re.Match[str]) -> str:
-    """Returns what a spreadsheet may skip, and a ' wherever a formula might begin in it."""
+    """Returns the skipped characters, with a ' wherever a formula might begin."""
     skipped, text = found[0], found.string
     if found.end() == len(text) or text[found.end()] not in SIGNS:
         return skipped
@@ -66,7 +66,7 @@ def guarded(found: re.Match[str]) -> str:
 
 
 def check_lengths(rows: Iterable[tuple[Dimensions, int]]) -> None:
-    """Raises NotDone if a table would be too long. Each row has so many facts, each fact a line with all names and URIs."""
+    """Raises NotDone if a table would be too long. `rows` has dimensions with a count of facts; each fact repeats them."""
     total = 0
     for dimensions, facts in rows:
         length = length_of(dimensions)
@@ -78,7 +78,7 @@ def check_lengths(rows: Iterable[tuple[Dimensions, int]]) -> None:
 
 
 def length_of(dimensions: Dimensions) -> int:
-    """Returns how many characters dimensions have in a line, but for signs between them."""
+    """Returns the number of characters of dimensions in a line, without separators."""
     given: list[Cell] = [dimensions.concept, dimensions.entity, dimensions.period, dimensions.language]
     given += [name for side in dimensions.unit for name in side]
     given += [name for pair in dimensions.members for name in pair]
@@ -86,7 +86,7 @@ def length_of(dimensions: Dimensions) -> int:
 
 
 def dimension_cells(of: Dimensions) -> list[str]:
-    """Returns the cells of what a row is about."""
+    """Returns the cells for the dimensions of a row."""
     unit = "/".join("*".join(map(cell, side)) for side in of.unit)
     members = "; ".join(f"{cell(axis)}={cell(member)}" for axis, member in of.members)
     return [*map(cell, (of.concept, of.entity or "", of.period, unit, of.language, members))]

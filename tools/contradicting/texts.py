@@ -1,4 +1,4 @@
-"""Reads merged texts, which may be large, fact by fact."""
+"""Reads merged reports, which may be large, fact by fact."""
 from __future__ import annotations
 
 import contextlib
@@ -11,18 +11,18 @@ from process import NotDone, shortened
 from sheets import Sheet
 from text_files import read_text
 
-Tree = Any  # what `json` reads
-PIECE = 1 << 18  # characters that are read at a time
-WHITE = " \t\r\n"  # `in` accepts the empty text too, which means the end of a piece
+Tree = Any  # the result of `json`
+PIECE = 1 << 18  # characters to read at a time
+WHITE = " \t\r\n"  # `in` is also true for the empty text, which means the end of a piece
 SPACE = re.compile(r"[ \t\r\n]*")
 FACT = re.compile(r'(,?)[ \t\r\n]*"(f\d+)"[ \t\r\n]*:[ \t\r\n]*(?={)')
 CORE = ("concept", "entity", "period", "unit", "language")
-DIGITS = 18  # that a whole number has at most: longer ones stay texts, since reading them takes the square of their length
+DIGITS = 18  # the most digits of a whole number; longer ones stay texts, since parsing takes quadratic time
 
 
 @contextlib.contextmanager
 def using(path: str) -> Iterator[None]:
-    """Has a fault name the file that it lies in."""
+    """Adds the name of the file to an exception."""
     try:
         yield
     except (OSError, ValueError, LookupError, TypeError, AttributeError, ArithmeticError, RecursionError) as fault:
@@ -45,7 +45,7 @@ def expanded(text: str, uris: Uris) -> Name:
 
 
 class Text:
-    """A merged text: the URIs of its prefixes, and then its facts in order. It is closed at its end."""
+    """A merged report: the URIs of its prefixes, and then its facts in order. The file is closed at its end."""
 
     def __init__(self, path: str) -> None:
         self.path, self.piece, self.at = path, "", 0
@@ -55,13 +55,13 @@ class Text:
             self.file = open(path, encoding="utf-8-sig")
             self.expect("{")
             self.uris = uris_of(self.member("documentInfo")["namespaces"])
-            self.known: dict[str, Name] = {}  # names are expanded once
+            self.known: dict[str, Name] = {}  # each name is expanded only once
             self.expect(",")
             self.expect('"facts"')
             self.expect(":")
 
     def name(self, text: str) -> Name:
-        """Returns an expanded name of the text."""
+        """Returns an expanded name of the report."""
         if text not in self.known:
             self.known[text] = expanded(text, self.uris)
         return self.known[text]
@@ -78,7 +78,7 @@ class Text:
                 if name != f"f{rank:0{width}}":
                     raise ValueError(f"{name} is not the identifier of fact {rank}")
                 if self.may_have_halves:
-                    json.dumps(tree, ensure_ascii=False).encode()  # refuses halves of characters, which can't be written
+                    json.dumps(tree, ensure_ascii=False).encode()  # fails for unpaired surrogates
                 yield name, tree
             if rank and len(str(rank)) != width:
                 raise ValueError(f"its identifiers are not those of {rank} facts")
@@ -88,7 +88,7 @@ class Text:
                 raise ValueError("something follows it")
 
     def fact(self, is_behind: bool) -> tuple[str, Tree]:
-        """Returns the next fact and its name; one that is whole in the piece is found at once."""
+        """Returns the next fact and its name. A fact that the piece contains completely is found in one step."""
         found = FACT.match(self.piece, self.at)
         if found and bool(found[1]) == is_behind:
             self.at = found.end()
@@ -139,7 +139,7 @@ class Text:
         return self.piece[self.at : self.at + 1]
 
     def fill(self) -> bool:
-        """Reads on, each time twice as much, and returns whether there was anything."""
+        """Reads more, twice as much each time, and returns whether there was anything."""
         self.piece = self.piece[self.at :]
         self.at = 0
         more = self.file.read(max(PIECE, len(self.piece)))
@@ -149,7 +149,7 @@ class Text:
 
 
 class Provider:
-    """One provider's own text beside the merged one, which has its facts in the same order."""
+    """The merged report of one provider's own reports, whose facts have the order of the full merged report."""
 
     def __init__(self, name: str, path: str, merged: Text, sheet: Sheet) -> None:
         self.name, self.text, self.sheet, self.merged = name, Text(path), sheet, merged.path
@@ -178,13 +178,13 @@ class Provider:
         return is_said
 
     def finish(self) -> None:
-        """Refuses a text with a fact that was not asked for."""
+        """Raises an error if there is a fact that was not asked for."""
         with using(self.fault()):
             if self.head is not None:
                 raise ValueError("it is not one of its facts, or in the wrong place")
 
     def respelled(self, tree: Tree) -> Tree:
-        """Returns a fact with the prefixes of the merged text."""
+        """Returns a fact with the prefixes of the merged report."""
         dimensions = {}
         for key, member in tree["dimensions"].items():
             if key not in CORE:
@@ -204,7 +204,7 @@ class Provider:
         return bool(self.sheet.dimensions[self.text.name(axis)] == "explicit")
 
     def spelled(self, text: str) -> str:
-        """Returns a name or an entity with the prefix of the merged text."""
+        """Returns a name or an entity with the prefix of the merged report."""
         prefix, _, local = text.partition(":")
         if prefix not in self.spellings:
             self.spellings[prefix] = self.prefixes[self.text.uris[prefix]]

@@ -1,4 +1,4 @@
-"""Keeps account of what is changed in the objects of a report."""
+"""Records the changes in the objects of a report."""
 from __future__ import annotations
 
 from typing import NamedTuple, Optional
@@ -10,7 +10,7 @@ Path = tuple[str, ...]  # the keys that lead to a part of a report
 
 
 class Reason(NamedTuple):
-    """The option that drops a fact, and a sentence with the names that fill its places."""
+    """The option that drops a fact, and a message with placeholders for names."""
 
     rule: str
     why: str
@@ -18,9 +18,9 @@ class Reason(NamedTuple):
 
 
 class Log:
-    """The lines of changes, and what is left though the profile does not have it, of one fact or of the document.
+    """The lines for changes, and for parts that are left outside the profile, of one fact or of the document.
 
-    The lines repeat identifiers, URIs and texts, so each of these is shortened; `number` then finds the fact.
+    Each line repeats identifiers, URIs and texts, so they are shortened; `number` identifies the fact.
     """
 
     def __init__(self, fact: Optional[str] = None, number: int = 0) -> None:
@@ -29,17 +29,17 @@ class Log:
         self.left: list[str] = []
 
     def tell(self, path: Path, rule: str, loss: bool, **values: Tree) -> None:
-        """Adds the line of a change at a path, with the values before and after it."""
+        """Adds the line for a change at a path, with the values before and after."""
         told = {key: brief_of(value) for key, value in values.items()}
         self.add(path, told, rule, loss, is_long(path) or told != values)
 
     def tell_moved(self, path: Path, name: str, rule: str, was: Tree) -> None:
-        """Adds the line of a member that has another name."""
+        """Adds the line for a renamed member."""
         told = {"was": brief_of(was), "moved": pointer_of((*path[:-1], name))}
         self.add(path, told, rule, False, is_long(path) or told["was"] != was)
 
     def tell_dropped(self, path: Path, reason: Reason, was: Tree) -> None:
-        """Adds the line of a fact that is dropped, the only one of the fact."""
+        """Adds the line for a dropped fact, and removes the fact's other lines."""
         self.lines, self.left, self.is_lossy = [], [], False
         told = {"was": brief_of(was), "why": reason.why.format(*map(shortened, reason.names))}
         self.add(path, told, reason.rule, True, is_long((*path, *reason.names)) or told["was"] != was)
@@ -79,7 +79,7 @@ def brief_of(tree: Tree) -> Tree:
 
 
 class Part:
-    """An object of a report with its place. Each method that changes it logs the change."""
+    """An object of a report and its path. Each method that changes it logs the change."""
 
     def __init__(self, members: dict[str, Tree], path: Path, log: Log) -> None:
         self.members, self.path, self.log = members, path, log
@@ -88,7 +88,7 @@ class Part:
         return self.members.get(key)
 
     def change(self, key: str, now: Tree, rule: str, loss: bool = False) -> None:
-        """Replaces the value of a member, and logs the change if it differs."""
+        """Replaces the value of a member, and logs the change if the value differs."""
         was = self.members[key]
         if type(was) is not type(now) or was != now:
             self.members[key] = now
@@ -98,11 +98,11 @@ class Part:
         self.log.tell((*self.path, key), rule, loss, was=self.members.pop(key))
 
     def rename(self, key: str, name: str, rule: str) -> None:
-        """Gives a member another key, in its place."""
+        """Renames a member. It keeps its place."""
         path = (*self.path, key)
         if name in self.members:
             values = " and ".join(shortened(text_of(self.members[each])) for each in (name, key))
-            raise NotDone(f"{pointer_of(path)} and {name} are one member, which stands twice: {values}")
+            raise NotDone(f"{pointer_of(path)} and {name} are the same member: {values}")
         self.log.tell_moved(path, name, rule, self.members[key])
         pairs = [(name if each == key else each, value) for each, value in self.members.items()]
         self.members.clear()

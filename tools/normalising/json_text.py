@@ -1,4 +1,4 @@
-"""Reads and writes JSON whose numbers keep their characters and in which no member is lost.
+"""Reads and writes JSON. Numbers keep their spelling, and no member is lost.
 
 `json` reads it, with hooks. It cannot write it: its encoder spells a number itself, from an int or a float, and has no
 hook for that, so 1.50, -0 and 1e400 would change. Therefore `pieces_of` writes.
@@ -13,7 +13,7 @@ from process import NotDone, shortened
 from text_files import read_text
 
 Tree = Any  # None, bool, str, Number, or a dict or list of such trees
-HALF = re.compile(r"\\u[dD][89a-fA-F]")  # an escape of half a character
+HALF = re.compile(r"\\u[dD][89a-fA-F]")  # an escaped half of a surrogate pair
 
 
 class Number(str):
@@ -23,7 +23,7 @@ class Number(str):
 
 
 class Twins(NamedTuple):
-    """Two members of one name in an object, and the dict that was made of the object."""
+    """Two members of an object with the same name, and the dict that was made of the object."""
 
     made: dict[str, Tree]
     key: str
@@ -37,7 +37,7 @@ def read_json(path: str) -> Tree:
 
 
 def read_json_of_length(path: str) -> tuple[Tree, int]:
-    """Returns the tree of a file, and how many characters it has.
+    """Returns the tree of a file, and the number of its characters.
 
     Raises NotDone if it cannot be read, if it is not JSON, or if two members of one object share a name.
     """
@@ -60,7 +60,7 @@ def tree_of(text: str, path: str) -> Tree:
     try:
         tree = json.loads(text, object_pairs_hook=members, parse_int=Number, parse_float=Number, parse_constant=no_constant)
         if HALF.search(text):
-            text_of(tree).encode()  # refuses halves of characters, which can't be written
+            text_of(tree).encode()  # fails for unpaired surrogates
     except RecursionError:
         raise NotDone(f"{path}: it is nested too deeply") from None
     except ValueError as fault:
@@ -71,25 +71,25 @@ def tree_of(text: str, path: str) -> Tree:
 
 
 def no_constant(word: str) -> None:
-    raise ValueError(f"{word} is no JSON")
+    raise ValueError(f"{word} is not JSON")
 
 
 def twins_in(pairs: list[tuple[str, Tree]], made: dict[str, Tree]) -> Twins:
-    """Returns the first two members of one name."""
+    """Returns the first two members with the same name."""
     seen: dict[str, Tree] = {}
     for key, value in pairs:
         if key in seen:
             return Twins(made, key, seen[key], value)
         seen[key] = value
-    raise LookupError("no name comes twice")
+    raise LookupError("no name is repeated")
 
 
 def told_twice(tree: Tree, twins: Twins) -> str:
-    """Returns what to say of an object with two members of one name."""
+    """Returns the message about an object with two members of one name."""
     path = path_to(tree, twins.made)
     within = "an object" if path is None else pointer_of(path) or "the root"
     first, second = (shortened(text_of(value)) for value in (twins.first, twins.second))
-    return f"the member {text_of(shortened(twins.key))} stands twice in {within}: {first} and {second}"
+    return f"the member {text_of(shortened(twins.key))} is repeated in {within}: {first} and {second}"
 
 
 def path_to(tree: Tree, wanted: Tree) -> Optional[tuple[str, ...]]:
@@ -105,7 +105,7 @@ def path_to(tree: Tree, wanted: Tree) -> Optional[tuple[str, ...]]:
 
 
 def keys_of(way: Any) -> tuple[str, ...]:
-    """Returns the keys of a way, which is the way before and the last key, or None."""
+    """Returns the keys of a linked path, each link of which has the link before and a key."""
     keys = []
     while way:
         way, key = way
@@ -114,7 +114,7 @@ def keys_of(way: Any) -> tuple[str, ...]:
 
 
 def pointer_of(path: tuple[str, ...]) -> str:
-    """Returns the JSON pointer of a path, each key of which is shortened."""
+    """Returns the JSON pointer of a path, with long keys shortened."""
     return "".join("/" + shortened(key).replace("~", "~0").replace("/", "~1") for key in path)
 
 

@@ -8,11 +8,11 @@ from typing import Callable, Iterator, Optional
 MOMENT = re.compile(r"(?P<day>\d{4}-\d\d-\d\d)(?P<time>T\d\d:\d\d:\d\d)?(?P<part>\.\d+)?(?P<zone>Z|[+-]\d\d:\d\d)?", re.ASCII)
 UTC = ("Z", "+00:00", "-00:00")
 
-Rewriting = Callable[["re.Match[str]", bool], Optional[str]]  # of a moment, and whether it is a start
+Rewriting = Callable[["re.Match[str]", bool], Optional[str]]  # a moment, and whether it is a start
 
 
 def each_moment(period: str, rewritten: Rewriting) -> str:
-    """Returns a period with each moment rewritten by a function of its match and of whether it is a start."""
+    """Returns a period with each moment rewritten by a function, which gets the match and whether it is a start."""
     texts = period.split("/")
     if len(texts) > 2:
         return period
@@ -27,7 +27,7 @@ def without_zero_fraction(moment: re.Match[str], _: bool) -> Optional[str]:
 
 
 def with_time(moment: re.Match[str], is_start: bool) -> Optional[str]:
-    """Gives a date without a time the end of its day, or the beginning if it is a start."""
+    """Returns a date with the time at the end of its day, or at the beginning if it is a start."""
     day, time, part, zone = moment.groups(default="")
     if time or part or not is_date(day):
         return None
@@ -35,7 +35,7 @@ def with_time(moment: re.Match[str], is_start: bool) -> Optional[str]:
 
 
 def in_utc(moment: re.Match[str], _: bool) -> Optional[str]:
-    """Takes a moment with a zone to the one of UTC without a zone. Midnight of UTC keeps its spelling."""
+    """Converts a moment with a zone to UTC and removes the zone. A midnight that is UTC keeps its spelling."""
     day, time, part, zone = moment.groups(default="")
     if not zone or not time or part:
         return None
@@ -49,10 +49,10 @@ def in_utc(moment: re.Match[str], _: bool) -> Optional[str]:
 
 
 def ahead(zone: str) -> datetime.timedelta:
-    """Returns how much later a zone's clocks are than those of UTC. Raises ValueError if it is not a zone."""
+    """Returns how far a zone is ahead of UTC. Raises ValueError if it is not a zone."""
     hours, minutes = int(zone[1:3]), int(zone[4:])
     if hours * 60 + minutes > 14 * 60 or minutes > 59:
-        raise ValueError(f"{zone} is no zone")
+        raise ValueError(f"{zone} is not a zone")
     return datetime.timedelta(hours=hours, minutes=minutes) * (-1 if zone[0] == "-" else 1)
 
 
@@ -64,7 +64,7 @@ def is_date(day: str) -> bool:
 
 
 def doubts(period: str) -> Iterator[str]:
-    """Yields why the moments of a period stay without the profile."""
+    """Yields the reasons why the moments of a period stay outside the profile."""
     for moment in map(MOMENT.fullmatch, period.split("/")):
         if moment and moment["part"]:
             yield "it has a fraction of a second"

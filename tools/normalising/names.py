@@ -1,4 +1,4 @@
-"""What the rules ask of names and texts, and the sheet that tells the kinds."""
+"""Names and sheets, as the rules need them."""
 from __future__ import annotations
 
 from typing import Optional
@@ -14,13 +14,13 @@ def is_text(value: Tree) -> bool:
 
 
 def core_spelling(key: str, uris: Uris) -> Optional[str]:
-    """Returns the spelling without a prefix of a name that xBRL itself defines, None of any other."""
+    """Returns the unprefixed spelling of a name that xBRL itself defines, or None for any other name."""
     prefix, colon, local = key.partition(":")
     return local if colon and uris.get(prefix, XBRL if prefix == "xbrl" else None) == XBRL else None
 
 
 def sheet_at(path: Optional[str]) -> Sheet:
-    """Returns the sheet of a file, or without one a sheet that lists nothing. Errors: NotDone."""
+    """Returns the sheet in a file. Without a file, the sheet is empty. Errors: NotDone."""
     try:
         return Sheet({} if path is None else read_json(path))
     except ValueError as fault:

@@ -24,21 +24,21 @@ KNOWN = {
 CORE = ("concept", "entity", "period", "unit", "language", "noteId")
 SCIENTIFIC = re.compile(r"[+-]?(?P<mantissa>\d+(\.\d*)?|\.\d+)[eE][+-]?\d+", re.ASCII)
 WHOLE = re.compile(r"[+-]?\d{1,18}", re.ASCII)
-DIGITS = 18  # of a number without its exponent
+DIGITS = 18  # the digits of a number without its exponent
 
-GROWTH, SMALL = 16, 1_000_000  # the names of sets may add this many times the report, and this many characters to it
+GROWTH, SMALL = 16, 1_000_000  # the names of sets may add this many times the report's length, and this many characters
 
 
 class Normaliser:
-    """Brings reports into the profile as a sheet and options have it. The program is asked what it still refuses."""
+    """Brings reports into the profile, by a sheet and options. The program says what it still refuses."""
 
     def __init__(self, sheet: Sheet, options: argparse.Namespace, program: Optional[Program] = None) -> None:
         self.sheet, self.options, self.program = sheet, options, program
 
     def normalise(self, tree: Tree, length: int = 0) -> Log:
-        """Changes the tree of a report of that many characters. Returns the lines of changes and what is left, in order."""
+        """Changes the tree of a report. Returns the lines for changes and for the parts that are left, in order."""
         if not isinstance(tree, dict):
-            raise NotDone("it is no report: its root is no object")
+            raise NotDone("it is not a report: its root is not an object")
         whole = Log()
         drop_unknown_members(Part(tree, (), whole), "report")
         information, facts = tree.get("documentInfo"), tree.get("facts")
@@ -64,7 +64,7 @@ class Normaliser:
 
 
 def drop_unknown_members(part: Part, kind: str) -> None:
-    """Removes the members that the format does not know; one with a colon is an extension, and stays."""
+    """Removes members that the format does not define. A member with a colon is an extension and stays."""
     for key in [key for key in part.members if ":" not in key and key not in KNOWN[kind]]:
         part.remove(key, "unknown-member")
 
@@ -76,7 +76,7 @@ class FactReader:
         self.sheet, self.options, self.uris, self.room = sheet, options, uris, room
 
     def read(self, name: str, fact: Tree, log: Log, kept: dict[str, Tree]) -> None:
-        """Keeps the changed fact under its name; of one that is dropped, no other change is told."""
+        """Keeps the changed fact under its name. Other changes in a dropped fact are not logged."""
         changed = fact
         if isinstance(fact, dict):
             changed = {**fact}
@@ -153,7 +153,7 @@ class FactReader:
         if scientific:
             plain = plain_number(scientific)
             if plain is None:
-                fact.leave("value", "without its exponent more than 18 digits count")
+                fact.leave("value", "it has more than 18 digits without its exponent")
             else:
                 fact.change("value", plain, "exponent")
         if concept in self.sheet.sets:
@@ -164,11 +164,11 @@ class FactReader:
         found = [full_name(item, self.uris) for item in re.findall(rf"[^{SPACE}]+", given)]
         names = {name for name in found if name}
         if len(names) < len(found):
-            fact.leave("value", "the set has what is no name of a bound prefix, or a name twice")
+            fact.leave("value", "the set repeats a name, or contains one whose prefix is not bound")
             return
         self.room -= sum(len(uri) + len(local) + 2 for uri, local in names) - len(given)
         if self.room < 0:
-            raise NotDone(f"the names of its sets, spelled with their URIs, are over {GROWTH} times as long as it and {SMALL} characters")
+            raise NotDone(f"the names of its sets, with their URIs, have more than {GROWTH} times its length and {SMALL} characters")
         fact.change("value", " ".join(sorted(map("#".join, names))), "set")
 
     def concept_of(self, members: dict[str, Tree]) -> Optional[Name]:
@@ -176,7 +176,7 @@ class FactReader:
         return expanded(dimensions.get("concept"), self.uris) if isinstance(dimensions, dict) else None
 
     def reason_to_drop(self, fact: Tree) -> Optional[Reason]:
-        """Returns the option that drops a fact, and why it does, or None."""
+        """Returns the option that drops a fact, with the reason, or None."""
         dimensions = fact.get("dimensions") if isinstance(fact, dict) else None
         if self.options.drop_notes and isinstance(dimensions, dict):
             if "noteId" in dimensions or self.concept_of(fact) == (XBRL, "note"):
@@ -194,7 +194,7 @@ def kind_of(name: Optional[Name], kinds: Kinds) -> Optional[str]:
 
 
 def trimmed(key: str, text: str) -> str:
-    """Returns a text without white space round its tokens. An identifier may end in white space, which is then of it."""
+    """Returns a text without white space around its tokens. Space at the end of an identifier is part of it, and stays."""
     if key == "entity":
         return text.lstrip(SPACE)
     signs = {"period": "([/])", "unit": "([*/()])"}.get(key)
@@ -202,7 +202,7 @@ def trimmed(key: str, text: str) -> str:
 
 
 def whole_number(text: str) -> Optional[str]:
-    """Returns the plain spelling of a whole number, as a text or as a JSON number such as 2.0, and None of others."""
+    """Returns the plain spelling of a whole number, given as text or as a JSON number such as 2.0; otherwise None."""
     if isinstance(text, Number):
         number = Decimal(text) if len(text) <= 18 and abs(Decimal(text).adjusted()) < 18 else None
         return str(int(number)) if number is not None and number == number.to_integral_value() else None
@@ -210,12 +210,12 @@ def whole_number(text: str) -> Optional[str]:
 
 
 def plain_number(scientific: re.Match[str]) -> Optional[str]:
-    """Returns a number without its exponent, by the same digits, and None where more than 18 of them count."""
+    """Returns the same number without an exponent, or None if it has more than 18 significant digits."""
     if not scientific["mantissa"].strip("0."):
         return "0"
     try:
         number = Decimal(scientific[0])
-    except InvalidOperation:  # the exponent itself is beyond measure
+    except InvalidOperation:  # the exponent itself is too large
         return None
     _, digits, exponent = number.as_tuple()
     counting = len(bytes(digits).rstrip(b"\0"))
@@ -225,7 +225,7 @@ def plain_number(scientific: re.Match[str]) -> Optional[str]:
 
 
 def full_name(item: str, uris: Uris) -> Optional[tuple[str, str]]:
-    """Returns the URI and the local part of an item of a set, None where it is no name."""
+    """Returns the URI and the local part of an item in a set, or None if it is not a name."""
     if "#" in item:
         uri, _, local = item.rpartition("#")
         return (uri, local) if uri and local else None

@@ -8,14 +8,14 @@ from program import Program
 
 
 class Refused(NamedTuple):
-    """What the program refuses of a report."""
+    """The refusals of a report by the program."""
 
     facts: dict[str, str]  # the number and the name of the first refusal of each fact, by identifier
     lines: list[str]  # why it refuses the document
 
 
 def refused_in(tree: Tree, program: Program) -> Refused:
-    """Returns what the program refuses of a report. Errors: NotDone, OSError."""
+    """Returns the refusals of a report by the program. Errors: NotDone, OSError."""
     with open(program.place("normalised"), "w", encoding="utf-8", newline="") as file:
         file.writelines(pieces_of(tree))
     refused = Refused({}, [])

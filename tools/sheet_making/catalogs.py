@@ -1,4 +1,4 @@
-"""The catalogs of taxonomy packages: which URLs stand for which files."""
+"""The catalogs of taxonomy packages, which map URLs to files."""
 from __future__ import annotations
 
 import bisect
@@ -11,7 +11,7 @@ from names import Name
 from sheet_making.xml_reading import Element, Visitor
 
 REWRITE = Name("urn:oasis:names:tc:entity:xmlns:xml:catalog", "rewriteURI")
-MOST_LENGTHS = 1_000  # of different starts; a location is looked up once for each
+MOST_LENGTHS = 1_000  # different lengths of uriStartString; a lookup tries each
 
 
 @dataclass(frozen=True)
@@ -28,7 +28,7 @@ class Rewrites(Visitor):
 
     def __init__(self) -> None:
         self.rules: dict[str, Rewrite] = {}
-        self.lengths: list[int] = []  # of the starts, the shortest first
+        self.lengths: list[int] = []  # the different lengths, the shortest first
         self.catalog = ""
 
     def start(self, element: Element, level: int) -> None:
@@ -47,13 +47,13 @@ class Rewrites(Visitor):
             raise ValueError(f"the uriStartStrings have more than {MOST_LENGTHS} different lengths")
 
     def rule_of(self, location: str) -> Optional[Rewrite]:
-        """Returns the rule with the longest start of a location. Of equal starts the first counts."""
+        """Returns the rule with the longest matching start. If there are several, the first one counts."""
         lengths = self.lengths[: bisect.bisect_right(self.lengths, len(location))]
         starts = (location[:length] for length in reversed(lengths))
         return next((self.rules[start] for start in starts if start in self.rules), None)
 
     def place_of(self, location: str, base: str) -> tuple[str, str]:
-        """Returns the place that a location in the document at `base` means, and the document that it is relative to."""
+        """Returns the place to which a location in the document at `base` leads, and the document that it is relative to."""
         rule = self.rule_of(location)
         if rule:
             location, base = rule.prefix + location[len(rule.start) :], rule.catalog

@@ -1,4 +1,4 @@
-"""The files and packages that are named, and what may be read of them."""
+"""The named files and packages, and the files that may be read from them."""
 from __future__ import annotations
 
 import os
@@ -19,15 +19,15 @@ class Files:
     def __init__(self, words: Iterable[str], limits: Limits) -> None:
         self.limits = limits
         self.packed: dict[str, Package] = {}
-        self.listed: list[str] = []  # what is named, or is in a folder or package that is named
+        self.listed: list[str] = []  # files that are named, or are in a named folder or package
         self.named: set[str] = set()
-        self.folders: set[str] = set()  # files on disk are read only in these
+        self.folders: set[str] = set()  # files on disk are only read in these folders
         for word in dict.fromkeys([os.path.abspath(word) for word in words]):
             with reading(word):
                 self.listed += sorted(self.places_of(word))
 
     def places_of(self, word: str) -> Iterable[str]:
-        """Returns the places of a folder, a package or a file."""
+        """Returns the places of the files in a folder or a package, or of a single file."""
         if os.path.isdir(word):
             self.folders.add(os.path.realpath(word))
             return [os.path.join(at, name) for at, _, names in os.walk(word, onerror=fail) for name in names]
@@ -42,7 +42,7 @@ class Files:
         return [word]
 
     def schemas(self) -> list[str]:
-        """Returns the files that are named, and those whose name ends in .xsd."""
+        """Returns the named files, and those whose name ends in .xsd."""
         return [place for place in self.listed if place in self.named or place.lower().endswith(".xsd")]
 
     def catalogs(self) -> list[str]:
@@ -61,8 +61,8 @@ class Files:
     def read(self, place: str) -> bytes:
         """Returns the bytes of a file.
 
-        Errors: ValueError where it is not a regular file, leads out of the named folders or is too long; OSError; what
-        zipfile raises.
+        Errors: ValueError if it is not a regular file, is outside the named folders or is too long; OSError; exceptions of
+        zipfile.
         """
         if place in self.packed:
             return self.packed[place].read(place)
@@ -73,15 +73,15 @@ class Files:
 
 
 def read_regular(place: str, limits: Limits) -> bytes:
-    """Returns the bytes of a regular file. A FIFO does not have it wait.
+    """Returns the bytes of a regular file. A FIFO does not block it.
 
-    Errors: ValueError where it is none or is too long; OSError.
+    Errors: ValueError if it is not a regular file or is too long; OSError.
     """
     with open(place, "rb", opener=lambda path, flags: os.open(path, flags | os.O_NONBLOCK)) as file:
         status = os.fstat(file.fileno())
         if not stat.S_ISREG(status.st_mode):
             raise ValueError("it is not a regular file")
-        data = file.read(min(status.st_size, limits.file) + 1)  # which takes so much memory beforehand
+        data = file.read(min(status.st_size, limits.file) + 1)  # `read` allocates this much memory at once
     if len(data) > limits.file:
         raise too_long(limits)
     if len(data) > status.st_size:

@@ -9,11 +9,11 @@ from names import XBRL, Name
 from sheet_making.schemas import ANY_TYPE, XBRLDT, Declaration
 from sheets import TABLES
 
-Kinds = dict[str, dict[Name, str]]  # for each table of a sheet; the kind "set" is written as text, and named
+Kinds = dict[str, dict[Name, str]]  # the kinds in each table of a sheet; a "set" is written as text and also listed by name
 
 XBRLI = "http://www.xbrl.org/2003/instance"
 ENUMERATIONS_1, ENUMERATIONS_2 = "http://xbrl.org/2014/extensible-enumerations", "http://xbrl.org/2020/extensible-enumerations-2.0"
-REGISTRY = "registry"  # in the place of each namespace of the data type registry
+REGISTRY = "registry"  # replaces each namespace of the data type registry
 HEADS = {Name(XBRLI, "item"): "concepts", Name(XBRLDT, "dimensionItem"): "dimensions"}
 # Of the specifications, no other head leads to a concept; taxonomies at xbrl.org have other paths.
 SPECIFICATION = re.compile(r"https?://(www\.w3\.org/|(www\.)?xbrl\.org/(\d{4}|dtr|lrr)/)")
@@ -50,7 +50,7 @@ def is_of_enumerations(uri: str) -> bool:
 
 
 def listed(name: Name) -> Name:
-    """Returns a type's name as KINDS has it."""
+    """Returns the name of a type as KINDS spells it."""
     return Name(REGISTRY, name.local) if REGISTERED.fullmatch(name.uri) else name
 
 
@@ -69,12 +69,12 @@ def kinds_of(elements: Mapping[Name, Declaration], types: Mapping[Name, Optional
 
 
 class Judge:
-    """Elements with what their heads and types lead to."""
+    """Elements, and the types and heads to which they lead."""
 
     def __init__(self, elements: Mapping[Name, Declaration], types: Mapping[Name, Optional[Name]]) -> None:
         self.elements = elements
         self.heads = ends_of({name: each.head for name, each in elements.items()})
-        # an element without a type has that of its head
+        # an element without a type has the type of its head
         self.typed = ends_of({name: each.head for name, each in elements.items() if not each.type})
         self.bases = ends_of({name: base for name, base in types.items() if is_followed(name)})
 
@@ -94,14 +94,14 @@ class Judge:
         return table, KINDS.get(listed(last)), f"its type {last.shown()} is not known, or has no kind"
 
     def last_type(self, name: Name) -> Name:
-        """Returns the type that the type of an element derives from in the end."""
+        """Returns the base type at the end of the chain from an element's type."""
         having = self.elements.get(self.typed.get(name, name) or name)
         first = having.type if having and having.type else ANY_TYPE
         return self.bases.get(first, first) or ANY_TYPE
 
 
 def is_followed(name: Name) -> bool:
-    """Returns whether a type is judged by what it derives from."""
+    """Returns whether the kind of a type is that of its base type."""
     return listed(name) not in KINDS and not is_of_enumerations(name.uri)
 
 

@@ -1,4 +1,4 @@
-"""The limits of what is read, and the message for a file that cannot be read."""
+"""The limits for reading, and the message for a file that cannot be read."""
 from __future__ import annotations
 
 import contextlib
@@ -10,30 +10,30 @@ from process import NotDone, sentence
 
 @dataclass(frozen=True)
 class Limits:
-    """How much is read, and whether schemas may refer to files outside the folders that are named."""
+    """How much is read, and whether schemas may refer to files outside the named folders."""
 
     megabytes: int = 64
     outside: bool = False
 
     @property
     def file(self) -> int:
-        """The bytes of a file."""
+        """The most bytes in a file."""
         return self.megabytes * 1_000_000
 
     @property
     def again(self) -> int:
-        """The bytes of schemas without a namespace that are read for a further one."""
+        """The most bytes of schemas without a namespace that are read again for further namespaces."""
         return self.file // 16
 
 
 @contextlib.contextmanager
 def reading(path: str) -> Iterator[None]:
-    """Has a fault name the file that it lies in."""
+    """Adds the name of the file to an exception."""
     try:
         yield
     except NotDone:
         raise
-    except Exception as fault:  # expat, zipfile and zlib have exceptions of their own
+    except Exception as fault:  # expat, zipfile and zlib raise their own exceptions
         raise NotDone(f"{path}: {sentence(fault)}") from None
 
 

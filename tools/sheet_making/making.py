@@ -1,4 +1,4 @@
-"""Makes a sheet of taxonomies."""
+"""Makes a sheet from taxonomies."""
 from __future__ import annotations
 
 from typing import Iterable
@@ -12,7 +12,7 @@ NO_NAMESPACE = "it has no namespace, and no schema includes it"
 
 
 def kinds_in(inputs: Iterable[str], limits: Limits) -> tuple[Kinds, list[str]]:
-    """Returns the kinds of the concepts and dimensions in taxonomies, and a line for each thing that is left out."""
+    """Returns the kinds of the concepts and dimensions in taxonomies, and a line for each part that is left out."""
     taxonomy = Taxonomy(Files(inputs, limits))
     kinds, left_out = kinds_of(taxonomy.elements, taxonomy.types)
     return kinds, [f"{place} is left out: {NO_NAMESPACE}" for place in taxonomy.without_namespace()] + left_out

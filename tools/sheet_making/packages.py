@@ -10,7 +10,7 @@ from sheet_making.limits import Limits, too_long
 MOST_ENTRIES = 100_000
 LONGEST_PATH = 1_024  # characters
 MOST_UNPACKED = 100  # times the size of the package
-METHODS = (zipfile.ZIP_STORED, zipfile.ZIP_DEFLATED)  # `zipfile` unpacks others without a limit
+METHODS = (zipfile.ZIP_STORED, zipfile.ZIP_DEFLATED)  # `zipfile` unpacks other methods without a limit
 
 
 class Package:
@@ -18,7 +18,7 @@ class Package:
 
     def __init__(self, path: str, limits: Limits) -> None:
         self.path, self.limits, self.file = path, limits, zipfile.ZipFile(path)
-        self.left = limits.file + MOST_UNPACKED * os.path.getsize(path)  # bytes that may be unpacked
+        self.left = limits.file + MOST_UNPACKED * os.path.getsize(path)  # bytes that may still be unpacked
         self.entries: dict[str, zipfile.ZipInfo] = {}
         for entry in self.file.infolist():
             self.add(entry)
@@ -26,7 +26,7 @@ class Package:
             raise ValueError(f"it has more than {MOST_ENTRIES} files")
 
     def add(self, entry: zipfile.ZipInfo) -> None:
-        """Notes a file under its place."""
+        """Records a file under its place."""
         folder = os.path.join(self.path, "")
         place = os.path.normpath(folder + entry.filename)
         is_within = os.path.join(place, "").startswith(folder) and not entry.filename.startswith("/")

@@ -1,4 +1,4 @@
-"""Reads one schema: what it declares, and which schemas it refers to."""
+"""Reads one schema: its declarations, and the schemas that it refers to."""
 from __future__ import annotations
 
 import sys
@@ -19,17 +19,17 @@ DERIVATIONS = (Name(XS, "restriction"), Name(XS, "extension"))
 
 
 class Declaration(NamedTuple):
-    """The declaration of an element in a schema, as far as the sheet depends on it."""
+    """The declaration of an element in a schema, with the parts that a sheet needs."""
 
-    head: Optional[Name]  # of its substitution group
-    type: Optional[Name]  # of an inner type, what that derives from
+    head: Optional[Name]  # the name of its substitution group
+    type: Optional[Name]  # its type, or the base of a type declared inside it
     is_abstract: bool
-    is_typed: bool  # has a typed domain
+    is_typed: bool  # whether it has a typed domain
 
 
 @dataclass
 class Part:
-    """An element or a type that a schema declares, while it is read."""
+    """An element or a type that is being read."""
 
     name: Name
     identifier: Optional[str]
@@ -38,8 +38,8 @@ class Part:
     type: Optional[Name] = None
     is_abstract: bool = False
     is_typed: bool = False
-    type_level: int = 0  # of the type whose derivation is looked for; 0 outside one
-    base_level: int = 0  # of the derivation that was found
+    type_level: int = 0  # the level of the type whose derivation is read; 0 outside a type
+    base_level: int = 0  # the level of the derivation that was found
 
     def declaration(self) -> Declaration:
         return Declaration(self.head, self.type, self.is_abstract, self.is_typed)
@@ -51,14 +51,14 @@ class SchemaVisitor(Visitor):
     def __init__(self, wanted: Optional[str]) -> None:
         self.wanted = wanted
         self.target: Optional[str] = None  # the namespace that the schema itself names
-        self.namespace: Optional[str] = None  # of what it declares; without one nothing is declared
+        self.namespace: Optional[str] = None  # the namespace of its declarations; without one nothing is declared
         self.part: Optional[Part] = None
 
     def declare(self, part: Part) -> None:
-        """Takes an element or a type."""
+        """Receives an element or a type."""
 
     def refer(self, location: str, wanted: str) -> None:
-        """Takes the location of a schema, and the namespace that it is wanted for."""
+        """Receives the location of a schema, and the namespace for which it is wanted."""
 
     def start(self, element: Element, level: int) -> None:
         if level == 1:
@@ -107,7 +107,7 @@ class SchemaVisitor(Visitor):
         part.type, part.type_level, part.base_level = ANY_TYPE, level, 0
 
     def look_for_base(self, element: Element, level: int, part: Part) -> None:
-        """Notes what a type derives from: in itself, or in its simpleContent or complexContent."""
+        """Records the base of a type: in the type itself, or in its simpleContent or complexContent."""
         if level == 3 and not part.is_type and element.name in TYPES:
             self.open_type(level, part)
         elif part.type_level and level - part.type_level in (1, 2) and element.name in DERIVATIONS:
@@ -116,7 +116,7 @@ class SchemaVisitor(Visitor):
                 part.type, part.base_level = base, level
 
     def expanded(self, element: Element, key: str) -> Optional[Name]:
-        """Returns the name in an attribute. In a schema without a namespace, no prefix means the wanted one."""
+        """Returns the name in an attribute. Without a namespace and a prefix, it is in the wanted one."""
         text = element.get(key)
         if text is None:
             return None

@@ -1,4 +1,4 @@
-"""What the schemas of a taxonomy declare."""
+"""The declarations in the schemas of a taxonomy."""
 from __future__ import annotations
 
 from typing import Optional
@@ -16,15 +16,15 @@ MOST_LINES = 100
 
 
 class Taxonomy:
-    """The elements and types of the named schemas and of those they refer to. A type has the name it derives from."""
+    """The elements and types in the named schemas and in those they refer to. For a type, its base type is kept."""
 
     def __init__(self, files: Files) -> None:
         self.files, self.rewrites = files, Rewrites()
         self.elements: dict[Name, Declaration] = {}
         self.types: dict[Name, Optional[Name]] = {}
-        self.read: dict[str, set[Optional[str]]] = {}  # places with the namespaces that they were read for
-        self.targets: dict[str, Optional[str]] = {}  # places with the namespaces that they name
-        self.read_again = 0  # bytes of schemas without a namespace, for each further one
+        self.read: dict[str, set[Optional[str]]] = {}  # places, with the namespaces for which they were read
+        self.targets: dict[str, Optional[str]] = {}  # places, with the namespaces that the schemas name
+        self.read_again = 0  # bytes of schemas without a namespace, counted for each further namespace
         self.missing: list[str] = []
         for catalog in files.catalogs():
             with reading(catalog):
@@ -38,7 +38,7 @@ class Taxonomy:
             raise NotDone(*shown_lines(self.missing or ["none of the named files is a schema"]))
 
     def read_schema(self, place: str, wanted: Optional[str]) -> None:
-        """Keeps what a schema declares. An included schema without a namespace gets the wanted one."""
+        """Keeps the declarations of a schema. An included schema without a namespace gets the wanted one."""
         namespaces = self.read.setdefault(place, set())
         target = self.targets.get(place)
         if target is not None and wanted not in (None, target):
@@ -56,7 +56,7 @@ class Taxonomy:
         namespaces.add(visitor.namespace)
 
     def refer(self, location: str, base: str, wanted: str) -> None:
-        """Has the schema wait that a location in the document at `base` means."""
+        """Schedules the schema to which a location in the document at `base` leads."""
         place, origin = self.rewrites.place_of(location, base)
         found = self.files.found(place, origin)
         if found:
@@ -74,12 +74,12 @@ class Taxonomy:
             raise ValueError(f"{part.name.shown()} is declared in two ways")
 
     def without_namespace(self) -> list[str]:
-        """Returns the schemas that have no namespace, and that no schema includes."""
+        """Returns the schemas that have no namespace and that no schema includes."""
         return sorted(place for place, namespaces in self.read.items() if namespaces == {None})
 
 
 class Declaring(SchemaVisitor):
-    """Hands what a schema declares to a taxonomy."""
+    """Passes the declarations of a schema to a taxonomy."""
 
     def __init__(self, taxonomy: Taxonomy, place: str, wanted: Optional[str]) -> None:
         super().__init__(wanted)

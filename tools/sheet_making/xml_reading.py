@@ -1,7 +1,7 @@
-"""Reads XML tag by tag, and keeps nothing but the tags that are open.
+"""Reads XML tag by tag, and keeps only the open tags.
 
-Prefixes are resolved here and not by expat, which copies the namespace into each name: a long one would take memory with
-the square of its length.
+Prefixes are resolved here. If expat did it, each name would contain its whole namespace, and a long one would take
+quadratic memory.
 """
 from __future__ import annotations
 
@@ -19,10 +19,10 @@ XML = "http://www.w3.org/XML/1998/namespace"
 
 
 class Bindings:
-    """What the prefixes mean at one place of a document."""
+    """The bindings of the prefixes at one place in a document."""
 
     def __init__(self) -> None:
-        self.uris: dict[str, list[str]] = {"": [""], "xml": [XML]}  # for each prefix the innermost namespace is last
+        self.uris: dict[str, list[str]] = {"": [""], "xml": [XML]}  # for each prefix, its namespaces with the innermost last
 
     def bind(self, attributes: dict[str, str]) -> Sequence[str]:
         """Binds the prefixes that a tag declares, and returns them."""
@@ -39,7 +39,7 @@ class Bindings:
             self.uris[prefix].pop()
 
     def expanded(self, text: str) -> Name:
-        """Returns the name that a text with or without a prefix means."""
+        """Returns the expanded name of a text, with or without a prefix."""
         prefix, _, local = text.rpartition(":")
         uris = self.uris.get(prefix)
         if not uris:
@@ -58,31 +58,31 @@ class Element:
         return self.attributes.get(local)
 
     def get_in(self, uri: str, local: str) -> Optional[str]:
-        """Returns an attribute of a namespace."""
+        """Returns an attribute in a namespace."""
         keys = (key for key in self.attributes if key.endswith(":" + local))
         return next((self.attributes[key] for key in keys if self.bindings.expanded(key) == (uri, local)), None)
 
 
 class Visitor:
-    """What reads a document. Levels count from 1, which is the root."""
+    """Receives the parts of a document. The root has level 1."""
 
     takes_text = False
 
     def start(self, element: Element, level: int) -> None:
-        """Takes a start tag."""
+        """Receives a start tag."""
 
     def end(self, level: int) -> None:
-        """Takes an end tag."""
+        """Receives an end tag."""
 
     def text(self, text: str) -> None:
-        """Takes a piece of text."""
+        """Receives a piece of text."""
 
 
 def read_xml(data: bytes, visitor: Visitor) -> None:
     """Passes the tags and texts of a document to a visitor.
 
-    Errors: ValueError where it is not well-formed, has a document type, more than MOST_LEVELS levels or a prefix that is
-    not bound; what the visitor raises.
+    Errors: ValueError if it is not well-formed, has a document type, more than MOST_LEVELS levels or a prefix that is not
+    bound; exceptions of the visitor.
     """
     bindings, opened = Bindings(), []
 
