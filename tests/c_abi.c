@@ -1,8 +1,8 @@
-/* Calls the library for C as tests/c_abi asks it to: c_abi merge LEVEL SHEET REPORT ..; c_abi verdicts|verdicts-json|sources|sources-json SHEET
-   REPORT ..; c_abi check SHEET REPORT; c_abi edges SHEET. Texts go to standard output, the lines of refused reports to
-   standard error, as the program has them, and the status is the call's. Each call is made with rooms that are too short
-   first, and then with each request for memory refused in turn: these lines go to standard error too, at the end, where
-   a word `requests` begins them. Status 90 and a line: something is not as the header tells. */
+/* Calls the library for C, for tests/c_abi: c_abi merge LEVEL SHEET REPORT ..; c_abi verdicts|verdicts-json|sources|sources-json
+   SHEET REPORT ..; c_abi check SHEET REPORT; c_abi edges SHEET. It prints the text and the lines of refused reports as the
+   program does, and returns the status of the call. Each call is also made with buffers that are too short, and with each
+   request for memory refused in turn. Standard error ends with the number of these requests, in a line that begins with
+   `requests`. Status 90 and a line: a call does not do what the header says. */
 #include <stdio.h>
 #include <stdlib.h>
 #include <string.h>
@@ -27,11 +27,11 @@ void *__wrap_realloc(void *block, size_t size) { return size && is_refused() ? N
 void *__wrap_calloc(size_t count, size_t size) { return is_refused() ? NULL : __real_calloc(count, size); }
 
 static void fail(int line, const char *told) {
-    fprintf(stderr, "c_abi.c:%d: not so: %s\n", line, told);
+    fprintf(stderr, "c_abi.c:%d: expected %s\n", line, told);
     exit(90);
 }
 
-/* What is handed to a call, and its room, with marks that show what it wrote. */
+/* The arguments of a call, and its buffers, filled with marks that show what it wrote. */
 struct asked {
     const char *command;
     uint32_t allow;
@@ -50,7 +50,7 @@ static uint8_t *read_file(const char *name, size_t *length, uint8_t *before, siz
     EXPECT(file != NULL && fseek(file, 0, SEEK_END) == 0);
     *length = (size_t)ftell(file);
     rewind(file);
-    /* one byte more, so that nothing has the size 0; the address sanitizer sees what reads beyond it */
+    /* one byte more, so that no size is 0; the address sanitizer reports reads beyond it */
     uint8_t *bytes = realloc(before, at + *length + 1);
     EXPECT(bytes != NULL && fread(bytes + at, 1, *length, file) == *length);
     fclose(file);
@@ -75,7 +75,7 @@ static int is_marked(const void *bytes, size_t from, size_t to) {
     return 1;
 }
 
-/* whether the bytes from a place on, and the rows, are as they were */
+/* whether the bytes from a position on, and the rows, are unchanged */
 static int is_kept(const struct room *room, size_t bytes, size_t rows) {
     size_t size = sizeof(xbrlmerge_refusal);
     return is_marked(room->out, bytes, room->out_length + 1) && is_marked(room->rows, rows * size, (room->rows_length + 1) * size);
@@ -114,7 +114,7 @@ static void tell_refusal(const xbrlmerge_refusal *row) {
         fprintf(stderr, "fact %llu\n", (unsigned long long)row->fact);
 }
 
-/* Calls with no room and with one byte or row too few, and returns what just suffices. */
+/* Makes the call with empty buffers, and with one byte or row too few. Returns buffers that are exactly long enough. */
 static struct room short_rooms(const struct asked *asked) {
     struct room none = make_room(0, 0);
     uint32_t status = call(asked, &none);
@@ -134,14 +134,14 @@ static struct room short_rooms(const struct asked *asked) {
     }
     struct room ample = make_room(needed + 9, refused + 2), just = make_room(needed, refused);
     EXPECT(call(asked, &ample) == call(asked, &just) && ample.needed == just.needed && ample.refused == just.refused);
-    size_t bytes = needed == ample.needed ? needed : 0; /* where a row is above the level there is no text */
+    size_t bytes = needed == ample.needed ? needed : 0; /* if a row is above the level, there is no text */
     EXPECT(is_kept(&ample, bytes, refused) && memcmp(ample.out, just.out, bytes) == 0);
     EXPECT(memcmp(ample.rows, just.rows, refused * sizeof(xbrlmerge_refusal)) == 0);
     drop_room(&just);
     return ample;
 }
 
-/* Refuses each request in turn: all is as it was. One behind the last meets none. */
+/* Refuses each request in turn, which must change nothing. Refusing one after the last has no effect. */
 static long refuse_each(const struct asked *asked, const struct room *whole, uint32_t wanted) {
     struct room room = make_room(whole->out_length, whole->rows_length);
     long number = 1;
@@ -204,7 +204,7 @@ static int check(const struct asked *asked) {
     return (int)status;
 }
 
-/* a call that ends in this status, with all as it was */
+/* a call that returns this status and changes nothing */
 static void ends_in(struct asked asked, uint32_t wanted, size_t count, size_t first, size_t second) {
     static const char *const commands[] = {"merge", "verdicts", "verdicts-json", "sources", "sources-json"};
     asked.count = count, asked.ends[0] = first, asked.ends[1] = second;
@@ -230,11 +230,11 @@ static int edges(struct asked *asked) {
     asked->command = "merge", asked->count = 0;
     for (asked->allow = 4; asked->allow != 0; asked->allow = asked->allow == 4 ? UINT32_MAX : 0)
         EXPECT(call(asked, &room) == XBRLMERGE_BAD_LEVEL && room.needed == 77 && room.refused == 78 && is_kept(&room, 0, 0));
-    /* three reports, the second of which is empty, and bytes behind the last */
+    /* three reports, the second of which is empty, and bytes after the last */
     asked->command = "verdicts", asked->count = 3, asked->ends[0] = 2, asked->ends[1] = 2, asked->ends[2] = 4;
     EXPECT(call(asked, &room) == XBRLMERGE_REFUSED && room.needed == 0 && room.refused == 3 && is_kept(&room, 0, 3));
     EXPECT(room.rows[1].report == 2 && room.rows[1].number == 1 && room.rows[1].fact == 0 && room.rows[2].report == 3);
-    /* lengths of 0, with pointers that lead to something: none may be null */
+    /* lengths of 0 with valid pointers, since none may be null */
     uint8_t byte = MARK;
     size_t end = 0, needed = 77, refused = 78;
     xbrlmerge_refusal row = {4, 5, 6};
@@ -247,7 +247,7 @@ static int edges(struct asked *asked) {
     xbrlmerge_checked checked = {1, 2, 3};
     EXPECT(xbrlmerge_check(asked->sheet, asked->sheet_length, &byte, 0, &checked, &row) == XBRLMERGE_REFUSED && row.number == 1);
     EXPECT(xbrlmerge_check(&byte, 0, &byte, 0, &checked, &row) == XBRLMERGE_SHEET_REFUSED && row.number == 1 && checked.facts == 1);
-    /* names */
+    /* names of refusals */
     uint8_t name[24];
     memset(name, MARK, sizeof name);
     EXPECT(xbrlmerge_refusal_name(33, name, sizeof name) == 0 && xbrlmerge_refusal_name(UINT32_MAX, name, sizeof name) == 0);

@@ -3,12 +3,14 @@
 
     [XBRLMERGE=PROGRAM] tests/c_abi
 
-It looks at what ./build --library left in lib/: that libxbrlmerge.so exports the calls of include/xbrlmerge.h and no
-other name, that libxbrlmerge.a gives no other, and that the header says of each call and each row of numbers what the
-exports of crates/xbrlmerge_c take. Then tests/c_abi.c, built with both libraries, makes each call on the examples, with
-rooms that are too short, bad ends, a level that is none and lengths of 0, and with each request for memory refused in
-turn; texts, lines and statuses are compared with the program's. It reads the header as C and as C++.
-Status 0: all is so. 1: it is not, and a line says what. 2: library or program are not built, or there is no gcc.
+It checks the files that ./build --library wrote to lib/: that libxbrlmerge.so and libxbrlmerge.a export the calls of
+include/xbrlmerge.h and no other names, and that the types in the header are those of crates/xbrlmerge_c. Then it builds
+tests/c_abi.c with both libraries and makes each call on the examples: with buffers that are too short, bad ends, an unknown
+level, lengths of 0, and each request for memory refused in turn. Texts, lines and statuses must be those of the program. The
+header is compiled as C and as C++.
+
+Status 0: all is as expected. 1: it is not; each difference is printed. 2: the library or the program is not built, or gcc is
+not installed.
 """
 import argparse
 import os
@@ -26,7 +28,7 @@ WARNINGS = ("-Wall", "-Wextra", "-Werror", "-pedantic", f"-I{TOP}/include")
 SANITIZED = ("-std=c99", "-g", "-O1", "-fsanitize=address,undefined", "-fno-sanitize-recover=all", *WARNINGS)
 WRAPS = ("-Wl,--wrap=malloc", "-Wl,--wrap=realloc", "-Wl,--wrap=calloc")
 LEVELS = ("none", "complete", "consistent", "all")
-# how a type of an export crosses
+# the C type for each type of an export
 CROSSES = {"&[u8]": "const uint8_t *, size_t", "&[usize]": "const size_t *, size_t", "&mut [u8]": "uint8_t *, size_t", "u32": "uint32_t",
            "usize": "size_t", "&mut usize": "size_t *", "&mut [RefusedReport]": "xbrlmerge_refusal *, size_t",
            "&mut RefusedReport": "xbrlmerge_refusal *", "&mut CheckedReport": "xbrlmerge_checked *"}
@@ -51,19 +53,19 @@ def must(*words):
 
 
 def header():
-    """Returns the header's text without its comments."""
+    """Returns the text of the header without comments."""
     return re.sub(r"/\*.*?\*/", "", content(HEADER), flags=re.DOTALL)
 
 
 def calls_of_header():
-    """Returns the types that each call of the header takes and returns, spelled without names."""
+    """Returns the argument types and the return type of each call in the header."""
     found = re.findall(r"^(\w+) (xbrlmerge_\w+)\(([^)]*)\);", header(), re.MULTILINE)
     taken = {name: ", ".join(re.sub(r"\w+$", "", it.strip()).strip() for it in words.split(",")) for _, name, words in found}
     return {name: (taken[name], result) for result, name, _ in found}
 
 
 def calls_of_crate():
-    """Returns the same of the exports. An allocator takes no bytes, so C hands over none."""
+    """Returns the same for the exports. An allocator has no size, so C passes none."""
     calls = {}
     for path in sorted(os.listdir(CRATE)):
         for name, words, result in re.findall(r'extern "C" fn (\w+)\((.*?)\) -> (\w+)', content(f"{CRATE}/{path}"), re.DOTALL):
@@ -73,18 +75,18 @@ def calls_of_crate():
 
 
 def rows_agree():
-    """Looks at the fields of the rows, and at the numbers of statuses."""
+    """Compares the fields of the records, and the numbers of statuses and levels."""
     for source, name in ROWS.items():
         text = next(it for it in (content(f"{CRATE}/{path}") for path in sorted(os.listdir(CRATE))) if f"pub struct {source} " in it)
         fields = re.findall(r"pub (\w+): (u\d+)", text.partition(f"pub struct {source} ")[2].partition("}")[0])
         body = next(it for it in re.findall(r"typedef struct \{(.*?)\} (\w+);", header(), re.DOTALL) if it[1] == name)[0]
         told = [(field, kind) for kind, field in re.findall(r"uint(\d+)_t (\w+);", body)]
-        check(told == [(field, kind[1:]) for field, kind in fields], f"the header has other fields of {name}: {told}")
+        check(told == [(field, kind[1:]) for field, kind in fields], f"the fields of {name} in the header differ: {told}")
     numbers = dict(re.findall(r"XBRLMERGE_(\w+) = (\d+)", header()))
     levels = {name: numbers.pop(f"ALLOW_{name.upper()}") for name in LEVELS}
     statuses = dict(re.findall(r"const (\w+): u32 = (\d+)", content(f"{CRATE}/statuses.rt")))
-    check(numbers == statuses, f"the header has other statuses: {numbers}")
-    check([int(levels[it]) for it in LEVELS] == [0, 1, 2, 3], "the header has other levels")
+    check(numbers == statuses, f"the statuses in the header differ: {numbers}")
+    check([int(levels[it]) for it in LEVELS] == [0, 1, 2, 3], "the levels in the header differ")
 
 
 def names_agree():
@@ -98,7 +100,7 @@ def names_agree():
 
 
 def built(room):
-    """Builds the program in C with each library; that with the archive can refuse memory."""
+    """Builds the C program with each library. The one with the static library can refuse memory."""
     source = f"{TOP}/tests/c_abi.c"
     must("gcc", *SANITIZED, *WRAPS, source, STATIC, "-o", f"{room}/static")
     must("gcc", *SANITIZED, *WRAPS, source, f"-L{TOP}/lib", "-lxbrlmerge", f"-Wl,-rpath,{TOP}/lib", "-o", f"{room}/shared")
@@ -113,7 +115,7 @@ def lines(text):
 
 
 def compare(program, callers, words, files):
-    """Makes one call from C, and compares it with the program's command of its name, the one of NAME-json in JSON."""
+    """Makes one call from C and compares it with the program's command. NAME-json is `NAME --format json`."""
     name, *rest = words
     command, _, in_json = name.partition("-")
     more = ("--allow", LEVELS[int(rest[0])]) if rest else ("--format", "json") if in_json else ()
@@ -125,7 +127,7 @@ def compare(program, callers, words, files):
         requests = [int(it.split()[1]) for it in said if it.startswith("requests:")]
         said = [it for it in said if not it.startswith("requests:")]
         if done.returncode == 4:
-            # the header tells the number alone
+            # the header returns only the number
             same = wanted.returncode == 3 and said[0] == " ".join(lines(wanted.stderr)[0].split()[:2])
         else:
             same = (done.returncode, said) == (wanted.returncode, lines(wanted.stderr)) and done.stdout == wanted.stdout

@@ -1,12 +1,13 @@
 #!/usr/bin/env python3
-"""Runs the program on devices that fail, and on files that are none. Not part of the gate.
+"""Runs the program on failing devices and on files that are not regular. Not part of the gate.
 
     tests/devices [PROGRAM]
 
-PROGRAM, if it is left out, is $XBRLMERGE or the one that was built. The tables below
-have the status and the line that each case has to end in. Where a length is told, standard output has to have just so many
-bytes, a front of the text that a run on good devices gives; where none is, all of it or nothing. No file may change.
-Status 0: each case is as the tables say. 1: some are not, and a line for each tells it. 2: there is no program.
+PROGRAM is $XBRLMERGE or the built one by default. The tables below have the expected status and line for each case. If the
+line has a length, standard output must contain exactly that many bytes, the first part of the full text; otherwise it must
+contain all of the text or nothing. No file may change.
+
+Status 0: all cases are as expected. 1: some are not; each is printed. 2: there is no program.
 """
 import argparse
 import collections
@@ -24,13 +25,13 @@ import time
 from support import built_program, bytes_of
 
 NOBODY, LIMIT, ENDLESS_LIMIT = 65534, 20, 180
-# asks how many bytes a pipe holds; Python has its name from 3.10 on
+# the command that returns the size of a pipe; Python has a name for it since 3.10
 PIPE_SIZE = 1032
-# kilobytes of address space: too few for an endless file, and what one takes that has all it wants
+# kilobytes of address space: too little for an endless file, and enough for any other
 LITTLE, MUCH = 150_000, 6_000_000
 
 GOOD, REFUSED, NOTHING_TAKEN = (0, ""), (1, "report 2: 1 NotJson at document\n"), (3, "device: 0 bytes written\n")
-# each command line: how it ends by itself, and how where standard output takes nothing; the report `cut` is refused
+# for each command line: the result, and the result if standard output takes no byte; the report `cut` is refused
 WORDS = {
     "": (REFUSED, NOTHING_TAKEN),
     "merge --sheet sheet long cut": (REFUSED, NOTHING_TAKEN),
@@ -43,7 +44,7 @@ WORDS = {
     "verdicts --sheet sheet": (GOOD, GOOD),
     "--help": (GOOD, NOTHING_TAKEN),
 }
-# these print more than a pipe holds
+# these print more than a pipe can hold
 LONG = tuple(words for words in WORDS if "long" in words or "rows" in words or not words)
 STOPS_OUTPUT = {"standard output full": ">/dev/full", "standard output closed": ">&-"}
 STOPS_ERRORS = {"standard error full": "2>/dev/full", "standard error closed": "2>&-"}
@@ -52,7 +53,7 @@ STOPS_INPUT = {"standard input closed": "<&-", "standard input a folder": "<.", 
 
 UNREAD, MEMORY, LENGTH = (3, "file strange: cannot be read\n"), (3, "out of memory\n"), (3, "file strange: too long\n")
 BAD_SHEET, BAD_EVENT, BAD_REPORT = (3, "sheet: 1 NotJson\n"), (3, "event 2: refused\n"), (1, "report 1: 1 NotJson at document\n")
-# each kind of file: how the run ends where it is the sheet, the events, and a report
+# for each kind of file: the result if the sheet, the events or a report is such a file
 FILES = {
     "missing": (UNREAD, UNREAD, UNREAD),
     "a folder": (UNREAD, UNREAD, UNREAD),
@@ -64,7 +65,8 @@ FILES = {
     "endless, little memory": (MEMORY, MEMORY, MEMORY),
     "endless": (LENGTH, LENGTH, LENGTH),
 }
-# where the file is in the sheet's, the events' and a report's place; an endless one takes seconds, and so only the first
+# command lines with the file as the sheet, the events or a report; endless files are slow, so only the first is run with
+# them
 PLACES = {
     "sheet": ("check --sheet strange report", "merge --sheet strange report", "verdicts --sheet strange report",
               "replay --sheet strange --replicas 2 --events events report"),
@@ -77,7 +79,7 @@ Ran = collections.namedtuple("Ran", "status out err")
 
 
 def free_memory():
-    """Returns how many kilobytes are free."""
+    """Returns the free memory in kilobytes."""
     with open("/proc/meminfo", encoding="ascii") as file:
         return int(re.search(r"^MemAvailable: +(\d+)", file.read(), re.MULTILINE).group(1))
 
@@ -88,7 +90,7 @@ def report_of(facts):
 
 
 def contents():
-    """Returns what is in the files, by their names. The text of `long` has 1 MB, and so have the lines of `rows`."""
+    """Returns the content of the files by name. The text for `long` has 1 MB, and so have the lines for `rows`."""
     sheet = {"namespaces": {"m": "https://made.example/2024"}, "concepts": {"m:A": "numeric", "m:T": "text"},
              "dimensions": {"m:Mill": "typed"}}
     words = {f"{it}": {"value": "Blue" * 650, "dimensions": {"concept": "m:T", "m:Mill": f"{it}"}} for it in range(400)}
@@ -101,7 +103,7 @@ def contents():
 
 
 class Room:
-    """A folder with the program and its files, which a run may not change."""
+    """A folder with the program and its files, which must not change."""
 
     def __init__(self, program, folder):
         self.folder, self.contents, self.count, self.wrong, self.left_out = folder, contents(), 0, [], []
@@ -113,7 +115,7 @@ class Room:
         self.whole = {words: self.run(words) for words in WORDS}
 
     def command(self, words, redirection):
-        """Returns what runs the program; what is to be closed is closed by a shell, since Python would pass it on."""
+        """Returns the command that runs the program. A shell closes streams, since Python would pass them on."""
         given = "" if words or "<" in redirection else "<bundle"
         return ["sh", "-c", f'exec "$@" {given} {redirection}', "sh", self.program, *words.split()]
 
@@ -126,7 +128,7 @@ class Room:
         return Ran(done.returncode, done.stdout, done.stderr.decode(errors="replace"))
 
     def expect(self, holds, case, words, ran):
-        """Counts a case, and keeps what is wrong with it."""
+        """Counts a case and records what is wrong with it."""
         self.count += 1
         changed = [it for it, content in self.contents.items() if content != bytes_of(f"{self.folder}/{it}")]
         told = f"{case}: xbrlmerge {words}: status {ran.status}, {ran.err[:200] or 'no line'}, {len(ran.out):,} bytes"
@@ -142,7 +144,7 @@ def compare_wholes(room):
 
 
 def compare_outputs(room):
-    """Stops standard output, standard error, and both."""
+    """Makes standard output, standard error, and both fail."""
     for words, (ends, stopped) in WORDS.items():
         whole = room.whole[words]
         for case, redirection in STOPS_OUTPUT.items():
@@ -157,7 +159,7 @@ def compare_outputs(room):
 
 
 def compare_inputs(room):
-    """Stops standard input, which only the bundle reads."""
+    """Makes standard input fail, which only the bundle reads."""
     for words, (ends, _) in WORDS.items():
         for case, redirection in STOPS_INPUT.items():
             ran, expected = room.run(words, redirection), (ends[0], room.whole[words].out, ends[1])
@@ -165,13 +167,14 @@ def compare_inputs(room):
 
 
 def waiting(pipe):
-    """Returns how many bytes wait in a pipe."""
+    """Returns the number of bytes waiting in a pipe."""
     return int.from_bytes(fcntl.ioctl(pipe, termios.FIONREAD, bytes(4)), sys.byteorder)
 
 
 def take_five(child, reader):
-    """Reads 5 bytes, waits until the pipe is full or the program has ended, and goes away. Returns the bytes, and how many
-    the pipe had taken."""
+    """Reads 5 bytes, waits until the pipe is full or the program has ended, and closes the pipe. Returns the bytes, and how
+    many bytes the pipe had taken.
+    """
     front, end = b"", time.monotonic() + LIMIT
     while len(front) < 5 and (more := os.read(reader, 5 - len(front))):
         front += more
@@ -184,7 +187,7 @@ def take_five(child, reader):
 
 
 def take_late(child, reader):
-    """Waits for the program's end, and reads all that it has put into a pipe that does not wait. Returns that, and its length."""
+    """Waits until the program ends, and reads a pipe that does not block. Returns its bytes and their number."""
     child.wait(LIMIT)
     with open(reader, "rb") as file:
         front = file.read()
@@ -192,8 +195,9 @@ def take_late(child, reader):
 
 
 def run_with_pipe(room, words, take, waits):
-    """Runs it with a pipe for its output, which is closed before where nothing takes it. Returns what came of it, with the
-    front that was read, and how many bytes were taken."""
+    """Runs the program with a pipe for its output, which is closed first if no byte should be taken. Returns the result with
+    the bytes that were read, and the number of bytes taken.
+    """
     reader, writer = os.pipe()
     os.set_blocking(writer, waits)
     if not take:
@@ -212,7 +216,7 @@ def run_with_pipe(room, words, take, waits):
 
 
 def compare_pipes(room):
-    """Closes the pipe before it is read, and after 5 bytes; and lets one be full that does not wait."""
+    """Closes the pipe before it is read, closes it after 5 bytes, and fills a pipe that does not block."""
     for words, (ends, stopped) in WORDS.items():
         whole = room.whole[words].out
         ran, _ = run_with_pipe(room, words, None, True)
@@ -243,7 +247,7 @@ def make(room, kind, name):
 
 
 def remove(room, writer):
-    """Removes the file, and ends what would still write to it."""
+    """Removes the file, and ends the process that writes to it."""
     if writer:
         writer.kill()
         writer.wait()
@@ -255,7 +259,7 @@ def remove(room, writer):
 
 
 def run_strange(room, kind, words):
-    """Runs it on the file, or with no words on such a standard input, with what the kind asks for."""
+    """Runs the program on the file, or without arguments on such a standard input."""
     given = "" if words else "</dev/zero"
     if kind == "endless, little memory":
         return room.run(words, given, ("sh", "-c", f'ulimit -v {LITTLE}; exec "$@"', "sh"), ENDLESS_LIMIT)
@@ -267,7 +271,7 @@ def run_strange(room, kind, words):
 
 
 def compare_file(room, kind, name, words, ends):
-    """Runs it on such a file. What is written is what a plain file gives; a report that is refused may as well be empty."""
+    """Runs the program on such a file. The output is that of a regular file; a refused report counts as an empty one."""
     writer = make(room, kind, name)
     try:
         ran = run_strange(room, kind, words)
@@ -279,7 +283,7 @@ def compare_file(room, kind, name, words, ends):
 
 
 def compare_files(room):
-    """Has the sheet, the events and a report be no plain file, or no file."""
+    """Replaces the sheet, the events and a report by files that are not regular, or by none."""
     for kind, all_ends in FILES.items():
         if kind == "endless" and free_memory() < MUCH:
             room.left_out.append(f"endless files, with less than {MUCH:,} kB of free memory")
@@ -304,8 +308,8 @@ def main():
             compare(room)
             counts.append(f"{room.count - before} of {compare.__name__.removeprefix('compare_')}")
     seconds = time.monotonic() - started
-    told = f"{room.count} cases, {len(room.wrong)} not as they should be, in {seconds:.0f} seconds: {', '.join(counts)}"
-    print(*room.wrong, f"tests/devices: {told}", *(f"left out: {it}" for it in room.left_out), sep="\n")
+    told = f"{room.count} cases, {len(room.wrong)} not as expected, in {seconds:.0f} seconds: {', '.join(counts)}"
+    print(*room.wrong, f"tests/devices: {told}", *(f"skipped: {it}" for it in room.left_out), sep="\n")
     return 1 if room.wrong else 0
 
 

@@ -39,7 +39,7 @@ FIELD_TOKEN = re.compile(rf"\n\s+(?:pub )?\w+ :|{TOKEN.pattern}")
 
 
 def imports_of(text):
-    """Returns for each imported name the module that it comes from, and its name there."""
+    """Returns the module and the original name for each imported name."""
     found = {}
     for module, names, alias in USE.findall(text):
         for name in filter(None, (it.strip() for it in names.split(","))):
@@ -69,7 +69,7 @@ def pieces(text):
 
 
 class Specs:
-    """The definitions of the repository, and where the code has its types and limits."""
+    """The definitions of the repository, and the places of types and limits in the code."""
 
     def __init__(self):
         self.texts, self.names, self.owners, self.imports, self.types = {}, {}, {}, {}, {}
@@ -90,7 +90,7 @@ class Specs:
                 self.types.setdefault((crate, name), path)
 
     def owner(self, path, word):
-        """Returns the definition, type or limit of the repository that a word of a file stands for, or what the kit has."""
+        """Returns the definition, type or limit to which a word of a file refers; for the kit, its name there."""
         word, *rest = word.split(".")
         if (path, word) in self.owners:
             return self.owners[path, word]
@@ -132,9 +132,9 @@ def of_code(path, name):
 
 
 def free_words(code, bound, is_record=False):
-    """Returns the words of a clause or a record that nothing in it binds.
+    """Returns the free words of a clause or a record.
 
-    λ, let, and (x : T) bind up to the end of the brackets around them, a field of a record binds in the later ones.
+    λ, let, and (x : T) bind up to the end of the brackets around them; a field of a record binds in the fields after it.
     """
     scopes, opened, lets, field = [set(bound)], [], [], None
     for token in (FIELD_TOKEN if is_record else TOKEN).findall(re.sub(r"([{;]\s*)\w+ = ", r"\1", code)):
@@ -163,7 +163,7 @@ def without_comments(text):
 
 
 def defined_words(specs, path, name):
-    """Returns the words of a definition that it does not bind. In a pattern only constructors are names: the rest is bound."""
+    """Returns the free words of a definition. In a pattern only constructors are free; all other words are bound."""
     code = without_comments(specs.texts[path, name])
     heads = "|".join(map(re.escape, specs.names[path, name]))
     indent = re.search(r"^( *)(?!abbrev mutual)\S", code, re.MULTILINE)[1]
@@ -178,21 +178,22 @@ def defined_words(specs, path, name):
 
 
 def contract_words(specs, path, name):
-    """Returns the words of a contract that it does not bind."""
+    """Returns the free words of a contract."""
     specs.imports.setdefault(path, imports_of(content(path)))
     contract = "\n".join(re.findall(r"(?:ensures|requires)[^{]*\{.*", of_code(path, name), re.DOTALL))
     return free_words(without_comments(contract), set())
 
 
 def needs(specs, path, name):
-    """Returns what a contract or a definition names, in the order in which it names it."""
+    """Returns the names that a contract or a definition uses, in order of use."""
     words = (contract_words if path.endswith(".rt") else defined_words)(specs, path, name)
     owners = (specs.owner(path, it) for it in words)
     return [it for it in dict.fromkeys(owners) if it and it != (path, name)]
 
 
 def closure(specs, root, stops=()):
-    """Returns what a contract or a definition stands on, each behind what it stands on itself; what stops is not followed."""
+    """Returns everything that a contract or a definition depends on, each after its own dependencies. Those of `stops` are not
+    followed."""
     order, seen = [], {root}
 
     def follow(item):
@@ -212,7 +213,7 @@ def is_contract(specs, path, name):
 
 
 class Page:
-    """A page: the entries under each heading in order, and the words that stay unread with their laws."""
+    """A page: the entries under each heading in order, and the words that need no reading with their laws."""
 
     def __init__(self, specs, path, before=None):
         self.specs, self.path, self.text = specs, path, content(path)
@@ -228,16 +229,16 @@ class Page:
         self.there = [(path, name) for _, path, name in self.entries]
         self.contracts = [it for it in self.there if is_contract(specs, *it)]
         self.tabled = IN_THE_TABLE if CONDITION.search(self.text) else []
-        # named without an entry: words, what the table shows, and what the page before has and this one does not read again
+        # names that need no entry: words, names in the table, and names that the page before lists and this one does not
         self.stops = {*self.words, *self.tabled, *({*before.there, *before.words}.difference(self.there) if before else ())}
 
     def needed(self):
-        """Returns what its contracts need, in order. Words, and what the page before has, are not followed."""
+        """Returns the names that its contracts need, in order. Words and names of the page before are not followed."""
         found = (it for root in self.contracts for it in closure(self.specs, root, self.stops))
         return [it for it in dict.fromkeys(found) if it not in self.contracts]
 
     def shown(self):
-        """Returns what it leads to as one text: no line of it is empty."""
+        """Returns the listed definitions as one text without empty lines."""
         lines, before = [], ("", "")
         for heading, path, name in self.entries:
             if heading != before[0]:
@@ -257,7 +258,7 @@ class Page:
         return lines[: next((n for n, it in enumerate(lines) if not it.lstrip().startswith("--")), 0) + 1]
 
     def count(self):
-        """Returns how many lines of definitions and contracts there are: headings are none."""
+        """Returns the number of lines of definitions and contracts; headings are not counted."""
         return sum(not it.startswith("==") for it in self.shown())
 
 
@@ -296,7 +297,7 @@ def word_problems(page, entries):
 
 
 def tested_on(page):
-    """Returns for each reason on what the definitions of conditions test it."""
+    """Returns the parts of a document or fact on which the definitions test each reason."""
     found = {}
     for path, name in (it for it in page.there if "holds" in it[1] and it[0].endswith(".antt")):
         thing = next((it for it in ("sheet", "document") if it in name), "fact")
@@ -306,7 +307,7 @@ def tested_on(page):
 
 
 def table_rows(page):
-    """Yields the rows by the code. The page has the sections, and on what a reason is tested that has no definition."""
+    """Yields the rows by the code. Sections, and reasons without a definition, are taken from the page."""
     there = {it[1]: it[3:] for it in CONDITION.findall(page.text)}
     comments = {name: text for text, name in re.findall(r"((?: *///.*\n)+) +(\w+),", content(REASONS[0]))}
     for name, number in re.findall(r"^entry_of (\w+) = record \{ number = (\d+);", content(REASONS[1]), re.MULTILINE):
@@ -322,7 +323,7 @@ def mended_table(page):
 
 
 def mended_entries(page):
-    """Returns the page with the entries that it needs: those it has in place, the others behind those of their file."""
+    """Returns the page with the entries that it needs. New ones follow the other entries of their file."""
     needed, groups = [it for it in page.needed() if it not in page.stops], []
     keep = [it for it in page.entries if it[1:] in {*needed, *page.contracts} or " " in it[2]]
     for heading, path, name in keep:

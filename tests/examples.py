@@ -44,24 +44,24 @@ PAGES = ("README", "docs/GUIDE", "docs/REFUSALS", "docs/COSTS")
 SHELLS = ("sh", "bash")
 # the program is built when the commands run
 BUILDS = "./build && "
-# what a block is left out for: it proves for minutes
+# a block with one of these is skipped: it proves for minutes
 SLOW = re.compile(r"(?:^|&& )(?:rt|bash \.ci/run|\./build)\b", re.MULTILINE)
-# the commands that are on lines of their own in the man pages and the help
+# the commands on lines of their own in the man pages and the help
 STARTS = ("xbrlmerge ", "cat examples/")
 TOLD = re.compile(r"report \d+: \d+ \w+ at (document|fact \d+)|too loose: row \d+|event \d+: refused")
 LIMIT = 120
 GOOD = ("issuer.json", "ledgerline.json", "statfeed.json")
 BAD = "oldharbour.json"
 MERGED, EARLIER = "merged.json", "earlier.json"
-# what a text has had since it declares its level: all, as its rows 12, 34 and 37 are contradictions
+# the member that declares the level; rows 12, 34 and 37 are contradictions, so the level is `all`
 DECLARED = ('"features":{"xbrl:allowedDuplicates":"all"},', ',"xbrl":"https://xbrl.org/2021"')
-# why the report of vendors that needs a lossy option is refused without it
+# why a vendor's report is refused without the lossy option that it needs
 ODD_UNITS = ('fact "TS1": 12 NameForm', 'fact "TS2": 26 NumberForm', 'fact "TS3": 19 PeriodForm')
-# the text of no report
+# the text without facts
 EMPTY = ('{"documentInfo":{"documentType":"https://xbrl.org/2021/xbrl-json","features":{"xbrl:allowedDuplicates":"none"},'
          '"namespaces":{"xbrl":"https://xbrl.org/2021"},"taxonomy":[]},"facts":{}}')
 CUT = " .."
-# declares what tests/normalise/vendors/sheet.json lists
+# a taxonomy with the names in tests/normalise/vendors/sheet.json
 SCHEMA = """<xs:schema xmlns:xs="http://www.w3.org/2001/XMLSchema" xmlns:xbrli="http://www.xbrl.org/2003/instance"
     xmlns:xbrldt="http://xbrl.org/2005/xbrldt" targetNamespace="http://statfeed.example/taxonomy">
     <xs:element name="Sales" type="xbrli:monetaryItemType" substitutionGroup="xbrli:item"/>
@@ -72,7 +72,7 @@ SCHEMA = """<xs:schema xmlns:xs="http://www.w3.org/2001/XMLSchema" xmlns:xbrli="
 
 
 def build(crate):
-    """Builds a program and returns its path, or nothing, and then what was said is shown."""
+    """Builds a program and returns its path. If that fails, it prints the output and returns None."""
     ran = subprocess.run(["rt", "run"], cwd=crate, stdin=subprocess.DEVNULL, capture_output=True, text=True)
     said = ran.stdout + ran.stderr
     if re.search("^rt: running", said, re.MULTILINE):
@@ -82,9 +82,9 @@ def build(crate):
 
 
 def copied_libraries(room):
-    """Copies the libraries to a folder, with what is proved of them, and returns their lines of crates.txt."""
+    """Copies the libraries with their proofs to a folder, and returns their lines of crates.txt."""
     lines = [it for it in content("crates.txt").splitlines() if it[:1] not in ("", "#")]
-    # no crate stands on a program or on a static library
+    # no crate depends on a program or on a static library
     lines = [it for it in lines if it.partition(":")[0] != os.path.basename(CRATE) and " staticlib:" not in it]
     for name in (it.partition(":")[0] for it in lines):
         for part in ("src", "specs", "proofs", "out/rlib"):
@@ -104,7 +104,7 @@ def pieces():
 
 
 def build_embedded(room):
-    """Proves the pieces of docs/LIBRARY.md and builds the example of embedding; returns its path, or nothing."""
+    """Proves the pieces of docs/LIBRARY.md and builds the example of embedding. Returns its path, or None."""
     lines, embed = copied_libraries(room), re.search("'(embed: .*)'", content("docs/LIBRARY.md"))[1]
     below = " ".join(it.partition(":")[0] for it in lines)
     crates = {EMBED: (embed, {"main.rt": content("examples/embed/main.txt")}), SHOWN: (f"{SHOWN}: {below}", pieces())}
@@ -124,22 +124,22 @@ def build_embedded(room):
 
 
 def whole_lines(text):
-    """Returns the lines of a text. One goes on behind a backslash at its end."""
+    """Returns the lines of a text. A backslash at the end of a line continues it."""
     return [it.strip() for it in re.sub(r"\\\n *", "", text).splitlines() if it.strip()]
 
 
 def commands(text):
-    """Returns the commands on lines of their own, each a block with its status."""
+    """Returns the commands on lines of their own, each as a block with its status."""
     return [([it], 0, None) for it in whole_lines(text) if it.startswith(STARTS)]
 
 
 def status_before(text, gap):
-    """Returns the status that the last paragraph of a text tells."""
+    """Returns the status that the last paragraph of a text names."""
     return int((re.findall(r"status (?:is )?(\d)", text.rstrip().rpartition(gap)[2]) or ["0"])[-1])
 
 
 def of_page(name):
-    """Returns a page's blocks of commands, each with the status of its last one and the output that is shown."""
+    """Returns a page's blocks of commands, each with the status of its last command and the output that is shown."""
     text = content(f"{name}.md")
     fences = list(re.finditer(r"^```(\w*)\n(.*?)^```$", text, re.MULTILINE | re.DOTALL))
     for place, fence in enumerate(fences):
@@ -148,7 +148,7 @@ def of_page(name):
         shown = None
         if place + 1 < len(fences) and fences[place + 1].group(1) == "":
             between = text[fence.end() : fences[place + 1].start()].strip()
-            # at most one paragraph, which tells of the output
+            # at most one paragraph, which describes the output
             shown = fences[place + 1].group(2).splitlines() if not re.search(r"\n\n|^[#|]", between) else None
         yield whole_lines(fence.group(2).removeprefix(BUILDS)), status_before(text[: fence.start()], "\n\n"), shown
 
@@ -172,7 +172,7 @@ def of_help(program):
 
 
 def run_lines(shell, lines, room):
-    """Runs lines one behind another in one shell, and returns of each its status and what it says."""
+    """Runs lines one after another in one shell, and returns the status and the output of each."""
     script = ["set -o pipefail"] if shell == "bash" else []
     for place, line in enumerate(lines):
         with open(f"{room}/line{place}", "w", encoding="utf-8") as file:
@@ -185,14 +185,14 @@ def run_lines(shell, lines, room):
 
 
 def is_as_shown(shown, printed):
-    """Whether lines are those that are shown, of which some are cut."""
+    """Returns whether lines are those that are shown, some of which are cut."""
     return len(shown) == len(printed) and all(
         there.startswith(line[: -len(CUT)]) if line.endswith(CUT) else there == line for line, there in zip(shown, printed)
     )
 
 
 def wrong_with(blocks, shell, room):
-    """Runs the blocks of a page, and returns what is not as shown."""
+    """Runs the blocks of a page, and returns the differences from what is shown."""
     ran, wrong = run_lines(shell, [line for lines, _, _ in blocks for line in lines], room), []
     for lines, status, shown in blocks:
         printed, told = [], []
@@ -202,13 +202,13 @@ def wrong_with(blocks, shell, room):
             wrong += [f"{line}\n    status {ended.strip()}, not {expected}"] if ended.strip() != f"{expected}" else []
             printed, told = printed + out.splitlines(), told + err.splitlines()
         if shown is not None and not is_as_shown(shown, printed + told):
-            wrong.append("\n    ".join([f"{lines[-1]}", "other output than is shown:", *(it[:100] for it in printed + told)]))
-        wrong += [f"{lines[-1]}\n    it says: {it}" for it in told if shown is None and not TOLD.fullmatch(it)]
+            wrong.append("\n    ".join([f"{lines[-1]}", "the output differs:", *(it[:100] for it in printed + told)]))
+        wrong += [f"{lines[-1]}\n    printed: {it}" for it in told if shown is None and not TOLD.fullmatch(it)]
     return wrong
 
 
 def refusals(program, room):
-    """Returns what is wrong with the examples in docs/REFUSALS.md, and how many there are."""
+    """Returns what is wrong with the examples in docs/REFUSALS.md, and their number."""
     text, seen, wrong = content("docs/REFUSALS.md"), [], []
     sheet, prefixes = re.findall(r"^```json\n(.*?)^```$", text, re.MULTILINE | re.DOTALL)
     head = '"documentType":"https://xbrl.org/2021/xbrl-json"'
@@ -226,27 +226,27 @@ def refusals(program, room):
             words = ["check", "--sheet", f"{room}/refused_sheet", f"{room}/refused_report"]
             wrong += [f"{example}\n    {it}" for it in gives(program, 1 if files[1] else 3, "", line, words)]
             seen.append(int(number))
-    wrong += [] if set(seen) == set(range(1, 33)) else ["not each refusal has an example"]
+    wrong += [] if set(seen) == set(range(1, 33)) else ["a refusal has no example"]
     return [f"docs/REFUSALS: {it}" for it in wrong], len(seen)
 
 
 def fragments(program):
-    """Returns what is wrong with the JSON in docs/GUIDE.md: a sheet that is refused, a fact that is in no example."""
+    """Returns what is wrong with the JSON in docs/GUIDE.md: a refused sheet, or a fact that is in no example."""
     files, wrong = [content(f"examples/{it}") for it in (*GOOD, MERGED)], []
     for shown in re.findall(r"^```json\n(.*?)\n```$", content("docs/GUIDE.md"), re.MULTILINE | re.DOTALL):
         if shown.startswith("{"):
             wrong += gives(program, 0, EMPTY, "", [], f"{shown}\n")
         elif not any(shown in file for file in files):
-            wrong.append(f"docs/GUIDE: in no example: {shown[:60]}")
+            wrong.append(f"docs/GUIDE: not in any example: {shown[:60]}")
     return wrong
 
 
 def gives(program, status, out, err, words, given=""):
-    """Runs the program in examples/, and returns a line where it ends otherwise."""
+    """Runs the program in examples/, and returns a line if the result is not as expected."""
     ran = subprocess.run([program, *words], cwd=os.path.join(TOP, "examples"), capture_output=True, text=True, input=given)
     if (ran.returncode, ran.stdout, ran.stderr) == (status, out, err):
         return []
-    return [f"{' '.join(words) or 'a bundle'}: other texts, or another status than {status}: {ran.stderr[-200:]}"]
+    return [f"{' '.join(words) or 'a bundle'}: wrong output, or not status {status}: {ran.stderr[-200:]}"]
 
 
 def bundle(*names):
@@ -254,10 +254,10 @@ def bundle(*names):
 
 
 def compared(program):
-    """Compares the program's output with the files beside the examples, and returns what differs."""
+    """Compares the program's output with the files beside the examples, and returns the differences."""
     merged, refused, verdicts, sources = (content(f"examples/{it}") for it in (MERGED, "refused.txt", "verdicts.txt", "sources.txt"))
     wrong = []
-    # what was merged merges to itself, and takes in again what it was made of; so does a text of before
+    # a merged text merges to itself, also together with its reports; so does a text in the earlier form
     for status, err, reports in ((0, "", GOOD), (0, "", (GOOD[2], *GOOD[:2], GOOD[2])), (1, refused, (*GOOD, BAD)),
                                  (0, "", (MERGED,)), (0, "", (GOOD[1], MERGED)),
                                  (0, "", (EARLIER,)), (0, "", (EARLIER, GOOD[1], MERGED))):
@@ -275,7 +275,7 @@ def compared(program):
 
 
 def declares(program, merged):
-    """Returns what is wrong with the level that the merged text declares: it is the least, and the rest is as before."""
+    """Returns what is wrong with the declared level: it must be the strictest, and the rest must be the earlier text."""
     rest = merged
     for part in DECLARED:
         rest = rest.replace(part, "", 1)
@@ -286,7 +286,7 @@ def declares(program, merged):
 
 
 def embedded(program):
-    """Compares what the example of embedding writes with the files beside the examples."""
+    """Compares the output of the example of embedding with the files beside the examples."""
     merged, refused = content(f"examples/{MERGED}"), content("examples/refused.txt")
     checked = [it.split()[1:3] for it in content("examples/checked.txt").splitlines()[: len(GOOD)]]
     lines = "".join(f"{facts} facts, {level}\n" for facts, level in checked)
@@ -295,7 +295,7 @@ def embedded(program):
 
 
 def page_of_vendors(program):
-    """Runs the one command on a taxonomy package and reports of another tool's shape. Returns what is not as it should be."""
+    """Runs tools/contradictions on a taxonomy package and on reports of other tools. Returns what is wrong."""
     vendors, names = os.path.join(TOP, "tests", "normalise", "vendors"), ("envelope", "untidy_tokens", "odd_units")
     options = ["--program", program, "--normalise", *(f"{name} & Co={vendors}/{name}.json" for name in names)]
     with tempfile.TemporaryDirectory() as room:
@@ -309,19 +309,19 @@ def page_of_vendors(program):
             return [f"tools/contradictions ends with {ran.returncode} on the reports of vendors: {ran.stdout}{ran.stderr}"]
         sheet, merged = content(f"{room}/out/sheet.json").replace("n1:", "v:").replace('"n1"', '"v"'), content(f"{room}/out/merged.json")
     wrong = [f"odd_units.json is not refused by {it}" for it in ODD_UNITS if f"{vendors}/odd_units.json: {it}" not in ran.stderr]
-    wrong += [] if json.loads(sheet) == json.loads(content(f"{vendors}/sheet.json")) else ["the sheet is not that of the vendors"]
+    wrong += [] if json.loads(sheet) == json.loads(content(f"{vendors}/sheet.json")) else ["the sheet is not tests/normalise/vendors/sheet.json"]
     words = ["merge", "--sheet", f"{vendors}/sheet.json", *(f"{vendors}/{name}.out.json" for name in names[:2])]
     return wrong + gives(program, 0, merged, "", words)
 
 
 def by_hand(program, merged):
-    """Lets the two offices exchange files, and returns what they have that is not the merged text."""
+    """Lets the two offices exchange files, and returns those that are not the merged text."""
     with tempfile.TemporaryDirectory() as room:
         ran = subprocess.run([os.path.join(TOP, "examples", "offices", "by_hand"), room], capture_output=True, text=True,
                              env={**os.environ, "XBRLMERGE": program})
         texts = [content(os.path.join(room, office, "merged.json")) for office in "12"] if ran.returncode == 0 else []
     same = texts == [merged] * 2 and ran.stdout + ran.stderr == ""
-    return [] if same else [f"examples/offices/by_hand: other texts, or status {ran.returncode}: {ran.stderr[-200:]}"]
+    return [] if same else [f"examples/offices/by_hand: wrong texts, or status {ran.returncode}: {ran.stderr[-200:]}"]
 
 
 def files_of(folder):
@@ -329,7 +329,7 @@ def files_of(folder):
 
 
 def make_top(program, room):
-    """Makes a top of the repository where the program is the one that is tested."""
+    """Makes a folder like the top of the repository, with the tested program."""
     for folder in ("bin", "top", "tmp"):
         os.makedirs(f"{room}/{folder}")
     for name in set(os.listdir(TOP)) - {"xbrlmerge", "examples", ".git", "crates"}:
@@ -340,7 +340,7 @@ def make_top(program, room):
 
 
 def told(program, embed):
-    """Returns what is not as shown, and how many commands were run."""
+    """Returns the differences from what is shown, and the number of commands."""
     wrong, ran = compared(program) + (embedded(embed) if embed else []) + fragments(program) + page_of_vendors(program), 0
     places = {**{it: list(of_page(it)) for it in PAGES}, "the man pages": list(of_man_pages()), "the help": of_help(program)}
     with tempfile.TemporaryDirectory() as room:
@@ -362,7 +362,7 @@ def main(words):
         if not program or not named and not embed:
             return 2
         wrong, ran = told(program, embed)
-    behind = "" if embed else "; what embeds the library was not looked at"
+    behind = "" if embed else "; the example of embedding was skipped"
     print("\n".join(wrong) or f"the examples are as shown, with {ran}{behind}")
     return 1 if wrong else 0
 

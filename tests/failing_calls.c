@@ -1,6 +1,6 @@
-/* Stands before the calls of the C library (glibc) that write a file, where LD_PRELOAD puts it. Of these, counted from 1,
-   the one of number FAIL fails, as on a device without room; at the one of number KILL the process is killed. What goes
-   to standard output and standard error is not counted. The file CALLS_TOLD gets a line with each call's name. */
+/* Loaded by LD_PRELOAD, it replaces the calls of the C library (glibc) that write a file. The call with the number FAIL,
+   from 1, fails as on a full device; at the call with the number KILL the process is killed. Writes to standard output and
+   standard error are not counted. The name of each call is written to the file CALLS_TOLD. */
 #define _GNU_SOURCE
 #include <dlfcn.h>
 #include <errno.h>

@@ -3,11 +3,12 @@
 
     [XBRLMERGE=PROGRAM] [REPORTS=200] [JOBS=2] [SEED=1] tests/fold
 
-It makes a sheet and reports that overlap, agree, contradict each other and, some of them, are refused; and compares the
-bytes of one run with those of examples/fold/Makefile and of examples/fold/fold_dask.py, each at three widths; and sees
-which branches a late report makes again. Where Dask is not installed, a module of two lines runs the nodes in turn. Nodes
-that are calls are left out where there is no lib/libxbrlmerge.so, which ./build --library makes.
-Status 0: all are the same. 1: they are not, and a line tells which. 2: the program is not built.
+It draws a sheet and reports that overlap, agree, contradict each other, or are refused. It compares the bytes of one run
+with those of examples/fold/Makefile and examples/fold/fold_dask.py, each at three widths, and checks which branches a late
+report rebuilds. If Dask is not installed, a module of two lines runs the nodes in turn. Nodes that call the library are
+skipped if there is no lib/libxbrlmerge.so, which ./build --library makes.
+
+Status 0: all are equal. 1: some are not; each is printed. 2: the program is not built.
 """
 import argparse
 import json
@@ -42,7 +43,7 @@ def sheet():
 
 
 def fact(chance, prefix):
-    """Makes one of few dimension sets, so that reports meet, with one of few values."""
+    """Draws a fact. There are few dimension sets and few values, so reports meet."""
     concept = chance.choice(sorted(KINDS))
     dimensions = {"concept": f"{prefix}:{concept}", "entity": f"e:{chance.choice('PQ')}"}
     dimensions["period"] = f"{chance.randint(2020, 2024)}-12-31T24:00:00"
@@ -55,13 +56,13 @@ def fact(chance, prefix):
         return {"dimensions": dimensions, "value": f"{prefix}:B" if concept[0] == "N" else text}
     dimensions["unit"] = chance.choice(["c:EUR", "c:EUR/x:shares"])
     made = {"dimensions": dimensions, "value": f"{chance.randint(980, 1020)}.{chance.randint(0, 9)}0"}
-    # mostly near the last place of the values, where some facts agree and some do not; else from the whole range
+    # mostly near the last digit of the values, where some facts agree and some do not; else from the whole range
     places = chance.randint(-2, 1) if chance.random() < 0.8 else chance.randint(-18, 18)
     return {**made, "decimals": places} if chance.random() < 0.8 else made
 
 
 def report(chance, is_refused):
-    """Makes the text of a report with prefixes of its own; a refused one has one of three faults."""
+    """Draws the text of a report with its own prefixes. A refused one has one of three faults."""
     prefix = chance.choice(["m", "made", "x-1"])
     uris = {prefix: URI, "e": "http://standards.iso.org/iso/17442"}
     uris.update({"c": "http://www.xbrl.org/2003/iso4217", "x": "http://www.xbrl.org/2003/instance"})
@@ -109,12 +110,12 @@ def make(width):
 
 def compare(told, done, out, wanted):
     is_same = done.returncode in (0, 1) and bytes_of(out) == wanted[0]
-    check(is_same, f"{told}: other bytes, or status {done.returncode}: {done.stderr[-300:]}")
-    check(refused_in(done.stderr) == wanted[1], f"{told}: other files are refused")
+    check(is_same, f"{told}: wrong bytes, or status {done.returncode}: {done.stderr[-300:]}")
+    check(refused_in(done.stderr) == wanted[1], f"{told}: wrong files are refused")
 
 
 def made_again(width, told, branches):
-    """Runs make once more, and checks that just so many branches are made, and that the bytes are those of one run."""
+    """Runs make again, and checks that exactly this many branches are rebuilt, with the bytes of one run."""
     done = make(width)
     compare(told, done, f"out{width}.json", one_run())
     check(done.stdout.count("merging branch") == branches, f"{told}: made {done.stdout.split()}")
@@ -125,19 +126,19 @@ def late_reports(width):
     lists = run("grep", "-h", "-r", "--include=*.list", "in/", f"out{width}.json.room").stdout
     names = [line.split("/")[1].split(".")[0] for line in lists.splitlines()]
     changes = sum(one != other for one, other in zip(names, names[1:]))
-    check(len(names) == COUNT and changes == len(set(names)) - 1, "what is named alike is in several branches")
+    check(len(names) == COUNT and changes == len(set(names)) - 1, "reports with similar names are in several branches")
     write("in/late one.json", report(random.Random("late"), 0))
     os.utime("in/late one.json", (1, 1))  # its own time is long ago
     made_again(width, "a late report", 1)
     write("in/late one.json", report(random.Random("later"), 1))
     made_again(width, "a changed report", 1)
     os.remove("in/late one.json")
-    made_again(width, "a report that is gone", 1)
+    made_again(width, "a removed report", 1)
     made_again(width, "nothing came again", 0)
 
 
 def nodes():
-    """Checks what a node does where the program fails, and that no fold takes a text that is broken."""
+    """Checks a node whose program fails, and that no fold takes a broken text."""
     node, out = os.path.join(FOLD, "merge_files"), "node.json"
     check(run(node, "sheet.json", out, *paths()[:9]).returncode in (0, 1) and os.path.exists(out), "a node makes its text")
     wrong = {"sheet": (paths()[0], out, paths()[0]), "file": ("sheet.json", out, "in/none.json"), "usage": ("sheet.json",)}
@@ -151,7 +152,7 @@ def nodes():
 
 
 def odd_names():
-    """Checks that a node reads files with any names, and puts nothing where a link could be."""
+    """Checks that a node reads files with any names, and writes no file where a link could be."""
     node, odd = os.path.join(FOLD, "merge_files"), b"in odd/\xff -\n.json"
     os.makedirs(b"in odd/\xfe")
     for name, source in ((odd, paths()[0]), (b"in odd/\xfe/sheet", "sheet.json"), (b"in odd/refused\xff", "in/001.3.json")):
@@ -167,7 +168,7 @@ def odd_names():
 
 
 def stopped_nodes():
-    """Checks that a node that is stopped stops its program, and leaves nothing."""
+    """Checks that a stopped node stops its program and leaves no files."""
     write("slow", "#!/bin/sh\nls -A >names\necho $$ >number.part\nmv number.part number\nexec sleep 60\n")
     os.chmod("slow", 0o755)
     for kind in (signal.SIGTERM, signal.SIGHUP, signal.SIGINT):
@@ -181,13 +182,13 @@ def stopped_nodes():
         check(node.wait() == 3 and not os.path.exists("stopped.json"), f"{kind.name}: status {node.returncode}")
         check(not os.path.exists(f"/proc/{number}"), f"{kind.name}: the program goes on")
         check(not [it for it in os.listdir(".") if it.startswith(".merge_files")], f"{kind.name}: files are left")
-        check(str(node.pid) not in names, f"{kind.name}: a name can be foretold: {names}")
+        check(str(node.pid) not in names, f"{kind.name}: a name is predictable: {names}")
         os.remove("number")
 
 
 def dask_words():
-    """Returns how fold_dask.py is run, and whether Dask runs its nodes, else what stands in for it in this folder."""
-    pythons = (sys.executable, "/usr/bin/python3")  # the Python of the system has the packages of the system
+    """Returns how to run fold_dask.py, and whether Dask runs its nodes; if not, a substitute is written to this folder."""
+    pythons = (sys.executable, "/usr/bin/python3")  # the system's Python has the packages of the system
     with_dask = next((python for python in pythons if shutil.which(python) and run(python, "-c", "import dask").returncode == 0), None)
     if not with_dask:
         os.mkdir("stand_in")
@@ -199,7 +200,7 @@ def dask_words():
 
 
 def on_dask(words, width, wanted):
-    """Compares both forms of a fold on Dask, whose nodes are processes, or calls."""
+    """Compares both forms of a fold on Dask, whose nodes are processes or calls."""
     done = run(*words, "sheet.json", "dask.json", str(width), *paths())
     compare(f"Dask, {width} files a node", done, "dask.json", wanted)
     if LIBRARY:

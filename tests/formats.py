@@ -3,10 +3,11 @@
 
     [SETS=300] [SEED=1] tests/formats [PROGRAM]
 
-What `--format json` and `--format csv` print for the examples, for texts with quotes, line ends and formulas, and for SETS
-sets of drawn reports is made again here, from the lines and from what `merge` writes, and has to be the same byte for byte.
-`--spreadsheet` may only put a ' before a text, and has to where tools/contradictions does at its beginning.
-Status 0: all is so. 1: it is not. 2: the program is not built.
+It runs the examples, texts with quotes, line ends and formulas, and SETS sets of drawn reports. It computes the output of
+`--format json` and `--format csv` from the lines and from the output of `merge`; both must be equal byte for byte.
+`--spreadsheet` may only add a ' before a text, and must add it wherever tools/contradictions does.
+
+Status 0: all is as expected. 1: it is not. 2: the program is not built.
 """
 import csv
 import io
@@ -132,7 +133,7 @@ def sources_of(lines):
 
 
 def is_guarded(plain, guarded):
-    """Whether cells are the same but for a ' before texts, which is there where a formula would begin."""
+    """Returns whether cells differ only by a ' before texts, which is there wherever a formula would begin."""
     one, two = (list(csv.reader(io.StringIO(text, newline=""))) for text in (plain, guarded))
     numeric = {"decimals", "common_low", "common_high"}
     for cells, others in zip(one, two):
@@ -149,7 +150,7 @@ def is_guarded(plain, guarded):
 
 
 def wrong_with(program, sheet, reports):
-    """Returns the names of what is not as it should be."""
+    """Returns the names of the outputs that are not as expected."""
     def asked(command, *words):
         return printed(program, command, sheet, reports, *words)
 

@@ -1,12 +1,12 @@
 #!/usr/bin/env python3
-"""Prints what each part of a run of the gate took. At the top of the repository:
+"""Prints the time of each part of a gate run. At the top of the repository:
 
     bash .ci/run 2>&1 | tests/gate_times | tee FILE     stamps each line with its second; then the table
     tests/gate_times FILE                               the table of such a file again
 
-A part is a crate's proof, the proof of its tests, its must-fail edits or its runs. When a part begins
-and ends is seen at its processes, twice a second; 'processor' is their time on all processors.
-The status is 0 exactly where the run's last line tells that none failed.
+A part is the proof of a crate, the proof of its tests, its must-fail edits or its runs. The processes are sampled twice a
+second to find when a part begins and ends; 'processor' is their time on all processors. The status is 0 if the last line of
+the run says that none failed, otherwise 1.
 """
 import os
 import re
@@ -17,13 +17,13 @@ import time
 PARTS = ("proof", "tests", "edits", "runs")
 HEAD = f"{'crate':<14}{'part':<7}{'from':>8}{'to':>8}{'seconds':>9}{'processor':>11}"
 TICKS = os.sysconf("SC_CLK_TCK")
-# what the gate prints of the runs, which come last, one at a time
+# lines that the gate prints about the runs, which come last, one at a time
 RUN = re.compile(r"(?:rt: )?(\w+) ran[ ,(]|(?:rt: )?(\w+): its tests (?:passed|FAILED)")
 ENDED = re.compile(r"\d+ passed, (\d+) failed")
 
 
 def contents(path):
-    """Returns the bytes of a file of /proc, none where its process has ended."""
+    """Returns the bytes of a file in /proc; none if its process has ended."""
     try:
         with open(path, "rb") as it:
             return it.read()
@@ -32,7 +32,7 @@ def contents(path):
 
 
 def processes():
-    """Returns the parent and the processor seconds of each process, those of its ended children among them."""
+    """Returns the parent and the processor seconds of each process, with those of its ended children."""
     found = {}
     for pid in filter(str.isdigit, os.listdir("/proc")):
         fields = contents(f"/proc/{pid}/stat").rpartition(b")")[2].split()
@@ -42,7 +42,7 @@ def processes():
 
 
 def writers(pipe):
-    """Returns the processes whose output comes here."""
+    """Returns the processes whose output is read here."""
     found = set()
     for pid in filter(str.isdigit, os.listdir("/proc")):
         try:
@@ -54,7 +54,7 @@ def writers(pipe):
 
 
 def part_of(pid):
-    """Returns the crate and the part that a check works for, if the process is one."""
+    """Returns the crate and the part on which a process works, if it is a check."""
     words = contents(f"/proc/{pid}/cmdline").decode(errors="replace").split("\0")
     if os.path.basename(words[0]) != "rattle" or "--crate-name" not in words:
         return None
@@ -67,7 +67,7 @@ def part_of(pid):
 
 
 class Watch(threading.Thread):
-    """Sees the checks of a run: for each part when it was first and last there, and each check's processor time."""
+    """Samples the checks of a run: the first and last time of each part, and the processor time of each check."""
 
     def __init__(self, begun):
         super().__init__(daemon=True)
@@ -82,7 +82,7 @@ class Watch(threading.Thread):
     def look(self, there, now):
         roots, under = writers(self.pipe), {}
         for pid in there:
-            # the uppermost check above each process that stands below the run
+            # the topmost check above each process of the run
             line, at = [], pid
             while at in there and at not in roots and len(line) < 64:
                 line.append(at)
@@ -122,7 +122,7 @@ def table(watch, runs, whole):
 
 
 def live():
-    """Stamps the lines of a run as they come, then tells its table; returns the status."""
+    """Stamps the lines of a run as they arrive, then prints the table; returns the status."""
     begun, last, failed, runs = time.monotonic(), 0, 1, {}
     watch = Watch(begun)
     watch.start()
@@ -147,7 +147,7 @@ def again(file):
     with open(file, encoding="utf-8", errors="replace") as it:
         lines = it.read().split("\n")
     if HEAD not in lines:
-        print(f"gate_times: {file} has no table: it is no whole output of `.. | tests/gate_times`", file=sys.stderr)
+        print(f"gate_times: {file} has no table: it is not the complete output of `.. | tests/gate_times`", file=sys.stderr)
         return 2
     print("\n".join(lines[lines.index(HEAD) :]), end="")
     return 0

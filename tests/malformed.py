@@ -1,15 +1,16 @@
 #!/usr/bin/env python3
-"""Runs the program on reports, sheets, events and bundles that are drawn and then broken. Not part of the gate.
+"""Runs the program on drawn reports, sheets, events and bundles that are then broken. Not part of the gate.
 
     [CASES=5000] [SEED=1] [CASE=N] [JOBS=N] tests/malformed [PROGRAM]
 
-PROGRAM, if it is left out, is $XBRLMERGE or the one that was built. Each run has to end
-within 10 seconds, by no signal, with the status and the lines that its input may have. A report is
-read whole and, with spaces after it, in pieces: both must answer the same. A refused report beside two good ones
-leaves their text as it is; what is accepted is written, and the text is accepted, and written again byte for byte.
-JOBS processes run side by side, as many as there are processors. CASE is the number of one case, which alone is run.
-Status 0: all is so. 1: it is not: the seed and the case are told, and the broken bytes are kept as a file. 2: there is no
-program.
+PROGRAM is $XBRLMERGE or the built one by default. Each run must end within 10 seconds, not by a signal, with a status and
+lines that its input allows. A report is read in full and, with spaces after it, in pieces; both results must be equal. A
+refused report beside two good ones must not change their text. An accepted one is written; the text must be accepted and
+written again byte for byte. JOBS processes run in parallel, as many as there are processors by default. CASE runs only the
+case with this number.
+
+Status 0: all is as expected. 1: it is not; the seed and the case are printed, and the broken bytes are kept as a file. 2:
+there is no program.
 """
 import argparse
 import collections
@@ -28,11 +29,11 @@ from support import TOP, built_program
 
 CASES, SEED, CASE = (int(os.environ.get(name, usual)) for name, usual in (("CASES", 5000), ("SEED", 1), ("CASE", -1)))
 JOBS = int(os.environ.get("JOBS", len(os.sched_getaffinity(0))))
-# so many cases have one sheet and the same good reports; a run takes so many seconds at most
+# cases that share a sheet and good reports, and the most seconds of a run
 BATCH, LIMIT = 25, 10
-# a report of so many bytes is read in pieces
+# reports of this many bytes are read in pieces
 IN_PIECES = 131_072
-# so many facts, or so many spaces behind each comma, make a report as long as that
+# facts, or spaces after each comma, that make a report as long as that
 MANY, SPREAD = 1_300, 3_000
 
 REASONS = """NotJson MemberForm UnknownMember DocumentType Namespace BaseUrl TaxonomyUrl Feature Links Notes DimensionsMissing
@@ -50,7 +51,7 @@ VALUES = {"numeric": ("0", "-12.5", "1000000", "+0.0570", ".5", "999999999999999
           "text": ("", "Blue", "a\"b\\", "\u0001 \u00e9\n", "\U0001f40b")}
 UNITS = ("x:b*x:a", "(x:a*x:b)/x:c", "xbrli:pure", "xbrli:pure/x:c")
 PERIODS = ("2020-12-31T24:00:00", "2020-01-01T00:00:00/2020-12-31T24:00:00", "0001-01-01T00:00:00/9999-12-31T23:59:59")
-# what stands in for a value or a piece of text
+# replacements for a value or a piece of text
 OTHER_VALUES = (b"null", b"true", b"[]", b"{}", b"7", b'""', b'" "', b'":"', b'"m:"', b'"q:A"', b'"m:A"', b'"m:T"',
                 b'"xbrl:note"', b'"none"', b'"complete"', b'"numeric"', b'"text"', b'"1e2"', b'"1234567890123456789"',
                 b'"https://xbrl.org/2021"', b'"2020-12-31"', b'"2021-01-01T00:00:00/2020-01-01T00:00:00"', b'"x:a/"',
@@ -66,7 +67,7 @@ KEYS = (b"documentInfo", b"namespaces", b"facts", b"value", b"decimals", b"dimen
 
 
 class Fault(Exception):
-    """What is not as it should be."""
+    """A result that is not as expected."""
 
 
 def expect(holds, told):
@@ -97,7 +98,7 @@ def drawn_fact(chance):
 
 
 def drawn_report(chance, count=None, spread=0):
-    """Draws a report of so many facts, at most 6 where no number is given, with so many spaces behind each comma."""
+    """Draws a report with this many facts, or at most 6, and with this many spaces after each comma."""
     info = {"documentType": "https://xbrl.org/2021/xbrl-json", "namespaces": {**URIS, "xbrl": "https://xbrl.org/2021"}}
     maybe(chance, info, "taxonomy", ([], ["b.xsd", "http://x.org/a.xsd"], ["urn:x:Y"]))
     maybe(chance, info, "baseURL", ("http://x.org/d/r.json",))
@@ -109,7 +110,7 @@ def drawn_report(chance, count=None, spread=0):
 
 
 def drawn_long(chance):
-    """Draws a report that is read in pieces: of many facts, or with its parts far apart."""
+    """Draws a report that is read in pieces: with many facts, or with its parts far apart."""
     return drawn_report(chance, MANY) if chance.random() < 0.1 else drawn_report(chance, 12, SPREAD)
 
 
@@ -168,7 +169,7 @@ def spliced(chance, text, other):
 
 
 def replaced(chance, text, pattern, choices):
-    """Puts one of the choices in the place of one of the pieces of this pattern."""
+    """Replaces one of the pieces that match this pattern by one of the choices."""
     found = list(re.finditer(pattern, text))
     start, end = chance.choice(found).span() if found else stretch(chance, text)
     return text[:start] + chance.choice(choices) + text[end:]
@@ -205,7 +206,7 @@ def broken(chance, text, other):
 
 
 class Batch:
-    """A folder with a sheet and two good reports, beside which cases are run."""
+    """A folder with a sheet and two good reports, in which cases are run."""
 
     def __init__(self, program, number):
         chance = random.Random(f"{SEED} of {number}")
@@ -222,27 +223,27 @@ class Batch:
         try:
             done = subprocess.run((self.program, *words), input=given, capture_output=True, timeout=LIMIT)
         except subprocess.TimeoutExpired:
-            raise Fault(f"{' '.join(words)}: it has not ended after {LIMIT} seconds") from None
+            raise Fault(f"{' '.join(words)}: it did not end within {LIMIT} seconds") from None
         told = f"{' '.join(words) or 'the bundle'}: status {done.returncode}, {done.stderr[:200]!r}"
         expect(done.returncode in (0, 1, 3), told)
         return done.returncode, done.stdout, done.stderr.decode(errors="replace"), told
 
     def written(self, *names, sheet="sheet"):
-        """Returns the text of reports of which none may be refused."""
+        """Returns the text of reports none of which may be refused."""
         status, text, lines, told = self.run("merge", "--sheet", sheet, *names)
         expect((status, lines) == (0, ""), told)
         return text
 
     def expect_text(self, text, sheet="sheet"):
-        """A text that was written is accepted as canonical, and written again as it is."""
+        """Checks that a written text is accepted as canonical, and written again unchanged."""
         write("text", text)
         status, line, lines, told = self.run("check", "--sheet", sheet, "text")
         found = CHECKED.fullmatch(line)
-        expect((status, lines) == (0, "") and found and found[2] == b"canonical", f"the text that was written: {told}, {line}")
-        expect(self.written("text", sheet=sheet) == text, "the text that was written is not written again")
+        expect((status, lines) == (0, "") and found and found[2] == b"canonical", f"the written text: {told}, {line}")
+        expect(self.written("text", sheet=sheet) == text, "merging the written text changes it")
 
     def expect_reports(self, status, lines, told, most):
-        """Status 0 has no line, status 1 one for each refused report, by its number."""
+        """Status 0 has no line; status 1 has one for each refused report, by its number."""
         found = list(REPORT_LINE.finditer(lines))
         numbers = [int(it[1]) for it in found]
         expect("".join(it[0] for it in found) == lines and bool(numbers) == (status == 1), told)
@@ -254,13 +255,13 @@ class Batch:
         write("broken", self.content)
 
     def of_report(self, chance, drawn=drawn_report):
-        """A broken report between two good ones, which `check` answers alike, and which is read alike in pieces."""
+        """A broken report between two good ones. `check` must return the same, also when it is read in pieces."""
         self.write_broken(chance, drawn(chance), self.one)
         status, text, lines, told = self.run("merge", "--sheet", "sheet", "one", "broken", "two")
         self.expect_reports(status, lines, told, 3)
         write("longer", self.content + b" " * IN_PIECES)
         *longer, longer_told = self.run("merge", "--sheet", "sheet", "one", "longer", "two")
-        expect(longer == [status, text, lines], f"{told}, but with spaces behind it {longer_told}")
+        expect(longer == [status, text, lines], f"{told}, but with spaces after it {longer_told}")
         checked, line, check_lines, check_told = self.run("check", "--sheet", "sheet", "broken")
         expect((checked, check_lines) == (status, lines.replace("report 2", "report 1")), f"{told}, but {check_told}")
         expect(bool(CHECKED.fullmatch(line)) if status == 0 else line == b"", f"{check_told}, {line}")
@@ -271,11 +272,11 @@ class Batch:
         return status
 
     def of_long(self, chance):
-        """The same of a broken report that is long before it is broken."""
+        """The same for a broken report that was long before it was broken."""
         return self.of_report(chance, drawn_long)
 
     def of_sheet(self, chance):
-        """A broken sheet, with two good reports."""
+        """A broken sheet with two good reports."""
         self.write_broken(chance, self.sheet, self.one)
         status, text, lines, told = self.run("merge", "--sheet", "broken", "one", "two")
         if status == 3:
@@ -313,7 +314,7 @@ class Batch:
         return status
 
     def play(self, case):
-        """Plays a case. Returns what is not as it should be, if anything."""
+        """Plays a case. Returns what is not as expected, if anything."""
         chance = random.Random(f"{SEED} {case}")
         kind = chance.choices((self.of_report, self.of_long, self.of_sheet, self.of_events, self.of_bundle), (5, 1, 2, 2, 2))[0]
         try:
@@ -331,14 +332,14 @@ def write(path, content):
 
 
 def keep(case, content):
-    """Keeps the bytes that were broken, and returns where."""
+    """Keeps the broken bytes and returns their path."""
     place = os.path.join(tempfile.gettempdir(), f"malformed-{SEED}-{case}")
     write(place, content)
     return place
 
 
 def play(task):
-    """Plays the cases of a batch. Returns what they ended in, counted, and what is not as it should be."""
+    """Plays the cases of a batch. Returns the counts of their results, and what is not as expected."""
     program, cases = task
     with tempfile.TemporaryDirectory(prefix="malformed-") as room:
         os.chdir(room)
@@ -349,7 +350,7 @@ def play(task):
 
 
 def is_tame(counts):
-    """Returns whether an ending is missing that thousands of cases have."""
+    """Returns whether a result is missing that thousands of cases should have."""
     ends = [f"{kind} {status}" for kind, statuses in (("report", "01"), ("long", "01"), ("sheet", "013"), ("events", "03"), ("bundle", "013"))
             for status in statuses]
     return CASE < 0 and CASES >= 5000 and not all(counts[it] for it in ends)
@@ -369,10 +370,10 @@ def main():
     print(*wrong[:20], sep="\n", end="\n" * bool(wrong))
     ends = ", ".join(f"{counts[it]} {it}" for it in sorted(counts) if it[-1].isdigit())
     reasons = sum(1 for it in counts if not it[-1].isdigit())
-    print(f"tests/malformed: {len(cases)} cases with SEED={SEED}, {len(wrong)} not as they should be, in "
+    print(f"tests/malformed: {len(cases)} cases with SEED={SEED}, {len(wrong)} not as expected, in "
           f"{time.monotonic() - started:.0f} seconds. By kind and status: {ends}; reports were refused for {reasons} reasons")
     if is_tame(counts):
-        print("tests/malformed: the cases are too tame")
+        print("tests/malformed: the cases cover too little")
     return 1 if wrong or is_tame(counts) else 0
 
 

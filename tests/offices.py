@@ -1,14 +1,14 @@
 #!/usr/bin/env python3
-"""Compares offices that exchange what they have merged with one merge of the reports that reached each. Not part of the gate.
+"""Compares offices that exchange merged texts with one merge of the reports that reached each. Not part of the gate.
 
     [SCHEDULES=200] [SEED=1] tests/offices [PROGRAM]
 
-PROGRAM, if it is left out, is $XBRLMERGE or the one that was built. Three offices, each
-with a folder of its own, run its commands `merge` and `check` alone, by a schedule that is drawn: they take reports, of which
-some are refused, send what they have, receive what was sent (late, twice, in any order), and lose all they have. What is
-sent has to be canonical and to declare the least level that is true, by its definition; some of it is then sent as it was
-written before texts declared a level.
-Status 0: all texts are the same. 1: they are not, and what differs is told, with the seed and the schedule. 2: there is no
+PROGRAM is $XBRLMERGE or the built one by default. Three offices, each with its own folder, use only its commands `merge` and
+`check`. By a drawn schedule they take reports, some of which are refused, send their text, receive texts (late, repeated,
+reordered), and lose everything. A sent text must be canonical and declare the strictest level that its facts satisfy, by its
+definition. Some texts are then sent in the earlier form, without a level.
+
+Status 0: all texts are equal. 1: some are not; the difference is printed with the seed and the schedule. 2: there is no
 program.
 """
 import argparse
@@ -32,12 +32,12 @@ KINDS = {"A0": "numeric", "A1": "numeric", "T0": "text"}
 SHEET = {"namespaces": {"m": URI}, "concepts": {f"m:{name}": kind for name, kind in KINDS.items()}}
 REFUSED = re.compile(r"report (\d+): \d+ \w+ at (document|fact \d+)\n")
 ACCEPTED = re.compile(r"accepted \d+ (none|consistent|all) (canonical|other)\n")
-# what a text has had since it declares its level
+# the member that declares the level
 DECLARED = re.compile(rb'"features":\{"xbrl:allowedDuplicates":"\w+"\},|,?"xbrl":"https://xbrl.org/2021"')
 
 
 class Fault(Exception):
-    """What is not as it should be."""
+    """A result that is not as expected."""
 
 
 def expect(holds, told):
@@ -46,7 +46,7 @@ def expect(holds, told):
 
 
 def number(chance):
-    """Draws a value and its decimals: mostly near one hundred, else a few of the last places that decimals may name."""
+    """Draws a value and its decimals: mostly near one hundred, else near one of the extreme decimals."""
     if chance.random() < 0.7:
         return {"value": str(chance.randint(98, 102)), "decimals": chance.randint(-1, 0)}
     places, times = chance.randint(-18, 18), chance.randint(1, 3)
@@ -56,7 +56,7 @@ def number(chance):
 
 
 def fact(chance, prefix):
-    """Makes one of few dimension sets, so that reports meet, with one of few values."""
+    """Draws a fact. There are few dimension sets and few values, so reports meet."""
     concept = chance.choice(sorted(KINDS))
     dimensions = {"concept": f"{prefix}:{concept}"}
     if chance.random() < 0.5:
@@ -67,7 +67,7 @@ def fact(chance, prefix):
 
 
 def report(chance, is_refused):
-    """Makes the text of a report with a prefix of its own; a refused one has one of three faults."""
+    """Draws the text of a report with its own prefix. A refused one has one of three faults."""
     prefix, fault = chance.choice(["m", "made"]), chance.randint(1, 3) if is_refused else 0
     facts = {f"{number}": fact(chance, prefix) for number in range(chance.randint(1, 3))}
     if fault == 1:
@@ -84,7 +84,7 @@ def level_of(texts):
     for text in texts:
         for made in json.loads(text)["facts"].values():
             concept = made["dimensions"]["concept"].partition(":")[2]
-            # the two periods that are drawn are one moment
+            # the two periods that are drawn are the same moment
             row = rows.setdefault((concept, "period" in made["dimensions"]), set())
             is_number = KINDS[concept] == "numeric"
             row.add((fractions.Fraction(made["value"]), made["decimals"]) if is_number else made["value"])
@@ -95,7 +95,7 @@ def level_of(texts):
 
 
 def do_meet(row):
-    """Whether each two facts of a row meet: both numbers that lie within half of their last places of one number."""
+    """Returns whether each two facts of a row meet: their rounding intervals have a common number."""
     if any(isinstance(it, str) for it in row):
         return False
     ends = [(number, fractions.Fraction(10) ** -places / 2) for number, places in row]
@@ -113,7 +113,7 @@ def run(*words):
 
 
 class Schedule:
-    """A schedule in a folder of its own, with its own record of which reports reached which office, by sets of their names."""
+    """A schedule in its own folder. It records which reports reached which office."""
 
     def __init__(self, program, seed, counts):
         self.program, self.chance, self.counts = program, random.Random(f"{SEED} {seed}"), counts
@@ -132,7 +132,7 @@ class Schedule:
         return run(self.program, "merge", "--sheet", "sheet.json", "--", *files)
 
     def present(self, office):
-        """Returns the text that an office has: that of no report, where it has none."""
+        """Returns the text of an office, or the text without facts if it has none."""
         if not os.path.exists(f"{office}/merged.json"):
             status, text, lines = self.merge()
             expect((status, lines) == (0, ""), f"a merge of no report ends with {status}: {lines}")
@@ -140,7 +140,7 @@ class Schedule:
         return bytes_of(f"{office}/merged.json")
 
     def merged_with(self, office, file, is_refused):
-        """Merges a file into what an office has. Where it is refused, that stays as it was."""
+        """Merges a file into the text of an office. If the file is refused, the text does not change."""
         before = self.present(office)
         status, text, lines = self.merge(f"{office}/merged.json", file)
         found = REFUSED.fullmatch(lines)
@@ -165,17 +165,17 @@ class Schedule:
         write(sent, text)
         level = self.checked(sent, "canonical")
         wanted = level_of(bytes_of(f"reports/{name}") for name in self.reached[office])
-        expect(level == wanted, f"check of {sent} tells {level}, and it is {wanted}")
-        expect(f'{{"xbrl:allowedDuplicates":"{level}"}}'.encode() in text, f"{sent} declares another level than {level}")
+        expect(level == wanted, f"check of {sent} prints {level} instead of {wanted}")
+        expect(f'{{"xbrl:allowedDuplicates":"{level}"}}'.encode() in text, f"{sent} does not declare the level {level}")
         if self.chance.random() < 0.25:
             write(sent, DECLARED.sub(b"", text))
-            expect(self.checked(sent, "other") == level, f"{sent} has another level where none is declared")
+            expect(self.checked(sent, "other") == level, f"{sent} without its declaration has another level")
             self.counts["earlier texts"] += 1
         self.counts["agreements sent"] += level == "consistent"
         self.counts["contradictions sent"] += level == "all"
 
     def checked(self, sent, kind):
-        """Returns the level of a sent text, which has to be of this kind."""
+        """Returns the level of a sent text, which must be of this kind."""
         status, line, lines = run(self.program, "check", "--sheet", "sheet.json", sent)
         told = ACCEPTED.fullmatch(line.decode())
         as_expected = (status, lines) == (0, "") and told is not None and told.group(2) == kind
@@ -209,15 +209,15 @@ class Schedule:
             self.compare(office)
 
     def compare(self, office):
-        """Compares what an office has with one merge of the reports that reached it, in any order."""
+        """Compares the text of an office with one merge of the reports that reached it, in any order."""
         names = self.chance.sample(sorted(self.reached[office]), len(self.reached[office]))
         status, text, lines = self.merge(*(f"reports/{name}" for name in names))
         expect((status, lines) == (0, ""), f"a merge of {' '.join(names)} ends with {status}: {lines}")
-        expect(self.present(office) == text, f"office {office} has not the text of {' '.join(names) or 'no report'}")
+        expect(self.present(office) == text, f"office {office} does not have the text of {' '.join(names) or 'no report'}")
 
 
 def play(program, seed, counts):
-    """Plays a schedule, and returns its length, or nothing, and then what is wrong was told."""
+    """Plays a schedule and returns its length; None if something is wrong, which is printed."""
     schedule = Schedule(program, seed, counts)
     with tempfile.TemporaryDirectory() as room:
         os.chdir(room)
@@ -244,7 +244,7 @@ def main():
         events += length
     told = ", ".join(f"{count} {name}" for name, count in counts.items())
     if SCHEDULES >= 200 and not all(counts.values()):
-        print(f"tests/offices: the schedules are too tame: {told}")
+        print(f"tests/offices: the schedules cover too little: {told}")
         return 1
     print(f"tests/offices: each office writes the bytes of one merge, in {SCHEDULES} schedules with {events} events: {told}")
     return 0

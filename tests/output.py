@@ -1,11 +1,12 @@
 #!/usr/bin/env python3
-"""Runs the program with `--output`, lets each call fail that writes the file, and kills the run at each. Not part of the gate.
+"""Runs the program with `--output`, makes each call that writes the file fail, and kills the run at each. Not in the gate.
 
     tests/output [PROGRAM]
 
-PROGRAM, if it is left out, is $XBRLMERGE or the one that was built. It needs cc.
-The status is 0 where the file is always the old one or the whole new one, and no other file is left but by a run that was
-killed; else 1, and a line for each case tells it. 2: there is no program, or no cc.
+PROGRAM is $XBRLMERGE or the built one by default. It needs cc.
+
+Status 0: the file is always the old one or the complete new one, and only killed runs leave other files. 1: it is not; each
+case is printed. 2: there is no program, or no cc.
 """
 import os
 import shutil
@@ -40,7 +41,7 @@ class Tests:
             file.write(EVENTS)
 
     def empty(self, old):
-        """Makes the folder anew, with or without an old file."""
+        """Makes a new folder, with or without an old file."""
         shutil.rmtree(self.folder, ignore_errors=True)
         os.mkdir(self.folder)
         if old:
@@ -53,7 +54,7 @@ class Tests:
                               stdin=subprocess.DEVNULL, env={**os.environ, **environment})
 
     def calls(self, words, **environment):
-        """Runs the program before the library, and returns what ran and the names of the calls."""
+        """Runs the program with the preloaded library, and returns the run and the names of the calls."""
         if os.path.exists(self.told):
             os.remove(self.told)
         ran = self.run(words, LD_PRELOAD=self.library, CALLS_TOLD=self.told, **environment)
@@ -68,7 +69,7 @@ class Tests:
             self.wrong.append(what)
 
     def held(self):
-        """Returns what the file holds, or None."""
+        """Returns the content of the file, or None."""
         try:
             with open(f"{self.folder}/new", "rb") as file:
                 return file.read()
@@ -76,12 +77,12 @@ class Tests:
             return None
 
     def leaves(self, what, content, others=0):
-        self.is_(f"{what}: the file is another", self.held() == content)
+        self.is_(f"{what}: the file differs", self.held() == content)
         left = [it for it in os.listdir(self.folder) if it != "new"]
-        self.is_(f"{what}: {left} is left", len(left) <= others)
+        self.is_(f"{what}: {left} remains", len(left) <= others)
 
     def each_call(self, name, old):
-        """Lets each call of a command fail, and kills it at each."""
+        """Makes each call of a command fail, and kills the command at each."""
         words = COMMANDS[name]
         self.empty(False)
         text = self.run(words).stdout
@@ -106,7 +107,7 @@ class Tests:
             self.leaves(f"{at}, killed", before, 1)
 
     def refused(self):
-        """What is no regular file, and runs that end with status 2 or 3."""
+        """Tests outputs that are not regular files, and runs that end with status 2 or 3."""
         words = [*COMMANDS["merge"], "-o", "new"]
         for what, make in (("a link", lambda it: os.symlink("../events", it)), ("a dangling link", lambda it: os.symlink("none", it)),
                            ("a folder", os.mkdir), ("a FIFO", os.mkfifo)):
@@ -127,7 +128,7 @@ class Tests:
             self.leaves(name, OLD)
 
     def over_setuid(self):
-        """An old file that runs as its owner and group: the new one belongs to who runs the program."""
+        """Tests an old file with setuid and setgid: the new one belongs to the user who runs the program."""
         self.empty(True)
         os.chmod(f"{self.folder}/new", 0o7755)
         ran = self.run([*COMMANDS["check"], "-o", "new"])
@@ -135,7 +136,7 @@ class Tests:
         self.is_(f"over setuid: status {ran.returncode}, mode {mode:o}", (ran.returncode, mode) == (0, 0o755))
 
     def among_leftovers(self):
-        """The files of a thousand runs that were killed do not stop one."""
+        """Tests that the leftovers of a thousand killed runs do not stop the program."""
         self.empty(True)
         text = self.run(COMMANDS["check"]).stdout
         for number in range(1_001):
@@ -146,7 +147,7 @@ class Tests:
         self.leaves("among leftovers", text, 1_001)
 
     def onto_itself(self):
-        """A report that is written over, and a refused one beside an accepted one."""
+        """Tests a report that is its own output, and a refused report beside an accepted one."""
         self.empty(False)
         shutil.copy(ONE, f"{self.folder}/new")
         text = self.run(["merge", "--sheet", SHEET, "new", TWO]).stdout
@@ -173,7 +174,7 @@ def main(words):
         tests.over_setuid()
         tests.among_leftovers()
         tests.onto_itself()
-    print("\n".join(tests.wrong) or f"{tests.count} tests, all as they should be")
+    print("\n".join(tests.wrong) or f"{tests.count} tests, all as expected")
     return 1 if tests.wrong else 0
 
 

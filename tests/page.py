@@ -29,14 +29,14 @@ import zlib
 from support import TOP, built_program
 
 TOOL = os.path.join(TOP, "tools", "contradictions.py")
-sys.path.insert(0, os.path.join(TOP, "tests", "tools"))  # has the maker of the large text
+sys.path.insert(0, os.path.join(TOP, "tests", "tools"))  # has the script that makes the large text
 import workload  # noqa: E402
 BROWSERS = ("chromium", "chromium-browser", "google-chrome", "chrome")
 SHEET, *REPORTS = (os.path.join(TOP, "examples", f"{name}.json") for name in ("sheet", "issuer", "ledgerline", "statfeed"))
-# of each look: the ground, a value of the pair, and the gap
+# in each theme: the background, a value of the pair, and the gap
 SECONDS, MEGABYTES, CONTRADICTIONS = 10, 300, 11_000
 PAINT = 2_000  # milliseconds until something is shown
-# how the browser tells when it first showed something
+# how the browser reports when it first showed something
 PAINTED = """<body><script>new PerformanceObserver(list => list.getEntries().forEach(entry => console.log("painted", entry.startTime)))
 .observe({type: "paint", buffered: true})</script>"""
 WIDTHS = 500, 1_100, 1_900  # of the window, in pixels; Chromium takes none below 500
@@ -60,7 +60,7 @@ setTimeout(() => {
   }, 3000);
 }, 2000);
 </script></body>"""
-# who says the two values of a row that contradict each other, and by which identifiers
+# the providers of the two values of a contradiction, and their identifiers
 OWN_NAMES = ("issuer f56", "statfeed TS08780")
 LOOKS = {"light": ("ffffff", "b3201f", "f3c9c5"), "dark": ("16181c", "ff8a80", "5c2b2b")}
 
@@ -73,7 +73,7 @@ def run(words, seconds=120, wanted=0):
 
 
 def build(room):
-    """Makes the page, and returns its place with the numbers and the pairs of the rows that contradict themselves."""
+    """Makes the page. Returns its place with the numbers and the pairs of the contradictions."""
     page, lines, program = os.path.join(room, "example", "page.html"), os.path.join(room, "lines"), built_program()
     run([sys.executable, TOOL, "--program", program, "--sheet", SHEET, "-o", os.path.dirname(page), *REPORTS], wanted=1)
     with open(lines, "wb") as file:
@@ -107,7 +107,7 @@ def colours(picture):
 
 
 def look_at_example(words, room, kept):
-    """Returns what is wrong with the page of examples/, and keeps its picture where nothing is."""
+    """Returns what is wrong with the page of examples/. If nothing is, it keeps the picture."""
     page, rows = build(room)
     content = run([*words, "--window-size=1100,1200", "--dump-dom", f"file://{page}"]).decode()
     sections = {part.split('"')[0]: part for part in content.split(' id="row')[1:]}
@@ -122,7 +122,7 @@ def look_at_example(words, room, kept):
         run([*words, "--window-size=1100,1350", setting, f"--screenshot={picture}", f"file://{page}"])
         with open(picture, "rb") as file:
             seen = colours(file.read())
-        faults += [f"{look} shows next to nothing in #{colour}" for colour in wanted if seen[colour] < 300]
+        faults += [f"{look} shows almost nothing in #{colour}" for colour in wanted if seen[colour] < 300]
     if kept and not faults:
         shutil.copyfile(os.path.join(room, "light.png"), kept)
     return faults
@@ -134,7 +134,7 @@ def timed(words, seconds):
 
 
 def look_at_large(words, room):
-    """Returns what is wrong with the page of many contradictions, and a line of what was measured."""
+    """Returns what is wrong with the page of many contradictions, and a line with the measurements."""
     workload.make(room, CONTRADICTIONS)
     inputs = [os.path.join(room, name) for name in ("merged.json", "sheet.json", "verdicts.txt")]
     page = os.path.join(room, "large", "page.html")
@@ -155,7 +155,7 @@ def look_at_large(words, room):
 
 
 def changed(page, name, before, after):
-    """Writes the page with another part, and without its policy. Returns the place of that page, and its text."""
+    """Writes the page with another part and without its policy. Returns the place of that page, and its text."""
     with open(page, encoding="utf-8") as file:
         text = re.sub("<meta http-equiv=[^>]*>", "", file.read())
     place = os.path.join(os.path.dirname(page), name)
@@ -165,7 +165,7 @@ def changed(page, name, before, after):
 
 
 def first_paint(words, page):
-    """Returns after how many milliseconds the browser shows something, the least of three."""
+    """Returns the milliseconds until the browser shows something, the least of three measurements."""
     place, _ = changed(page, "painted.html", "<body>", PAINTED)
     options = ["--window-size=1100,1200", "--enable-logging=stderr", f"--screenshot={place}.png", f"file://{place}"]
     said = [subprocess.run([*words, *options], capture_output=True, timeout=120, check=True).stderr for _ in range(3)]
@@ -196,7 +196,7 @@ def main():
     kept = parser.parse_args().PICTURE
     browser = next(filter(None, map(shutil.which, BROWSERS)), None)
     if not browser:
-        print("tests/page: no Chromium is installed, so nothing was looked at")
+        print("tests/page: no Chromium is installed, so nothing was checked")
         return 0
     room = tempfile.mkdtemp()
     try:
@@ -210,7 +210,7 @@ def main():
         return 2
     finally:
         shutil.rmtree(room, ignore_errors=True)  # the browser may still be writing
-    print(*(f"tests/page: {fault}" for fault in faults or ["the pages are as they should be"]), sep="\n")
+    print(*(f"tests/page: {fault}" for fault in faults or ["the pages are as expected"]), sep="\n")
     return 1 if faults else 0
 
 

@@ -3,10 +3,9 @@
 
     tests/pages [PAGE ..]
 
-It prints the words of each page in BOUNDS beside its bound, or those of the pages that are named. Code blocks do not
-count, nor do comments and generated tables (from a comment that begins with `generated` to one that begins with `end`).
-Of docs/DOUBT.md and docs/FORMAT.md only the prose counts: no table, and no entry line, which names what to read in a file
-of `crates/`.
+It prints the words of each page in BOUNDS beside its bound, or only for the named pages. Code blocks, comments and generated
+tables (from a comment that begins with `generated` to one that begins with `end`) do not count. In docs/DOUBT.md and
+docs/FORMAT.md only the prose counts: no tables, and no entry lines, which name what to read in a file of `crates/`.
 
 The status is 1 if a page is missing or too long, or if a relative link of any page has no file or no such heading.
 """
@@ -53,7 +52,7 @@ def words(path):
 
 
 def anchors(path):
-    """Returns the names by which links reach the headings of a page."""
+    """Returns the anchors of the headings of a page."""
     found, seen = set(), {}
     for heading in HEADING.findall(CODE_BLOCK.sub("", content(path))):
         shown = re.sub(r"\[([^\]]*)\]\([^)]*\)", r"\1", heading).lower()

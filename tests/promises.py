@@ -4,8 +4,8 @@
     tests/promises [--write]
 
 A function is public if `lib.rt` exports it, its type, its trait or its module, or if it is `extern "C"`; so is a law of a
-public trait. Between two marks the page has a table for each library: each public function with the names of its clauses,
-and what its doc comment says before the first empty line. --write writes these tables. The status is 1 if
+public trait. The page has a generated table for each library. It lists each public function with the names of its clauses
+and the first paragraph of its doc comment. --write writes these tables. The status is 1 if
 
 - the tables are not those of the code;
 - a public function has no doc comment;
@@ -30,7 +30,7 @@ NAME = re.compile(r"`((?:\w+::)+\w+)`")
 
 
 class Promise:
-    """A public function: what its comment says, and the names of its clauses, of which one may have none."""
+    """A public function: the text of its comment, and the names of its clauses; a clause may have no name."""
 
     def __init__(self, comment):
         first = comment[: comment.index("")] if "" in comment else comment
@@ -71,7 +71,7 @@ class Library:
             comment = comment if line.lstrip().startswith("#[") else []
 
     def found(self, module, owner, is_trait, function, promise, law):
-        """Returns the promise where the function is public, and None otherwise."""
+        """Returns the promise if the function is public, otherwise None."""
         is_pub, is_for_c, name = function.groups() if function else (None, None, law[1])
         promise.has_contract = function is None
         scope = owner or (module if module in self.exports else None)

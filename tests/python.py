@@ -1,13 +1,13 @@
 #!/usr/bin/env python3
 """Compares the Python module with the program. Not part of the gate.
 
-    [XBRLMERGE=PROGRAM] [XBRLMERGE_LIBRARY=LIBRARY] [SETS=300] [SEED=1] tests/python [unittest's words]
+    [XBRLMERGE=PROGRAM] [XBRLMERGE_LIBRARY=LIBRARY] [SETS=300] [SEED=1] tests/python [unittest's arguments]
 
-Each call on the examples, and on SETS sets of drawn reports, has to give the bytes, the lines and the exceptions of the
-program's command of its name. Four threads merge at once. A wheel is built, and used from where pip puts it, where pip is
-there. Records go to pandas, and mypy reads the module's types, where those are there. It needs ./build and
-./build --library.
-Status 0: all is so. 1: it is not. 2: program or library are not built.
+Each call on the examples, and on SETS sets of drawn reports, must have the bytes, lines and exceptions of the program's
+command of the same name. Four threads merge at once. If pip is installed, a wheel is built, installed and used. If pandas or
+mypy is installed, it reads the records or checks the module's types. It needs ./build and ./build --library.
+
+Status 0: all is as expected. 1: it is not. 2: the program or the library is not built.
 """
 import concurrent.futures
 import csv
@@ -48,7 +48,7 @@ def ran(command, sheet, reports, *words):
 
 
 def merged(sheet, reports, allow):
-    """Returns the same of the module's call."""
+    """Returns the same for the module's call."""
     try:
         answer = xbrlmerge.merge(sheet, reports, allow)
     except xbrlmerge.TooLoose as fault:
@@ -89,7 +89,7 @@ class Examples(unittest.TestCase):
                 with self.subTest(call=call.__name__, reports=one):
                     with self.assertRaises(TypeError) as raised:
                         call(SHEET, one)
-                    self.assertEqual(str(raised.exception), "reports is a list of files or bytes, not one of them")
+                    self.assertEqual(str(raised.exception), "reports must be a list of files or bytes")
             self.assertRaises(TypeError, call, SHEET, [123])
 
     def test_refusals_print_as_lines(self):
@@ -176,7 +176,7 @@ class Examples(unittest.TestCase):
         self.assertRaises(ValueError, xbrlmerge.merge, sheet, [], "some")
 
     def test_long_texts_are_asked_for_again(self):
-        # the room that is tried first is none
+        # the first buffer has no room
         report = bytes_of(EXAMPLES[0])
         more, library.MORE = library.MORE, -len(report)
         try:
@@ -214,7 +214,7 @@ class Drawn(unittest.TestCase):
             self.assertEqual(list(pool.map(work, (place % 2 for place in range(THREADS)))), wanted)
 
     def test_other_threads_go_on(self):
-        # a call of a tenth of a second or more; where it held Python's lock, the counter stood still
+        # a call of at least a tenth of a second; if it held Python's lock, the counter would not advance
         reports = [bytes_of(path) for path in EXAMPLES] * 150
         with concurrent.futures.ThreadPoolExecutor(1) as pool:
             done, ticks = pool.submit(xbrlmerge.merge, SHEET, reports), 0

@@ -1,7 +1,6 @@
-/* Stands before malloc, calloc and realloc of the C library (glibc), where LD_PRELOAD puts it.
-   The request of number REFUSE is refused, counted from 1 and from the first after the libraries are loaded. The file
-   REFUSE_TOLD gets a line "refused" when it comes. At the end it gets a line with the number of requests: a process
-   that is killed tells no number. */
+/* Loaded by LD_PRELOAD, it replaces malloc, calloc and realloc of the C library (glibc).
+   The request with the number REFUSE is refused, counted from 1 once the libraries are loaded. The line "refused" is then
+   written to the file REFUSE_TOLD. The number of requests is written there when the process ends, unless it is killed. */
 #include <errno.h>
 #include <fcntl.h>
 #include <stdio.h>
@@ -28,7 +27,7 @@ static int is_refused(void) {
 
 void *malloc(size_t size) { return is_refused() ? NULL : __libc_malloc(size); }
 void *calloc(size_t count, size_t size) { return is_refused() ? NULL : __libc_calloc(count, size); }
-/* to make a block empty is to give it back, and no request */
+/* a size of 0 frees the block and is not a request */
 void *realloc(void *block, size_t size) { return size && is_refused() ? NULL : __libc_realloc(block, size); }
 
 __attribute__((constructor)) static void begin(void) {

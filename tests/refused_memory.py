@@ -3,16 +3,17 @@
 
     [JOBS=N] tests/refused_memory [CRATE | program ..]
 
-The tests of a crate are those that `rt test` left as crates/NAME/out/NAME_tests, the program is ./xbrlmerge, or where that
-is not there crates/xbrlmerge/out/xbrlmerge; with no words it takes all. Each test runs once with nothing refused, which
-tells how many requests it makes, and then once for each of them, and once more. A test is to pass, and to say on standard
-error whether a call was refused (`refused`) or what makes its input (`refused here`); a request of which it says nothing is
-passed over. The program, on command lines of every word, is to end in the one line `out of memory` with status 3 and with a
-front of its text, or in its whole answer where what was refused is its runtime's own, which asks again for less.
-JOBS runs stand side by side: as many as there are processors. Where one test makes more than 5,000 requests, each 7th is
-refused from 2,001 on, and fewer where it makes more than 50,000 or its runs are long; a line tells of each such test
-which were refused.
-Status 0: nothing failed and nothing was passed over. 1: something was. 2: tests are not built, or are older than the sources.
+The tests of a crate are crates/NAME/out/NAME_tests, which `rt test` makes. The program is ./xbrlmerge, or
+crates/xbrlmerge/out/xbrlmerge if that does not exist. Without arguments it tests all. A first run of each test counts the
+requests; each later run refuses one of them, and a last one refuses none. A test must pass and print on standard error that
+a call was refused (`refused`) or that its own setup was (`refused here`); if it prints neither, the request counts as passed
+over. The program runs on command lines of every command. It must print the line `out of memory`, end with status 3 and have
+written a first part of its text. It may also print its whole text: then the request was one of its runtime, which asks again
+for less. JOBS runs are parallel, as many as there are processors by default. If a test makes more than 5,000 requests, each
+7th is refused from 2,001 on; fewer if it makes more than 50,000, or if its runs are long. A line says which were refused.
+
+Status 0: nothing failed and nothing was passed over. 1: something was. 2: tests are not built, or are older than the
+sources.
 """
 import argparse
 import collections
@@ -31,21 +32,21 @@ from support import BUILT, TOP, bytes_of, content
 
 PROGRAM = "program"
 JOBS = int(os.environ.get("JOBS", len(os.sched_getaffinity(0))))
-# a test of more requests than MANY has all up to ALL refused, and then each of number EVERY
+# if a test makes more than MANY requests, the first ALL are refused, and then each EVERY-th
 MANY, ALL, EVERY = 5000, 2000, 7
-# a test of more than MOST, as one that tries a device at each place of a text, has FEW refused, evenly over all of them; so
-# has one whose runs would take more than SECONDS of a processor, as many as that gives time for
+# if it makes more than MOST, as tests with a device for each byte do, FEW are refused, spread evenly; if its runs would take
+# more than SECONDS of a processor, as many as fit in that time
 MOST, FEW, SECONDS = 50_000, 1000, 240
-# how many requests a process goes through at a time, and how many seconds a run may take
+# the requests that a process refuses one after another, and the most seconds of a run
 SHARE, LIMIT = 40, 60
-# how many bytes a sink is given at a time, at least
+# the least bytes that a sink takes at a time
 CHUNK = 1 << 16
 SHOWN = 20
 CALL, HERE, WHOLE, DEVICE, PASSED, FAILED = "refused calls", "refused here", "whole answers", "device first", "passed over", "failed"
 CLOCK, PROCESSOR = "seconds", "of a processor"
 COLUMNS = ("tests", "requests", "refused in turn", CALL, HERE, WHOLE, DEVICE, PASSED, FAILED, CLOCK, PROCESSOR)
-# in these tests a device fails too: a buffer that is refused room first hands on what waits, and the call ends in that fault;
-# or standard error is full, so that nobody hears what stopped the run
+# in these tests a device fails too, and the run may end in that fault: a buffer without memory first writes what waits, or
+# standard error is full, so the line about memory is lost
 DEVICE_FAILS_TOO = {
     "oim_write tests::writers::a_writer_may_stop_about_a_chunk",
     "oim_merge tests::sources::sources_are_written_up_to_a_place",
@@ -59,23 +60,22 @@ DEVICE_FAILS_TOO = {
     "xbrlmerge tests::run::a_full_device_ends_the_run",
     "xbrlmerge tests::run::an_output_that_failed_is_not_flushed",
 }
-# in these wrong words are searched for similar ones, which a refused request only cuts short
+# here the user's word is compared with similar ones; if that is refused memory, only the suggestion is missing
 SIMILAR_WORDS = {"xbrlmerge tests::words::other_words_are_usage", "xbrlmerge tests::words::usage_tells_what_is_wrong"}
 
-# a test, or the program on a command line; of the program it is known what it answers in whole, and whether its runtime
-# asks for less where it is refused room
+# a test, or the program on a command line; the program also has its whole output, and whether its runtime asks for less
 Subject = collections.namedtuple("Subject", "label command given whole asks_again")
 Ran = collections.namedtuple("Ran", "status out err came requests")
-# what a subject does where nothing is refused: its requests, the seconds of a run, and what is wrong with that
+# a subject with nothing refused: its requests, the seconds of a run, and what is wrong with it
 Counted = collections.namedtuple("Counted", "requests seconds wrong")
 
 
 class NotBuilt(Exception):
-    """What is missing, or too old."""
+    """Something is missing or too old."""
 
 
 def crate_names():
-    """Returns the crates, each behind those that it stands on."""
+    """Returns the crates, each after those on which it depends."""
     return re.findall(r"^(\w+)[^:#\n]*:", content("crates.txt"), re.MULTILINE)
 
 
@@ -89,13 +89,13 @@ def has_tests(crate):
 
 
 def is_older(built, crates):
-    """Returns whether it was built before a source of these crates was changed."""
+    """Returns whether it was built before the last change in the sources of these crates."""
     sources = (it for crate in crates for it in sources_of(crate))
     return os.path.getmtime(built) < max(map(os.path.getmtime, sources))
 
 
 def newest(places, crates):
-    """Returns the first of these files that is there; it has to be newer than the sources."""
+    """Returns the first of these files that exists. It must be newer than the sources."""
     found = [it for it in places if os.access(it, os.X_OK)]
     if not found:
         raise NotBuilt(f"there is no {places[0]}")
@@ -114,7 +114,7 @@ def build_library(room):
 
 
 def run(library, subject, number):
-    """Runs it in a new folder, with this request refused; with 0 none is. Requests are None where the end was not told."""
+    """Runs it in a new folder with this request refused; 0 refuses none. Requests are None if they were not counted."""
     with tempfile.TemporaryDirectory(prefix="refused-") as room:
         os.makedirs(f"{room}/here/out")
         around = {**os.environ, "LD_PRELOAD": library, "REFUSE": str(number), "REFUSE_TOLD": f"{room}/told"}
@@ -151,36 +151,37 @@ def ending_of_program(subject, ran):
 
 
 def ending(subject, ran):
-    """Returns how a refused request ended."""
+    """Returns the result of a refused request."""
     if not ran.came or ran.requests is None:
         return FAILED
     return ending_of_program(subject, ran) if subject.whole else ending_of_test(subject, ran)
 
 
 def told_of(subject, ran):
-    """Returns in a few lines what a run ended in."""
+    """Returns the result of a run in a few lines."""
     said = ran.err if subject.whole else ran.out + b"\n" + ran.err
-    came = "" if ran.came else ", the request did not come"
-    ended = "" if ran.requests is not None else ", it did not end by itself"
+    came = "" if ran.came else ", the request was not made"
+    ended = "" if ran.requests is not None else ", it was stopped"
     lines = [it[:160] for it in said.decode(errors="replace").splitlines() if it.strip()]
     return "\n        ".join([f"status {ran.status}{came}{ended}", *lines[-5:]])
 
 
 def fronts_of(subject, ran):
-    """Returns whether a text was begun before the refusal, and whether a chunk of it was. The tests tell the length that they
-    saw in the sink."""
+    """Returns whether a part of the text was written before the refusal, and whether a whole chunk was. The tests print the
+    length that their sink had.
+    """
     told = [len(ran.out)] if subject.whole else [int(it) for it in re.findall(rb"^ *written (\d+)$", ran.err, re.MULTILINE)]
     longest = max(told, default=0)
     return ["fronts"] * (longest > 0) + ["long fronts"] * (longest >= CHUNK)
 
 
 def spent():
-    """Returns the seconds of a processor that this process and those that it waited for took so far."""
+    """Returns the processor seconds of this process and of its ended children so far."""
     return sum(os.times()[:4])
 
 
 def refuse(task):
-    """Refuses these requests in turn. Returns what they ended in, counted, and a text for each that did not end as it should."""
+    """Refuses these requests in turn. Returns the counts of the results, and a text for each that is not as expected."""
     library, subject, numbers = task
     counts, wrong, before = collections.Counter(), [], spent()
     for number in numbers:
@@ -195,7 +196,7 @@ def refuse(task):
 
 
 def count_requests(task):
-    """Runs it with nothing refused, and again with the request behind its last one."""
+    """Runs it with nothing refused, and again with the request after its last one refused."""
     library, subject = task
     started = time.monotonic()
     ran = run(library, subject, 0)
@@ -209,7 +210,7 @@ def count_requests(task):
 
 
 def numbers_of(counted):
-    """Returns which requests are refused in turn, and in words which these are where they are not all."""
+    """Returns the requests to refuse in turn, and a line that describes them if they are not all."""
     requests = counted.requests
     if requests > MOST:
         return spread(requests, FEW)
@@ -222,7 +223,7 @@ def numbers_of(counted):
 
 
 def spread(requests, many):
-    """Returns about so many numbers, evenly from the first request to the last."""
+    """Returns about this many numbers, spread evenly from the first request to the last."""
     step = -(-requests // many)
     return range(1, requests + 1, step), f"of {requests:,} requests each {step:,}th was refused from the first on"
 
@@ -234,7 +235,7 @@ def shared_out(library, subject, numbers):
 
 
 def sweep(pool, library, subjects):
-    """Refuses the requests of each subject. Returns the row of the table, and what went wrong or is to be said."""
+    """Refuses the requests of each subject. Returns the row of the table, and what is wrong or worth printing."""
     started = time.monotonic()
     all_counted = pool.map(count_requests, [(library, subject) for subject in subjects], 1)
     wrong = [line for counted in all_counted for line in counted.wrong]
@@ -275,7 +276,7 @@ def long_report(room):
 
 
 def write_inputs(room):
-    """Writes what the examples lack: a bundle, sheets, reports and events that are refused, long reports, long schedules."""
+    """Writes inputs that the examples lack: a bundle; refused sheets, reports and events; long reports and schedules."""
     examples = [f"{TOP}/examples/{name}.json" for name in ("sheet", "issuer", "oldharbour", "statfeed")]
     lines = [bytes_of(name).strip(b"\n") for name in examples]
     names = [os.fsencode(name) for name in examples[1:]]
@@ -289,9 +290,8 @@ def write_inputs(room):
     long_report(room)
 
 
-# command lines: a word that begins with @ is a file of the examples, one with % a file that is made, and < is what comes in;
-# in those with ~ clap looks for a word that is like a wrong one: it collects the letters of both, and a list that is refused
-# room for all of them asks again for less
+# command lines: @ begins a file of the examples, % a file that is made, and < the standard input; ~ marks those in which
+# clap looks for a word like a wrong one: it collects the letters of both, and asks for less if the list is refused
 LINES = """
  < %bundle
  < %bad_sheet
@@ -331,7 +331,7 @@ replay --replicas 65 --sheet s --events e
 
 
 def lines_of_program(library, room):
-    """Returns the program on command lines of every word, each with what it answers where nothing is refused."""
+    """Returns the program on command lines of every command, each with its result when nothing is refused."""
     program = newest([f"{TOP}/{it}" for it in BUILT], crate_names())
     write_inputs(room)
     subjects = []
@@ -358,7 +358,7 @@ def main():
     parser.add_argument("CRATE", nargs="*")
     asked = parser.parse_args().CRATE or names
     if not set(asked) <= set(names):
-        parser.error(f"these are there: {' '.join(names)}")
+        parser.error(f"the names are: {' '.join(names)}")
     rows, said, failed = [], [], False
     with tempfile.TemporaryDirectory(prefix="refused-") as room, multiprocessing.get_context("fork").Pool(JOBS) as pool:
         try:
@@ -375,7 +375,7 @@ def main():
             print(f"{name}: {row['refused in turn']:,} requests refused in {row[CLOCK]} seconds", *wrong[:SHOWN],
                   *[f"and {len(wrong) - SHOWN} more"] * (len(wrong) > SHOWN), sep="\n    ", flush=True)
             if row["fronts"]:
-                said.append(f"{name}: {row['fronts']:,} runs had written a front of their text, {row['long fronts']:,} at least "
+                said.append(f"{name}: {row['fronts']:,} runs had written a first part of their text, {row['long fronts']:,} at least "
                             f"{CHUNK:,} bytes of it")
     print(table(rows), *said, sep="\n")
     return 1 if failed else 0

@@ -1,12 +1,13 @@
 #!/usr/bin/env python3
-"""Compares what two programs answer to the same drawn reports. Not part of the gate.
+"""Compares the results of two programs for the same drawn reports. Not part of the gate.
 
     [CASES=20000] [SEED=1] [JOBS=N] tests/same_answers PROGRAM OTHER
 
-The reports are drawn and broken as in tests/malformed; one in four is long enough to be read in pieces. A hundred
-with a sheet go into one `merge`, for which both programs have to print the same bytes and the same lines, and end with the
-same status: so each refusal has the same reason and the same place.
-Status 0: all is so. 1: it is not: the seed and the batch are printed, and its files are kept. 2: there is no program.
+The reports are drawn and broken as in tests/malformed; one in four is long enough to be read in pieces. A hundred reports
+and a sheet go into one `merge`. Both programs must print the same bytes and lines, and end with the same status; so each
+refusal has the same reason and place.
+
+Status 0: all are equal. 1: some are not; the seed and the batch are printed, and the files are kept. 2: there is no program.
 """
 import argparse
 import collections
@@ -22,12 +23,12 @@ import time
 os.environ.setdefault("CASES", "20000")
 import malformed  # noqa: E402  it reads CASES
 
-# so many reports go into one merge, which takes so many seconds at most
+# reports in one merge, and the most seconds it may take
 BATCH, LIMIT = 100, 120
 
 
 def drawn(chance):
-    """Draws a report and breaks it, or leaves it in one case of ten."""
+    """Draws a report and breaks it; one in ten stays whole."""
     short = malformed.drawn_report(chance)
     text = malformed.drawn_long(chance) if chance.random() < 0.05 else short
     if chance.random() < 0.9:
@@ -41,7 +42,7 @@ def answer(program, names):
 
 
 def play(task):
-    """Plays a batch. Returns how its reports were answered, counted, and what is not the same."""
+    """Plays a batch. Returns the counts of its results, and the differences."""
     programs, number, count = task
     chance = random.Random(f"{malformed.SEED} of {number}")
     room = tempfile.mkdtemp(prefix="same-answers-")
@@ -76,7 +77,7 @@ def main():
             counts += found
             wrong += told
     print(*wrong[:20], sep="\n", end="\n" * bool(wrong))
-    print(f"tests/same_answers: {malformed.CASES} reports with SEED={malformed.SEED}, {len(wrong)} batches not answered alike, in "
+    print(f"tests/same_answers: {malformed.CASES} reports with SEED={malformed.SEED}, {len(wrong)} batches with different results, in "
           f"{time.monotonic() - started:.0f} seconds: {counts['accepted']} accepted, {counts['refused']} refused, {counts['long']} long")
     return 1 if wrong else 0
 

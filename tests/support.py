@@ -19,7 +19,7 @@ def bytes_of(path):
 
 
 def built_program(named=None):
-    """Returns the path of a program: the one that is named, or $XBRLMERGE, or else the one that was built.
+    """Returns the path of a program: the named one, or $XBRLMERGE, or else the built one.
 
     If there is none, it ends the process with status 2.
     """

@@ -1,15 +1,17 @@
 #!/usr/bin/env python3
-"""Runs the tools on packages, reports, sheets and lines that are drawn and then broken. Not part of the gate.
+"""Runs the tools on drawn packages, reports, sheets and lines that are then broken. Not part of the gate.
 
     [CASES=5000] [SEED=1] [CASE=N] [JOBS=N] tests/tools_malformed
 
-make_sheet reads schemas, catalogs and sheets, contradictions reads label linkbases, merged texts, sheets and the lines of
-`verdicts` and `sources`, and normalise reads reports and sheets. One file of each case is broken, or the package that has
-it. Each run has to end within 10 seconds of a processor and 1 GB, with status 0, 1 or 3 and with lines that a terminal can
-print, and no exception that the tool does not expect. After 0 and 1 all outputs are whole, and what normalise wrote it leaves as it is; after 3 every
-output is as it was. The tools run in this process; of 20 cases one runs as a process too, which has to end alike.
-JOBS processes run side by side, as many as there are processors. CASE is the number of one case, which alone is run.
-Status 0: all is so. 1: it is not: the seed and the case are told, and the files are kept.
+make_sheet reads schemas, catalogs and sheets; contradictions reads label linkbases, merged texts, sheets and the lines of
+`verdicts` and `sources`; normalise reads reports and sheets. In each case one file is broken, or the package that contains
+it. Each run must end within 10 seconds of processor time and 1 GB of memory, with status 0, 1 or 3, with lines that a
+terminal can print, and without an exception that the tool does not expect. After 0 and 1 all outputs are complete, and
+normalise leaves its own output unchanged. After 3 every output is unchanged. The tools run in this process; one case in 20
+also runs as a process, with the same result. JOBS processes run in parallel, as many as there are processors by default.
+CASE runs only the case with this number.
+
+Status 0: all is as expected. 1: it is not; the seed and the case are printed, and the files are kept.
 """
 import argparse
 import collections
@@ -65,7 +67,7 @@ LINKBASE = """<link:linkbase xmlns:link="http://www.xbrl.org/2003/linkbase" xmln
 LABEL = """<link:loc xlink:type="locator" xlink:href="core.xsd#m_{name}" xlink:label="{name}"/>
     <link:label xlink:type="resource" xlink:label="{name}_l" xml:lang="en">Label of &amp; {name}</link:label>
     <link:labelArc xlink:type="arc" xlink:from="{name}" xlink:to="{name}_l"/>"""
-# what stands in for an attribute, a tag or a piece of text
+# replacements for an attribute, a tag or a piece of text
 XML_PIECES = (b"", b"<", b">", b"/>", b"&lt;", b"&x;", b"<!DOCTYPE a>", b"<!--", b"]]>", b"<![CDATA[", b"xs:", b"m:", b"q:A", b"\x00",
               b"\xff", b"\xef\xbb\xbf", b"../", b"/etc/passwd", b"file:///dev/zero", b"http://made.example/xbrl/", b"#", b"%00",
               b"xbrli:item", b"xbrli:QNameItemType", b"xs:anyType", NAMESPACE.encode(), b"https://xbrl.org/2021", b"true")
@@ -77,7 +79,7 @@ NAMES = "Alpha Beta Gamma Delta Epsilon Zeta Eta Theta".split()
 
 
 class Fault(BaseException):
-    """What is not as it should be. No tool catches it."""
+    """A result that is not as expected. No tool catches it."""
 
 
 def expect(holds, told):
@@ -86,7 +88,7 @@ def expect(holds, told):
 
 
 def split_at_tags(chance, text, _):
-    """Puts a piece of XML in the place of an attribute's value, a name or a piece of text."""
+    """Replaces an attribute's value, a name or a piece of text by a piece of XML."""
     return malformed.replaced(chance, text, rb'(?<=")[^"<>]*(?=")|(?<=[</ ])[\w:]+|(?<=>)[^<]*(?=<)', XML_PIECES)
 
 
@@ -100,7 +102,7 @@ def reworded(chance, text, _):
 
 
 def dropped(chance, text, _):
-    """Leaves a member out."""
+    """Removes a member."""
     return malformed.replaced(chance, text, rb'"[\w:]+": ?(?:"[^"\\]*"|null|true|false|-?\d+)(?:, ?)?', (b"",))
 
 
@@ -110,7 +112,7 @@ LINE_BREAKS = (reworded, reworded, malformed.reordered, malformed.renumbered, *m
 
 
 def broken(chance, text, other, breaks):
-    """Returns a text broken up to three times; now and then it stays whole."""
+    """Returns a text, broken up to three times; now and then it stays whole."""
     for _ in range(chance.choice((0, 1, 1, 1, 2, 3))):
         text = chance.choice(breaks)(chance, text, other)
     return text
@@ -136,7 +138,7 @@ def drawn_taxonomy(chance):
 
 
 def drawn_facts(chance):
-    """Returns the facts of a merged text: rows in order, each of one to four facts."""
+    """Returns the facts of a merged text: rows in order, each with one to four facts."""
     facts = []
     for concept in sorted(chance.sample("AQT", chance.randint(1, 3))):
         for period in sorted(chance.sample(["2020-01-01T00:00:00", "2020-01-02T00:00:00", "2021-01-01T00:00:00/2022-01-01T00:00:00"], 2)):
@@ -156,7 +158,7 @@ def drawn_values(chance, concept):
 
 
 def drawn_text(chance):
-    """Returns a merged text, the lines of its verdicts and those of its sources."""
+    """Returns a merged text, the lines of its verdicts and the lines of its sources."""
     facts = drawn_facts(chance)
     names = [f"f{rank:0{len(str(len(facts)))}}" for rank in range(1, len(facts) + 1)]
     text = json.dumps({"documentInfo": {"namespaces": URIS}, "facts": dict(zip(names, facts))}, indent=chance.choice((None, None, 1)))
@@ -165,7 +167,7 @@ def drawn_text(chance):
 
 
 class Room:
-    """A folder in which one case is run, and what its runs ended in."""
+    """A folder in which one case is run, and the counts of its results."""
 
     def __init__(self, case):
         self.case, self.counts = case, collections.Counter()
@@ -178,7 +180,7 @@ class Room:
         return name
 
     def run(self, tool, words, outputs):
-        """Runs a tool, and looks at all that holds of every run. Returns its status and what it wrote on standard output."""
+        """Runs a tool, and checks what holds for every run. Returns its status and its standard output."""
         for name in outputs[self.case % 3 :]:
             self.write(name, BEFORE)
         before = self.files()
@@ -213,7 +215,7 @@ class Room:
 
 
 def expecting(tool):
-    """Returns a tool that is wrong where it raises what it does not expect, though a process makes a line of it."""
+    """Returns a tool that fails if it raises an unexpected exception, which a process would turn into a line."""
     def main():
         try:
             return tool.main()
@@ -231,9 +233,9 @@ def open_bytes(path):
 
 
 def within_bounds(run):
-    """Returns what a run returns, which may take so much of a processor and so long."""
+    """Returns the result of a run, within limits of processor time and of time."""
     def stop(number, _):
-        raise Fault(f"it has not ended after {SECONDS} seconds of a processor" if number == signal.SIGPROF else "it waits for ever")
+        raise Fault(f"it did not end within {SECONDS} seconds of a processor" if number == signal.SIGPROF else "it blocks")
 
     for number, timer, seconds in ((signal.SIGPROF, signal.ITIMER_PROF, SECONDS), (signal.SIGALRM, signal.ITIMER_REAL, PATIENCE)):
         signal.signal(number, stop)
@@ -246,7 +248,7 @@ def within_bounds(run):
 
 
 def write_taxonomy(room, chance, kinds):
-    """Writes a taxonomy in which one file of these kinds is broken, or the package. Returns the word that names it."""
+    """Writes a taxonomy in which one file of these kinds, or the package, is broken. Returns the argument that names it."""
     files = drawn_taxonomy(chance)
     name = chance.choice([name for name in files if name.endswith(kinds)])
     files[name] = broken(chance, files[name], files["t/base.xsd"], XML_BREAKS)
@@ -279,11 +281,11 @@ def of_union(room, chance):
 
 def expect_sheet(status, out):
     if status != 3:
-        expect(out.endswith(b"\n") and {"namespaces", "concepts", "dimensions"} <= json.loads(out).keys(), f"it is no sheet: {out[:200]!r}")
+        expect(out.endswith(b"\n") and {"namespaces", "concepts", "dimensions"} <= json.loads(out).keys(), f"it is not a sheet: {out[:200]!r}")
 
 
 def of_report(room, chance):
-    """normalise on a broken report, or with a broken sheet, and then on what it wrote."""
+    """normalise on a broken report, or with a broken sheet, and then on its own output."""
     drawn = drawn_reports.untidy(chance).encode() if chance.random() < 0.7 else malformed.drawn_report(chance)
     sheet = json.dumps(drawn_reports.SHEET).encode()
     if chance.random() < 0.8:
@@ -297,10 +299,10 @@ def of_report(room, chance):
         changes = [json.loads(line) for line in open_bytes("changes").decode().split("\n")[:-1]]
         expect(status == int(any(change["loss"] for change in changes)), f"status {status} with {changes}")
         out = open_bytes("out")
-        expect(out.endswith(b"\n") and isinstance(json.loads(out), dict), f"it is no report: {out[:200]!r}")
+        expect(out.endswith(b"\n") and isinstance(json.loads(out), dict), f"it is not a report: {out[:200]!r}")
         room.case += 1
         again, _ = room.run("normalise", ["out", "again", "more", *words], ["again", "more"])
-        expect((again, open_bytes("again"), open_bytes("more")) == (0, out, b""), "what it wrote is changed again")
+        expect((again, open_bytes("again"), open_bytes("more")) == (0, out, b""), "it changes its own output")
 
 
 def of_text(room, chance):
@@ -338,7 +340,7 @@ def run_on_text(room, chance, files, words):
 
 
 def whole_table(name):
-    """Returns the lines of a table, which have to have as many cells."""
+    """Returns the lines of a table, all of which must have the same number of cells."""
     text = open_bytes(name).decode("utf-8-sig")
     lines = [*csv.reader(io.StringIO(text, newline=""))]
     expect(text.endswith("\r\n") and len({len(line) for line in lines}) == 1, f"the table {name} is not whole")
@@ -349,7 +351,7 @@ KINDS = {of_taxonomy: 3, of_union: 2, of_report: 6, of_text: 6, of_labels: 2}
 
 
 def play(case):
-    """Plays a case. Returns what it ended in, counted, and what is not as it should be, if anything."""
+    """Plays a case. Returns its result, counted, and what is not as expected, if anything."""
     chance, room = random.Random(f"{SEED} {case}"), Room(case)
     kind = chance.choices([*KINDS], [*KINDS.values()])[0]
     with tempfile.TemporaryDirectory(prefix="tools-malformed-") as folder:
@@ -372,7 +374,7 @@ def limit_memory():
 
 
 def is_tame(counts):
-    """Returns whether an ending is missing that thousands of cases have."""
+    """Returns whether a result is missing that thousands of cases should have."""
     return CASE < 0 and CASES >= 5000 and not all(counts[f"{tool} {status}"] for tool in TOOLS for status in (0, 1, 3))
 
 
@@ -385,10 +387,10 @@ def main():
             wrong += told
     print(*wrong[:20], sep="\n", end="\n" * bool(wrong))
     ends = ", ".join(f"{counts[it]} {it}" for it in sorted(counts))
-    print(f"tests/tools_malformed: {CASES if CASE < 0 else 1} cases with SEED={SEED}, {len(wrong)} not as they should be, in "
+    print(f"tests/tools_malformed: {CASES if CASE < 0 else 1} cases with SEED={SEED}, {len(wrong)} not as expected, in "
           f"{time.monotonic() - started:.0f} seconds. By tool and status: {ends}")
     if is_tame(counts):
-        print("tests/tools_malformed: the cases are too tame")
+        print("tests/tools_malformed: the cases cover too little")
     return 1 if wrong or is_tame(counts) else 0
 
 

@@ -1,11 +1,10 @@
 #!/usr/bin/env python3
-"""Compares the words and options that the program's help tells with the man page and the completions:
+"""Compares the arguments and options in the program's help with the man page and the completions:
 
     tests/words [PROGRAM]
 
-PROGRAM, if it is left out, is $XBRLMERGE or the one that was built.
-The status is 0 where both name all of them and none besides, else 1, and then a line for each word tells
-where it is missing, or is and should not be. Where there is no program, the status is 2.
+PROGRAM is $XBRLMERGE or the built one by default. Status 0: they name the same words. 1: they do not; each word is printed
+with the place where it is missing or should not be. 2: there is no program.
 """
 import os
 import re
@@ -23,9 +22,9 @@ OPTION = re.compile(r"(?<![\w-])--?[A-Za-z0][\w-]*")
 # `help` is a command that takes no options
 NO_OPTIONS = "help"
 FILE = "file"
-# the options that take one of a few words, with the name of these
+# the options with a fixed list of values, and the name of these values
 CHOSEN = {"--allow": "LEVEL", "--format": "FORMAT"}
-# answers what is completed behind some words: the last is the one that the cursor stands at
+# prints the completions after some words; the cursor is at the last one
 ASK = 'source "$1"; shift; COMP_WORDS=("$@"); COMP_CWORD=$(($# - 1)); _xbrlmerge; printf "%s\\n" "${COMPREPLY[@]}"'
 
 
@@ -34,13 +33,13 @@ def said(*words, folder=None):
 
 
 def part(text, title):
-    """Returns the lines below a title of a help, up to the next empty one."""
+    """Returns the lines below a title of a help text, up to the next empty one."""
     found = re.search(rf"^{title}:\n((?:  .*\n)+)", text, re.MULTILINE)
     return found.group(1) if found else ""
 
 
 def told_by_help(program):
-    """Returns for the program (the empty name) and each command the words that its help tells."""
+    """Returns the words in the help of the program (the empty name) and of each command."""
     helps = {"": said(program, "--help")}
     for command in re.findall(r"^  (\w+)", part(helps[""], "Commands"), re.MULTILINE):
         helps[command] = said(program, *([command, "--help"] if command != NO_OPTIONS else [command, command]))
@@ -59,21 +58,21 @@ def told_by_help(program):
 
 
 def forms(text):
-    """Returns the forms of the lines of verdicts, of sources, of check and of events that a help, or the man page, tells."""
+    """Returns the forms of lines (verdicts, sources, check, events) that a help text or the man page shows."""
     begins = r"^(?:  |\.\w+ )((?:ROW|FACT|accepted|take|join|send|receive|restart) +[A-Z].*)"
     found = re.findall(begins, re.sub(r'\\f.|"', "", text), re.MULTILINE)
-    # what a form means may stand behind it, three spaces off
+    # the meaning of a form may follow it, three spaces off
     return {" ".join(it.partition("   ")[0].split()) for it in found}
 
 
 def section(title):
-    """Returns the lines of a section of the man page, with its hyphens as they are typed."""
+    """Returns the lines of a section of the man page, with plain hyphens."""
     found = re.search(rf"^\.SH {title}\n(.*?)^\.SH ", content(MAN), re.MULTILINE | re.DOTALL)
     return found.group(1).replace("\\-", "-")
 
 
 def told_by_synopsis(told):
-    """Returns a line for each command that SYNOPSIS lacks, and for each command or option that is none."""
+    """Returns a line for each command that SYNOPSIS lacks, and for each unknown command or option in it."""
     commands = set(re.findall(r"^\.B xbrlmerge (\w+)", section("SYNOPSIS"), re.MULTILINE))
     options = set(OPTION.findall(section("SYNOPSIS")))
     wrong = (commands ^ told[""]["commands"]) | (options - set().union(*(it["options"] for it in told.values())))
@@ -81,12 +80,12 @@ def told_by_synopsis(told):
 
 
 def told_by_man():
-    """Returns the same of the man page: of each part of COMMANDS what its tags name, a tag's font telling its kind."""
+    """Returns the words in each part of COMMANDS in the man page. The font of a tag shows its kind."""
     pieces = re.split(r"^\.SS (.*)\n", section("COMMANDS"), flags=re.MULTILINE)
     told = {}
     for title, text in zip(pieces[1::2], pieces[2::2]):
         tags = "\n".join(re.findall(r"^\.TP\n\.\w+ (.*)", text, re.MULTILINE))
-        # what a text says of options counts too, so that none is named that is not there
+        # options in a paragraph count too, so that none is named that does not exist
         told["" if " " in title else title] = {
             "options": set(OPTION.findall(text)),
             "values": set(re.findall(r"(?<![\w-])[a-z]+", tags)),
@@ -97,7 +96,7 @@ def told_by_man():
 
 
 def told_by_completions():
-    """Returns the same of the completions. Files are completed by their names, which stand for the words for them."""
+    """Returns the words of the completions for bash. The completed files stand for the arguments that name files."""
     with tempfile.TemporaryDirectory() as room:
         with open(os.path.join(room, FILE), "w", encoding="utf-8"):
             pass
@@ -124,7 +123,7 @@ def told_by_completions():
 
 
 def told_by_zsh():
-    """Returns the same of the completions for zsh, as its file spells them: zsh itself is not asked."""
+    """Returns the words of the completions for zsh, as the file spells them; zsh itself is not run."""
     text = content(ZSH)
     begin, rest = text.split("common+=(", 1)
     shared, rest = rest.split("    )\n", 1)
@@ -144,7 +143,7 @@ def told_by_zsh():
 
 
 def told_by_fish():
-    """Returns the options, values and commands of the completions for fish, as its file spells them."""
+    """Returns the options, values and commands of the completions for fish, as the file spells them."""
     found = {}
     for line in re.findall(r"^complete .*", content(FISH), re.MULTILINE):
         given = shlex.split(line)
@@ -156,13 +155,13 @@ def told_by_fish():
             place["options"] |= {f"--{told['-l']}"} if "-l" in told else set()
             if "-a" in told:
                 place["commands" if "-l" not in told else "values"] = set(told["-a"].split())
-    # `help` completes commands, which are no words of its own
+    # `help` completes commands, which are not words of its own
     found["help"].pop("commands")
     return found
 
 
 def differences(place, told, found):
-    """Returns a line for each word that only one of both names."""
+    """Returns a line for each word that only one of both has."""
     lines = []
     for command in sorted(set(told) | set(found)):
         ours, theirs = told.get(command, {}), found.get(command, {})
@@ -170,7 +169,7 @@ def differences(place, told, found):
         for kind in sorted(theirs):
             lines += [f"{it} of {where} is missing in {place}" for it in sorted(ours.get(kind, set()) - theirs[kind])]
             besides = theirs[kind] - ours.get(kind, set())
-            lines += [f"{it} is no word of {where}, but of {place}" for it in sorted(besides)]
+            lines += [f"{it} is in {place}, but not in {where}" for it in sorted(besides)]
     return lines
 
 
@@ -184,7 +183,7 @@ def main(words):
     lines += differences("the completions for bash", told, told_by_completions())
     lines += differences("the completions for zsh", told, told_by_zsh())
     lines += differences("the completions for fish", told, told_by_fish())
-    print("\n".join(lines) or "the man page and the completions name the words of the program, and no others")
+    print("\n".join(lines) or "the man page and the completions have the same words as the program")
     return 1 if lines else 0
 
 

@@ -1,14 +1,15 @@
 #!/usr/bin/env python3
-"""Looks at what tools/normalise makes of reports with the built program. Not part of the gate.
+"""Checks what tools/normalise makes of reports, with the built program. Not part of the gate.
 
     tests/normalise/run [PROGRAM [DRAWN]]
 
-Each report in cases.jsonl is normalised with the options that stand there. `check` has to accept it or not, as it says
-there, and the files have to be those that stand beside it. Where nothing is lost and the report is accepted as it is,
-`check` and `verdicts` have to say the same of both; but a set of names is spelled anew, so of such a report `check` alone
-has to say the same. Of DRAWN reports, 200 if it is left out: a tidy one, and that one spelled as other tools might, have
-to give the same lines; and an untidy one has to be accepted with all options.
-Status 0: all is as it should be. 1: it is not, and lines tell what. 2: usage, or the program could not be run.
+Each report in cases.jsonl is normalised with its options. `check` must accept or refuse the result as the case says, and the
+output files must be those beside the report. If nothing is lost and the report was accepted before, `check` and `verdicts`
+must print the same for both; for a report with a set of names only `check` must, because sets are spelled anew. DRAWN
+reports are drawn, 200 by default: a tidy one and its spelling by another tool must give the same lines, and an untidy one
+must be accepted with all options.
+
+Status 0: all is as expected. 1: it is not; lines say what. 2: bad usage, or the program could not be run.
 """
 import argparse
 import json
@@ -44,7 +45,7 @@ class Room:
         return done.returncode, done.stdout, done.stderr.decode()
 
     def said(self, sheet, report):
-        """Returns all that the program says of a report."""
+        """Returns the program's output for a report."""
         return [self.run(command, sheet, report) for command in ("check", "verdicts", "merge")]
 
     def normalise(self, report, sheet, *options):
@@ -57,7 +58,7 @@ class Room:
 
 
 def look_at_cases(room):
-    """Looks at the reports of cases.jsonl, and returns how many there are, are accepted, and were before."""
+    """Checks the reports in cases.jsonl. Returns how many there are, how many are accepted, and how many were before."""
     with open(os.path.join(HERE, "cases.jsonl"), encoding="utf-8") as file:
         cases = [json.loads(line) for line in file]
     accepted = before = 0
@@ -72,7 +73,7 @@ def look_at_cases(room):
         changes = content(room.place("changes.jsonl"))
         respelled = any(json.loads(line)["rule"] == "set" for line in changes.splitlines())
         if (content(out), changes) != tuple(content(f"{report[:-5]}{end}") for end in (".out.json", ".changes.jsonl")):
-            room.faults.append(f"{case['report']}: other text is written than stands beside it")
+            room.faults.append(f"{case['report']}: the output differs from the file beside it")
         if status == 0 and given[0][0] == 0 and (given[0] != made[0] if respelled else given != made):
             room.faults.append(f"{case['report']}: {given} became {made}")
     return len(cases), accepted, before
@@ -87,7 +88,7 @@ def look_at_drawn(room, count):
         rough = room.place("rough.json", drawn_reports.roughened(chance, tidy))
         for report in (room.place("tidy.json"), rough):
             if wanted[0][0] or room.said(sheet, room.normalise(report, sheet)[1]) != wanted:
-                room.faults.append(f"seed {seed}: {wanted} is not what becomes of {os.path.basename(report)}")
+                room.faults.append(f"seed {seed}: {wanted} is not the result for {os.path.basename(report)}")
         untidy = room.place("untidy.json", drawn_reports.untidy(chance))
         _, out = room.normalise(untidy, sheet, *drawn_reports.OPTIONS, "--drop-unreadable")
         if room.run("check", sheet, out)[0]:
