@@ -1,13 +1,13 @@
 #!/usr/bin/env python3
 """Measures xbrlmerge on reports that it makes itself: bench/merge [FOLDER]
 
-Three workloads, each of two sizes: one report, reports of 50 facts, and eight providers of the same
-facts. Beside it runs a peer, a program of a few lines that reads each report by serde_json and writes
-it back, so that the ratio tells what is done beyond reading and writing JSON. Growth is the exponent:
-1 where ten times the facts take ten times as much. It goes by instructions where valgrind is there to
-count them, and else by processor time. Each text that is written is looked at: it has every fact once.
-FOLDER keeps the bundles and texts; without it nothing is kept. The status is 2 where nothing could be
-measured.
+There are three workloads, each in two sizes: one report, reports of 50 facts, and eight providers of the same facts. A peer
+runs beside it: a program of a few lines that reads each report with serde_json and writes it back. The ratio shows the cost
+beyond reading and writing JSON. Growth is the exponent: 1 if ten times the facts take ten times as long. It is computed from
+instructions if valgrind is installed, otherwise from processor time. Each written text is checked: it must contain every
+fact once. FOLDER keeps the bundles and texts.
+
+The status is 2 if nothing could be measured.
 """
 import json
 import math
@@ -62,8 +62,7 @@ class Failure(Exception):
 
 
 def in_child(work, *words):
-    """Runs it in a process of its own. A child begins with the memory of this process at its peak,
-    so that this one is to stay small."""
+    """Runs it in its own process. A child begins with the memory of this process at its peak, so this one must stay small."""
     sys.stdout.flush()
     child = os.fork()
     if child == 0:
@@ -78,7 +77,7 @@ def in_child(work, *words):
 
 
 def concept(n):
-    """The URI and the local part of a concept. One in ten is the issuer's own, and a text."""
+    """The URI and the local part of a concept. One in ten is the issuer's own and is a text."""
     n %= CONCEPTS
     return (ISSUER if n % 10 == 9 else TAXONOMY), f"{SUBJECTS[n % len(SUBJECTS)]}Item{n}"
 
@@ -102,7 +101,7 @@ def fact(n, entity, prefixes, value, decimals):
 
 
 def report(number, facts, rng):
-    """A report of facts, each its number, entity, value and decimals, with prefixes of its own."""
+    """A report with its own prefixes. A fact has a number, an entity, a value and decimals."""
     uris = TAXONOMY, ISSUER, SCHEME, CURRENCIES
     prefixes = {uri: f"{name}{number}" for uri, name in zip(uris, ("ifrs", "own", "lei", "iso"))}
     return {
@@ -116,7 +115,7 @@ def report(number, facts, rng):
 
 
 def reports_of(workload, size, rng):
-    """The facts of each report of a workload."""
+    """The facts in each report of a workload."""
     def drawn(count, entity):
         # one fact in twenty has decimals from the whole range, -18 to 18
         return [(n, entity, rng.randrange(10**9), n // 20 % 37 - 18 if n % 20 == 7 else 0) for n in range(count)]
@@ -125,7 +124,7 @@ def reports_of(workload, size, rng):
         return [drawn(size, "ISSUER")]
     if workload == "reports of 50":
         return [drawn(50, f"ISSUER{r}") for r in range(size // 50)]
-    # one fact in twenty is said as rounded to thousands
+    # one fact in twenty is rounded to thousands
     said = drawn(size // 8, "ISSUER")
     rounded = [(n, entity, round(value, -3), -3) for n, entity, value, _ in said]
     return [[rounded[n] if rng.random() < 0.05 else said[n] for n in range(len(said))] for _ in range(8)]
@@ -149,7 +148,7 @@ def write_bundle(workload, size, path):
 
 
 def said_by(line):
-    """The facts of a report, names expanded."""
+    """The facts of a report with expanded names."""
     said = json.loads(line)
     uris = said["documentInfo"]["namespaces"]
 
@@ -164,7 +163,7 @@ def said_by(line):
 
 
 def check_text(bundle, text):
-    """The text has each fact of the bundle, once."""
+    """Checks that the text has each fact of the bundle once."""
     with open(bundle) as lines, open(text) as merged:
         next(lines)
         wanted = {one for line in lines for one in said_by(line)}
@@ -174,9 +173,9 @@ def check_text(bundle, text):
 
 
 def build(crate):
-    """Proves and builds a program, and answers where it lies."""
+    """Proves and builds a program, and returns its path."""
     made = subprocess.run(["rt", "run"], cwd=crate, stdin=subprocess.DEVNULL, stdout=subprocess.PIPE, stderr=subprocess.STDOUT)
-    # the program itself runs too, on nothing: its status says nothing here
+    # this also runs the program on no input; its status says nothing here
     if b"rt: running" not in made.stdout:
         raise Failure(f"{crate} is not built:\n{made.stdout.decode(errors='replace')}")
     return os.path.join(crate, "out", os.path.basename(crate))
@@ -204,7 +203,7 @@ def run(program, bundle, text):
 
 
 def instructions(program, bundle):
-    """How many instructions a run takes, or None where valgrind is not there."""
+    """The number of instructions of a run, or None if valgrind is not installed."""
     if shutil.which("valgrind") is None:
         return None
     command = ["valgrind", "--tool=cachegrind", "--cache-sim=no", "--cachegrind-out-file=/dev/null", program]
@@ -217,7 +216,7 @@ def instructions(program, bundle):
 
 
 def measure(workload, size, programs, folder):
-    """What each program took: seconds, kilobytes and instructions."""
+    """The seconds, kilobytes and instructions of each program."""
     stem = os.path.join(folder, f"{workload.replace(' ', '_')}_{size}")
     bundle = f"{stem}.bundle"
     in_child(write_bundle, workload, size, bundle)
@@ -244,7 +243,7 @@ def compare(folder):
     with tempfile.TemporaryDirectory() as room:
         programs = {"xbrlmerge": build(os.path.join(REPOSITORY, "crates", "xbrlmerge"))}
         programs["peer"] = shutil.copy(build_peer(room), os.path.join(folder, "peer"))
-    # what this process has itself at the fork counts as a child's
+    # the memory of this process at the fork counts as the child's
     floor = run("true", os.devnull, os.devnull)[1]
     row(("", "facts", "MB", "CPU s", "peer's", "ratio", "instr/fact", "ratio", "peak MB", "peer's", "ratio", "growth"))
     for workload in WORKLOADS:

@@ -1,4 +1,4 @@
-"""The shapes of input that bench/shapes measures: the words of a command and the files that it reads."""
+"""The shapes of input that bench/shapes measures: the arguments of a command and the files that it reads."""
 import json
 import random
 
@@ -9,7 +9,7 @@ MONTHS = 12
 YEARS = 9_000
 REPLICAS = 8
 FACTS = 1_000
-# a report of this name is refused
+# a report with this name is refused
 REFUSED = "refused.json"
 
 
@@ -37,28 +37,28 @@ def numbered(facts):
 
 
 def period(n):
-    """The start of a month, no two the same."""
+    """The start of a month, different for each n."""
     return f"{n // MONTHS % YEARS + 1:04}-{n % MONTHS + 1:02}-01T00:00:00"
 
 
 def prefixes(n):
-    """Prefixes that rise, and their URIs, which rise too."""
+    """Prefixes and URIs, both in rising order."""
     return {f"p{place:07}": f"{URI}/{place:07}" for place in range(n)}
 
 
 def falling(n):
-    """Prefixes that rise, and their URIs, which fall."""
+    """Prefixes in rising order with URIs in falling order."""
     return {f"p{place:07}": f"{URI}/{n - place:07}" for place in range(n)}
 
 
 def merging(a_sheet, *reports):
-    """The words of the command, and the files that they name."""
+    """The arguments of the command, and the files that they name."""
     files = {"sheet.json": a_sheet, **{f"report{place}.json": one for place, one in enumerate(reports)}}
     return ["merge", "--sheet", *files], files
 
 
 def drawn_events(chance, n):
-    """So many events, of which each kind but a restart is as likely; a replica restarts once in fifty."""
+    """Draws n events. All kinds are equally likely, except a restart, which is one event in fifty."""
     replica, sent = lambda: chance.randint(1, REPLICAS), 0
     yield f"send {replica()}"
     for _ in range(n - 1):
@@ -74,7 +74,7 @@ def replaying(replicas, events, *reports):
     return words, {**files, "events.txt": "".join(f"{event}\n" for event in events)}
 
 
-# ---- the shapes, each with the smaller number of what is long in it
+# ---- the shapes, each with the smaller number of its repeated part
 
 def namespaces_of_a_report(n):
     return merging(sheet(), report(numbered([fact()]), {"eg": URI, **prefixes(n)}))
@@ -129,7 +129,7 @@ def measures_of_a_unit(n):
 
 
 def measures_beside_a_long_uri(n):
-    """So many measures of a unit, whose namespace URI has 5,000 bytes."""
+    """A unit with n measures, whose namespace URI has 5,000 bytes."""
     names = {"eg": URI, "u": f"{URI}/{'u' * 5_000}"}
     return merging(sheet(), report(numbered([numeric("1", unit="*".join(f"u:m{n - place:07}" for place in range(n)))]), names))
 
@@ -164,7 +164,7 @@ def extension_members_of_a_fact(n):
 
 
 def objects_in_an_extension(n):
-    """So many objects of one member in an extension, which is read and ignored."""
+    """An extension with n objects of one member, which are read and ignored."""
     return merging(sheet(), {**report(numbered([fact()])), "x:e": [{"a": 1}] * n})
 
 
@@ -177,7 +177,7 @@ def dimensions_of_a_sheet(n):
 
 
 def apart(n):
-    """So many facts of different months, by their identifiers."""
+    """n facts of different months, by identifier."""
     return numbered(numeric(str(place), period=period(place)) for place in range(n))
 
 
@@ -270,7 +270,7 @@ def faults_of_one_fact(n):
 
 
 def duplicates_that_are_denied(n):
-    """So many numbers that agree within rounding, and the last does not."""
+    """n numbers that agree within rounding, and one that does not."""
     numbers = [{**numeric(str(n - place)), "decimals": -18} for place in range(n)] + [numeric("9" * 18)]
     level = {"namespaces": {"eg": URI, "xbrl": "https://xbrl.org/2021"}, "features": {"xbrl:allowedDuplicates": "consistent"}}
     return explaining(report(numbered(numbers), **level))
@@ -283,7 +283,7 @@ def members_that_stand_twice(n):
 
 
 def members_that_stand_twice_in_one_fact(n):
-    """A fact with an identifier of so many characters, and a tenth as many members, each twice."""
+    """A fact with an identifier of n characters and n / 10 repeated members."""
     twice = ",".join(f'"x:e{place:07}":1' for place in range(n // 10) for _ in range(2))
     text = json.dumps(report({"f" * n: fact()}), separators=(",", ":"))
     return explaining(text.removesuffix("}}}") + f",{twice}}}}}}}")
@@ -306,13 +306,13 @@ def texts_sent_and_received(n):
 
 
 def sends_without_a_change(n):
-    """So many texts of one replica of 1,000 facts, whose base stays as it is."""
+    """n texts of one replica of 1,000 facts, whose base does not change."""
     facts = report(numbered(numeric(str(place), period=period(place)) for place in range(FACTS)))
     return replaying(1, ["take 1 1", *["send 1"] * n], facts)
 
 
 def joins_of_what_is_there(n):
-    """So many joins with a replica that has half of the 1,000 facts of the first."""
+    """n joins with a replica that has half of the first one's 1,000 facts."""
     halves = [report(numbered(numeric(str(place), period=period(place)) for place in range(0, FACTS, step))) for step in (1, 2)]
     return replaying(2, ["take 1 1", "take 2 2", *["join 1 2"] * n], *halves)
 
@@ -322,7 +322,7 @@ def takes_of_different_reports(n):
 
 
 def events_of_eight_replicas(n):
-    """Drawn events on replicas of 1,000 facts, of which each report leaves out an eighth."""
+    """n drawn events on replicas of 1,000 facts. Each report leaves out an eighth of them."""
     chance = random.Random(1)
     facts = [numeric(str(place), entity="lei:e", period=period(place), unit="eg:EUR") for place in range(FACTS)]
     reports = [report({f"f{place}": one for place, one in enumerate(facts) if place % REPLICAS != left_out}) for left_out in range(REPLICAS)]

@@ -1,21 +1,20 @@
 #!/usr/bin/env python3
 """Checks that no shape of input costs more than its size: bench/shapes [options] [SHAPE ..]
 
-Each shape makes one part of the input long, as whoever sends a report, a sheet or a schedule can. The
-program runs on n of them and on four times as many, and the second run may take at most five times the
-instructions of the first, as `valgrind --tool=callgrind` counts them: what costs n log n does, and what
-costs the square of n takes sixteen times. The table goes to standard output, in Markdown.
+Each shape makes one part of the input long, as a sender of a report, a sheet or a schedule could. The program runs on n such
+parts and on four times as many. The second run may take at most five times the instructions of the first, as `valgrind
+--tool=callgrind` counts them: a cost of n log n passes, and a quadratic cost takes sixteen times. The table is printed on
+standard output, in Markdown.
 
-    --list              names the shapes
-    --seconds           measures processor seconds, the least of five runs, in place of instructions
-    --memory            measures the most memory that is taken at a time, in place of instructions
-    --size N            the smaller number of each, in place of the shape's own
-    --bound TIMES       how many times as much the larger may take (5)
-    --program FILE      the program, in place of the one that is built in crates/xbrlmerge
+    --list              lists the shapes
+    --seconds           measures processor seconds instead of instructions, the least of five runs
+    --memory            measures peak memory instead of instructions
+    --size N            the smaller number of parts, instead of the shape's own
+    --bound TIMES       the largest allowed ratio (5)
+    --program FILE      the program, instead of the built one in crates/xbrlmerge
     --keep FOLDER       keeps the files of each shape there
 
-The status is 0 where each shape keeps the bound, 1 where one does not, and 2 where nothing could be
-measured.
+Status 0: each shape is within the bound. 1: one is not. 2: nothing could be measured.
 """
 import argparse
 import json
@@ -50,7 +49,7 @@ def write_files(files, folder):
 
 
 def run(command, folder):
-    """Runs it, and returns what it prints on standard error and what it used."""
+    """Runs it, and returns its standard error and its cost."""
     with tempfile.TemporaryFile() as told:
         child = subprocess.Popen(command, cwd=folder, stdin=subprocess.DEVNULL, stdout=subprocess.DEVNULL, stderr=told)
         _, status, used = os.wait4(child.pid, 0)
@@ -79,7 +78,7 @@ def kilobytes(command, folder):
     return run(command, folder)[1].ru_maxrss
 
 
-# how a cost is shown
+# the text of a cost
 UNITS = {instructions: lambda it: f"{it / 1e6:,.1f} M", seconds: lambda it: f"{it:.3f} s", kilobytes: lambda it: f"{it / 1e3:,.1f} MB"}
 
 
@@ -91,7 +90,7 @@ def cost_of(shape, size, measure, program, folder):
 
 
 def measure_all(shapes, given, measure, folder):
-    """Prints a line for each shape, and answers those that break the bound."""
+    """Prints a line for each shape, and returns those that exceed the bound."""
     print(f"| Shape | n | n of them | {TIMES}n of them | Times |\n|---|--:|--:|--:|--:|", flush=True)
     broken, told = [], UNITS[measure]
     for shape in shapes:
@@ -106,7 +105,7 @@ def measure_all(shapes, given, measure, folder):
 
 
 def chosen(words):
-    """The shapes of these names, which may have `_` or spaces between their words; all where there is none."""
+    """The shapes with these names, whose words may be separated by `_` or spaces; all shapes if there are none."""
     named = {shape.__name__: shape for shape in SHAPES}
     names = [word.replace(" ", "_") for word in words]
     unknown = [name for name in names if name not in named]

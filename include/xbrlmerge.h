@@ -1,15 +1,15 @@
 /* xbrlmerge.h - merges xBRL-JSON reports about one entity into one canonical report, judges their duplicates, lists who
-   reported what, or returns numbered refusals. Each call does what the program's command of its name does, with the same
-   bytes. docs/LIBRARY.md says what is proved of the calls, and what is not.
+   reported what, or returns numbered refusals. Each call returns the same bytes as the program's command of the
+   same name. docs/LIBRARY.md says what is proved about the calls, and what is not.
 
    Memory. It belongs to the caller: a call keeps no pointer after it returns, and returns none. The caller also provides
    the buffers for the text and for the records of refused reports. If one of them is too short, the call sets how much is
    needed and leaves both unchanged: make that buffer longer, and call again. If both are long enough at once, the text is
-   made only once. A call takes what it needs for itself from malloc, and frees it before it returns.
+   made only once. A call gets its own memory from malloc, and frees it before it returns.
 
    Pointers. None may be null, not even if the length is 0: pass the address of any variable of its type instead. (The
-   data() of an empty std::vector may be null.) What a call writes to (`out`, `needed`, `refusals`, `refused`, `checked`,
-   `refusal`) must not overlap anything else that is passed. During the call, nothing else may access it, or write to
+   data() of an empty std::vector may be null.) The output (`out`, `needed`, `refusals`, `refused`, `checked`,
+   `refusal`) must not overlap any other argument. During the call, nothing else may access it, or write to
    what the call reads. Output need not be initialised. A pointer to numbers is aligned as C requires.
 
    Reports. They are concatenated in `reports`, and `ends` contains the position where each one ends, counted from the
@@ -18,10 +18,10 @@
    if `allow` is not a level either).
 
    Threads. There is no state between calls: any threads may call at once. Do not call from a signal handler, or in the
-   child after a process with several threads forked.
+   child of a process that had several threads when it forked.
 
-   Stack. As measured, and not proved, a call needs at most 128 kB of stack for JSON that is nested 126 deep. The deepest
-   JSON that is read is nested 127 deep, so leave some room. */
+   Stack. A call needs at most 128 kB of stack for JSON that is nested 126 deep. That is measured, not proved. JSON may be
+   nested 127 deep, so leave some room. */
 #ifndef XBRLMERGE_H
 #define XBRLMERGE_H
 
@@ -35,7 +35,7 @@ extern "C" {
 /* How a call ended. */
 enum {
     XBRLMERGE_DONE = 0,          /* done, and every report was accepted */
-    XBRLMERGE_REFUSED = 1,       /* done, but some reports were refused: the output is that of the others */
+    XBRLMERGE_REFUSED = 1,       /* done, but some reports were refused; the output is made from the others */
     XBRLMERGE_TOO_LOOSE = 2,     /* the duplicates of a row exceed `allow`: `needed` is the number of the first such line of
                                     xbrlmerge_verdicts, from 1 */
     XBRLMERGE_TOO_SHORT = 3,     /* `out` has fewer than `needed` bytes, or `refusals` fewer than `refused` records. If
@@ -63,8 +63,8 @@ typedef struct {
 
 /* The result for an accepted report. */
 typedef struct {
-    uint64_t facts;     /* how many facts it has, repeats included */
-    uint32_t level;     /* the strictest level that allows its duplicates: XBRLMERGE_ALLOW_NONE to _ALL */
+    uint64_t facts;     /* the number of its facts, repeats included */
+    uint32_t level;     /* the strictest level that its facts satisfy: XBRLMERGE_ALLOW_NONE to _ALL */
     uint32_t canonical; /* 1 if its bytes are the canonical text of its facts, otherwise 0 */
 } xbrlmerge_checked;
 

@@ -1,4 +1,4 @@
-"""Builds the wheel: the module with the shared library of ./build --library, by the standard library alone."""
+"""Builds the wheel: the module with the shared library of ./build --library. It needs only the standard library."""
 import base64
 import glob
 import hashlib
@@ -9,9 +9,9 @@ from typing import Dict, Tuple
 
 HERE = os.path.dirname(os.path.abspath(__file__))
 LIBRARY = os.path.join(HERE, "..", "lib", "libxbrlmerge.so")
-# the C library, and what its linker is called: with these alone a manylinux tag is true
+# the C library and its linker; a manylinux tag is only true if the library needs no others
 SYSTEM = {b"libc.so.6", b"ld-linux-x86-64.so.2"}
-# the oldest that tags of this form name
+# the oldest version that a tag of this form can name
 OLDEST = 5
 TIME = (1980, 1, 1, 0, 0, 0)
 
@@ -25,7 +25,7 @@ def _project(key: str) -> str:
 
 
 def _platform(library: bytes) -> str:
-    """Returns the tag of the machines that the library runs on, by the versions of the C library that it asks for."""
+    """Returns the platform tag, from the versions of the C library that the library needs."""
     minors = [int(it) for it in re.findall(rb"GLIBC_2\.(\d+)", library)]
     is_plain = set(re.findall(rb"\x00([\w+.-]*\.so[.\d]*)(?=\x00)", library)) - {b"libxbrlmerge.so"} <= SYSTEM
     return f"manylinux_2_{max([OLDEST, *minors])}_x86_64" if is_plain and minors else "linux_x86_64"

@@ -6,11 +6,11 @@
     merged.text           # the bytes that `xbrlmerge merge` writes
     merged.refusals       # the refused reports; each prints as the program's line
 
-A sheet or a report is given as its bytes, or as the path of its file. Each call does what the program's command of
-its name does, with the same bytes and the same refusals, in this process. Other threads continue to run. Refused
-reports are returned, not raised. Exceptions: SheetRefused and TooLoose, both subclasses of ValueError; MemoryError;
-OSError if a file cannot be read; TypeError if `reports` is one file or one report's bytes instead of a list; and
-ValueError if `allow` is not "none", "complete", "consistent" or "all".
+A sheet or a report is given as bytes or as the path of a file. Each call returns the same bytes and refusals as the
+program's command of the same name, and runs in this process. Other threads continue to run. Refused reports are returned,
+not raised. Exceptions: SheetRefused and TooLoose, both subclasses of ValueError; MemoryError; OSError if a file cannot be
+read; TypeError if `reports` is one file or one report's bytes instead of a list; and ValueError if `allow` is not "none",
+"complete", "consistent" or "all".
 """
 import dataclasses
 import decimal
@@ -25,7 +25,7 @@ __all__ = ["Checked", "Columns", "Merged", "Refusal", "Row", "Rows", "SheetRefus
 
 Given = Union[bytes, bytearray, memoryview, str, "os.PathLike[str]"]
 
-#: The levels of duplicates that a dimension set may have, from the strictest on.
+#: The levels of duplicates that a dimension set may have, the strictest first.
 LEVELS = ("none", "complete", "consistent", "all")
 _LINE_END, _SPACE = "\n", " "
 _CORE = ("concept", "entity", "period", "unit", "language")
@@ -38,7 +38,7 @@ _SOURCE_COLUMNS = ("fact", "report", "identifier")
 class Refusal:
     """A refused report. It prints as the program's line."""
 
-    report: int  #: its number, from 1
+    report: int  #: the number of the report, from 1
     number: int  #: the number of the refusal, as docs/REFUSALS.md lists them
     name: str  #: its name, such as UnboundPrefix
     fact: Optional[int]  #: the fact's number, from 1 in byte order of identifiers; None for the document
@@ -78,10 +78,12 @@ class Merged:
     refusals: List[Refusal]
 
     def rows(self) -> List[Dict[str, Any]]:
-        """Returns a plain record for each fact, for example for pandas.DataFrame: its identifier, value, decimals and
-        core dimensions, None if it lacks one, and its other dimensions under their names. A value is a text as it is
-        written, or None if the fact is nil. Names have the prefixes of this report, n1, n2 and so on, which its
-        documentInfo binds; another report may bind them to other namespaces."""
+        """Returns a record for each fact, for example for pandas.DataFrame.
+
+        It has the identifier, the value, the decimals, the core dimensions (None if the fact lacks one), and the other
+        dimensions under their names. A value is the text in the report, or None for a nil fact. Names have the prefixes of
+        this report, n1, n2 and so on, which its documentInfo binds; another report may bind them to other namespaces.
+        """
         facts = json.loads(self.text)["facts"]
         return [_record(identifier, fact) for identifier, fact in facts.items()]
 
@@ -138,7 +140,7 @@ class Checked:
     """The result for an accepted report. It prints as the program's line."""
 
     facts: int  #: how many facts it has, repeats included
-    level: str  #: the strictest level that allows its duplicates
+    level: str  #: the strictest level that its facts satisfy
     canonical: bool  #: whether its bytes are the canonical text of its facts
 
     def __str__(self) -> str:
@@ -146,13 +148,13 @@ class Checked:
 
 
 def merge(sheet: Given, reports: Iterable[Given], allow: str = "all") -> Merged:
-    """Merges reports that are read under a sheet. Refused reports are skipped, and returned.
+    """Merges reports under a sheet. Refused reports are skipped and returned.
 
     `allow` is the level of duplicates that a row may have: none, complete, consistent or all. Raises TooLoose if a row
     exceeds it, SheetRefused, and MemoryError.
     """
     if allow not in LEVELS:
-        raise ValueError(f"allow is one of {', '.join(LEVELS)}")
+        raise ValueError(f"allow must be one of {', '.join(LEVELS)}")
     answer = _library.merge(_bytes(sheet), _each(reports), LEVELS.index(allow))
     if answer.status == _library.TOO_LOOSE:
         raise TooLoose(answer.number, _refusals(answer))
@@ -167,25 +169,29 @@ def verdicts(sheet: Given, reports: Iterable[Given]) -> Rows:
 
 
 def sources(sheet: Given, reports: Iterable[Given]) -> Sources:
-    """Returns the report that each fact comes from, and its identifier there. Raises SheetRefused and MemoryError."""
+    """Returns each fact's reports and its identifiers in them. Raises SheetRefused and MemoryError."""
     answer = _library.sources(_bytes(sheet), _each(reports))
     text = _text(answer)
     return Sources(map(_source, _lines(text)), text, _refusals(answer))
 
 
 def verdict_columns(sheet: Given, reports: Iterable[Given]) -> Columns:
-    """Returns the verdicts as columns with an item for each fact: the number and the verdict of its row, its identifier in
-    the canonical text, its dimensions with names as {URI}local, its value and its decimals, and the evidence of the row.
-    `dimensions` has those that a taxonomy defines, as a JSON object. What is absent is None. Values, `common_low` and
-    `common_high` are texts, so that no digit is lost. Raises SheetRefused and MemoryError."""
+    """Returns the verdicts as columns with an item for each fact.
+
+    The columns are: the number and the verdict of the row, the canonical identifier of the fact, its dimensions with names
+    as {URI}local, its value and decimals, and the evidence of the row. `dimensions` has the taxonomy-defined ones, as a JSON
+    object. Absent values are None. Values, `common_low` and `common_high` are texts, so that no digit is lost. Raises
+    SheetRefused and MemoryError.
+    """
     answer = _library.verdicts_json(_bytes(sheet), _each(reports))
     text = _text(answer)
     return Columns(_VERDICT_COLUMNS, (fact for line in _lines(text) for fact in _facts(json.loads(line))), text, _refusals(answer))
 
 
 def source_columns(sheet: Given, reports: Iterable[Given]) -> Columns:
-    """Returns as columns which accepted report says which fact, and by which identifier. Raises SheetRefused and
-    MemoryError."""
+    """Returns columns with an item for each fact in an accepted report, and its identifier there. Raises SheetRefused and
+    MemoryError.
+    """
     answer = _library.sources_json(_bytes(sheet), _each(reports))
     text = _text(answer)
     return Columns(_SOURCE_COLUMNS, (tuple(map(json.loads(line).get, _SOURCE_COLUMNS)) for line in _lines(text)), text, _refusals(answer))
@@ -207,15 +213,15 @@ def _bytes(given: Given) -> bytes:
         return given
     if isinstance(given, (bytearray, memoryview)):
         return bytes(given)
-    # open would take a number for a file that is already open
+    # `open` accepts the number of an open file too
     with open(os.fspath(given), "rb") as file:
         return file.read()
 
 
 def _each(reports: Iterable[Given]) -> List[bytes]:
-    """Returns the bytes of each report. A str or bytes can be iterated too, so a single one is rejected."""
+    """Returns the bytes of each report. A single str or bytes is rejected, because iterating over it would succeed."""
     if isinstance(reports, (str, bytes, bytearray, memoryview, os.PathLike)):
-        raise TypeError("reports is a list of files or bytes, not one of them")
+        raise TypeError("reports must be a list of files or bytes")
     return [_bytes(it) for it in reports]
 
 

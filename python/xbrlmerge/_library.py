@@ -8,15 +8,15 @@ from typing import Any, Callable, List, NamedTuple, Sequence, Tuple
 
 DONE, REFUSED, TOO_LOOSE, TOO_SHORT, SHEET_REFUSED, NO_MEMORY, BAD_ENDS, BAD_LEVEL = range(8)
 NAME = "libxbrlmerge.so"
-# a row of refusals, and what a report comes to, as include/xbrlmerge.h has them
+# the records for a refusal and for an accepted report in include/xbrlmerge.h
 ROW, CHECKED = struct.Struct("=QQI4x"), struct.Struct("=QII")
-# beyond this a text is rarely longer than the reports that it is made of
+# a text is rarely longer than its reports by more than this
 MORE = 4096
 LONGEST_NAME = 64
 
 
 def _load() -> ctypes.CDLL:
-    """Loads the library that XBRLMERGE_LIBRARY names, that of the wheel, or that which ./build --library left."""
+    """Loads the library that XBRLMERGE_LIBRARY names, or the one in the wheel, or the one that ./build --library made."""
     here = os.path.dirname(os.path.abspath(__file__))
     places = (os.environ.get("XBRLMERGE_LIBRARY", ""), os.path.join(here, NAME), os.path.join(here, "..", "..", "lib", NAME))
     found = next((place for place in places if place and os.path.exists(place)), None)
@@ -24,7 +24,7 @@ def _load() -> ctypes.CDLL:
         raise ImportError(f"xbrlmerge: there is no {NAME}: `./build --library` makes it, and XBRLMERGE_LIBRARY may name it")
     if struct.calcsize("P") != 8 or sys.byteorder != "little":
         raise ImportError("xbrlmerge: it needs a processor of 64 bits")
-    # a CDLL lets other threads of Python go on while it is called
+    # a CDLL lets other Python threads run during a call
     return ctypes.CDLL(os.path.abspath(found))
 
 
@@ -54,7 +54,7 @@ Row = Tuple[int, int, int]
 
 
 class Answer(NamedTuple):
-    """How a call ended: its status, the text, the number told in place of a text, and the refused reports' rows."""
+    """The result of a call: its status, the text, the number returned instead of a text, and the refused reports."""
 
     status: int
     text: bytes
@@ -68,13 +68,13 @@ def _row(fields: Tuple[Any, ...]) -> Row:
 
 
 def _room(size: int) -> Tuple[bytearray, ctypes.c_char]:
-    """Returns room of at least one byte, since no pointer may be null, and its first byte, which keeps it in place."""
+    """Returns a buffer of at least one byte, since no pointer may be null, and its first byte, which keeps it in place."""
     held = bytearray(max(size, 1))
     return held, ctypes.c_char.from_buffer(held)
 
 
 def _answered(call: Callable[..., int], sheet: bytes, reports: Sequence[bytes], *more: int) -> Answer:
-    """Calls with room that is mostly enough, and again where it is not."""
+    """Makes a call with buffers that are mostly large enough, and again if they are not."""
     together, ends, end = b"".join(reports), array.array("Q"), 0
     for report in reports:
         end += len(report)
@@ -121,7 +121,7 @@ def sources_json(sheet: bytes, reports: Sequence[bytes]) -> Answer:
 
 
 def check(sheet: bytes, report: bytes) -> Tuple[int, Tuple[int, int, int], Row]:
-    """Returns the status, what the report comes to, and its refusal."""
+    """Returns the status, the record for an accepted report, and the refusal."""
     checked, first = _room(CHECKED.size)
     row, first_of_row = _room(ROW.size)
     places = ctypes.addressof(first), ctypes.addressof(first_of_row)
@@ -133,7 +133,7 @@ def check(sheet: bytes, report: bytes) -> Tuple[int, Tuple[int, int, int], Row]:
 
 
 def refusal_name(number: int) -> str:
-    """Returns the name of a refusal, or an empty text where none has the number."""
+    """Returns the name of a refusal, or an empty text if no refusal has the number."""
     name, first = _room(LONGEST_NAME)
     length = _refusal_name(number, ctypes.addressof(first), LONGEST_NAME)
     return name[:length].decode("ascii")
