@@ -48,7 +48,7 @@ added_then sheet reports (bytes ∷ others) =
 pub steps_are_list : StepsAreList
 steps_are_list sheet reports = added_then sheet [] reports
 
--- the reports that were added and those that are left are all
+-- the added reports and the reports that are left are all reports
 pub record HasAdded (sheet : Sheet) (a : Added) (left all : List (List ℕ)) : Type 0 where
   pub done : List (List ℕ)
   pub is : a ≡ added sheet done

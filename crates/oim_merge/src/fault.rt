@@ -4,8 +4,7 @@ use crate::refusals::Refusals;
 use oim_names::Reason;
 use oim_write::WriteFault;
 
-/// Why reports were not merged. A length counts the bytes written so far; it stays at the greatest
-/// u64.
+/// Why reports were not merged. A length counts the bytes written so far, and saturates.
 #[derive(Debug, Drop)]
 pub enum Fault {
     /// Memory was refused.

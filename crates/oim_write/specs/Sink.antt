@@ -8,7 +8,7 @@ use Rattle.oim_write.specs.declared.write_fault.WriteFault.TheVariants.{OutOfMem
 abbrev pub AppendsFirst : Option (List ℕ) → Option (List ℕ) → List ℕ → ℕ → Type 0
 AppendsFirst old new text n = Appends old new (take n text) × (n ≤ length text)
 
--- a count that stays at the greatest u64
+-- a count that saturates at the greatest u64
 abbrev pub saturated : ℕ → ℕ
 saturated n = min n (2 ^ 64 - 1)
 

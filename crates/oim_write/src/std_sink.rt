@@ -26,7 +26,7 @@ impl<W: Write> StdSink<W> {
         }
     }
 
-    /// The number of bytes that the writer took. The count stays at the greatest u64.
+    /// The number of bytes that the writer took. The count saturates.
     pub fn taken(&self) -> u64
         ensures { result ≡ self.now.taken }
     {

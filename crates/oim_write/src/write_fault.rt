@@ -1,7 +1,6 @@
 use thiserror::Error;
 
-/// Why a text was not written to its end, with the length that was written. The length stays at the
-/// greatest u64.
+/// Why a text was not written to its end, with the length that was written. The length saturates.
 #[derive(Clone, Copy, Debug, PartialEq, Eq, Error)]
 pub enum WriteFault {
     /// Memory was refused.

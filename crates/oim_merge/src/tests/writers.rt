@@ -187,7 +187,7 @@ const APART: Row = (
     33,
 );
 
-/// True if the call leaves each first part of the row's text in a writer of that size.
+/// True if a writer of each size holds the first bytes of the row's text after the call.
 fn holds(rt: &HostRuntime, kind: Kind, row: &Row) -> Result<bool, Fail> {
     let (facts, parts, length) = row;
     let text = joined(rt, parts)?;

@@ -64,7 +64,7 @@ head_text level us =
     ++ (comma_if (has_some us)
     ++ codes "\"xbrl\":\"https://xbrl.org/2021\"},\"taxonomy\":["))))
 
--- facts as members: the identifier has so many digits and counts the facts before
+-- facts as members, with identifiers of this width, numbered after the facts before them
 abbrev pub numbered_members : List (List ℕ) → ℕ → ℕ → List Fact → Members
 numbered_members us digits before [] = no_members
 numbered_members us digits before (f ∷ fs) = member (102 ∷ padded digits (before + 1)) (ordered_fact (name_text us) f) (numbered_members us digits (before + 1) fs)
