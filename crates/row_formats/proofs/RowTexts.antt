@@ -1,4 +1,4 @@
--- The rows of a body in a format, some after others.
+-- The rows of a body in a format, one after another.
 use Rattle.std.proofs.Common.{◌≡◌, ℕ, suc, ◌+◌, ◌<◌, Bool, true, false, List, [], ◌∷◌, ◌++◌, length, codes, inr, Option, refl, sym, ap, subst, ◌∙◌, append_assoc, append-nil, arith}
 use Rattle.std.specs.Prelude.{Contains}
 use Rattle.std.proofs.lemmas.Grind.{flat_map-append}
@@ -63,7 +63,7 @@ text_both format facts n (r ∷ done) rest (e ∷ es) fs h =
     ∙ sym (append_assoc this (rows_text format facts (suc n) done es) (rows_text format facts (suc n + length done) rest fs))
     ∙ ap (λ k. (this ++ rows_text format facts (suc n) done es) ++ rows_text format facts k rest fs) (omega arith)
 
--- rows, and further ones
+-- the rows of two lists
 pub rows_both : (format : RowFormat) (facts : List Fact) (n : ℕ) (done rest : List Row) (text more : List ℕ) →
     HasRows format facts n done text → HasRows format facts (n + length done) rest more → HasRows format facts n (done ++ rest) (text ++ more)
 rows_both format facts n done rest text more h further = record {
@@ -72,7 +72,7 @@ rows_both format facts n done rest text more h further = record {
   text_is = (λ i. h.text_is i ++ further.text_is i) ∙ sym (text_both format facts n done rest h.evidence further.evidence h.shown);
 }
 
--- there are rows where there is evidence
+-- there are rows if each dimension set has evidence
 pub rows_exist : (format : RowFormat) (facts : List Fact) (n : ℕ) (rows : List Row) → ((r : Row) → Contains rows r → (e : Evidence) × IsEvidence r.1 e) → (text : List ℕ) × HasRows format facts n rows text
 rows_exist format facts n [] shows = ([], no_rows format facts n)
 rows_exist format facts n (r ∷ rs) shows =
@@ -84,14 +84,14 @@ rows_exist format facts n (r ∷ rs) shows =
 pub body_has_rows : (format : RowFormat) (sheet : Sheet) (b : Body) → Fits sheet b → (text : List ℕ) × HasRowsOf format b.facts text
 body_has_rows format sheet b fits = rows_exist format b.facts 1 (rows_of b.facts) (evidence_exists sheet b fits)
 
--- of the rows that are left too
+-- the rows that are left have a text too
 pub left_have_rows : (format : RowFormat) (sheet : Sheet) (b : Body) → Fits sheet b → (done left : List Row) → done ++ left ≡ rows_of b.facts → (n : ℕ) → (text : List ℕ) × HasRows format b.facts n left text
 left_have_rows format sheet b fits done left all n = rows_exist format b.facts n left (λ q at. evidence_exists sheet b fits q (subst (λ rs. Contains rs q) all ((in_one_of_both done left q).1 (inr at))))
 
 pub with_header : (format : RowFormat) (b : Body) (text : List ℕ) → HasRowsOf format b.facts text → AreRows format b (header format ++ text)
 with_header format b text has = record { rows = text; has = has; whole = refl }
 
--- ---- there are no other rows
+-- ---- the rows are unique
 
 same_list : (rows : List Row) (es fs : List Evidence) → AreShown rows es → AreShown rows fs → es ≡ fs
 same_list [] [] [] h g = refl
@@ -117,7 +117,7 @@ pub rows_tell_verdicts : RowsTellVerdicts
 rows_tell_verdicts sheet b fits r at e is =
     lines_tell_verdicts sheet b fits r at 0 (line_text 0 (identifier_at b.facts r) (length r.1) e) (record { evidence = e; shows = is; text = refl })
 
--- ---- identifiers by their places
+-- ---- identifiers of facts
 
 module _ (name other : ℕ → List ℕ) (n : ℕ) (same : (i : ℕ) → i < n → name i ≡ other i) where
   same_facts : (k : ℕ) (vs : List Value) → k + length vs ≡ n → fact_items name k vs ≡ fact_items other k vs
@@ -134,7 +134,7 @@ module _ (name other : ℕ → List ℕ) (n : ℕ) (same : (i : ℕ) → i < n �
   same_shown (Common c) within = refl
   same_shown (Apart i j) within = λ k. [] ∷ [] ∷ same i within.0 k ∷ same j within.1 k ∷ []
 
-  -- a row is the same where its facts are called the same
+  -- a row does not change if the identifiers do not
   same_records : (spreadsheet : Bool) (number : ℕ) (d : DimensionSet) (e : Evidence) (k : ℕ) (vs : List Value) → k + length vs ≡ n → HasPlaces n e → csv_facts spreadsheet name number d e k vs ≡ csv_facts spreadsheet other number d e k vs
   same_records spreadsheet number d e k [] all within = refl
   same_records spreadsheet number d e k (v ∷ vs) all within =
@@ -145,7 +145,7 @@ module _ (name other : ℕ → List ℕ) (n : ℕ) (same : (i : ℕ) → i < n �
   same_row Csv number r e all within = same_records false number r.0 e 0 r.1 (omega (arith, all)) within
   same_row SpreadsheetCsv number r e all within = same_records true number r.0 e 0 r.1 (omega (arith, all)) within
 
--- ---- the row that comes behind others
+-- ---- the text of the next row
 
 module _ (b : Body) (rises : IsSet fact_cmp b.facts) (done rest : List Row) (r : Row) (all : done ++ (r ∷ rest) ≡ rows_of b.facts) where
   -- its text, as it is written
@@ -160,9 +160,9 @@ module _ (b : Body) (rises : IsSet fact_cmp b.facts) (done rest : List Row) (r :
             format number r is.evidence refl (places_within r.1 is.evidence is.shows);
       }
 
--- ---- rows on their way
+-- ---- buffered rows
 
--- the rows so far passed
+-- the rows so far were pushed
 pub record HasPassed (format : RowFormat) (facts : List Fact) (rows : List Row) (old new : Option (List ℕ)) (before after : Pending) : Type 0 where
   pub text : List ℕ
   pub rows_are : HasRows format facts 1 rows text

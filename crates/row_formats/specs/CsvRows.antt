@@ -1,4 +1,4 @@
--- A row of a body as CSV, a record for each fact (RFC 4180; the columns are own). In bytes, `'` is 39.
+-- A row of a body as CSV, one record for each fact (RFC 4180; the columns are own). In bytes, `'` is 39.
 use Rattle.std.specs.Prelude.{ℕ, suc, Bool, true, false, ◌&&◌, ◌||◌, ◌==◌, nat_lt, if◌then◌else◌, List, [], ◌∷◌, ◌++◌, codes, length, Option, Some, None, ℤ}
 use Rattle.std.specs.Fmt.{decimal, signed_decimal}
 use Rattle.std.specs.Option.{unwrap_or}
@@ -22,7 +22,7 @@ use Rattle.oim_write.specs.Ordered.{defined_members}
 use Rattle.oim_merge.specs.Lines.{verdict_shown, verdict_word}
 use Rattle.row_formats.specs.Spelled.{braced}
 
--- commas, quotes where they are needed, each quote in them doubled, and both bytes at a line end
+-- commas between fields, quotes where they are needed, doubled quotes inside them, and CRLF at a line end (RFC 4180)
 abbrev pub rfc_4180 : WriterBuilder
 rfc_4180 = with_terminator default_writer term.CRLF
 
@@ -38,11 +38,11 @@ columns =
 
 -- ---- texts that a spreadsheet takes for a formula
 
--- bytes that may be skipped before it: blanks, quotes, and those of a character that is a space somewhere, as U+00A0 and U+3000 are
+-- bytes that a spreadsheet may skip before a formula: blanks, quotes, and the bytes of space characters such as U+00A0 and U+3000
 abbrev pub is_skipped : ℕ → Bool
 is_skipped b = nat_lt b 33 || b == 34 || b == 39 || (nat_lt 127 b && nat_lt b 195) || (nat_lt 224 b && nat_lt b 228)
 
--- a sign that it begins with: + - = @, or the first byte of these in full width, as of U+FEFF
+-- the first byte of a formula: + - = @, or the first byte of a full-width sign or of U+FEFF
 abbrev pub is_sign : ℕ → Bool
 is_sign b = b == 43 || b == 45 || b == 61 || b == 64 || b == 239
 
@@ -50,7 +50,7 @@ abbrev pub begins_formula : List ℕ → Bool
 begins_formula [] = false
 begins_formula (b ∷ t) = if is_skipped b then begins_formula t else is_sign b
 
--- a text for a spreadsheet has a ' before it
+-- a `'` is put before a formula if the text is for a spreadsheet
 abbrev pub guarded : Bool → List ℕ → List ℕ
 guarded spreadsheet t = if spreadsheet && begins_formula t then 39 ∷ t else t
 
@@ -59,7 +59,7 @@ guarded spreadsheet t = if spreadsheet && begins_formula t then 39 ∷ t else t
 abbrev pub or_empty : Option (List ℕ) → List ℕ
 or_empty o = unwrap_or o []
 
--- the dimensions that a taxonomy defines, as an object of JSON
+-- the taxonomy-defined dimensions as a JSON object
 abbrev pub defined_text : List (QName × Member) → List ℕ
 defined_text es = if length es == 0 then [] else compact_text (object (defined_members braced es no_members))
 
@@ -68,32 +68,32 @@ dimension_fields d =
     braced d.concept ∷ or_empty (option_spelled braced d.entity) ∷ or_empty (period_text d.period)
     ∷ or_empty (option_unit_text braced d.unit) ∷ or_empty d.language ∷ defined_text d.members ∷ []
 
--- finite decimals
+-- the decimals if they are finite
 abbrev pub decimals_text : Option ℤ → List ℕ
 decimals_text None = []
 decimals_text (Some d) = signed_decimal d
 
--- the value, whether it is nil, and the decimals
+-- the value, `true` or `false` for nil, and the decimals
 abbrev pub value_fields : Bool → Value → List (List ℕ)
 value_fields spreadsheet Nil = [] ∷ codes "true" ∷ [] ∷ []
 value_fields spreadsheet (Number units places) = plain units ∷ [] ∷ decimals_text places ∷ []
 value_fields spreadsheet (AText t) = guarded spreadsheet t ∷ [] ∷ [] ∷ []
 value_fields spreadsheet (AName n) = braced n ∷ [] ∷ [] ∷ []
 
--- what shows the verdict, where the facts have these identifiers
+-- the evidence, for facts with these identifiers
 abbrev pub evidence_fields : (ℕ → List ℕ) → Evidence → List (List ℕ)
 evidence_fields name Alike = [] ∷ [] ∷ [] ∷ [] ∷ []
 evidence_fields name (Common c) = plain c.low ∷ plain c.high ∷ [] ∷ [] ∷ []
 evidence_fields name (Apart i j) = [] ∷ [] ∷ name i ∷ name j ∷ []
 
--- a fact with this identifier, in the row of a number
+-- the record of a fact with this identifier, in the row with this number
 abbrev pub fact_fields : Bool → ℕ → DimensionSet → Evidence → List (List ℕ) → List ℕ → Value → List (List ℕ)
 fact_fields spreadsheet n d e shown identifier v =
     (decimal n ∷ verdict_word (verdict_shown e) ∷ identifier ∷ []) ++ (dimension_fields d ++ (value_fields spreadsheet v ++ shown))
 
 -- ---- rows
 
--- the facts of a row, the first of which has the place i
+-- the records of a row's facts, counted from index i
 abbrev pub csv_facts : Bool → (ℕ → List ℕ) → ℕ → DimensionSet → Evidence → ℕ → List Value → List ℕ
 csv_facts spreadsheet name n d e i [] = []
 csv_facts spreadsheet name n d e i (v ∷ vs) =

@@ -1,4 +1,4 @@
--- A row of a body as a line of JSON (own). In bytes, a line end is 10.
+-- A row of a body as one line of JSON (own). In bytes, a line end is 10.
 use Rattle.std.specs.Prelude.{ℕ, suc, List, [], ◌∷◌, ◌++◌, codes}
 use Rattle.serde_json.specs.Data.{Data, unsigned, number, string, array, object, Items, no_items, item, Members, no_members, member}
 use Rattle.serde_json.specs.Written.{compact_text}
@@ -13,14 +13,14 @@ use Rattle.oim_write.specs.Ordered.{decimals_member, ordered_dimensions}
 use Rattle.oim_merge.specs.Lines.{verdict_shown, verdict_word}
 use Rattle.row_formats.specs.Spelled.{braced}
 
--- a fact with this identifier
+-- the object of a fact with this identifier
 abbrev pub fact_data : List ℕ → Value → Data
 fact_data identifier v =
     object (member (codes "identifier") (string identifier) (
     member (codes "value") (value_data braced v) (
     decimals_member v no_members)))
 
--- the facts of a row, the first of which has the place i
+-- the facts of a row, counted from index i
 abbrev pub fact_items : (ℕ → List ℕ) → ℕ → List Value → Items
 fact_items name i [] = no_items
 fact_items name i (v ∷ vs) = item (fact_data (name i) v) (fact_items name (suc i) vs)
@@ -36,13 +36,13 @@ apart_data first second = array (item (string first) (item (string second) no_it
 abbrev pub evidence_member : List ℕ → Data → Members
 evidence_member key d = member (codes "evidence") (object (member key d no_members)) no_members
 
--- what shows the verdict, where the facts have these identifiers; a fact that is alone needs nothing
+-- the evidence, for facts with these identifiers; a single fact has none
 abbrev pub evidence_members : (ℕ → List ℕ) → Evidence → Members
 evidence_members name Alike = no_members
 evidence_members name (Common c) = evidence_member (codes "common") (common_data c)
 evidence_members name (Apart i j) = evidence_member (codes "apart") (apart_data (name i) (name j))
 
--- a row with its number, the word of the verdict that its evidence shows, its facts and its evidence
+-- a row: its number, the word for its verdict, its dimensions, its facts and its evidence
 abbrev pub row_object : ℕ → Row → Evidence → Items → Members → Data
 row_object n r e facts evidence =
     object (member (codes "row") (number (unsigned n)) (

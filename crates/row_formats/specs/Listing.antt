@@ -1,4 +1,4 @@
--- What listing rows in a format leaves behind (own).
+-- The state after rows were listed in a format (own).
 use Rattle.std.specs.Prelude.{◌≡◌, ◌⊎◌, ℕ, Option, List}
 use Rattle.std.specs.Io.KnownBytes.{Appends}
 use Rattle.fact_base.specs.Body.{Body}
@@ -18,7 +18,7 @@ pub record AppendsRows (format : RowFormat) (b : Body) (old new : Option (List �
   pub rows : AreRows format b text
   pub appended : Appends old new text
 
--- a front of them was, and so many bytes were counted
+-- a first part of the rows was appended, and `written` is the number of its bytes
 pub record AppendsFrontOfRows (format : RowFormat) (b : Body) (old new : Option (List ℕ)) (written : ℕ) : Type 0 where
   pub text : List ℕ
   pub rows : AreRows format b text
@@ -29,7 +29,7 @@ pub record ListsRows (format : RowFormat) (b : Body) (refusals : List (ℕ × Re
   pub refusals_are : told ≡ refusals
   pub rows : AppendsRows format b old new
 
--- what a fault leaves behind
+-- a fault: memory was refused or the device failed, with a first part of the rows appended
 abbrev pub RowsStop : RowFormat → Body → Option (List ℕ) → Option (List ℕ) → Fault → Type 0
 RowsStop format b old new (OutOfMemory written) = StopsBefore old new written ⊎ AppendsFrontOfRows format b old new written
 RowsStop format b old new (Device written) = AppendsFrontOfRows format b old new written
@@ -38,7 +38,7 @@ RowsStop format b old new (SheetFault reason) = ⊥
 
 -- ---- reports
 
--- the rows of what the accepted reports say were appended, and the refused ones were told
+-- the rows of the accepted reports were appended, and the refusals of the others were returned
 abbrev pub ListsVerdictRows : RowFormat → Sheet → List (List ℕ) → Option (List ℕ) → Option (List ℕ) → List (ℕ × Refusal) → Type 0
 ListsVerdictRows format sheet reports = ListsRows format (merged sheet reports) (refused sheet reports)
 

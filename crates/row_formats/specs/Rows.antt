@@ -14,19 +14,19 @@ use Rattle.row_formats.specs.JsonRows.{json_row}
 use Rattle.row_formats.specs.declared.row_format.RowFormat.{RowFormat}
 use Rattle.row_formats.specs.declared.row_format.RowFormat.TheVariants.{Json, Csv, SpreadsheetCsv}
 
--- the text of a row, where its facts have these identifiers
+-- the text of a row whose facts have these identifiers
 abbrev pub row_text : RowFormat → (ℕ → List ℕ) → ℕ → Row → Evidence → List ℕ
 row_text Json = json_row
 row_text Csv = csv_row false
 row_text SpreadsheetCsv = csv_row true
 
--- what stands before the first row
+-- the text before the first row
 abbrev pub header : RowFormat → List ℕ
 header Json = []
 header Csv = record_text columns
 header SpreadsheetCsv = record_text columns
 
--- rows with their evidence, the first of which has the number n
+-- rows with their evidence, numbered from n
 abbrev pub rows_text : RowFormat → List Fact → ℕ → List Row → List Evidence → List ℕ
 rows_text format facts n [] es = []
 rows_text format facts n (r ∷ rs) [] = []
@@ -36,7 +36,7 @@ rows_text format facts n (r ∷ rs) (e ∷ es) = row_text format (identifier_at 
 abbrev pub AreShown : List Row → List Evidence → Type 0
 AreShown = AllZip (λ r e. IsEvidence r.1 e)
 
--- some rows, the first of which has the number n
+-- the text of rows, numbered from n
 pub record HasRows (format : RowFormat) (facts : List Fact) (n : ℕ) (rows : List Row) (text : List ℕ) : Type 0 where
   pub evidence : List Evidence
   pub shown : AreShown rows evidence
@@ -45,7 +45,7 @@ pub record HasRows (format : RowFormat) (facts : List Fact) (n : ℕ) (rows : Li
 abbrev pub HasRowsOf : RowFormat → List Fact → List ℕ → Type 0
 HasRowsOf format facts = HasRows format facts 1 (rows_of facts)
 
--- the rows of a body, behind what stands before them
+-- the header and the rows of a body
 pub record AreRows (format : RowFormat) (b : Body) (text : List ℕ) : Type 0 where
   pub rows : List ℕ
   pub has : HasRowsOf format b.facts rows
@@ -53,7 +53,7 @@ pub record AreRows (format : RowFormat) (b : Body) (text : List ℕ) : Type 0 wh
 
 -- ---- what these come to
 
--- a body that fits a sheet has rows in each format, and has no others
+-- a body that fits a sheet has exactly one list of rows in each format
 pub record HasOneText (format : RowFormat) (b : Body) : Type 0 where
   pub text : List ℕ
   pub rows : AreRows format b text
@@ -62,7 +62,7 @@ pub record HasOneText (format : RowFormat) (b : Body) : Type 0 where
 abbrev pub RowsAreOne : Type 0
 RowsAreOne = (format : RowFormat) (sheet : Sheet) (b : Body) → Fits sheet b → HasOneText format b
 
--- the verdict that evidence shows, whose word a row has, is the verdict on its dimension set
+-- the verdict in a row, which its evidence shows, is the verdict on the dimension set
 abbrev pub RowsTellVerdicts : Type 0
 RowsTellVerdicts =
     (sheet : Sheet) (b : Body) → Fits sheet b → (r : Row) → Contains (rows_of b.facts) r →

@@ -1,4 +1,4 @@
--- Who said what in a format, a row for each fact object (own). In bytes, `f` is 102, a line end 10.
+-- The sources of facts in a format, one row for each fact object (own). In bytes, `f` is 102, a line end 10.
 use Rattle.std.specs.Prelude.{◌≡◌, ℕ, ◌+◌, Bool, true, false, List, [], ◌∷◌, ◌++◌, flat_map, codes, Option}
 use Rattle.std.specs.Fmt.{decimal}
 use Rattle.std.specs.Io.KnownBytes.{Appends}
@@ -17,7 +17,7 @@ use Rattle.row_formats.specs.CsvRows.{guarded, record_text}
 use Rattle.row_formats.specs.declared.row_format.RowFormat.{RowFormat}
 use Rattle.row_formats.specs.declared.row_format.RowFormat.TheVariants.{Json, Csv, SpreadsheetCsv}
 
--- that the report of a number says a fact, by an object with an identifier of the report's own
+-- a mention as data: the canonical identifier of the fact, the report number, and the object's own identifier
 abbrev pub source_data : List ℕ → ℕ → List ℕ → Data
 source_data fact report own =
     object (member (codes "fact") (string fact) (
@@ -38,28 +38,28 @@ source_text Json = json_source
 source_text Csv = csv_source false
 source_text SpreadsheetCsv = csv_source true
 
--- what stands before the first of these
+-- the text before the first row
 abbrev pub source_header : RowFormat → List ℕ
 source_header Json = []
 source_header Csv = record_text source_columns
 source_header SpreadsheetCsv = record_text source_columns
 
--- a mention, by the identifier that its fact has in the canonical text of these
+-- the row of a mention; the fact has its canonical identifier among these facts
 abbrev pub source_row : RowFormat → List Fact → Mention → List ℕ
 source_row format facts m = source_text format (identifier facts m.fact) m.report m.identifier
 
--- each fact object of each accepted report, in the order of facts, of reports, and of identifiers
+-- the rows of all fact objects in accepted reports, in the order of facts, then reports, then identifiers
 abbrev pub sources_in : RowFormat → Sheet → List (List ℕ) → List ℕ
 sources_in format sheet reports = source_header format ++ flat_map (source_row format (merged sheet reports).facts) (mentions_by_fact sheet reports)
 
 -- ---- what listing them leaves behind
 
--- they were appended, and the refused reports were told
+-- the rows were appended, and the refusals of the other reports were returned
 pub record ListsSourceRows (format : RowFormat) (sheet : Sheet) (reports : List (List ℕ)) (old new : Option (List ℕ)) (told : List (ℕ × Refusal)) : Type 0 where
   pub refusals_are : told ≡ refused sheet reports
   pub appended : Appends old new (sources_in format sheet reports)
 
--- a front of them was appended, and so many bytes were counted
+-- a fault: a first part of the rows was appended, and the fault carries the number of its bytes
 abbrev pub SourceRowsStop : RowFormat → Sheet → List (List ℕ) → Option (List ℕ) → Option (List ℕ) → Fault → Type 0
 SourceRowsStop format sheet reports old new (OutOfMemory written) = AppendsFront old new (sources_in format sheet reports) written
 SourceRowsStop format sheet reports old new (Device written) = AppendsFront old new (sources_in format sheet reports) written

@@ -15,7 +15,7 @@ pub(crate) fn text_of_record(alloc: Global, fields: &StringRecord) -> Result<Vec
     }
 }
 
-// A sink in memory fails for out of memory alone.
+// A sink in memory fails only if memory is refused.
 fn bytes_of_record(alloc: Global, fields: &StringRecord) -> Result<Vec<u8>, Error>
     ensures { IfOk result (λ text. text.items ≡ record_text (fields_of fields.now)) }
 {

@@ -14,8 +14,8 @@ use oim_names::{Name, Text};
 use oim_value::{Value, write_fixed};
 use std::alloc::{AllocError, Global};
 
-// What a row is about, and the values of its facts, as the canonical text has them, but with names that
-// need no prefix. A name or a unit is spelled in `room`.
+// Dimensions and values are written as in the canonical text, except that names need no prefix. A
+// name or a unit is spelled in the buffer `room`.
 
 /// Writes dimensions as an object.
 pub(crate) fn write_dimensions(
@@ -72,7 +72,7 @@ fn write_period_member(alloc: Global, json: &mut Writer, period: Period) -> Resu
     json.string(text.as_str())
 }
 
-/// Writes the dimensions that a taxonomy defines as members.
+/// Writes the taxonomy-defined dimensions as members.
 pub(crate) fn write_defined(
     json: &mut Writer,
     room: &mut String,
@@ -137,7 +137,7 @@ pub(crate) fn write_value(
     }
 }
 
-/// Writes the decimals of a number as a member, where they are finite.
+/// Writes finite decimals of a number as a member.
 pub(crate) fn write_decimals(json: &mut Writer, value: &Value) -> Result<(), AllocError>
     ensures { OnOk result (AddsMembers json.old json.new (decimals_member value.now no_members)) }
 {

@@ -5,7 +5,7 @@ use oim_names::Text;
 use oim_write::identifier;
 use std::alloc::{AllocError, Global};
 
-/// What the facts of a row are called: so many facts stand before them, of so many.
+/// The identifiers of the facts in a row, from the count of facts before it and the count of all.
 #[derive(Clone, Copy, Debug)]
 pub(crate) struct FactNames {
     pub before: u128,

@@ -3,8 +3,8 @@ ghost use Rattle.row_formats.specs.CsvRows.{begins_formula, guarded, is_sign, is
 
 use std::alloc::AllocError;
 
-/// Puts a text in the place of what the other was, for a spreadsheet with a `'` before what it would
-/// take for a formula.
+/// Replaces `text` by the given one. For a spreadsheet, a `'` is put before a text that would be read
+/// as a formula.
 pub(crate) fn guard(text: &mut String, spreadsheet: bool, given: &str) -> Result<(), AllocError>
     ensures { OnOk result (string_bytes text.new ≡ guarded spreadsheet given.now) }
 {

@@ -1,13 +1,13 @@
 ghost use Rattle.row_formats.specs.Rows.{RowsAreOne, RowsTellVerdicts};
 
-// What the definitions come to. The bodies do nothing.
+// Laws of the definitions. Each is the contract of a function that does nothing.
 
-/// A body that fits a sheet has rows in each format, and has no others.
+/// A body that fits a sheet has exactly one list of rows in each format.
 pub fn rows_are_one()
     ensures { RowsAreOne }
 {}
 
-/// The verdict that a row prints is the verdict on its dimension set.
+/// The verdict in a row is the verdict on its dimension set.
 pub fn rows_tell_verdicts()
     ensures { RowsTellVerdicts }
 {}

@@ -30,13 +30,13 @@ use oim_value::{Decimals, Fixed, Interval, Value, write_fixed};
 use std::alloc::{AllocError, Global};
 use std::str;
 
-/// Room for a record, asked for at once; most are no longer.
+/// The first capacity of a record; few records are longer.
 const RECORD: usize = 1 << 9;
 
-/// How many fields a record has.
+/// The number of fields in a record.
 const FIELDS: usize = 16;
 
-/// The record of the columns' names.
+/// The header with the names of the columns.
 pub(crate) fn csv_header(alloc: Global) -> Result<Vec<u8>, AllocError>
     ensures { IfOk result (λ text. text.items ≡ record_text columns) }
 {
@@ -113,7 +113,7 @@ fn push_record(
     Ok(())
 }
 
-/// The number of the row, the word of its verdict, and the identifier of the fact at a place.
+/// The number of the row, the word for its verdict, and the identifier of the fact at an index.
 fn push_front(
     alloc: Global,
     fields: &mut StringRecord,
@@ -137,7 +137,7 @@ fn push_front(
     )
 }
 
-/// What the fact is about, and what it says.
+/// The dimensions and the value of the fact.
 fn push_fact(
     alloc: Global,
     fields: &mut StringRecord,
@@ -210,7 +210,7 @@ fn push_unit(
     fields.push_field(room.as_str())
 }
 
-/// The dimensions that a taxonomy defines, as an object of JSON.
+/// The taxonomy-defined dimensions as a JSON object.
 fn push_defined(
     alloc: Global,
     fields: &mut StringRecord,
@@ -265,7 +265,7 @@ fn push_number(
     push_three(fields, number.as_str(), "", decimals.as_str())
 }
 
-/// Finite decimals; infinite ones have no text.
+/// The text of finite decimals; infinite ones have no text.
 fn decimals_text(alloc: Global, decimals: Decimals) -> Result<String, AllocError>
     ensures { IfOk result (λ text. string_bytes text ≡ decimals_text decimals) }
 {
@@ -275,7 +275,7 @@ fn decimals_text(alloc: Global, decimals: Decimals) -> Result<String, AllocError
     }
 }
 
-/// What shows the verdict on the row.
+/// The evidence for the verdict on the row.
 fn push_evidence(
     alloc: Global,
     fields: &mut StringRecord,
@@ -339,7 +339,7 @@ fn push_four(
     fields.push_field(fourth)
 }
 
-/// The dimensions that a taxonomy defines, as an object of JSON.
+/// The taxonomy-defined dimensions as a JSON object.
 fn members_json(
     alloc: Global,
     room: &mut String,

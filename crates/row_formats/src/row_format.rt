@@ -1,10 +1,10 @@
-/// How rows are written for other programs.
+/// The format of rows for other programs.
 #[derive(Clone, Copy, Debug, PartialEq, Eq)]
 pub enum RowFormat {
-    /// A JSON object a line.
+    /// One JSON object a line.
     Json,
-    /// A header and records (RFC 4180).
+    /// A header and one record for each fact (RFC 4180).
     Csv,
-    /// The same for a spreadsheet: a `'` stands before a text that it would take for a formula.
+    /// The same for a spreadsheet: a `'` is put before a text that would be read as a formula.
     SpreadsheetCsv,
 }

@@ -16,7 +16,7 @@ use oim_names::Text;
 use oim_value::{Interval, Value, write_units};
 use std::alloc::{AllocError, Global};
 
-/// Room for a line, asked for at once; most are no longer.
+/// The first capacity of a line; few lines are longer.
 const LINE: usize = 1 << 9;
 
 /// The line of a row with this number and this evidence.
@@ -66,7 +66,7 @@ fn write_row(
     json.end_object()
 }
 
-/// The word of the verdict that evidence shows.
+/// The word for the verdict that the evidence shows.
 pub(crate) fn word_of(evidence: &Evidence) -> &'static str
     ensures { result.now ≡ verdict_word (verdict_shown evidence.now) }
 {
@@ -132,7 +132,7 @@ fn write_fact(
     json.end_object()
 }
 
-// A fact that is alone needs no evidence.
+// A single fact needs no evidence.
 fn write_evidence(
     alloc: Global,
     json: &mut Writer,

@@ -13,9 +13,9 @@ use oim_report::Sheet;
 use oim_write::{Encoded, Sink, SinkBuffer, WriteFault};
 use std::alloc::Global;
 
-/// Merges reports that are read under a sheet, and appends a row in a format for each fact object of
-/// each accepted report to the sink, as `source_lines` appends a line (own). The refused reports are
-/// answered, by their numbers from 1.
+/// Merges reports under a sheet and appends one row for each fact object in an accepted report to
+/// the sink, in a format. The rows are those of `source_lines` (own). Returns the refusals by the
+/// numbers of the reports, from 1.
 ///
 /// Errors: `Device` if the sink failed; `OutOfMemory`.
 pub fn source_rows<S: Sink>(
@@ -42,8 +42,8 @@ pub fn source_rows<S: Sink>(
     }
 }
 
-/// Appends the rows of mentions, where the base has so many facts. On a fault the sink has the front
-/// of them whose length it tells.
+/// Appends the rows of mentions, given the count of facts in the base. On a fault the sink has a
+/// first part of them; the fault carries its length.
 fn write_rows<S: Sink>(
     alloc: Global,
     count: u128,

@@ -13,7 +13,7 @@ use oim_merge::PlacedMention;
 use oim_write::identifier;
 use std::alloc::{AllocError, Global};
 
-/// What stands before the first row.
+/// The text before the first row.
 pub(crate) fn header_of(alloc: Global, format: RowFormat) -> Result<Vec<u8>, AllocError>
     ensures { IfOk result (λ text. text.items ≡ source_header format) }
 {
@@ -23,7 +23,7 @@ pub(crate) fn header_of(alloc: Global, format: RowFormat) -> Result<Vec<u8>, All
     }
 }
 
-/// The row of a mention, where the base has so many facts.
+/// The row of a mention, given the count of facts in the base.
 pub(crate) fn text_of(
     alloc: Global,
     format: RowFormat,
@@ -53,7 +53,7 @@ fn source_text(
     }
 }
 
-/// The record of the columns' names.
+/// The header with the names of the columns.
 fn csv_header(alloc: Global) -> Result<Vec<u8>, AllocError>
     ensures { IfOk result (λ text. text.items ≡ record_text source_columns) }
 {

@@ -6,7 +6,7 @@ use oim_dims::Unit;
 use oim_names::Name;
 use std::alloc::AllocError;
 
-/// Puts a name as `{URI}local` in the place of what the text was.
+/// Replaces the text by a name as `{URI}local`.
 pub(crate) fn spell(text: &mut String, name: &Name) -> Result<(), AllocError>
     ensures { OnOk result (string_bytes text.new ≡ braced name.now) }
 {
@@ -23,7 +23,7 @@ fn push_name(text: &mut String, name: &Name) -> Result<(), AllocError>
     text.push_str(name.local())
 }
 
-/// Does the same with a unit, each side in the order of names.
+/// Replaces the text by a unit, each side in the order of names.
 pub(crate) fn spell_unit(text: &mut String, unit: &Unit) -> Result<(), AllocError>
     ensures { OnOk result (string_bytes text.new ≡ unit_text braced unit.now) }
 {
@@ -43,7 +43,7 @@ fn push_unit(text: &mut String, unit: &Unit) -> Result<(), AllocError>
     push_side(text, unit.denominators())
 }
 
-// Writes a side that stands beside another.
+// Writes one side of a unit that has two.
 fn push_side(text: &mut String, names: &[Name]) -> Result<(), AllocError>
     ensures { OnOk result (string_bytes text.new ≡ string_bytes text.old ++ side_text braced names.now) }
 {

@@ -9,8 +9,8 @@ use oim_write::{Encoded, Sink, StdSink};
 use std::alloc::{AllocError, Global};
 use std::test::Fail;
 
-// Each call on rows of every kind, with what it has to write made by hand. Where a request for memory
-// is refused, the next one is not: the call is made again.
+// Each call on rows of every kind, against outputs written by hand. A call is repeated after a
+// refused request for memory.
 
 const SHEET: &[u8] =
     br#"{"namespaces":{"eg":"http://example.org/t"},"concepts":{"eg:A":"numeric","eg:B":"numeric","eg:T":"text","eg:Q":"name"},"dimensions":{"eg:Reg":"explicit","eg:Sku":"typed"}}"#;
@@ -46,7 +46,7 @@ const VERDICTS_CSV: &[u8] =
 const SOURCES_SPREADSHEET: &[u8] =
     b"fact,report,identifier\r\nf1,1,p\r\nf2,3,p\r\nf3,1,r\r\nf4,1,s\r\nf5,1,'-q\r\nf6,3,q\r\n";
 
-/// What is asked for.
+/// The call to make.
 #[derive(Clone, Copy)]
 enum Call {
     Verdicts,
@@ -96,7 +96,7 @@ fn asked<S: Sink>(
     }
 }
 
-/// Whether a call writes just this, and tells the second report.
+/// True if a call writes exactly this and returns the refusal of the second report.
 fn writes(alloc: Global, call: Call, format: RowFormat, wanted: &[u8]) -> Result<bool, AllocError> {
     let mut sink = StdSink::new(Vec::new(alloc));
     match asked(alloc, call, format, &mut sink) {

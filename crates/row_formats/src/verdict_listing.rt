@@ -20,9 +20,9 @@ use oim_write::{Encoded, Sink, SinkBuffer, WriteFault};
 use std::alloc::{AllocError, Global};
 use std::mem;
 
-/// Merges reports that are read under a sheet, and appends each row to the sink in a format: its
-/// number from 1, the verdict, its dimensions, its facts and the evidence, as `verdict_lines` judges
-/// it (own). The refused reports are answered, by their numbers from 1.
+/// Merges reports under a sheet and appends one row for each dimension set to the sink, in a format:
+/// its number from 1, the verdict, its dimensions, its facts and the evidence. The verdicts are those
+/// of `verdict_lines` (own). Returns the refusals by the numbers of the reports, from 1.
 ///
 /// Errors: `Device` if the sink failed; `OutOfMemory`.
 pub fn verdict_rows<S: Sink>(
@@ -43,7 +43,7 @@ pub fn verdict_rows<S: Sink>(
     write_verdicts(alloc, &base, refusals, format, out)
 }
 
-/// Does the same with reports that were added one at a time.
+/// The same for reports that were added one at a time.
 ///
 /// Errors: as of `verdict_rows`.
 pub fn finish_rows<S: Sink>(
@@ -63,7 +63,7 @@ pub fn finish_rows<S: Sink>(
     write_verdicts(alloc, &base, refusals, format, out)
 }
 
-/// Does the same for a program that ends behind it, as `Consolidation::finish_last` does.
+/// The same for a program that exits afterwards, as in `Consolidation::finish_last`.
 ///
 /// Errors: as of `verdict_rows`.
 pub fn finish_rows_last<S: Sink>(
@@ -85,7 +85,7 @@ pub fn finish_rows_last<S: Sink>(
     written
 }
 
-/// Appends the rows of the base, and answers the refusals.
+/// Appends the rows of the base and returns the refusals.
 fn write_verdicts<S: Sink>(
     alloc: Global,
     base: &Base<'_>,
@@ -104,7 +104,8 @@ fn write_verdicts<S: Sink>(
     }
 }
 
-/// Appends the rows of a base. On a fault the sink has the front of them whose length it tells.
+/// Appends the rows of a base. On a fault the sink has a first part of them; the fault carries its
+/// length.
 fn write_rows<S: Sink>(
     alloc: Global,
     base: &Base<'_>,
@@ -163,7 +164,7 @@ fn push_rows<S: Sink>(
         before: 0,
         count: base.fact_count(),
     };
-    // no more rows than fit this number
+    // a base has no more rows than this number can count
     let _most = base.row_count();
     let mut number = 0;
     for row in base.rows() {
@@ -223,7 +224,7 @@ fn row_text(
     }
 }
 
-/// What shows the verdict on a row of the base.
+/// The evidence for the verdict on a row of the base.
 fn evidence_of(base: &Base<'_>, row: Row<'_>) -> Evidence
     requires { Contains (rows_of base.now.body.facts) (shown row) }
     ensures { IsEvidence row.entry.values.now result }
