@@ -5,17 +5,18 @@ use Rattle.oim_report.specs.declared.refusal.Refusal.{Refusal}
 use Rattle.oim_merge.specs.declared.fault.Fault.{Fault}
 use Rattle.oim_merge.specs.declared.fault.Fault.TheVariants.{OutOfMemory, Device, TooLoose, Sheet as SheetFault}
 
--- why nothing was made, where this is so of a row above the level and of the sheet's refusal. A sink in memory fails for out of memory alone
+-- why a call failed, given the conditions for a row above the level and for a refused sheet. A sink in memory fails only if memory is
+-- refused
 abbrev pub StopsBy : (ℕ → List (ℕ × Refusal) → Type 0) → (Reason → Type 0) → Fault → Type 0
 StopsBy IsRow IsSheet (TooLoose number told) = IsRow number told
 StopsBy IsRow IsSheet (SheetFault reason) = IsSheet reason
 StopsBy IsRow IsSheet (OutOfMemory written) = Unit {0}
 StopsBy IsRow IsSheet (Device written) = Unit {0}
 
--- no row is
+-- no row is above the level
 abbrev pub NoRow : ℕ → List (ℕ × Refusal) → Type 0
 NoRow number told = ⊥
 
--- no refusal of a sheet is
+-- no sheet is refused
 abbrev pub NoReason : Reason → Type 0
 NoReason reason = ⊥

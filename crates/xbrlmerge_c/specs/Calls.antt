@@ -1,4 +1,4 @@
--- What a sheet and reports come to, from their bytes (own).
+-- The results for the bytes of a sheet and of reports (own).
 use Rattle.std.specs.Prelude.{◌≡◌, ℕ, List, Ok, Err}
 use Rattle.oim_names.specs.declared.reason.Reason.{Reason}
 use Rattle.oim_value.specs.declared.level.Level.{Level}
@@ -17,7 +17,7 @@ use Rattle.row_formats.specs.declared.row_format.RowFormat.TheVariants.{Json}
 abbrev pub IsSheetRefused : List ℕ → Reason → Type 0
 IsSheetRefused sheet reason = sheet_outcome sheet ≡ Err reason
 
--- the canonical text of what the accepted reports say, no row of which is above the level, and the refused ones
+-- the canonical text of the accepted reports, no row of which is above the level, and the refusals of the others
 pub record Merges (sheet : List ℕ) (reports : List (List ℕ)) (level : Level) (text : List ℕ) (told : List (ℕ × Refusal)) : Type 0 where
   pub listed : Sheet
   pub read : sheet_outcome sheet ≡ Ok listed
@@ -25,35 +25,35 @@ pub record Merges (sheet : List ℕ) (reports : List (List ℕ)) (level : Level)
   pub text_is : text ≡ canonical (merged listed reports)
   pub refusals_are : told ≡ refused listed reports
 
--- the row of this number, from 1, is the first that is above the level
+-- the row with this number, from 1, is the first above the level
 pub record IsLoose (sheet : List ℕ) (reports : List (List ℕ)) (level : Level) (number : ℕ) (told : List (ℕ × Refusal)) : Type 0 where
   pub listed : Sheet
   pub read : sheet_outcome sheet ≡ Ok listed
   pub first : IsFirstAbove level (merged listed reports) number
   pub refusals_are : told ≡ refused listed reports
 
--- the lines of the verdicts on what the accepted reports say, and the refused ones
+-- the verdict lines of the accepted reports, and the refusals of the others
 pub record Judges (sheet : List ℕ) (reports : List (List ℕ)) (text : List ℕ) (told : List (ℕ × Refusal)) : Type 0 where
   pub listed : Sheet
   pub read : sheet_outcome sheet ≡ Ok listed
   pub lines : AreLines (merged listed reports) text
   pub refusals_are : told ≡ refused listed reports
 
--- the lines of who said what, and the refused reports
+-- the source lines of the accepted reports, and the refusals of the others
 pub record TellsSources (sheet : List ℕ) (reports : List (List ℕ)) (text : List ℕ) (told : List (ℕ × Refusal)) : Type 0 where
   pub listed : Sheet
   pub read : sheet_outcome sheet ≡ Ok listed
   pub text_is : text ≡ sources listed reports
   pub refusals_are : told ≡ refused listed reports
 
--- the same for the verdicts in JSON, an object a line,
+-- the verdicts as JSON, one object a line
 pub record JudgesJson (sheet : List ℕ) (reports : List (List ℕ)) (text : List ℕ) (told : List (ℕ × Refusal)) : Type 0 where
   pub listed : Sheet
   pub read : sheet_outcome sheet ≡ Ok listed
   pub rows : AreRows Json (merged listed reports) text
   pub refusals_are : told ≡ refused listed reports
 
--- and of who said what
+-- the sources as JSON, one object a line
 pub record TellsSourcesJson (sheet : List ℕ) (reports : List (List ℕ)) (text : List ℕ) (told : List (ℕ × Refusal)) : Type 0 where
   pub listed : Sheet
   pub read : sheet_outcome sheet ≡ Ok listed

@@ -1,4 +1,4 @@
--- What is told of one report (own).
+-- The results for one report (own).
 use Rattle.std.specs.Prelude.{◌≡◌, ◌≤◌, ℕ, List, Ok, Err, IsTrue, ◌↔◌}
 use Rattle.oim_names.specs.declared.reason.Reason.{Reason}
 use Rattle.oim_value.specs.Level.{level_entry}
@@ -12,11 +12,11 @@ use Rattle.xbrlmerge_c.specs.Rows.{row}
 use Rattle.xbrlmerge_c.specs.declared.check.CheckedReport.{CheckedReport}
 use Rattle.xbrlmerge_c.specs.declared.output.RefusedReport.{RefusedReport}
 
--- the numbers of what an accepted report comes to
+-- the result for an accepted report, as numbers
 abbrev pub IsRowOf : Checked → CheckedReport → Type 0
 IsRowOf checked r = (r.facts ≡ checked.facts) × ((r.level ≡ (level_entry checked.level).place) × ((r.canonical ≡ 1 ↔ IsTrue checked.canonical) × (r.canonical ≤ 1)))
 
--- under the sheet the report is accepted, and comes to this
+-- the report is accepted under the sheet, with this result
 pub record Accepts (sheet report : List ℕ) (r : CheckedReport) : Type 0 where
   pub listed : Sheet
   pub read : sheet_outcome sheet ≡ Ok listed
@@ -24,7 +24,7 @@ pub record Accepts (sheet report : List ℕ) (r : CheckedReport) : Type 0 where
   pub is_checked : IsChecked listed report checked
   pub row_is : IsRowOf checked r
 
--- it is refused, and is the report of number 1
+-- the report is refused; its record has the report number 1
 pub record Refuses (sheet report : List ℕ) (r : RefusedReport) : Type 0 where
   pub listed : Sheet
   pub read : sheet_outcome sheet ≡ Ok listed
@@ -32,7 +32,7 @@ pub record Refuses (sheet report : List ℕ) (r : RefusedReport) : Type 0 where
   pub refused : outcome listed report ≡ Err refusal
   pub row_is : r ≡ row 1 refusal
 
--- the sheet is refused, and is the report of number 0
+-- the sheet is refused; its record has the report number 0
 pub record RefusesSheet (sheet : List ℕ) (r : RefusedReport) : Type 0 where
   pub reason : Reason
   pub refused : sheet_outcome sheet ≡ Err reason

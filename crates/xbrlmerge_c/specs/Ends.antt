@@ -1,7 +1,7 @@
--- Reports that follow one another in bytes, by the place where each ends (own).
+-- Concatenated reports, split at the position where each one ends (own).
 use Rattle.std.specs.Prelude.{◌≤◌, ◌-◌, ℕ, List, [], ◌∷◌, length, take, drop}
 
--- each end is no less than the one before it, the first no less than `from`, and none is beyond `count`
+-- the ends never fall, the first is at least `from`, and none is greater than `count`
 abbrev pub AreEndsFrom : ℕ → ℕ → List ℕ → Type 0
 AreEndsFrom from count [] = Unit {0}
 AreEndsFrom from count (end ∷ ends) = (from ≤ end) × ((end ≤ count) × AreEndsFrom end count ends)
@@ -9,11 +9,11 @@ AreEndsFrom from count (end ∷ ends) = (from ≤ end) × ((end ≤ count) × Ar
 abbrev pub AreEnds : List ℕ → List ℕ → Type 0
 AreEnds bytes ends = AreEndsFrom 0 (length bytes) ends
 
--- the bytes from a place up to another
+-- the bytes from one position to another
 abbrev pub between : ℕ → ℕ → List ℕ → List ℕ
 between from end bytes = take (end - from) (drop from bytes)
 
--- each report, from the end of the one before it up to its own, where the first begins at `from`
+-- the reports: each begins at the end of the one before, and the first at `from`
 abbrev pub reports_from : ℕ → List ℕ → List ℕ → List (List ℕ)
 reports_from from bytes [] = []
 reports_from from bytes (end ∷ ends) = between from end bytes ∷ reports_from end bytes ends

@@ -1,4 +1,4 @@
--- The names of refusals by their numbers (own).
+-- The names of refusals by number (own).
 use Rattle.std.specs.Prelude.{ℕ, List, [], Option, Some, None, slice_get}
 use Rattle.oim_names.specs.Reasons.{entry_of, reasons}
 use Rattle.oim_names.specs.declared.reason.Reason.{Reason}
@@ -7,6 +7,6 @@ abbrev pub name_of : Option Reason → List ℕ
 name_of (Some reason) = (entry_of reason).name
 name_of None = []
 
--- the name of the refusal of this number; of a number that none has, no bytes
+-- the name of the refusal with this number; empty if there is none
 abbrev pub name_numbered : ℕ → List ℕ
 name_numbered number = name_of (slice_get reasons number)

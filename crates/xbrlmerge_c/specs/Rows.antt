@@ -1,4 +1,4 @@
--- Refusals as rows of numbers (own).
+-- Refusals as records of numbers (own).
 use Rattle.std.specs.Prelude.{ℕ, List, map}
 use Rattle.oim_names.specs.Reasons.{entry_of}
 use Rattle.oim_report.specs.declared.place.Place.{Place}
@@ -6,12 +6,12 @@ use Rattle.oim_report.specs.declared.place.Place.TheVariants.{Document, Fact}
 use Rattle.oim_report.specs.declared.refusal.Refusal.{Refusal}
 use Rattle.xbrlmerge_c.specs.declared.output.RefusedReport.{RefusedReport}
 
--- facts are counted from 1, and the document is 0
+-- a fact has its number, from 1; the document has 0
 abbrev pub place_number : Place → ℕ
 place_number Document = 0
 place_number (Fact n) = n
 
--- a refusal of the report of this number
+-- the record for a refusal of the report with this number
 abbrev pub row : ℕ → Refusal → RefusedReport
 row n r = record { report = n; fact = place_number r.place; number = (entry_of r.reason).number }
 

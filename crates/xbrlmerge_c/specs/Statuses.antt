@@ -1,19 +1,19 @@
--- The numbers by which a call tells how it ended (own).
+-- The statuses that a call returns (own).
 use Rattle.std.specs.Prelude.{ℕ}
 
 -- every report was accepted
 abbrev pub done : ℕ
 done = 0
 
--- some were refused
+-- some reports were refused
 abbrev pub refused_some : ℕ
 refused_some = 1
 
--- a dimension set has duplicates above the level that is allowed
+-- a dimension set has duplicates above the allowed level
 abbrev pub too_loose : ℕ
 too_loose = 2
 
--- what is to be handed over is longer than the room for it
+-- a buffer is too short
 abbrev pub too_short : ℕ
 too_short = 3
 
@@ -21,7 +21,7 @@ too_short = 3
 abbrev pub sheet_refused : ℕ
 sheet_refused = 4
 
--- memory was wanted and refused
+-- memory was refused
 abbrev pub no_memory : ℕ
 no_memory = 5
 
@@ -29,6 +29,6 @@ no_memory = 5
 abbrev pub bad_ends : ℕ
 bad_ends = 6
 
--- the number of a level is that of none
+-- there is no level with this number
 abbrev pub bad_level : ℕ
 bad_level = 7

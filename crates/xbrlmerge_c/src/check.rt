@@ -11,15 +11,15 @@ use oim_names::Reason;
 use oim_report::{Refusal, Sheet};
 use std::alloc::{AllocError, Global};
 
-/// What an accepted report comes to, as numbers.
+/// The result for an accepted report, as numbers.
 #[repr(C)]
 #[derive(Clone, Copy, Debug, PartialEq, Eq)]
 pub struct CheckedReport {
-    /// How many facts it has, repeats counted.
+    /// The number of its facts, repeats counted.
     pub facts: u64,
-    /// The strictest level that allows its duplicates, from 0 for none to 3 for all.
+    /// The strictest level that its facts satisfy, from 0 for none to 3 for all.
     pub level: u32,
-    /// 1 where its bytes are the canonical text of what it says, else 0.
+    /// 1 if its bytes are the canonical text of its facts, otherwise 0.
     pub canonical: u32,
 }
 
@@ -35,10 +35,10 @@ impl CheckedReport {
     }
 }
 
-/// Checks one report, as `oim_merge::check_report` does: `checked` tells what an accepted one comes to,
-/// and `refusal` why it is refused, with the report number 1, or why the sheet is, with 0.
+/// Checks one report, as `oim_merge::check_report` does. `checked` gets the result for an accepted
+/// report. `refusal` gets the refusal of the report, with the report number 1, or of the sheet, with 0.
 ///
-/// Errors, by the status: `REFUSED`; `SHEET_REFUSED`; `NO_MEMORY`, where all is as it was.
+/// Errors, by the status: `REFUSED`; `SHEET_REFUSED`; `NO_MEMORY`, with nothing changed.
 #[unsafe(no_mangle)]
 pub extern "C" fn xbrlmerge_check(
     alloc: Global,
@@ -77,7 +77,7 @@ pub extern "C" fn xbrlmerge_check(
     }
 }
 
-/// What the report comes to, or its refusal.
+/// The result for the report, or its refusal.
 ///
 /// Errors: out of memory, which is not a refusal here.
 fn checked_or_refused(

@@ -1,5 +1,5 @@
-//! The calls of `oim_merge` for callers in C: bytes in, and bytes and rows of numbers out, in memory
-//! of the caller's. `include/xbrlmerge.h` tells what a caller has to keep.
+//! The calls of `oim_merge` for C. Bytes go in; bytes and records of numbers come out, in memory of
+//! the caller. `include/xbrlmerge.h` says what a caller must do.
 #![tactic(auto)]
 
 mod calls;

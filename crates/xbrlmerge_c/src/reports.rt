@@ -11,7 +11,7 @@ use oim_report::Sheet;
 use oim_write::Encoded;
 use std::alloc::{AllocError, Global};
 
-/// Whether no end is less than the one before it, or beyond the bytes.
+/// True if the ends never fall and none is beyond the bytes.
 pub(crate) fn are_ends(bytes: &[u8], ends: &[usize]) -> bool
     ensures { IsTrue result ↔ AreEnds bytes.now ends.now }
 {
@@ -25,7 +25,7 @@ pub(crate) fn are_ends(bytes: &[u8], ends: &[usize]) -> bool
     true
 }
 
-/// A copy of each report, where these follow one another and end at these places.
+/// Copies each report; they are concatenated and end at these positions.
 ///
 /// Errors: out of memory.
 pub(crate) fn reports_of(
@@ -45,7 +45,7 @@ pub(crate) fn reports_of(
     Ok(each)
 }
 
-/// Adds the reports, which follow one another and end at these places.
+/// Adds the reports, which are concatenated and end at these positions.
 ///
 /// Errors: out of memory.
 pub(crate) fn add_reports<'s>(
@@ -66,7 +66,7 @@ pub(crate) fn add_reports<'s>(
     Ok(consolidation)
 }
 
-/// The sheet that these bytes say.
+/// Reads a sheet from these bytes.
 ///
 /// Errors: `Sheet` with the first refusal; `OutOfMemory`.
 pub(crate) fn read_sheet(alloc: Global, bytes: &[u8]) -> Result<Sheet, Fault>

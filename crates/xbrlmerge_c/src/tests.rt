@@ -9,8 +9,8 @@ use crate::refusal_name::xbrlmerge_refusal_name;
 use std::alloc::Global;
 use std::test::Fail;
 
-// Each call with ample room and memory, and each status. Where a request for memory is refused, the
-// next one is not: the call is made again.
+// Each call with enough room and memory, and each status. A call is repeated after a refused
+// request for memory.
 
 const SHEET: &str = r#"{"namespaces":{"eg":"http://example.org/t"},"concepts":{"eg:A":"numeric"}}"#;
 
@@ -19,7 +19,7 @@ const BAD_SHEET: &str = r#"{"concepts":{"eg:A":"numeric"}}"#;
 const HUNDRED: &str =
     r#"{"documentInfo":{"documentType":"https://xbrl.org/2021/xbrl-json","namespaces":{"eg":"http://example.org/t"}},"facts":{"a":{"value":"100","decimals":0,"dimensions":{"concept":"eg:A"}}}}"#;
 
-/// One that is accepted, one with a prefix that is not bound, and one that contradicts the first.
+/// An accepted report, one with a prefix that is not bound, and one that contradicts the first.
 const REPORTS: &str =
     r#"{"documentInfo":{"documentType":"https://xbrl.org/2021/xbrl-json","namespaces":{"eg":"http://example.org/t"}},"facts":{"a":{"value":"100","decimals":0,"dimensions":{"concept":"eg:A"}}}}{"documentInfo":{"documentType":"https://xbrl.org/2021/xbrl-json","namespaces":{"eg":"http://example.org/t"}},"facts":{"a":{"value":"1","dimensions":{"concept":"q:A"}}}}{"documentInfo":{"documentType":"https://xbrl.org/2021/xbrl-json","namespaces":{"eg":"http://example.org/t"}},"facts":{"b":{"value":"102","decimals":0,"dimensions":{"concept":"eg:A"}}}}"#;
 
@@ -38,7 +38,7 @@ const VERDICTS_JSON: &[u8] =
 const SOURCES_JSON: &[u8] =
     b"{\"fact\":\"f1\",\"report\":1,\"identifier\":\"a\"}\n{\"fact\":\"f2\",\"report\":3,\"identifier\":\"b\"}\n";
 
-/// What stands in a room before a call.
+/// The content of a buffer before a call.
 const BEFORE: RefusedReport = RefusedReport {
     report: 7,
     fact: 7,
@@ -61,7 +61,7 @@ enum Call {
     SourcesJson,
 }
 
-/// What a call left in its caller's memory.
+/// The caller's memory after a call.
 #[derive(Drop)]
 struct Left {
     status: u32,
@@ -71,7 +71,7 @@ struct Left {
     refused: usize,
 }
 
-/// Makes a call with room for so many bytes.
+/// Makes a call with a buffer of this many bytes.
 fn called_once(alloc: Global, call: Call, sheet: &str, ends: &[usize], room: usize) -> Left {
     let (mut out, mut rows) = ([7; 400], [BEFORE; 2]);
     let (mut needed, mut refused) = (7, 7);
@@ -147,7 +147,7 @@ fn called_once(alloc: Global, call: Call, sheet: &str, ends: &[usize], room: usi
     }
 }
 
-/// The same, and once more where memory was refused.
+/// The same, repeated if memory was refused.
 fn called(rt: &HostRuntime, call: Call, sheet: &str, ends: &[usize], room: usize) -> Left {
     let left = called_once(rt.alloc(), call, sheet, ends, room);
     if left.status != NO_MEMORY {
@@ -157,7 +157,7 @@ fn called(rt: &HostRuntime, call: Call, sheet: &str, ends: &[usize], room: usize
     called_once(rt.alloc(), call, sheet, ends, room)
 }
 
-/// Whether the text stands at the front, and the row of the refused report.
+/// True if the text and the record of the refused report are at the start.
 fn has_all(left: &Left, text: &[u8]) -> bool {
     left.status == REFUSED
         && left.needed == text.len()
@@ -241,7 +241,7 @@ fn no_report_is_done(rt: HostRuntime) -> Result<(), Fail> {
     Ok(())
 }
 
-/// Checks a report, once more where memory was refused.
+/// Checks a report, repeated if memory was refused.
 fn checked(rt: &HostRuntime, report: &[u8]) -> (u32, CheckedReport, RefusedReport) {
     let mut checked = CheckedReport {
         facts: 7,
