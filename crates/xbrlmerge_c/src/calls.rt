@@ -17,7 +17,7 @@ use oim_value::Level;
 use oim_write::{Encoded, StdSink};
 use std::alloc::Global;
 
-/// The level of this number, from 0 for the strictest.
+/// The level with this number, from 0 for the strictest.
 pub(crate) fn level_numbered(number: u32) -> Option<Level>
     ensures { result ≡ slice_get levels number }
 {
@@ -30,14 +30,14 @@ pub(crate) fn level_numbered(number: u32) -> Option<Level>
     }
 }
 
-/// Merges the reports, which follow one another in `reports` and end at `ends`, as
-/// `oim_merge::consolidate` does: the canonical text goes to the front of `out`, the refused reports to
-/// that of `refusals`, and `needed` and `refused` tell how many bytes and rows these are. `allow` is the
-/// number of a level, from 0 for the strictest to 3.
+/// Merges reports, as `oim_merge::consolidate` does. They are concatenated in `reports` and end at
+/// `ends`. `allow` is the number of a level, from 0 for the strictest to 3. The canonical text is
+/// written to the start of `out` and the refused reports to the start of `refusals`; `needed` and
+/// `refused` get their lengths.
 ///
-/// Errors, by the status: `TOO_LOOSE`, where `needed` is the first row above the level; `TOO_SHORT`;
-/// `SHEET_REFUSED`, where `needed` is the refusal's number; `NO_MEMORY`, `BAD_ENDS` and `BAD_LEVEL`,
-/// where all is as it was.
+/// Errors, by the status: `TOO_LOOSE`, with the number of the first row above the level in `needed`;
+/// `TOO_SHORT`; `SHEET_REFUSED`, with the number of the refusal in `needed`; `NO_MEMORY`, `BAD_ENDS`
+/// and `BAD_LEVEL`, with nothing changed.
 #[unsafe(no_mangle)]
 pub extern "C" fn xbrlmerge_merge(
     alloc: Global,
@@ -81,9 +81,9 @@ pub extern "C" fn xbrlmerge_merge(
     answer(made, out, needed, refusals, refused)
 }
 
-/// The canonical text of what the accepted reports say, and the refused ones.
+/// The canonical text of the accepted reports, and the refusals of the others.
 ///
-/// Errors: `Sheet`, `TooLoose`; `OutOfMemory` and, from the sink, `Device`: both are out of memory.
+/// Errors: `Sheet` and `TooLoose`; `OutOfMemory` and `Device` both mean that memory was refused.
 fn merged(
     alloc: Global,
     sheet: &[u8],
@@ -109,12 +109,12 @@ fn merged(
     })
 }
 
-/// Judges the duplicates of the reports, which follow one another in `reports` and end at `ends`,
-/// as `oim_merge::verdict_lines` does: the lines go to the front of `out`, the refused reports to that of
-/// `refusals`, and `needed` and `refused` tell how many bytes and rows these are.
+/// Judges the duplicates of reports, as `oim_merge::verdict_lines` does. The reports are concatenated
+/// in `reports` and end at `ends`. The lines are written to the start of `out` and the refused reports
+/// to the start of `refusals`; `needed` and `refused` get their lengths.
 ///
-/// Errors, by the status: `TOO_SHORT`; `SHEET_REFUSED`, where `needed` is the refusal's number;
-/// `NO_MEMORY` and `BAD_ENDS`, where all is as it was.
+/// Errors, by the status: `TOO_SHORT`; `SHEET_REFUSED`, with the number of the refusal in `needed`;
+/// `NO_MEMORY` and `BAD_ENDS`, with nothing changed.
 #[unsafe(no_mangle)]
 pub extern "C" fn xbrlmerge_verdicts(
     alloc: Global,
@@ -148,9 +148,9 @@ pub extern "C" fn xbrlmerge_verdicts(
     answer(made, out, needed, refusals, refused)
 }
 
-/// The lines of the verdicts on what the accepted reports say, and the refused ones.
+/// The verdict lines of the accepted reports, and the refusals of the others.
 ///
-/// Errors: `Sheet`; `OutOfMemory` and, from the sink, `Device`: both are out of memory.
+/// Errors: `Sheet`; `OutOfMemory` and `Device` both mean that memory was refused.
 fn judged(alloc: Global, sheet: &[u8], reports: &[u8], ends: &[usize]) -> Result<Made, Fault>
     requires { AreEnds reports.now ends.now }
     ensures ok { IfOk result (λ made.
@@ -169,12 +169,12 @@ fn judged(alloc: Global, sheet: &[u8], reports: &[u8], ends: &[usize]) -> Result
     })
 }
 
-/// Tells who said what in the reports, which follow one another in `reports` and end at `ends`, as
-/// `oim_merge::source_lines` does: the lines go to the front of `out`, the refused reports to that of
-/// `refusals`, and `needed` and `refused` tell how many bytes and rows these are.
+/// Lists who reported what, as `oim_merge::source_lines` does. The reports are concatenated in
+/// `reports` and end at `ends`. The lines are written to the start of `out` and the refused reports to
+/// the start of `refusals`; `needed` and `refused` get their lengths.
 ///
-/// Errors, by the status: `TOO_SHORT`; `SHEET_REFUSED`, where `needed` is the refusal's number;
-/// `NO_MEMORY` and `BAD_ENDS`, where all is as it was.
+/// Errors, by the status: `TOO_SHORT`; `SHEET_REFUSED`, with the number of the refusal in `needed`;
+/// `NO_MEMORY` and `BAD_ENDS`, with nothing changed.
 #[unsafe(no_mangle)]
 pub extern "C" fn xbrlmerge_sources(
     alloc: Global,
@@ -208,9 +208,9 @@ pub extern "C" fn xbrlmerge_sources(
     answer(made, out, needed, refusals, refused)
 }
 
-/// The lines of who said what, and the refused reports.
+/// The source lines of the accepted reports, and the refusals of the others.
 ///
-/// Errors: `Sheet`; `OutOfMemory` and, from the sink, `Device`: both are out of memory.
+/// Errors: `Sheet`; `OutOfMemory` and `Device` both mean that memory was refused.
 fn told(alloc: Global, sheet: &[u8], reports: &[u8], ends: &[usize]) -> Result<Made, Fault>
     requires { AreEnds reports.now ends.now }
     ensures ok { IfOk result (λ made.
@@ -224,7 +224,7 @@ fn told(alloc: Global, sheet: &[u8], reports: &[u8], ends: &[usize]) -> Result<M
     lines_of(alloc, &sheet, reports.as_slice())
 }
 
-/// The same for a sheet that was read, and of reports each in its own memory.
+/// The same under a sheet that was read, for reports each in its own memory.
 fn lines_of(alloc: Global, sheet: &Sheet, reports: &[Encoded]) -> Result<Made, Fault>
     ensures text { IfOk result (λ made. made.text.items ≡ sources sheet.now reports.now) }
     ensures refusals { IfOk result (λ made. made.refusals ≡ refused sheet.now reports.now) }

@@ -16,13 +16,12 @@ use oim_write::{Encoded, StdSink};
 use row_formats::{RowFormat, finish_rows, source_rows};
 use std::alloc::Global;
 
-/// Judges the duplicates of the reports, which follow one another in `reports` and end at `ends`,
-/// as `row_formats::verdict_rows` does in JSON: the objects, one a line, go to the front of `out`, the
-/// refused reports to that of `refusals`, and `needed` and `refused` tell how many bytes and rows these
-/// are.
+/// Judges the duplicates of reports, as `row_formats::verdict_rows` does in JSON. The reports are
+/// concatenated in `reports` and end at `ends`. The objects, one a line, are written to the start of
+/// `out` and the refused reports to the start of `refusals`; `needed` and `refused` get their lengths.
 ///
-/// Errors, by the status: `TOO_SHORT`; `SHEET_REFUSED`, where `needed` is the refusal's number;
-/// `NO_MEMORY` and `BAD_ENDS`, where all is as it was.
+/// Errors, by the status: `TOO_SHORT`; `SHEET_REFUSED`, with the number of the refusal in `needed`;
+/// `NO_MEMORY` and `BAD_ENDS`, with nothing changed.
 #[unsafe(no_mangle)]
 pub extern "C" fn xbrlmerge_verdicts_json(
     alloc: Global,
@@ -56,9 +55,9 @@ pub extern "C" fn xbrlmerge_verdicts_json(
     answer(made, out, needed, refusals, refused)
 }
 
-/// The objects of the verdicts on what the accepted reports say, and the refused ones.
+/// The verdicts on the accepted reports as JSON objects, and the refusals of the others.
 ///
-/// Errors: `Sheet`; `OutOfMemory` and, from the sink, `Device`: both are out of memory.
+/// Errors: `Sheet`; `OutOfMemory` and `Device` both mean that memory was refused.
 fn judged(alloc: Global, sheet: &[u8], reports: &[u8], ends: &[usize]) -> Result<Made, Fault>
     requires { AreEnds reports.now ends.now }
     ensures ok { IfOk result (λ made.
@@ -77,12 +76,12 @@ fn judged(alloc: Global, sheet: &[u8], reports: &[u8], ends: &[usize]) -> Result
     })
 }
 
-/// Tells who said what in the reports, which follow one another in `reports` and end at `ends`, as
-/// `row_formats::source_rows` does in JSON: the objects, one a line, go to the front of `out`, the refused
-/// reports to that of `refusals`, and `needed` and `refused` tell how many bytes and rows these are.
+/// Lists who reported what, as `row_formats::source_rows` does in JSON. The reports are concatenated
+/// in `reports` and end at `ends`. The objects, one a line, are written to the start of `out` and the
+/// refused reports to the start of `refusals`; `needed` and `refused` get their lengths.
 ///
-/// Errors, by the status: `TOO_SHORT`; `SHEET_REFUSED`, where `needed` is the refusal's number;
-/// `NO_MEMORY` and `BAD_ENDS`, where all is as it was.
+/// Errors, by the status: `TOO_SHORT`; `SHEET_REFUSED`, with the number of the refusal in `needed`;
+/// `NO_MEMORY` and `BAD_ENDS`, with nothing changed.
 #[unsafe(no_mangle)]
 pub extern "C" fn xbrlmerge_sources_json(
     alloc: Global,
@@ -116,9 +115,9 @@ pub extern "C" fn xbrlmerge_sources_json(
     answer(made, out, needed, refusals, refused)
 }
 
-/// The objects of who said what, and the refused reports.
+/// The sources as JSON objects, and the refusals of the refused reports.
 ///
-/// Errors: `Sheet`; `OutOfMemory` and, from the sink, `Device`: both are out of memory.
+/// Errors: `Sheet`; `OutOfMemory` and `Device` both mean that memory was refused.
 fn told(alloc: Global, sheet: &[u8], reports: &[u8], ends: &[usize]) -> Result<Made, Fault>
     requires { AreEnds reports.now ends.now }
     ensures ok { IfOk result (λ made.
@@ -132,7 +131,7 @@ fn told(alloc: Global, sheet: &[u8], reports: &[u8], ends: &[usize]) -> Result<M
     rows_of(alloc, &sheet, reports.as_slice())
 }
 
-/// The same for a sheet that was read, and of reports each in its own memory.
+/// The same under a sheet that was read, for reports each in its own memory.
 fn rows_of(alloc: Global, sheet: &Sheet, reports: &[Encoded]) -> Result<Made, Fault>
     ensures text { IfOk result (λ made. made.text.items ≡ sources_in Json sheet.now reports.now) }
     ensures refusals { IfOk result (λ made. made.refusals ≡ refused sheet.now reports.now) }
