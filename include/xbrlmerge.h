@@ -3,14 +3,14 @@
    same name. docs/LIBRARY.md says what is proved about the calls, and what is not.
 
    Memory. It belongs to the caller: a call keeps no pointer after it returns, and returns none. The caller also provides
-   the buffers for the text and for the records of refused reports. If one of them is too short, the call sets how much is
-   needed and leaves both unchanged: make that buffer longer, and call again. If both are long enough at once, the text is
-   made only once. A call gets its own memory from malloc, and frees it before it returns.
+   the buffers for the text and for the records of refused reports. If one of them is too short, the call returns the
+   required lengths and leaves both unchanged: make that buffer longer, and call again. If both are long enough at once, the
+   text is made only once. A call gets its own memory from malloc, and frees it before it returns.
 
    Pointers. None may be null, not even if the length is 0: pass the address of any variable of its type instead. (The
    data() of an empty std::vector may be null.) The output (`out`, `needed`, `refusals`, `refused`, `checked`,
-   `refusal`) must not overlap any other argument. During the call, nothing else may access it, or write to
-   what the call reads. Output need not be initialised. A pointer to numbers is aligned as C requires.
+   `refusal`) must not overlap any other argument. During the call, nothing else may access the output, or write to the
+   input. Output need not be initialised. A pointer to numbers is aligned as C requires.
 
    Reports. They are concatenated in `reports`, and `ends` contains the position where each one ends, counted from the
    start: reports of 3 and 4 bytes have the ends 3 and 7. Bytes after the last end are ignored. If an end is less than the

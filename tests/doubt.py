@@ -5,17 +5,18 @@
 
 An entry, `- [FILE](../crates/..): `name`, ..`, lists contracts, types, limits and lines of code (`src/`), or definitions
 (`specs/`). A row `| [`word`](../crates/..) | [`law`](../crates/..) |` names a definition that needs no reading, and laws
-that say what the reader needs of it. FORMAT uses what DOUBT lists, and may list a word of DOUBT. The status is 1 if
+that say enough about it. FORMAT uses what DOUBT lists, and may list a word of DOUBT. The status is 1 if
 
 - a name is not in its file, or is listed twice;
 - a listed definition or contract names one of this repository that is neither listed nor a word;
 - no contract of the page needs an entry or a word;
 - a law of a word does not exist, is on neither page, or does not mention the word;
 - the table of conditions differs from `Reason`, its numbers, and the definitions of the conditions;
-- a page gives another number of lines than it lists, or the headline has more than 600.
+- the number of lines that a page gives is wrong, or the headline has more than 600.
 
-Definitions of the kit are not followed. A field of a record does not hide a definition of its name; a variable does, where
-it is bound. --format prints the format, --quiet nothing. --write mends entries, conditions and numbers of lines, no words.
+Definitions of the kit are not followed. A record field does not hide a definition of the same name; a variable does, in its
+scope. --format prints the format, --quiet nothing. --write updates the entries, the conditions and the numbers of lines, but
+no words.
 """
 import glob
 import os
@@ -229,7 +230,7 @@ class Page:
         self.there = [(path, name) for _, path, name in self.entries]
         self.contracts = [it for it in self.there if is_contract(specs, *it)]
         self.tabled = IN_THE_TABLE if CONDITION.search(self.text) else []
-        # names that need no entry: words, names in the table, and names that the page before lists and this one does not
+        # names that need no entry: words, names in the table, and entries of the page before that this page does not repeat
         self.stops = {*self.words, *self.tabled, *({*before.there, *before.words}.difference(self.there) if before else ())}
 
     def needed(self):

@@ -37,7 +37,7 @@ import zipfile
 from support import TOP, content
 
 CRATE = os.path.join(TOP, "crates", "xbrlmerge")
-# the crates that are made of the example of embedding and of the pieces in docs/LIBRARY.md
+# the crates made from the example of embedding and from the pieces in docs/LIBRARY.md
 EMBED, SHOWN = "embed", "shown"
 NOT_MERGED = "not merged, or not to the end\n"
 PAGES = ("README", "docs/GUIDE", "docs/REFUSALS", "docs/COSTS")
@@ -185,7 +185,7 @@ def run_lines(shell, lines, room):
 
 
 def is_as_shown(shown, printed):
-    """Returns whether lines are those that are shown, some of which are cut."""
+    """Returns whether lines match the shown ones, some of which are cut."""
     return len(shown) == len(printed) and all(
         there.startswith(line[: -len(CUT)]) if line.endswith(CUT) else there == line for line, there in zip(shown, printed)
     )

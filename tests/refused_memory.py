@@ -34,8 +34,8 @@ PROGRAM = "program"
 JOBS = int(os.environ.get("JOBS", len(os.sched_getaffinity(0))))
 # if a test makes more than MANY requests, the first ALL are refused, and then each EVERY-th
 MANY, ALL, EVERY = 5000, 2000, 7
-# if it makes more than MOST, as tests with a device for each byte do, FEW are refused, spread evenly; if its runs would take
-# more than SECONDS of a processor, as many as fit in that time
+# if it makes more than MOST, as tests with a device for each byte do, FEW are refused, spread evenly. If its runs would take
+# more than SECONDS of a processor, as many are refused as fit in that time
 MOST, FEW, SECONDS = 50_000, 1000, 240
 # the requests that a process refuses one after another, and the most seconds of a run
 SHARE, LIMIT = 40, 60
@@ -45,8 +45,8 @@ SHOWN = 20
 CALL, HERE, WHOLE, DEVICE, PASSED, FAILED = "refused calls", "refused here", "whole answers", "device first", "passed over", "failed"
 CLOCK, PROCESSOR = "seconds", "of a processor"
 COLUMNS = ("tests", "requests", "refused in turn", CALL, HERE, WHOLE, DEVICE, PASSED, FAILED, CLOCK, PROCESSOR)
-# in these tests a device fails too, and the run may end in that fault: a buffer without memory first writes what waits, or
-# standard error is full, so the line about memory is lost
+# in these tests a device fails too, and the run may end in that fault. A buffer without memory first writes the waiting
+# bytes; or standard error is full, and the line about memory is lost
 DEVICE_FAILS_TOO = {
     "oim_write tests::writers::a_writer_may_stop_about_a_chunk",
     "oim_merge tests::sources::sources_are_written_up_to_a_place",
@@ -108,7 +108,7 @@ def build_library(room):
     library = f"{room}/refused_memory.so"
     source = f"{TOP}/tests/refused_memory.c"
     if shutil.which("cc") is None:
-        raise NotBuilt("there is no cc, which the library is built with")
+        raise NotBuilt("there is no cc to build the library with")
     subprocess.run(["cc", "-O2", "-shared", "-fPIC", "-o", library, source], check=True)
     return library
 
@@ -290,8 +290,8 @@ def write_inputs(room):
     long_report(room)
 
 
-# command lines: @ begins a file of the examples, % a file that is made, and < the standard input; ~ marks those in which
-# clap looks for a word like a wrong one: it collects the letters of both, and asks for less if the list is refused
+# command lines: @ begins a file of the examples, % a file that is made, and < the standard input. In those with ~ clap looks
+# for a similar word: it lists the letters of both words, and asks for less memory if that list is refused
 LINES = """
  < %bundle
  < %bad_sheet

@@ -1,4 +1,4 @@
-"""What the scripts of tests/ share: the files of the repository, and the program."""
+"""Functions that the scripts of tests/ share: reading the repository's files, and finding the program."""
 import os
 import sys
 

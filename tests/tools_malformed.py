@@ -233,7 +233,7 @@ def open_bytes(path):
 
 
 def within_bounds(run):
-    """Returns the result of a run, within limits of processor time and of time."""
+    """Returns the result of a run, with limits on processor time and on elapsed time."""
     def stop(number, _):
         raise Fault(f"it did not end within {SECONDS} seconds of a processor" if number == signal.SIGPROF else "it blocks")
 

@@ -50,7 +50,7 @@ def read_options() -> argparse.Namespace:
 
 @contextlib.contextmanager
 def program_asked(options: argparse.Namespace) -> Iterator[Optional[Program]]:
-    """Yields the program, which has a folder beside OUT, or None if no option needs it."""
+    """Yields the program with a temporary folder beside OUT, or None if no option needs it."""
     if not options.drop_unreadable:
         yield None
         return

@@ -116,7 +116,7 @@ def signals_held() -> Iterator[None]:
 
 
 def fill_standard_files() -> None:
-    """Opens the null device for each closed standard stream, in the wrong direction, so that each use of it fails.
+    """Opens the null device in place of each closed standard stream, in the wrong direction, so each use of it fails.
 
     Otherwise the next file that is opened would get its number, and lines for standard error would go into that file.
     Both streams are buffered, whatever PYTHONUNBUFFERED says: an unbuffered stream may take a part of the bytes and

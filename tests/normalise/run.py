@@ -5,11 +5,12 @@
 
 Each report in cases.jsonl is normalised with its options. `check` must accept or refuse the result as the case says, and the
 output files must be those beside the report. If nothing is lost and the report was accepted before, `check` and `verdicts`
-must print the same for both; for a report with a set of names only `check` must, because sets are spelled anew. DRAWN
-reports are drawn, 200 by default: a tidy one and its spelling by another tool must give the same lines, and an untidy one
-must be accepted with all options.
+must print the same for both. With a set of names only `check` must, because sets are spelled differently. DRAWN reports are
+drawn, 200 by default: a tidy one and its spelling by another tool must give the same lines, and an untidy one must be
+accepted with all options.
 
-Status 0: all is as expected. 1: it is not; lines say what. 2: bad usage, or the program could not be run.
+Status 0: all is as expected. 1: it is not; each difference is printed. 2: invalid arguments, or the program could not be
+run.
 """
 import argparse
 import json

@@ -59,7 +59,7 @@ def run_whole(tool, *words):
 
 
 def growth(run_at, size):
-    """Returns the ratio of the times of a run at four times a size and at that size: 4 for linear time, 16 for quadratic.
+    """Returns how many times longer a run takes at four times the size: 4 for linear time, 16 for quadratic.
 
     Each time is the least of three measurements of this process. Time that does not depend on the size lowers the ratio.
     """

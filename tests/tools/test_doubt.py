@@ -1,4 +1,4 @@
-"""tests/doubt on a small tree of its own: no definition may hide, no word may be without a law that mentions it."""
+"""Tests of tests/doubt on a small tree: each definition is found, and each word has a law that mentions it."""
 import unittest
 
 from small_tree import SmallTree

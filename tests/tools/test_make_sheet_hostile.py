@@ -33,7 +33,8 @@ ARC = '<link:labelArc xlink:from="{}" xlink:to="{}"/>'
 
 
 def each(form, size, *more):
-    """Fills a form for each number below a size, with the number and the next one, spelled as `more` says."""
+    """Returns the form once for each number below the size. It is filled with the number and the next one, as `more` spells
+    them."""
     return "".join(form.format(*(spelled.format(number, number + 1) for spelled in more)) for number in range(size))
 
 

@@ -1,4 +1,4 @@
-"""tests/pages: on small pages, what counts as a word and which links lead nowhere; and on the pages of this repository."""
+"""Tests of tests/pages on small pages (which words count, which links lead nowhere) and on the pages of this repository."""
 import os
 import subprocess
 import unittest

@@ -1,4 +1,4 @@
-"""tests/promises on a small library: the page has the tables of the code, and names no function that does not exist."""
+"""Tests of tests/promises on a small library: the page has the tables of the code, and names only existing functions."""
 import unittest
 
 from small_tree import SmallTree

@@ -51,7 +51,7 @@ def inputs_named(options: argparse.Namespace) -> Inputs:
 
 
 class Run:
-    """A run of the program on reports, in a folder of its own."""
+    """A run of the program on reports, in its own folder."""
 
     def __init__(self, program: str, options: argparse.Namespace, reports: list[Report], folder: str, progress: Progress) -> None:
         self.options, self.reports, self.folder, self.progress = options, reports, folder, progress
@@ -114,7 +114,7 @@ class Run:
 
 
 def counted(count: int, word: str, words: Optional[str] = None) -> str:
-    """Returns a number and a word, in the plural unless the number is 1."""
+    """Returns a number and a word, which is plural unless the number is 1."""
     return f"{count} {word if count == 1 else words or word + 's'}"
 
 

@@ -1,4 +1,4 @@
-"""Reads the standard labels of concepts from the taxonomies that tools/make_sheet reads."""
+"""Reads the standard labels of concepts from taxonomies, as tools/make_sheet reads them."""
 from __future__ import annotations
 
 from typing import NamedTuple, Optional, Sequence
@@ -74,7 +74,7 @@ class Linkbase(Visitor):
     def __init__(self, taxonomy: Labelled, place: str) -> None:
         self.taxonomy, self.place = taxonomy, place
         self.link: Optional[Link] = None
-        self.opened: Optional[tuple[str, bool]] = None  # the label being read: its place, and whether of a dialect
+        self.opened: Optional[tuple[str, bool]] = None  # the label being read: its place, and whether it is a dialect's
         self.pieces: list[str] = []
 
     def start(self, element: Element, level: int) -> None:

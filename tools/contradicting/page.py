@@ -1,4 +1,5 @@
-"""The page of contradictions: the largest differences first, then an index by concept, and groups with the other rows.
+"""The page of contradictions. It begins with the largest differences; an index by concept and groups with the other rows
+follow.
 
 It shows at most 80 characters of an identifier, a URI or a text, because it repeats them. The table has them in full.
 """
@@ -129,7 +130,7 @@ def concept_of(row: Row) -> Name:
 
 
 def heading(concept: Name, labels: Labels, tag: str) -> str:
-    """Returns a concept as an element that shows its namespace when it is opened, by keyboard too."""
+    """Returns a concept as an element that can be opened, also by keyboard, to show its namespace."""
     label, local = labels.get(concept), escaped(concept.local)
     first = f"<bdi>{escaped(label)}</bdi>" if label else f"<bdi>{local}</bdi>"
     rest = f"<p>{escaped(concept.uri)}" + f" {local}" * bool(label)

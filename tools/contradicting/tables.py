@@ -49,7 +49,7 @@ def cell(value: Cell) -> str:
 
 
 def safe(text: str) -> str:
-    """Returns a text that a spreadsheet does not read as a formula: a ' precedes what would begin one."""
+    """Returns a text with a ' wherever a spreadsheet would read the beginning of a formula."""
     return BEFORE_FORMULA.sub(guarded, text)
 
 

@@ -181,7 +181,7 @@ class Provider:
         """Raises an error if there is a fact that was not asked for."""
         with using(self.fault()):
             if self.head is not None:
-                raise ValueError("it is not one of its facts, or in the wrong place")
+                raise ValueError("it is not one of its facts, or it is in the wrong place")
 
     def respelled(self, tree: Tree) -> Tree:
         """Returns a fact with the prefixes of the merged report."""

@@ -23,7 +23,7 @@ class Number(str):
 
 
 class Twins(NamedTuple):
-    """Two members of an object with the same name, and the dict that was made of the object."""
+    """Two members of an object with the same name, and the dict made from the object."""
 
     made: dict[str, Tree]
     key: str
@@ -105,7 +105,7 @@ def path_to(tree: Tree, wanted: Tree) -> Optional[tuple[str, ...]]:
 
 
 def keys_of(way: Any) -> tuple[str, ...]:
-    """Returns the keys of a linked path, each link of which has the link before and a key."""
+    """Returns the keys of a path. The path is a linked list: each link is the link before it and a key."""
     keys = []
     while way:
         way, key = way

@@ -26,7 +26,7 @@ SCIENTIFIC = re.compile(r"[+-]?(?P<mantissa>\d+(\.\d*)?|\.\d+)[eE][+-]?\d+", re.
 WHOLE = re.compile(r"[+-]?\d{1,18}", re.ASCII)
 DIGITS = 18  # the digits of a number without its exponent
 
-GROWTH, SMALL = 16, 1_000_000  # the names of sets may add this many times the report's length, and this many characters
+GROWTH, SMALL = 16, 1_000_000  # the names of sets may add this many times the report's length plus this many characters
 
 
 class Normaliser:

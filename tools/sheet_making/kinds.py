@@ -9,17 +9,17 @@ from names import XBRL, Name
 from sheet_making.schemas import ANY_TYPE, XBRLDT, Declaration
 from sheets import TABLES
 
-Kinds = dict[str, dict[Name, str]]  # the kinds in each table of a sheet; a "set" is written as text and also listed by name
+Kinds = dict[str, dict[Name, str]]  # the kinds in each table of a sheet; a "set" is written as text and listed by name
 
 XBRLI = "http://www.xbrl.org/2003/instance"
 ENUMERATIONS_1, ENUMERATIONS_2 = "http://xbrl.org/2014/extensible-enumerations", "http://xbrl.org/2020/extensible-enumerations-2.0"
 REGISTRY = "registry"  # replaces each namespace of the data type registry
 HEADS = {Name(XBRLI, "item"): "concepts", Name(XBRLDT, "dimensionItem"): "dimensions"}
-# Of the specifications, no other head leads to a concept; taxonomies at xbrl.org have other paths.
+# No other head in a specification leads to a concept. Taxonomies at xbrl.org have other paths.
 SPECIFICATION = re.compile(r"https?://(www\.w3\.org/|(www\.)?xbrl\.org/(\d{4}|dtr|lrr)/)")
 REGISTERED = re.compile(r"http://www\.xbrl\.org/dtr/type/(numeric|non-numeric|\d{4}-\d\d-\d\d)")
-# From memory: the item types of XBRL 2.1 (section 5.1.1.3), those of extensible enumerations 1.0 and 2.0, and some of
-# the data type registry (http://www.xbrl.org/dtr/dtr.xml), whose other types are followed where its schema is read.
+# From memory: the item types of XBRL 2.1 (section 5.1.1.3) and of extensible enumerations 1.0 and 2.0, and some of the data
+# type registry (http://www.xbrl.org/dtr/dtr.xml). Its other types are resolved if its schema is read.
 ITEM_TYPES = (
     ("numeric", XBRLI, "decimal float double integer nonPositiveInteger negativeInteger long int short byte monetary"),
     ("numeric", XBRLI, "nonNegativeInteger unsignedLong unsignedInt unsignedShort unsignedByte positiveInteger shares"),

@@ -116,7 +116,7 @@ class SchemaVisitor(Visitor):
                 part.type, part.base_level = base, level
 
     def expanded(self, element: Element, key: str) -> Optional[Name]:
-        """Returns the name in an attribute. Without a namespace and a prefix, it is in the wanted one."""
+        """Returns the name in an attribute. Without a prefix, in a schema without a namespace, it is in the wanted one."""
         text = element.get(key)
         if text is None:
             return None

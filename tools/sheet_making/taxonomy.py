@@ -16,7 +16,7 @@ MOST_LINES = 100
 
 
 class Taxonomy:
-    """The elements and types in the named schemas and in those they refer to. For a type, its base type is kept."""
+    """The elements and types in the named schemas and in those they refer to. Each type is kept with its base type."""
 
     def __init__(self, files: Files) -> None:
         self.files, self.rewrites = files, Rewrites()

@@ -1,7 +1,7 @@
 """Reads XML tag by tag, and keeps only the open tags.
 
-Prefixes are resolved here. If expat did it, each name would contain its whole namespace, and a long one would take
-quadratic memory.
+Prefixes are resolved here. With expat each name would contain its whole namespace, and a long one would take quadratic
+memory.
 """
 from __future__ import annotations
 

@@ -60,8 +60,7 @@ fn drop_features(tree: &mut Value) {
     }
 }
 
-/// The first fact in order that the level does not allow beside an earlier one, and that earlier
-/// one.
+/// The first fact that the level does not allow beside an earlier one, with that earlier fact.
 fn first_apart(facts: &[Fact], order: &[usize], level: Level) -> Option<(usize, usize)> {
     let mut group: Option<Group<'_>> = None;
     for place in order {

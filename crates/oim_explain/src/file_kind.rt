@@ -27,7 +27,7 @@ fn is_utf16(bytes: &[u8]) -> bool {
     false
 }
 
-/// The longest first part that is UTF-8, after byte order marks and white space.
+/// The longest UTF-8 text at the start, after byte order marks and white space.
 fn text_of(bytes: &[u8]) -> &str {
     match bytes.utf8_chunks().next() {
         Some(chunk) => chunk.valid().trim_start_matches('\u{feff}').trim_start(),

@@ -112,7 +112,7 @@ fn is_uri(value: &Value) -> bool {
     }
 }
 
-/// The first declaration that names no level. If there is none, all features: two of them declare a
+/// The first declaration that names no level, or else all features, since two of them declare a
 /// level.
 fn misdeclared(tree: &Value) -> Found<'_> {
     let features = info(tree, "features");

@@ -7,7 +7,7 @@ use oim_report::Place;
 use serde_json::Value;
 use std::alloc::{AllocError, Global};
 
-/// A fault as a JSON object. A repeated member is not a refusal and has only the last two members.
+/// A fault as a JSON object. A repeated member is not a refusal: only the last two fields are set.
 #[derive(Clone, Copy)]
 pub(crate) struct Object<'f, 's> {
     pub place: Option<Place>,

@@ -1,4 +1,4 @@
--- A replica has what a new merge of the reports that reached it has.
+-- A replica is equal to a new merge of the reports that reached it.
 use Rattle.std.proofs.Common.{◌≡◌, ℕ, zero, suc, List, map, Some, refl, sym, ap, ◌∙◌}
 use Rattle.std.specs.Prelude.{option_map}
 use Rattle.std.specs.Option.{unwrap_or}

@@ -1,4 +1,4 @@
--- No dimension set is above a level if and only if the level of all facts is not.
+-- No dimension set is above a level if and only if the level of all facts is not above it.
 use Rattle.std.proofs.Common.{◌≡◌, ◌≤◌, Bool, true, false, not, ◌&&◌, cond, List, [], ◌∷◌, map, refl, sym, ap, subst, ◌∙◌}
 use Rattle.std.specs.Prelude.{◌↔◌, All, IsTrue}
 use Rattle.std.specs.List.{AllByRecursion, list_all}

@@ -22,7 +22,7 @@ use Rattle.oim_merge.proofs.Zips.{zip_at, zip_both, zip_long, zip_push, zip_same
 
 -- ---- cached readings
 
--- taking the cached reading is taking the outcome
+-- taking the cached reading has the effect of taking the outcome
 pub with_read_is : (sheet : Sheet) (said : Result Document Refusal) (base : Contents) → with_read (read_as sheet said) base ≡ with_outcome said base
 with_read_is sheet (Ok d) base = refl
 with_read_is sheet (Err refusal) base = refl

@@ -44,6 +44,6 @@ pub record IsFirstAbove (level : Level) (b : Body) (number : ℕ) : Type 0 where
   pub above : row_is_above level row ≡ true
   pub earlier : All (λ r. row_is_above level r ≡ false) before
 
--- no dimension set is above a level if and only if the level that the text declares is not
+-- no dimension set is above a level if and only if the declared level of the text is not above it
 abbrev pub AllowedIsDeclared : Type 0
 AllowedIsDeclared = (sheet : Sheet) (b : Body) (level : Level) → Fits sheet b → StaysWithin level b ↔ IsTrue (is_le (level_cmp (level_of b.facts) level))

@@ -71,7 +71,7 @@ module _ {S M : Type 0} (machine : Machine S M) where
   abbrev pub kept_by : World S M → ℕ → S
   kept_by world i = slice_index_or world.replicas (i - 1) machine.fresh
 
-  -- the world after the replica with this number got this state
+  -- the world in which the replica with this number has this state
   abbrev pub keeps : World S M → ℕ → S → World S M
   keeps world i state = record { replicas = slice_set world.replicas (i - 1) state; sent = world.sent }
 

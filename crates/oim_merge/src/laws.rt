@@ -41,7 +41,7 @@ pub fn least_level_is_declared()
     ensures { LeastLevelIsDeclared }
 {}
 
-/// No dimension set is above a level if and only if the level that the text declares is not.
+/// No dimension set is above a level if and only if the declared level of the text is not above it.
 pub fn allowed_is_declared()
     ensures { AllowedIsDeclared }
 {}
@@ -120,7 +120,7 @@ pub fn wire_agrees()
     ensures stay { ReplicasStay }
 {}
 
-/// Such a replica has what a new merge of the reports that reached it has.
+/// Such a replica has the text, verdicts and level of a new merge of the reports that reached it.
 pub fn replicas_say_as_afresh()
     ensures { ReplicasSayAsAfresh }
 {}

@@ -64,7 +64,7 @@ impl<'s> Messages<'s> {
         Ok(())
     }
 
-    /// The index of the text of a base, which is written unless there is a current one.
+    /// The index of a base's text. The text is written unless there is a current one.
     fn place_of(
         &mut self,
         alloc: Global,

@@ -26,7 +26,7 @@ module _ (us : List (List ℕ)) (digits : ℕ) where
   abbrev pub fact_part : ℕ → Fact → List ℕ
   fact_part before f = part (nat_lt 0 before) (102 ∷ padded digits (before + 1)) (ordered_fact (name_text us) f)
 
-  -- the text of two lists of facts is the text of each, the second numbered after the first
+  -- the text of two lists of facts is the text of the first, then of the second numbered after it
   pub numbered-append : (before : ℕ) (fs gs : List Fact) → numbered_text us digits before (fs ++ gs) ≡ numbered_text us digits before fs ++ numbered_text us digits (before + length fs) gs
   numbered-append before [] gs = ap (λ n. numbered_text us digits n gs) (sym (add-zero before))
   numbered-append before (f ∷ fs) gs =

@@ -7,7 +7,7 @@ use Rattle.oim_write.specs.Sink.{AppendsFirst, AppendsFront, saturated, written_
 use Rattle.oim_write.specs.SinkBuffer.{Pending, Passes, Breaks, nothing_yet}
 use Rattle.oim_write.specs.declared.write_fault.WriteFault.{WriteFault}
 
--- a result that is no error has the property that holds on success
+-- a result that is not an error has the property that holds on success
 pub holds_where_ok : {T E P : Type 0} (r : Result T E) → false ≡ is_err r → OnOk r P → P
 holds_where_ok (Ok x) e p = p
 holds_where_ok (Err x) e p = cc

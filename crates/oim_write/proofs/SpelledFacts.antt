@@ -30,7 +30,7 @@ list_all-behind p (x ∷ xs) c all one =
     let both = and_parts (p x) (list_all p xs) all in
     and_from (p x) (list_all p (xs ++ c ∷ [])) both.0 (list_all-behind p xs c both.1 one)
 
--- a test that each digit passes is passed by padded numbers
+-- padded numbers pass a test that each digit passes
 digits_pass : (p : ℕ → Bool) → ((n : ℕ) → p (48 + n % 10) ≡ true) → (w n : ℕ) → list_all p (padded w n) ≡ true
 unfolding padded
 digits_pass p each zero n = refl

@@ -44,7 +44,7 @@ source_header Json = []
 source_header Csv = record_text source_columns
 source_header SpreadsheetCsv = record_text source_columns
 
--- the row of a mention; the fact has its canonical identifier among these facts
+-- the row of a mention, with the canonical identifier of its fact among these facts
 abbrev pub source_row : RowFormat → List Fact → Mention → List ℕ
 source_row format facts m = source_text format (identifier facts m.fact) m.report m.identifier
 

@@ -78,8 +78,8 @@ fn settle<'n, F: Files>(
 /// A new file, with its name.
 type Named<F> = (String, F);
 
-/// Creates a new file in the folder of the file with this name, which it will replace. It gets the
-/// mode of that file, if there is one.
+/// Creates a new file beside the file with this name, which it will replace. It gets the mode of
+/// that file, if there is one.
 ///
 /// Errors: `Unwritten` if it cannot be created, or if the name belongs to a symbolic link or to
 /// anything but a regular file; out of memory.

@@ -1,4 +1,4 @@
--- A contract on the bytes follows from one on the sheet that was read and the reports that were added.
+-- Contracts on bytes follow from contracts on the parsed sheet and the added reports.
 use Rattle.std.proofs.Common.{◌≡◌, ℕ, List, [], ◌++◌, Option, Some, Result, Ok, Err, sym, ap, subst, ◌∙◌}
 use Rattle.std.specs.Prelude.{IfOk}
 use Rattle.oim_value.specs.declared.level.Level.{Level}

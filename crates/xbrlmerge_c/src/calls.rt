@@ -224,7 +224,7 @@ fn told(alloc: Global, sheet: &[u8], reports: &[u8], ends: &[usize]) -> Result<M
     lines_of(alloc, &sheet, reports.as_slice())
 }
 
-/// The same under a sheet that was read, for reports each in its own memory.
+/// The same under a parsed sheet, for reports that are not concatenated.
 fn lines_of(alloc: Global, sheet: &Sheet, reports: &[Encoded]) -> Result<Made, Fault>
     ensures text { IfOk result (λ made. made.text.items ≡ sources sheet.now reports.now) }
     ensures refusals { IfOk result (λ made. made.refusals ≡ refused sheet.now reports.now) }

@@ -115,7 +115,7 @@ pub extern "C" fn xbrlmerge_sources_json(
     answer(made, out, needed, refusals, refused)
 }
 
-/// The sources as JSON objects, and the refusals of the refused reports.
+/// The sources in the accepted reports as JSON objects, and the refusals of the others.
 ///
 /// Errors: `Sheet`; `OutOfMemory` and `Device` both mean that memory was refused.
 fn told(alloc: Global, sheet: &[u8], reports: &[u8], ends: &[usize]) -> Result<Made, Fault>
@@ -131,7 +131,7 @@ fn told(alloc: Global, sheet: &[u8], reports: &[u8], ends: &[usize]) -> Result<M
     rows_of(alloc, &sheet, reports.as_slice())
 }
 
-/// The same under a sheet that was read, for reports each in its own memory.
+/// The same under a parsed sheet, for reports that are not concatenated.
 fn rows_of(alloc: Global, sheet: &Sheet, reports: &[Encoded]) -> Result<Made, Fault>
     ensures text { IfOk result (λ made. made.text.items ≡ sources_in Json sheet.now reports.now) }
     ensures refusals { IfOk result (λ made. made.refusals ≡ refused sheet.now reports.now) }

@@ -39,7 +39,7 @@ pub record IsWritten (sheet : Sheet) (text : List ℕ) : Type 0 where
 abbrev pub sent_texts : Messages → List (List ℕ)
 sent_texts messages = texts_at messages.texts.items messages.sent.items
 
--- each sent text is stored; each stored text is the text of a body, and its cached reading is what it is read as
+-- each sent text is stored; each stored text is the text of a body, and its cached reading is the result of reading it
 pub record AreHeld (sheet : Sheet) (messages : Messages) : Type 0 where
   pub places : AreWithin messages.texts.items messages.sent.items
   pub kept : AreKept sheet messages.texts.items messages.kept.items
@@ -49,7 +49,7 @@ pub record AreHeld (sheet : Sheet) (messages : Messages) : Type 0 where
 abbrev pub world_in : Replicas → World Contents (List ℕ)
 world_in replicas = world_of replicas.bases.items (sent_texts replicas.messages)
 
--- each cached reading of a report or a text is what it is read as, and each current text is the text of its base
+-- each cached reading is the result of reading that report or text, and each current text is the text of its base
 pub record KeepReadings (sheet : Sheet) (reports : List (List ℕ)) (replicas : Replicas) : Type 0 where
   pub taken : AreKept sheet reports replicas.reports.items
   pub held : AreHeld sheet replicas.messages

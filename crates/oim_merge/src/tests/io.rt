@@ -47,8 +47,8 @@ fn answers(
     same && calls <= u64::from(limit) + 2 && failures == u64::from(is_device)
 }
 
-/// True if a source that fails after these bytes gives a fault with their number, and one that ends
-/// there gives the bytes, at each step.
+/// Tests sources that stop after these bytes, at each step. A failing one must give a fault with
+/// their number, and an ending one the bytes.
 fn stops_behind(rt: &HostRuntime, front: &[u8], limit: u32) -> bool {
     let fault = ReadFault::Device(front.len() as u64);
     for step in STEPS {

@@ -43,8 +43,8 @@ pub(crate) fn base_of<'s>(
     Ok(base)
 }
 
-/// True if a sink that takes seven bytes and then does this holds the first seven, as the fault
-/// says.
+/// True if a sink that stops like this after seven bytes holds exactly those, and the fault says
+/// so.
 fn takes_seven(alloc: Global, then: Then) -> Result<bool, AllocError> {
     let sheet = sheet(alloc)?;
     let base = Base::new(alloc, &sheet);

@@ -36,7 +36,8 @@ fn tells_each_source(alloc: Global) -> Result<bool, AllocError> {
     are_told(alloc, &sheet, &reports)
 }
 
-/// True if a sink with room for this many bytes holds exactly the first bytes, as the fault says.
+/// True if a sink with room for this many bytes holds exactly the first bytes, and the fault says
+/// so.
 fn holds_front(
     alloc: Global,
     sheet: &Sheet,

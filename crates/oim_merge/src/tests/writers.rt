@@ -80,8 +80,8 @@ fn called(
     Ok((ended, failures, sink.into_inner().is_met()))
 }
 
-/// True if a writer of this size, which takes bytes in steps and then does this, holds exactly the
-/// first bytes of the text, and the call says so.
+/// True if a writer of this size, which then stops like this, holds exactly the first bytes of the
+/// text, and the call says so.
 fn holds_the_front(
     alloc: Global,
     call: Call<'_, '_>,

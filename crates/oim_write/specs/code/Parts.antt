@@ -1,4 +1,4 @@
--- The canonical text in the parts in which it is written (own).
+-- The canonical text, part by part as it is written (own).
 use Rattle.std.specs.Prelude.{◌≡◌, ℕ, ◌+◌, nat_lt, List, [], ◌∷◌, ◌++◌, length, codes, Bool, true, false}
 use Rattle.json.specs.Print.{quoted}
 use Rattle.json.specs.Token.{Token, key}

@@ -112,7 +112,7 @@ const DOCUMENTS: [Table<'static>; 2] = [
                 r#","namespaces":{"xbrl":"https://xbrl.org/2021"},"features":{"xbrl:allowedDuplicates":"some"}}}"#,
                 "r: 8 Feature: \"allowedDuplicates\" must stand once in \"features\", as \"none\", \"complete\", \"consistent\" or \"all\": not as \"xbrl:allowedDuplicates\": \"some\"\n",
             ),
-            // the refused one of many members is shown; if two contradict each other, all are
+            // the refused one of many members is shown; if two contradict each other, all are shown
             (
                 r#","baseURL":"http://example.org/","taxonomy":["a.xsd","mailto:x","//["]}}"#,
                 "r: 7 TaxonomyUrl: the reference \"//[\" of \"taxonomy\" is no text, has more than 65,536 bytes itself or as a URL, or is no http or https URL against \"baseURL\"\n",

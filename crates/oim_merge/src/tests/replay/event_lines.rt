@@ -7,7 +7,7 @@ use std::alloc::{AllocError, Global};
 
 /// Bytes, and the number of their first line that is not an event.
 const BAD: &[(&[u8], u64)] = &[
-    // leading zeros, missing numbers and too great numbers
+    // leading zeros, missing numbers and numbers that are too large
     (b"take 01 1", 1),
     (b"take 1 01\n", 1),
     (b"take 0 1\n", 1),

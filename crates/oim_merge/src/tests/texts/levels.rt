@@ -158,7 +158,7 @@ fn another_uri_of_the_prefix_is_no_fault(rt: HostRuntime) -> Result<(), Fail> {
     Ok(())
 }
 
-/// A text in the earlier form and its length, and its text in the present form and that length.
+/// A text in the earlier form with its length, and the same in the present form with its length.
 type Earlier = (
     &'static [&'static str],
     usize,

@@ -92,7 +92,7 @@ fn texts_are_escaped(rt: HostRuntime) -> Result<(), Fail> {
     Ok(())
 }
 
-/// True if a fact with this unit ends with these dimensions, with these namespaces.
+/// True if a fact with this unit is written with these dimensions and namespaces.
 fn writes_unit(rt: &HostRuntime, unit: &str, namespaces: &str, text: &str) -> Result<bool, Fail> {
     let said = r#""a":{"value":"1","dimensions":{"concept":"eg:A","unit":""#;
     let written = r#""f1":{"dimensions":{"concept":"n1:A""#;

@@ -229,7 +229,7 @@ pub(super) const STOPPED: [Row; 15] = [
     ),
 ];
 
-/// Standard output is full in a text, after one, and in a later one. All bytes are counted.
+/// Standard output fills up in the first text, after it, and in a later one. All bytes are counted.
 pub(super) const FULL: [Full; 6] = [
     (
         "replay --sheet sheet --replicas 2 --events empty",
