@@ -83,7 +83,7 @@ def concept(n):
 
 
 def fact(n, entity, prefixes, value, decimals):
-    """The fact n of an entity: no two have the same concept, year and segment."""
+    """Fact n of an entity. No two facts have the same concept, year and segment."""
     year, segment = 2018 + n // CONCEPTS % YEARS, n // CONCEPTS // YEARS
     uri, local = concept(n)
     dimensions = {

@@ -91,7 +91,7 @@ class Specs:
                 self.types.setdefault((crate, name), path)
 
     def owner(self, path, word):
-        """Returns the definition, type or limit to which a word of a file refers; for the kit, its name there."""
+        """Returns the definition, type or limit to which a word of a file refers, or its name in the kit."""
         word, *rest = word.split(".")
         if (path, word) in self.owners:
             return self.owners[path, word]

@@ -275,7 +275,8 @@ def compared(program):
 
 
 def declares(program, merged):
-    """Returns what is wrong with the declared level: it must be the strictest, and the rest must be the earlier text."""
+    """Returns what is wrong with the merged text: it must declare the strictest level, and otherwise equal the earlier
+    text."""
     rest = merged
     for part in DECLARED:
         rest = rest.replace(part, "", 1)

@@ -128,7 +128,7 @@ def late_reports(width):
     changes = sum(one != other for one, other in zip(names, names[1:]))
     check(len(names) == COUNT and changes == len(set(names)) - 1, "reports with similar names are in several branches")
     write("in/late one.json", report(random.Random("late"), 0))
-    os.utime("in/late one.json", (1, 1))  # its own time is long ago
+    os.utime("in/late one.json", (1, 1))  # its modification time is long ago
     made_again(width, "a late report", 1)
     write("in/late one.json", report(random.Random("later"), 1))
     made_again(width, "a changed report", 1)

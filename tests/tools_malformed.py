@@ -112,7 +112,7 @@ LINE_BREAKS = (reworded, reworded, malformed.reordered, malformed.renumbered, *m
 
 
 def broken(chance, text, other, breaks):
-    """Returns a text, broken up to three times; now and then it stays whole."""
+    """Returns a text, broken up to three times, or sometimes unbroken."""
     for _ in range(chance.choice((0, 1, 1, 1, 2, 3))):
         text = chance.choice(breaks)(chance, text, other)
     return text

@@ -96,7 +96,7 @@ def told_by_man():
 
 
 def told_by_completions():
-    """Returns the words of the completions for bash. The completed files stand for the arguments that name files."""
+    """Returns the words of the completions for bash. Completed file names count as the arguments that name files."""
     with tempfile.TemporaryDirectory() as room:
         with open(os.path.join(room, FILE), "w", encoding="utf-8"):
             pass
@@ -161,7 +161,7 @@ def told_by_fish():
 
 
 def differences(place, told, found):
-    """Returns a line for each word that only one of both has."""
+    """Returns a line for each word that only one of the two has."""
     lines = []
     for command in sorted(set(told) | set(found)):
         ours, theirs = told.get(command, {}), found.get(command, {})

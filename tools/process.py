@@ -43,7 +43,7 @@ def run(main: Callable[[], Status]) -> NoReturn:
     then ends by that signal.
     """
     fill_standard_files()
-    handled = [number for number in STOPPING if signal.getsignal(number) is not signal.SIG_IGN]  # `nohup` ignores one
+    handled = [number for number in STOPPING if signal.getsignal(number) is not signal.SIG_IGN]  # `nohup` lets one be ignored
     try:
         for number in handled:
             signal.signal(number, stop)

@@ -59,7 +59,8 @@ class Room:
 
 
 def look_at_cases(room):
-    """Checks the reports in cases.jsonl. Returns how many there are, how many are accepted, and how many were before."""
+    """Checks the reports in cases.jsonl. Returns their number, how many are accepted, and how many were accepted before
+    normalising."""
     with open(os.path.join(HERE, "cases.jsonl"), encoding="utf-8") as file:
         cases = [json.loads(line) for line in file]
     accepted = before = 0

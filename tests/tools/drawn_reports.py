@@ -110,7 +110,7 @@ def roughened(chance, text):
 
 
 def rough_number(chance, value):
-    """Gives a number in the fixtures an exponent, now and then."""
+    """Sometimes gives a number in the fixtures an exponent."""
     return f"{value}E0" if value[-1].isdigit() and chance.random() < 0.4 else value
 
 

@@ -15,7 +15,7 @@ from names import Name
 from process import shortened
 from sheets import Sheet
 
-getcontext().prec = 100  # more digits than an end of an interval has: sums are exact
+getcontext().prec = 100  # more digits than the end of an interval has, so sums are exact
 NUMBER = re.compile(r"-?(?:0|[1-9]\d{0,39})(?:\.\d{1,39})?", re.ASCII)
 MOMENT = re.compile(r"\d{4}-\d\d-\d\dT\d\d:\d\d:\d\d", re.ASCII)
 EVIDENCE = re.compile(r"complete|consistent common (?P<low>\S+) (?P<high>\S+)|inconsistent apart (?P<one>\S+) (?P<two>\S+)")

@@ -18,7 +18,7 @@ class Reason(NamedTuple):
 
 
 class Log:
-    """The lines for changes, and for parts that are left outside the profile, of one fact or of the document.
+    """Collects the lines for one fact or for the document: its changes, and its parts that stay outside the profile.
 
     Each line repeats identifiers, URIs and texts, so they are shortened; `number` identifies the fact.
     """

@@ -19,7 +19,7 @@ use std::alloc::{AllocError, Global};
 /// of which only the last is read (RFC 8259, section 4). A line begins with the name of the file,
 /// shows at most 80 characters of a text, and contains nothing that changes a terminal.
 ///
-/// If a file is not JSON, that is its only line.
+/// A file that is not JSON has only one line, which says so.
 ///
 /// Errors: out of memory.
 pub fn explain(

@@ -43,7 +43,7 @@ without_empty_last [] = []
 without_empty_last (line ∷ []) = cond (length line == 0) [] (line ∷ [])
 without_empty_last (line ∷ next ∷ lines) = line ∷ without_empty_last (next ∷ lines)
 
--- the lines of a file; an empty piece after the last line end is no line
+-- the lines of a file; an empty piece after the last line end is not a line
 abbrev pub lines_of : List ℕ → List (List ℕ)
 lines_of bytes = without_empty_last (line_pieces bytes)
 

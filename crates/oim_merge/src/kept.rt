@@ -11,8 +11,8 @@ use oim_report::{Refusal, Sheet};
 use oim_write::Encoded;
 use std::alloc::{AllocError, Global};
 
-/// A text that may be read several times under a sheet: not read yet, a base with its facts, or its
-/// refusal. It caches a base and not a report: taking a report copies all its facts, while joining
+/// A text that may be read several times under a sheet. It is not read yet, or read into a base, or
+/// refused. It caches a base and not a report: taking a report copies all its facts, while joining
 /// a base copies only new ones.
 pub(crate) type Kept<'s> = Option<Result<Base<'s>, Refusal>>;
 

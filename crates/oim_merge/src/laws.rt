@@ -113,8 +113,9 @@ pub fn sources_ignore_order()
     ensures { SourcesIgnoreOrder }
 {}
 
-/// Replicas that exchange texts have the bases of the documents that reached them, after every
-/// schedule without a bad event. Each text that they sent is accepted, whichever version wrote it.
+/// After every schedule without a bad event, a replica has the base of the documents that reached
+/// it. Replicas exchange only texts. Each text that they sent is accepted, whichever version wrote
+/// it.
 pub fn wire_agrees()
     ensures agrees { WireAgrees }
     ensures stay { ReplicasStay }

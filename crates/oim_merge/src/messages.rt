@@ -95,7 +95,7 @@ impl<'s> Messages<'s> {
         }
     }
 
-    /// The index of an equal text, or the index at which a new text keeps the order.
+    /// The index of an equal text, or the index at which a new text must be inserted.
     fn find(&self, text: &Encoded) -> Result<usize, usize>
         ensures { MatchResult result
             (IsTextAt self.now.texts.items text.now)

@@ -70,7 +70,7 @@ impl<'s> Replicas<'s> {
         }
     }
 
-    /// Runs an event that names only what exists.
+    /// Runs an event. Everything that it names must exist.
     pub(crate) fn step(
         &mut self,
         alloc: Global,

@@ -9,7 +9,7 @@ use oim_value::{Interval, write_units};
 use oim_write::identifier;
 use std::alloc::{AllocError, Global};
 
-/// The identifiers of the facts in a dimension set, from the count before it and the count of all.
+/// Identifies the facts in a dimension set by the number of facts before it and of all facts.
 #[derive(Clone, Copy, Debug)]
 pub(crate) struct Identifiers {
     pub before: u128,

@@ -7,7 +7,7 @@ use crate::write_fault::WriteFault;
 use std::alloc::{AllocError, Global};
 use std::marker::Model;
 
-/// The number of waiting bytes at which they are written to the sink.
+/// Once this many bytes wait, they are written to the sink.
 const CHUNK: usize = 1 << 16;
 
 /// A text on its way to a sink. It counts the bytes that the sink took, and keeps the rest until

@@ -5,7 +5,7 @@ use oim_names::Text;
 use oim_write::identifier;
 use std::alloc::{AllocError, Global};
 
-/// The identifiers of the facts in a row, from the count of facts before it and the count of all.
+/// Identifies the facts in a row by the number of facts before it and of all facts.
 #[derive(Clone, Copy, Debug)]
 pub(crate) struct FactNames {
     pub before: u128,

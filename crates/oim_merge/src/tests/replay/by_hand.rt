@@ -167,7 +167,7 @@ fn earlier_texts_serve(alloc: Global, one: &[u8], two: &[u8]) -> Result<bool, Al
     serve(alloc, &sheet, &reports, one, two)
 }
 
-/// True if texts in the earlier form give the same; it is repeated after a refused request.
+/// True if texts in the earlier form give the same. The call is repeated after a refused request.
 fn do_serve(rt: &HostRuntime, one: &[u8], two: &[u8]) -> bool {
     let mut answer = earlier_texts_serve(rt.alloc(), one, two);
     if answer.is_err() {
