@@ -32,7 +32,7 @@
 extern "C" {
 #endif
 
-/* How a call ended. */
+/* The status that a call returns. */
 enum {
     XBRLMERGE_DONE = 0,          /* done, and every report was accepted */
     XBRLMERGE_REFUSED = 1,       /* done, but some reports were refused; the output is made from the others */
@@ -99,7 +99,7 @@ uint32_t xbrlmerge_sources_json(const uint8_t *sheet, size_t sheet_length, const
 
 /* Checks one report, as `check` does. If it is accepted (XBRLMERGE_DONE), `checked` is set. If it is refused
    (XBRLMERGE_REFUSED), `refusal` is set, with the report number 1. If the sheet is refused (XBRLMERGE_SHEET_REFUSED),
-   `refusal` is set, with the report number 0. The other one is unchanged, and if memory was refused, both are. */
+   `refusal` is set, with the report number 0. The other output is unchanged. If memory was refused, both are unchanged. */
 uint32_t xbrlmerge_check(const uint8_t *sheet, size_t sheet_length, const uint8_t *report, size_t report_length,
                          xbrlmerge_checked *checked, xbrlmerge_refusal *refusal);
 

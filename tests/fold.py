@@ -122,7 +122,7 @@ def made_again(width, told, branches):
 
 
 def late_reports(width):
-    made_again(width, "nothing came", 0)
+    made_again(width, "no new report", 0)
     lists = run("grep", "-h", "-r", "--include=*.list", "in/", f"out{width}.json.room").stdout
     names = [line.split("/")[1].split(".")[0] for line in lists.splitlines()]
     changes = sum(one != other for one, other in zip(names, names[1:]))
@@ -134,7 +134,7 @@ def late_reports(width):
     made_again(width, "a changed report", 1)
     os.remove("in/late one.json")
     made_again(width, "a removed report", 1)
-    made_again(width, "nothing came again", 0)
+    made_again(width, "still no new report", 0)
 
 
 def nodes():
@@ -145,7 +145,7 @@ def nodes():
     for told, words in wrong.items():
         before = set(os.listdir("."))
         check(run(node, *words).returncode == 3 and set(os.listdir(".")) <= before, f"a node with a wrong {told}")
-    check(not os.path.exists(out), "a node leaves the text of a run before")
+    check(not os.path.exists(out), "a node leaves the text of an earlier run")
     text = f"out{WIDTHS[0]}.json.room/branch0.json"
     write(text, bytes_of(text).decode()[:-9])
     check(make(WIDTHS[0]).returncode == 2 and not os.path.exists(f"out{WIDTHS[0]}.json"), "a broken text of a branch is folded")

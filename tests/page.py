@@ -140,7 +140,7 @@ def look_at_large(words, room):
     page = os.path.join(room, "large", "page.html")
     own = [f"{name}=" + os.path.join(room, f"{name}.json") for name in workload.PROVIDERS]
     run([sys.executable, TOOL, "--from", *inputs, "-o", os.path.dirname(page), *own], wanted=1)
-    used = resource.getrusage(resource.RUSAGE_CHILDREN)  # of the only child until now
+    used = resource.getrusage(resource.RUSAGE_CHILDREN)  # the peak of the only child so far
     made, peak = used.ru_utime + used.ru_stime, used.ru_maxrss / 1024
     _, drawn = timed([*words, "--window-size=1100,1200", f"--screenshot={room}/large.png", f"file://{page}"], 30)
     painted = first_paint(words, page)

@@ -43,7 +43,7 @@ def run(main: Callable[[], Status]) -> NoReturn:
     then ends by that signal.
     """
     fill_standard_files()
-    handled = [number for number in STOPPING if signal.getsignal(number) is not signal.SIG_IGN]  # `nohup` lets one be ignored
+    handled = [number for number in STOPPING if signal.getsignal(number) is not signal.SIG_IGN]  # SIGHUP stays ignored under `nohup`
     try:
         for number in handled:
             signal.signal(number, stop)
@@ -82,7 +82,7 @@ def outcome(main: Callable[[], Status]) -> tuple[Status, tuple[str, ...]]:
 def status_of(main: Callable[[], Status]) -> Status:
     try:
         return main()
-    except SystemExit as end:  # argparse raises it
+    except SystemExit as end:  # argparse raises this
         return Status.USAGE if end.code else Status.DONE
 
 

@@ -20,7 +20,8 @@ NODE = os.path.join(os.path.dirname(os.path.abspath(__file__)), "merge_files")
 
 @dask.delayed
 def merge(sheet, out, files, most, _after=()):
-    """Merges files after the steps before. Only the first step may return status 1: the output of a step is not refused."""
+    """Merges files once the earlier steps are done. Only the first step may return status 1: the output of a step is not
+    refused."""
     status = subprocess.run([NODE, sheet, out, *files]).returncode
     if not 0 <= status <= most:
         raise SystemExit(f"{out} is not made: status {status}")

@@ -97,6 +97,6 @@ def identifiers(holders: Holders) -> str:
 
 
 def told(holders: Holders) -> str:
-    """Returns both as a text, with long names and identifiers cut."""
+    """Returns names and identifiers as one text, with long ones cut."""
     brief = ((shortened(holder.name), ", ".join(map(shortened, holder.identifiers))) for holder in holders)
     return "; ".join(" ".join(each).strip() for each in brief)

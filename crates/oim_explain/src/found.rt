@@ -81,7 +81,7 @@ impl<'a> Found<'a> {
         }
     }
 
-    /// Appends the part as JSON, cut.
+    /// Appends the part as JSON, cut if it is long.
     fn push_to(self, alloc: Global, line: &mut String) -> Result<(), AllocError> {
         match self {
             Found::Nothing => Ok(()),

@@ -144,7 +144,7 @@ fn open_and_read<F: Files>(alloc: Global, files: &F, name: &str) -> Result<Encod
     }
 }
 
-/// Reads a reader to its end.
+/// Reads all bytes of a reader.
 fn read_bytes<R: Read + Drop>(alloc: Global, reader: R) -> Result<Encoded, ReadFault> {
     let mut source = StdSource::new(reader);
     read_all(alloc, &mut source, MOST_BYTES)
