@@ -11,7 +11,7 @@ from types import FrameType
 from typing import Callable, Iterable, Iterator, NoReturn, Optional
 
 STOPPING = (signal.SIGHUP, signal.SIGINT, signal.SIGTERM)
-MOST_CHARACTERS = 80  # shown characters of a text from a file, as in `xbrlmerge explain`
+MOST_CHARACTERS = 80  # characters that a line shows of a text, as in `xbrlmerge explain`
 
 
 class Status(enum.IntEnum):

@@ -1,7 +1,7 @@
 """Reads and writes JSON. Numbers keep their spelling, and no member is lost.
 
-`json` reads it, with hooks. It cannot write it: its encoder spells a number itself, from an int or a float, and has no
-hook for that, so 1.50, -0 and 1e400 would change. Therefore `pieces_of` writes.
+`json` reads it, with hooks. `json` cannot write it: its encoder spells numbers itself, from an int or a float, so 1.50, -0
+and 1e400 would change. Therefore `pieces_of` writes.
 """
 from __future__ import annotations
 

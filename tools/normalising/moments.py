@@ -35,7 +35,7 @@ def with_time(moment: re.Match[str], is_start: bool) -> Optional[str]:
 
 
 def in_utc(moment: re.Match[str], _: bool) -> Optional[str]:
-    """Converts a moment with a zone to UTC and removes the zone. A midnight that is UTC keeps its spelling."""
+    """Converts a moment with a zone to UTC and removes the zone. If the zone is UTC already, midnight keeps its spelling."""
     day, time, part, zone = moment.groups(default="")
     if not zone or not time or part:
         return None
