@@ -68,7 +68,7 @@ LONG = {
         "a.xsd": SCHEMA.replace(" target", each(' xmlns:p{}="p{}"', 4 * size, "{0}", "{0}") + " target")
         % each(HEAD, size, "C{0}", "p{0}:C")
     },
-    "prefixes one in another": lambda size: {
+    "nested prefixes": lambda size: {
         "a.xsd": SCHEMA % ((f'<a xmlns:p="{"u" * (size // 10)}">' * 900 + "</a>" * 900) + each(ITEM.replace("%s", "{}"), size, "C{0}", "string"))
     },
     "rewrites and imports": rewrites_and_imports,

@@ -108,7 +108,7 @@ impl<'s> Consolidation<'s> {
     /// The same for a program that exits afterwards: the facts are not freed, since freeing them
     /// takes time and has no use then.
     ///
-    /// Errors: as of `finish`.
+    /// Errors: the same as `finish`.
     pub fn finish_last<S: Sink>(self, allow: Level, out: &mut S) -> Result<Refusals, Fault>
         requires { S.failures out.old < 2 ^ 64 - 1 }
         ensures ok { IfOk result (Writes allow self.entry.body self.entry.refusals (S.told out.old) (S.told out.new)) }
@@ -143,7 +143,7 @@ impl<'s> Consolidation<'s> {
 
     /// The same for a program that exits afterwards, as in `finish_last`.
     ///
-    /// Errors: as of `finish_lines`.
+    /// Errors: the same as `finish_lines`.
     pub fn finish_lines_last<S: Sink>(self, out: &mut S) -> Result<Refusals, Fault>
         requires { S.failures out.old < 2 ^ 64 - 1 }
         ensures ok { IfOk result (Lists self.entry.body self.entry.refusals (S.told out.old) (S.told out.new)) }

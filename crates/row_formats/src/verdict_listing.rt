@@ -45,7 +45,7 @@ pub fn verdict_rows<S: Sink>(
 
 /// The same for reports that were added one at a time.
 ///
-/// Errors: as of `verdict_rows`.
+/// Errors: the same as `verdict_rows`.
 pub fn finish_rows<S: Sink>(
     alloc: Global,
     consolidation: Consolidation<'_>,
@@ -65,7 +65,7 @@ pub fn finish_rows<S: Sink>(
 
 /// The same for a program that exits afterwards, as in `Consolidation::finish_last`.
 ///
-/// Errors: as of `verdict_rows`.
+/// Errors: the same as `verdict_rows`.
 pub fn finish_rows_last<S: Sink>(
     alloc: Global,
     consolidation: Consolidation<'_>,
