@@ -84,8 +84,8 @@ def build(crate):
 def copied_libraries(room):
     """Copies the libraries with their proofs to a folder, and returns their lines of crates.txt."""
     lines = [it for it in content("crates.txt").splitlines() if it[:1] not in ("", "#")]
-    # no crate depends on a program or on a static library
-    lines = [it for it in lines if it.partition(":")[0] != os.path.basename(CRATE) and " staticlib:" not in it]
+    # no crate depends on a program, on a static library or on tests
+    lines = [it for it in lines if it.partition(":")[0] != os.path.basename(CRATE) and not re.match(r"\w+?( staticlib|_tests):", it)]
     for name in (it.partition(":")[0] for it in lines):
         for part in ("src", "specs", "proofs", "out/rlib"):
             given = os.path.join(TOP, "crates", name, part)

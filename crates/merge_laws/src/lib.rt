@@ -11,8 +11,6 @@ mod search;
 mod sorted_map;
 mod sorted_set;
 mod summary;
-#[cfg(test)]
-mod tests;
 
 pub use merge::Merge;
 pub use sorted_map::SortedMap;

@@ -25,6 +25,3 @@ pub use unit::Unit;
 pub use unit_check::{is_unit_text, refuses_some_piece, unit_refusal};
 pub use unit_reader::read_unit;
 pub use unit_writer::{can_write_unit, write_unit};
-
-#[cfg(test)]
-mod tests;

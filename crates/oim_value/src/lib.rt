@@ -9,8 +9,6 @@ pub mod laws;
 mod level;
 mod limits;
 mod plain;
-#[cfg(test)]
-mod tests;
 mod value;
 
 pub use decimals::Decimals;

@@ -1,5 +1,5 @@
 use super::{aliases_of, example, name, tell_refused, unit};
-use crate::{Unit, can_write_unit, unit_refusal, write_unit};
+use oim_dims::{Unit, can_write_unit, unit_refusal, write_unit};
 use oim_names::{Aliases, Name, Reason, Text};
 use std::alloc::AllocError;
 use std::test::Fail;

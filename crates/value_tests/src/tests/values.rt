@@ -1,8 +1,8 @@
 mod intervals;
 mod level;
 
-use crate::{Decimals, Fixed, Value, read_fixed, write_fixed, write_units};
 use oim_names::{Aliases, Copied, Name, Reason, Text};
+use oim_value::{Decimals, Fixed, Value, read_fixed, write_fixed, write_units};
 use std::alloc::AllocError;
 use std::test::Fail;
 

@@ -1,6 +1,6 @@
 use super::again::{absorb, merge, tell_refused};
 use super::{finite, rounded};
-use crate::{SortedMap, Summary};
+use merge_laws::{SortedMap, Summary};
 use oim_value::Decimals;
 use std::alloc::AllocError;
 use std::test::Fail;

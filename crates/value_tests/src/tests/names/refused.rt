@@ -1,7 +1,7 @@
 // The aliases are unchanged after a call whose request for memory was refused.
 
 use super::{copied, tell_refused, text};
-use crate::{Aliases, Reason, Text};
+use oim_names::{Aliases, Reason, Text};
 use std::alloc::AllocError;
 use std::test::Fail;
 

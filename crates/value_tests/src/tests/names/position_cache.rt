@@ -1,5 +1,5 @@
-use crate::tests::add;
-use crate::{Aliases, PositionCache};
+use super::add;
+use oim_names::{Aliases, PositionCache};
 use std::test::Fail;
 
 #[test]

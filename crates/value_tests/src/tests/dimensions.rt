@@ -3,7 +3,7 @@ mod refused;
 mod sets;
 mod units;
 
-use crate::{
+use oim_dims::{
     Dimensions, Member, Period, Unit, read_language, read_period, read_unit, write_period,
 };
 use oim_names::{Aliases, Copied, Name, Reason, Text};

@@ -2,7 +2,7 @@
 
 ghost use Rattle.std.specs.Prelude.{◌≡◌, ◌≤◌, [], vec_capacity, IfOk};
 
-use crate::{Merge, SortedMap, SortedSet, Summary};
+use merge_laws::{Merge, SortedMap, SortedSet, Summary};
 use oim_names::{Copied, Key, Text};
 use std::alloc::AllocError;
 

@@ -6,7 +6,7 @@ use super::{
     ALL, SummaryAt, both_rounded, has_both_parts, has_value, is_merged, is_new, is_there, put_at,
     rounded,
 };
-use crate::{SortedMap, SortedSet, Summary};
+use merge_laws::{SortedMap, SortedSet, Summary};
 use oim_names::Text;
 use std::alloc::AllocError;
 use std::test::Fail;

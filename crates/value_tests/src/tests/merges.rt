@@ -2,11 +2,11 @@ mod absorbing;
 mod again;
 mod many;
 
-use crate::{Merge, SortedMap, SortedSet, Summary, laws};
 use again::{
     Items, ItemsAt, Pair, Same, copied, has_at, has_just, has_just_at, insert, items_at, merge,
     pair, put, set, text,
 };
+use merge_laws::{Merge, SortedMap, SortedSet, Summary, laws};
 use oim_names::Text;
 use oim_value::{Decimals, Interval, Value, read_fixed};
 use std::alloc::AllocError;

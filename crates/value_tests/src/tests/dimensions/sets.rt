@@ -1,7 +1,7 @@
 use super::{
     copied, dimensions, do_rise, example, language, name, period, room, tell_refused, text, unit,
 };
-use crate::{Dimensions, Fact, Member, Period};
+use oim_dims::{Dimensions, Fact, Member, Period};
 use oim_names::{Aliases, Copied, Name, Reason};
 use oim_value::Value;
 use std::test::Fail;

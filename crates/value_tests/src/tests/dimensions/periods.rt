@@ -1,5 +1,5 @@
 use super::{language, period, period_text};
-use crate::Period;
+use oim_dims::Period;
 use oim_names::Reason;
 use std::test::Fail;
 

@@ -3,7 +3,7 @@
 
 use super::sets::{Kind, Part, equals_its_copy, fact, is_copied, member, with};
 use super::{example, name};
-use crate::{Dimensions, Fact, Period};
+use oim_dims::{Dimensions, Fact, Period};
 use oim_names::{Aliases, Reason};
 use oim_value::Value;
 use std::test::Fail;

@@ -1,4 +1,4 @@
-use crate::Level;
+use oim_value::Level;
 
 #[test]
 fn levels_have_their_texts(rt: HostRuntime) {

@@ -1,5 +1,5 @@
-use crate::tests::{UNIT, finite, name, number, text, units_written};
-use crate::{Decimals, Interval, Value, common, interval_of, meets, read_fixed, value_meets};
+use super::{UNIT, finite, name, number, text, units_written};
+use oim_value::{Decimals, Interval, Value, common, interval_of, meets, read_fixed, value_meets};
 use std::test::Fail;
 
 const HALF: i128 = UNIT / 2;

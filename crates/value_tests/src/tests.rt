@@ -1,0 +1,4 @@
+mod dimensions;
+mod merges;
+mod names;
+mod values;
