@@ -48,14 +48,14 @@ COLUMNS = ("tests", "requests", "refused in turn", CALL, HERE, WHOLE, DEVICE, PA
 # in these tests a device fails too, and the run may end in that fault. A buffer without memory first writes the waiting
 # bytes; or standard error is full, and the line about memory is lost
 DEVICE_FAILS_TOO = {
-    "oim_write tests::writers::a_writer_may_stop_about_a_chunk",
-    "oim_merge tests::sources::sources_are_written_up_to_a_place",
-    "oim_merge tests::writers::a_base_is_written_up_to_each_place",
-    "oim_merge tests::writers::a_bundle_of_a_number_is_merged_up_to_each_place",
-    "oim_merge tests::writers::a_bundle_of_numbers_is_merged_up_to_each_place",
-    "oim_merge tests::writers::a_number_is_merged_up_to_each_place",
-    "oim_merge tests::writers::a_verdict_is_written_up_to_each_place",
-    "oim_merge tests::writers::numbers_are_merged_up_to_each_place",
+    "merge_tests tests::written::writers::a_writer_may_stop_about_a_chunk",
+    "merge_tests tests::sources::sources_are_written_up_to_a_place",
+    "merge_tests tests::writers::a_base_is_written_up_to_each_place",
+    "merge_tests tests::writers::a_bundle_of_a_number_is_merged_up_to_each_place",
+    "merge_tests tests::writers::a_bundle_of_numbers_is_merged_up_to_each_place",
+    "merge_tests tests::writers::a_number_is_merged_up_to_each_place",
+    "merge_tests tests::writers::a_verdict_is_written_up_to_each_place",
+    "merge_tests tests::writers::numbers_are_merged_up_to_each_place",
     "xbrlmerge tests::files::files_are_read_and_answered",
     "xbrlmerge tests::run::a_full_device_ends_the_run",
     "xbrlmerge tests::run::an_output_that_failed_is_not_flushed",

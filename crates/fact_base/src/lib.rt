@@ -11,8 +11,6 @@ mod ordering;
 mod references;
 mod row;
 mod rows;
-#[cfg(test)]
-mod tests;
 mod verdict;
 
 pub use base::Base;

@@ -32,8 +32,6 @@ mod source;
 mod source_listing;
 mod source_reader;
 mod std_source;
-#[cfg(test)]
-mod tests;
 mod verdict_line;
 
 // merging

@@ -14,8 +14,6 @@ mod room;
 mod sink;
 mod sink_buffer;
 mod std_sink;
-#[cfg(test)]
-mod tests;
 mod unit_text;
 mod uri_set;
 mod write_fault;

@@ -12,8 +12,6 @@ mod row_json;
 mod source_listing;
 mod source_row;
 mod spelling;
-#[cfg(test)]
-mod tests;
 mod verdict_listing;
 
 pub use row_format::RowFormat;

@@ -1,0 +1,103 @@
+mod bases;
+mod gathered;
+mod many;
+mod many_refused;
+mod pairs;
+mod refused;
+mod small_reports;
+mod verdicts;
+
+use crate::tests::asked_again::{tell_refused, tell_refused_here};
+use fact_base::{Base, Evidence, Verdict};
+use oim_report::{Report, Sheet, read_report};
+use std::alloc::AllocError;
+
+// A report of one fact, up to its value.
+const FACT: &str =
+    r#"{"documentInfo":{"documentType":"https://xbrl.org/2021/xbrl-json","namespaces":{"eg":"http://example.org/t"}},"facts":{"a":{"#;
+
+// The text after the value: the dimensions of a number, of a text and of a name.
+const OF_A: &str = r#","dimensions":{"concept":"eg:A"}}}}"#;
+
+const OF_T: &str = r#","dimensions":{"concept":"eg:T"}}}}"#;
+
+const OF_Q: &str = r#","dimensions":{"concept":"eg:Q"}}}}"#;
+
+fn joined(rt: &HostRuntime, start: &str, text: &str, end: &str) -> Result<String, AllocError> {
+    match format!(in rt.alloc(); "{start}{text}{end}") {
+        Err(_) => {
+            tell_refused_here(rt);
+            format!(in rt.alloc(); "{start}{text}{end}")
+        }
+        made => made,
+    }
+}
+
+fn read<'s>(rt: &HostRuntime, sheet: &'s Sheet, text: &str) -> Option<Report<'s>> {
+    match read_report(rt.alloc(), sheet, text.as_bytes()) {
+        Ok(report) => Some(report),
+        Err(_) => {
+            tell_refused(rt);
+            read_report(rt.alloc(), sheet, text.as_bytes()).ok()
+        }
+    }
+}
+
+fn take(rt: &HostRuntime, base: &mut Base<'_>, report: &Report<'_>) -> bool {
+    if !base.same_sheet(report.sheet()) {
+        return false;
+    }
+    if base.take(report).is_ok() {
+        return true;
+    }
+    tell_refused(rt);
+    base.take(report).is_ok()
+}
+
+// Takes a report with this text, or returns false if it is refused.
+fn take_text(rt: &HostRuntime, base: &mut Base<'_>, text: &str) -> bool {
+    match read(rt, base.sheet(), text) {
+        Some(report) => take(rt, base, &report),
+        None => false,
+    }
+}
+
+// Adds a report whose text has three parts, of which only the second differs between reports. It
+// returns false if the report is refused.
+fn add(rt: &HostRuntime, base: &mut Base<'_>, start: &str, text: &str, end: &str) -> bool {
+    match joined(rt, start, text, end) {
+        Ok(report) => take_text(rt, base, report.as_str()),
+        Err(_) => false,
+    }
+}
+
+// Returns a base of one report for each text. All reports have the same start and end.
+fn base_between<'s>(
+    rt: &HostRuntime,
+    sheet: &'s Sheet,
+    start: &str,
+    texts: &[&str],
+    end: &str,
+) -> Option<Base<'s>> {
+    let mut base = Base::new(rt.alloc(), sheet);
+    for text in texts {
+        if !add(rt, &mut base, start, text, end) {
+            return None;
+        }
+    }
+    Some(base)
+}
+
+// Returns a base of one report for each value with its decimals.
+fn base_of<'s>(rt: &HostRuntime, sheet: &'s Sheet, values: &[&str]) -> Option<Base<'s>> {
+    base_between(rt, sheet, FACT, values, OF_A)
+}
+
+// Returns verdict and evidence on the first dimension set of a base.
+fn judged(base: &Base<'_>) -> Option<(Verdict, Evidence)> {
+    let row = base.rows().next()?;
+    match (base.verdict(row.dimensions), base.evidence(row.dimensions)) {
+        (Some(verdict), Some(evidence)) => Some((verdict, evidence)),
+        _ => None,
+    }
+}

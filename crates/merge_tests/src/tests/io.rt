@@ -1,0 +1,186 @@
+use crate::tests::asked_again::{INFO, SHEET, joined, tell_refused};
+use crate::tests::calls::HUNDRED;
+use crate::tests::canonical_parts::END;
+use crate::tests::devices::{STEPS, Step, TestReader, Then};
+use oim_merge::{ReadFault, Source, StdSource, read_all};
+use oim_write::Encoded;
+use std::io::{self, Read};
+use std::test::Fail;
+
+// A call is repeated after a refused request for memory, on a new device. A line on standard error
+// reports it.
+
+/// The result of `read_all`, the number of its requests, and the failures of the source.
+fn read(
+    rt: &HostRuntime,
+    reader: TestReader<'_>,
+    limit: u32,
+) -> (Result<Encoded, ReadFault>, u64, u64) {
+    let mut source = StdSource::new(reader);
+    let mut answer = read_all(rt.alloc(), &mut source, limit);
+    if let Err(ReadFault::OutOfMemory) = answer {
+        tell_refused(rt);
+        source = StdSource::new(reader);
+        answer = read_all(rt.alloc(), &mut source, limit);
+    }
+    let failures = source.failures();
+    (answer, source.into_inner().calls, failures)
+}
+
+/// True if `read_all` returns this after few calls, and a failing source failed once.
+fn answers(
+    rt: &HostRuntime,
+    reader: TestReader<'_>,
+    limit: u32,
+    want: Result<&[u8], ReadFault>,
+) -> bool {
+    let (answer, calls, failures) = read(rt, reader, limit);
+    let same = match (&answer, want) {
+        (Ok(encoded), Ok(bytes)) => encoded.as_bytes() == bytes,
+        (Err(fault), Err(other)) => *fault == other,
+        _ => false,
+    };
+    let is_device = matches!(want, Err(ReadFault::Device(_)));
+    same && calls <= u64::from(limit) + 2 && failures == u64::from(is_device)
+}
+
+/// Tests sources that stop after these bytes, at each step. A failing one must give a fault with
+/// their number, and an ending one the bytes.
+fn stops_behind(rt: &HostRuntime, front: &[u8], limit: u32) -> bool {
+    let fault = ReadFault::Device(front.len() as u64);
+    for step in STEPS {
+        let told = answers(
+            rt,
+            TestReader::new(front, step, Then::Fails),
+            limit,
+            Err(fault),
+        ) && answers(
+            rt,
+            TestReader::new(front, step, Then::IsInterrupted),
+            limit,
+            Err(fault),
+        );
+        if !told
+            || !answers(
+                rt,
+                TestReader::new(front, step, Then::Ends),
+                limit,
+                Ok(front),
+            )
+        {
+            return false;
+        }
+    }
+    true
+}
+
+/// True if endless sources are too long, at each step.
+fn never_ends(rt: &HostRuntime, limit: u32) -> bool {
+    for step in STEPS {
+        let reader = TestReader::new(b"ab", step, Then::GoesOn);
+        if !answers(rt, reader, limit, Err(ReadFault::TooLong)) {
+            return false;
+        }
+    }
+    true
+}
+
+#[test]
+fn sources_stop_at_each_place_of_a_bundle(rt: HostRuntime) -> Result<(), Fail> {
+    let bundle = joined(&rt, &[SHEET, "\n", INFO, HUNDRED, END])?;
+    for length in 0..=bundle.len() {
+        let front = bundle.get(..length).unwrap_or_default();
+        assert!(rt; stops_behind(&rt, front, 1000), "at {length}");
+    }
+    Ok(())
+}
+
+#[test]
+fn endless_sources_are_too_long(rt: HostRuntime) -> Result<(), Fail> {
+    for limit in 0..=64 {
+        assert!(rt; never_ends(&rt, limit), "with the limit {limit}");
+    }
+    assert!(rt; never_ends(&rt, 200_000));
+    Ok(())
+}
+
+#[test]
+fn sources_are_read_to_their_end(rt: HostRuntime) -> Result<(), Fail> {
+    let rows: [(&[u8], Step, Then, u32, Result<&[u8], ReadFault>); 11] = [
+        (b"12345", Step::All, Then::Ends, 5, Ok(b"12345")),
+        (b"12345", Step::Few(1), Then::Ends, 5, Ok(b"12345")),
+        (
+            b"12345",
+            Step::Few(2),
+            Then::Ends,
+            2_147_483_648,
+            Ok(b"12345"),
+        ),
+        (b"12345", Step::All, Then::Ends, 4, Err(ReadFault::TooLong)),
+        (
+            b"12345",
+            Step::Few(1),
+            Then::Ends,
+            4,
+            Err(ReadFault::TooLong),
+        ),
+        (b"", Step::Few(1), Then::Ends, 0, Ok(b"")),
+        (b"", Step::Few(1), Then::GoesOn, 0, Err(ReadFault::TooLong)),
+        (b"", Step::Few(1), Then::GoesOn, 4, Err(ReadFault::TooLong)),
+        (b"", Step::All, Then::GoesOn, 4, Err(ReadFault::TooLong)),
+        (b"12", Step::All, Then::Fails, 4, Err(ReadFault::Device(2))),
+        (
+            b"12",
+            Step::Few(1),
+            Then::IsInterrupted,
+            4,
+            Err(ReadFault::Device(2)),
+        ),
+    ];
+    for (left, step, then, limit, want) in rows {
+        let reader = TestReader::new(left, step, then);
+        assert!(rt;
+            answers(&rt, reader, limit, want),
+            "at {left:?} with the limit {limit}"
+        );
+    }
+    Ok(())
+}
+
+const LONG: u32 = 200_000;
+
+/// The number of requests to an endless source; None if the read succeeds.
+fn calls_of_endless(rt: &HostRuntime) -> Option<u64> {
+    let reader = TestReader::new(b"", Step::Few(30_000), Then::GoesOn);
+    let (answer, calls, _) = read(rt, reader, LONG);
+    if matches!(answer, Err(ReadFault::TooLong)) {
+        Some(calls)
+    } else {
+        None
+    }
+}
+
+/// Reads a source that gives one byte at a time; also returns the number of its failures.
+fn read_repeated(rt: &HostRuntime) -> (Result<Encoded, ReadFault>, u64) {
+    let mut source = StdSource::new(io::repeat(7).take(u64::from(LONG)));
+    let mut answer = read_all(rt.alloc(), &mut source, LONG);
+    if let Err(ReadFault::OutOfMemory) = answer {
+        tell_refused(rt);
+        source = StdSource::new(io::repeat(7).take(u64::from(LONG)));
+        answer = read_all(rt.alloc(), &mut source, LONG);
+    }
+    (answer, source.failures())
+}
+
+fn are_sevens(bytes: &[u8]) -> bool {
+    bytes.len() == LONG as usize && bytes.iter().all(|byte| *byte == 7)
+}
+
+#[test]
+fn long_sources_are_read_in_chunks(rt: HostRuntime) -> Result<(), Fail> {
+    assert!(rt; matches!(calls_of_endless(&rt), Some(0..20)));
+    let (answer, failures) = read_repeated(&rt);
+    assert!(rt; are_sevens(answer?.as_bytes()));
+    assert_eq!(rt; failures, 0);
+    Ok(())
+}

@@ -1,0 +1,133 @@
+ghost use Rattle.std.specs.Prelude.{◌≡◌, ◌+◌, ◌^◌, ◌<◌, OnOk};
+
+use super::BOTH;
+use super::merges::{THREE_LINES, THREE_SETS, came_to};
+use crate::tests::asked_again::{joined, read_sheet, tell_refused};
+use crate::tests::expecting::Expecting;
+use crate::tests::sinks::TOUCHING;
+use oim_merge::Consolidation;
+use oim_report::Sheet;
+use oim_value::Level;
+use oim_write::StdSink;
+use std::alloc::AllocError;
+use std::test::Fail;
+
+// Reports that are added one at a time. After a refused request for memory the report is added
+// again. It is then counted once, and its facts are taken once.
+
+/// One of the facts of `THREE_SETS`.
+const ONE_OF_THREE: &str =
+    r#"{"documentInfo":{"documentType":"https://xbrl.org/2021/xbrl-json","namespaces":{"eg":"http://example.org/t"}},"facts":{"d":{"value":"3","decimals":0,"dimensions":{"concept":"eg:B"}}}}"#;
+
+fn add(
+    rt: &HostRuntime,
+    consolidation: &mut Consolidation<'_>,
+    report: &str,
+) -> Result<(), AllocError>
+    requires { consolidation.old.reports + 1 < 2 ^ 64 }
+    ensures { OnOk result (consolidation.new.reports ≡ consolidation.old.reports + 1) }
+{
+    match consolidation.add(report.as_bytes()) {
+        Err(_) => {
+            tell_refused(rt);
+            consolidation.add(report.as_bytes())
+        }
+        added => added,
+    }
+}
+
+/// Bytes that are not a report, and two reports.
+fn three<'s>(
+    rt: &HostRuntime,
+    sheet: &'s Sheet,
+    one: &str,
+    other: &str,
+) -> Result<Consolidation<'s>, AllocError> {
+    let mut consolidation = Consolidation::new(rt.alloc(), sheet);
+    add(rt, &mut consolidation, "")?;
+    add(rt, &mut consolidation, one)?;
+    add(rt, &mut consolidation, other)?;
+    Ok(consolidation)
+}
+
+fn finishes_last_once(rt: &HostRuntime, sheet: &Sheet, text: &[u8]) -> Option<bool> {
+    let Ok(consolidation) = three(rt, sheet, TOUCHING, TOUCHING) else {
+        return Some(false);
+    };
+    let mut sink = StdSink::new(Expecting::just(text));
+    let answer = consolidation.finish_last(Level::Consistent, &mut sink);
+    came_to(rt, answer, sink, text)
+}
+
+fn lists_last_once(rt: &HostRuntime, sheet: &Sheet) -> Option<bool> {
+    let Ok(consolidation) = three(rt, sheet, THREE_SETS, ONE_OF_THREE) else {
+        return Some(false);
+    };
+    let mut sink = StdSink::new(Expecting::just(THREE_LINES));
+    let answer = consolidation.finish_lines_last(&mut sink);
+    came_to(rt, answer, sink, THREE_LINES)
+}
+
+#[test]
+fn what_is_left_in_memory_is_written_alike(rt: HostRuntime) -> Result<(), Fail> {
+    let sheet = read_sheet(&rt)?;
+    let text = joined(&rt, &BOTH)?;
+    let mut answer = finishes_last_once(&rt, &sheet, &text);
+    if answer.is_none() {
+        answer = finishes_last_once(&rt, &sheet, &text);
+    }
+    assert!(rt; answer == Some(true));
+    Ok(())
+}
+
+#[test]
+fn what_is_left_in_memory_is_judged_alike(rt: HostRuntime) -> Result<(), Fail> {
+    let sheet = read_sheet(&rt)?;
+    let mut answer = lists_last_once(&rt, &sheet);
+    if answer.is_none() {
+        answer = lists_last_once(&rt, &sheet);
+    }
+    assert!(rt; answer == Some(true));
+    Ok(())
+}
+
+fn finishes_once(rt: &HostRuntime, sheet: &Sheet, text: &[u8]) -> Option<bool> {
+    let Ok(consolidation) = three(rt, sheet, TOUCHING, TOUCHING) else {
+        return Some(false);
+    };
+    let mut sink = StdSink::new(Expecting::just(text));
+    let answer = consolidation.finish(Level::Consistent, &mut sink);
+    came_to(rt, answer, sink, text)
+}
+
+fn lists_once(rt: &HostRuntime, sheet: &Sheet) -> Option<bool> {
+    let Ok(consolidation) = three(rt, sheet, THREE_SETS, ONE_OF_THREE) else {
+        return Some(false);
+    };
+    let mut sink = StdSink::new(Expecting::just(THREE_LINES));
+    let answer = consolidation.finish_lines(&mut sink);
+    came_to(rt, answer, sink, THREE_LINES)
+}
+
+#[test]
+fn reports_that_are_added_are_merged(rt: HostRuntime) -> Result<(), Fail> {
+    let sheet = read_sheet(&rt)?;
+    let text = joined(&rt, &BOTH)?;
+    let mut answer = finishes_once(&rt, &sheet, &text);
+    if answer.is_none() {
+        answer = finishes_once(&rt, &sheet, &text);
+    }
+    assert!(rt; answer == Some(true));
+    Ok(())
+}
+
+#[test]
+fn reports_that_are_added_are_judged(rt: HostRuntime) -> Result<(), Fail> {
+    let sheet = read_sheet(&rt)?;
+    let mut answer = lists_once(&rt, &sheet);
+    if answer.is_none() {
+        answer = lists_once(&rt, &sheet);
+    }
+    assert!(rt; answer == Some(true));
+    Ok(())
+}

@@ -1,0 +1,61 @@
+mod by_hand;
+mod event_lines;
+mod schedules;
+
+use crate::tests::calls::reports;
+use fact_base::Base;
+use oim_merge::{ReplayFault, Replayed, read_events, replay};
+use oim_report::Sheet;
+use oim_write::text;
+use std::alloc::{AllocError, Global};
+
+// Replicas and the schedules that they run. After a refused request for memory the call is
+// repeated.
+
+/// One more fact besides those of `calls`.
+const HUNDRED_ONE: &str = r#""a":{"value":"101","decimals":0,"dimensions":{"concept":"eg:A"}}"#;
+
+/// Three replicas each take a report, exchange texts and join.
+const NINE_EVENTS: &str =
+    "take 1 1\nsend 1\ntake 2 2\nreceive 2 1\nsend 2\ntake 3 3\nreceive 3 2\nreceive 3 1\njoin 1 2\n";
+
+/// Runs the events of these lines on replicas, with one report for each of these facts.
+fn played<'s>(
+    alloc: Global,
+    sheet: &'s Sheet,
+    n: usize,
+    each: &[&str],
+    lines: &str,
+) -> Result<Replayed<'s>, ReplayFault> {
+    let reports = reports(alloc, each)?;
+    let events = read_events(alloc, lines.as_bytes())?;
+    replay(alloc, sheet, n, &reports, &events)
+}
+
+/// The result, if memory was not refused.
+fn with_memory<T: Drop>(
+    answer: Result<T, ReplayFault>,
+) -> Result<Result<T, ReplayFault>, AllocError> {
+    match answer {
+        Err(ReplayFault::OutOfMemory) => Err(AllocError),
+        answer => Ok(answer),
+    }
+}
+
+/// True if the bytes are the concatenation of these parts.
+fn are_parts(bytes: &[u8], parts: &[&str]) -> bool {
+    let mut left = bytes;
+    for part in parts {
+        match left.strip_prefix(part.as_bytes()) {
+            Some(rest) => left = rest,
+            None => return false,
+        }
+    }
+    left.is_empty()
+}
+
+/// True if the base is written as these parts.
+fn writes(alloc: Global, base: &Base<'_>, parts: &[&str]) -> Result<bool, AllocError> {
+    let text = text(alloc, base)?;
+    Ok(are_parts(text.as_bytes(), parts))
+}

@@ -1,0 +1,141 @@
+ghost use Rattle.std.specs.Prelude.{◌-◌, ◌^◌, ◌<◌};
+
+use crate::tests::asked_again::{SHEET, tell_refused};
+use oim_merge::{Consolidation, Fault, Refusals};
+use oim_report::Sheet;
+use oim_write::{Encoded, Sink, StdSink};
+use row_formats::{RowFormat, finish_rows, finish_rows_last, source_rows, verdict_rows};
+use std::alloc::{AllocError, Global};
+use std::test::Fail;
+
+// Each call on rows of every kind, against outputs written by hand. A call is repeated after a
+// refused request for memory.
+
+const FIRST: &[u8] =
+    br#"{"documentInfo":{"documentType":"https://xbrl.org/2021/xbrl-json","namespaces":{"eg":"http://example.org/t","x":"http://example.org/u"}},"facts":{"p":{"value":"100","decimals":0,"dimensions":{"concept":"eg:A","entity":"x:E1","period":"2024-01-01T00:00:00/2025-01-01T00:00:00","unit":"eg:USD","eg:Reg":"eg:N"}},"-q":{"value":"=1, \"x\"","dimensions":{"concept":"eg:T","language":"en"}},"r":{"value":null,"dimensions":{"concept":"eg:B","eg:Sku":"s,1"}},"s":{"value":"eg:N","dimensions":{"concept":"eg:Q"}}}}"#;
+
+const REFUSED: &[u8] = b"{}";
+
+const SECOND: &[u8] =
+    br#"{"documentInfo":{"documentType":"https://xbrl.org/2021/xbrl-json","namespaces":{"eg":"http://example.org/t","x":"http://example.org/u"}},"facts":{"p":{"value":"100.2","decimals":1,"dimensions":{"concept":"eg:A","entity":"x:E1","period":"2024-01-01T00:00:00/2025-01-01T00:00:00","unit":"eg:USD","eg:Reg":"eg:N"}},"q":{"value":"two","dimensions":{"concept":"eg:T","language":"en"}}}}"#;
+
+const VERDICTS_JSON: &[u8] =
+    br#"{"row":1,"verdict":"consistent","dimensions":{"concept":"{http://example.org/t}A","entity":"{http://example.org/u}E1","{http://example.org/t}Reg":"{http://example.org/t}N","period":"2024-01-01T00:00:00/2025-01-01T00:00:00","unit":"{http://example.org/t}USD"},"facts":[{"identifier":"f1","value":"100","decimals":0},{"identifier":"f2","value":"100.2","decimals":1}],"evidence":{"common":{"low":"100.15","high":"100.25"}}}
+{"row":2,"verdict":"complete","dimensions":{"concept":"{http://example.org/t}B","{http://example.org/t}Sku":"s,1"},"facts":[{"identifier":"f3","value":null}]}
+{"row":3,"verdict":"complete","dimensions":{"concept":"{http://example.org/t}Q"},"facts":[{"identifier":"f4","value":"{http://example.org/t}N"}]}
+{"row":4,"verdict":"inconsistent","dimensions":{"concept":"{http://example.org/t}T","language":"en"},"facts":[{"identifier":"f5","value":"=1, \"x\""},{"identifier":"f6","value":"two"}],"evidence":{"apart":["f5","f6"]}}
+"#;
+
+const SOURCES_JSON: &[u8] =
+    b"{\"fact\":\"f1\",\"report\":1,\"identifier\":\"p\"}\n{\"fact\":\"f2\",\"report\":3,\"identifier\":\"p\"}\n{\"fact\":\"f3\",\"report\":1,\"identifier\":\"r\"}\n{\"fact\":\"f4\",\"report\":1,\"identifier\":\"s\"}\n{\"fact\":\"f5\",\"report\":1,\"identifier\":\"-q\"}\n{\"fact\":\"f6\",\"report\":3,\"identifier\":\"q\"}\n";
+
+const VERDICTS_CSV: &[u8] =
+    b"row,verdict,fact,concept,entity,period,unit,language,dimensions,value,nil,decimals,common_low,common_high,apart_first,apart_second\r
+1,consistent,f1,{http://example.org/t}A,{http://example.org/u}E1,2024-01-01T00:00:00/2025-01-01T00:00:00,{http://example.org/t}USD,,\"{\"\"{http://example.org/t}Reg\"\":\"\"{http://example.org/t}N\"\"}\",100,,0,100.15,100.25,,\r
+1,consistent,f2,{http://example.org/t}A,{http://example.org/u}E1,2024-01-01T00:00:00/2025-01-01T00:00:00,{http://example.org/t}USD,,\"{\"\"{http://example.org/t}Reg\"\":\"\"{http://example.org/t}N\"\"}\",100.2,,1,100.15,100.25,,\r
+2,complete,f3,{http://example.org/t}B,,,,,\"{\"\"{http://example.org/t}Sku\"\":\"\"s,1\"\"}\",,true,,,,,\r
+3,complete,f4,{http://example.org/t}Q,,,,,,{http://example.org/t}N,,,,,,\r
+4,inconsistent,f5,{http://example.org/t}T,,,,en,,\"=1, \"\"x\"\"\",,,,,f5,f6\r
+4,inconsistent,f6,{http://example.org/t}T,,,,en,,two,,,,,f5,f6\r
+";
+
+const SOURCES_SPREADSHEET: &[u8] =
+    b"fact,report,identifier\r\nf1,1,p\r\nf2,3,p\r\nf3,1,r\r\nf4,1,s\r\nf5,1,'-q\r\nf6,3,q\r\n";
+
+/// The call to make.
+#[derive(Clone, Copy)]
+enum Call {
+    Verdicts,
+    Added,
+    AddedLast,
+    Sources,
+}
+
+fn reports(alloc: Global) -> Result<Vec<Encoded>, AllocError> {
+    let mut reports = Vec::new(alloc);
+    for report in [FIRST, REFUSED, SECOND] {
+        reports.push(Encoded::new(alloc, report)?)?;
+    }
+    Ok(reports)
+}
+
+fn added<'s>(alloc: Global, sheet: &'s Sheet) -> Result<Consolidation<'s>, AllocError> {
+    let mut consolidation = Consolidation::new(alloc, sheet);
+    consolidation.add(FIRST)?;
+    consolidation.add(REFUSED)?;
+    consolidation.add(SECOND)?;
+    Ok(consolidation)
+}
+
+fn asked<S: Sink>(
+    alloc: Global,
+    call: Call,
+    format: RowFormat,
+    sink: &mut S,
+) -> Result<Refusals, Fault>
+    requires { S.failures sink.old < 2 ^ 64 - 1 }
+{
+    let Ok(sheet) = Sheet::read(alloc, SHEET.as_bytes()) else {
+        return Err(Fault::OutOfMemory(0));
+    };
+    let Ok(reports) = reports(alloc) else {
+        return Err(Fault::OutOfMemory(0));
+    };
+    let Ok(consolidation) = added(alloc, &sheet) else {
+        return Err(Fault::OutOfMemory(0));
+    };
+    match call {
+        Call::Verdicts => verdict_rows(alloc, &sheet, &reports, format, sink),
+        Call::Added => finish_rows(alloc, consolidation, format, sink),
+        Call::AddedLast => finish_rows_last(alloc, consolidation, format, sink),
+        Call::Sources => source_rows(alloc, &sheet, &reports, format, sink),
+    }
+}
+
+/// True if a call writes exactly this and returns the refusal of the second report.
+fn writes(alloc: Global, call: Call, format: RowFormat, wanted: &[u8]) -> Result<bool, AllocError> {
+    let mut sink = StdSink::new(Vec::new(alloc));
+    match asked(alloc, call, format, &mut sink) {
+        Ok(refused) => Ok(sink.into_inner().as_slice() == wanted && refused.as_slice().len() == 1),
+        Err(_) => Err(AllocError),
+    }
+}
+
+fn holds(rt: &HostRuntime, call: Call, format: RowFormat, wanted: &[u8]) -> bool {
+    let mut answer = writes(rt.alloc(), call, format, wanted);
+    if answer.is_err() {
+        tell_refused(rt);
+        answer = writes(rt.alloc(), call, format, wanted);
+    }
+    answer == Ok(true)
+}
+
+#[test]
+fn verdicts_are_json(rt: HostRuntime) -> Result<(), Fail> {
+    for call in [Call::Verdicts, Call::Added, Call::AddedLast] {
+        assert!(rt; holds(&rt, call, RowFormat::Json, VERDICTS_JSON));
+    }
+    Ok(())
+}
+
+#[test]
+fn sources_are_json(rt: HostRuntime) {
+    assert!(rt; holds(&rt, Call::Sources, RowFormat::Json, SOURCES_JSON));
+}
+
+#[test]
+fn verdicts_are_csv(rt: HostRuntime) {
+    assert!(rt; holds(&rt, Call::Verdicts, RowFormat::Csv, VERDICTS_CSV));
+}
+
+#[test]
+fn sources_of_a_spreadsheet_are_no_formulas(rt: HostRuntime) {
+    assert!(rt;
+        holds(
+            &rt,
+            Call::Sources,
+            RowFormat::SpreadsheetCsv,
+            SOURCES_SPREADSHEET
+        )
+    );
+}

@@ -1,0 +1,78 @@
+use crate::tests::asked_again::{holds, tell_refused};
+use crate::tests::calls::{AT_FIRST_FACT, HUNDRED, UNBOUND, reports};
+use crate::tests::devices::{Step, TestWriter, Then};
+use crate::tests::expecting::Expecting;
+use crate::tests::sinks::sheet;
+use oim_merge::{Fault, source_lines};
+use oim_report::Sheet;
+use oim_write::{Encoded, StdSink};
+use std::alloc::{AllocError, Global};
+use std::test::Fail;
+
+// A call is repeated after a refused request for memory.
+
+/// Identifiers in another order than their facts, and one that JSON escapes.
+const TWO: &str =
+    r#""\n":{"value":"102","decimals":0,"dimensions":{"concept":"eg:A"}},"b":{"value":"100","decimals":0,"dimensions":{"concept":"eg:A"}}"#;
+
+const LINES: &[u8] = b"f1 1 \"b\"\nf1 3 \"a\"\nf2 1 \"\\n\"\n";
+
+/// True if each fact object of the accepted reports has its line, and the other report is refused.
+fn are_told(alloc: Global, sheet: &Sheet, reports: &[Encoded]) -> Result<bool, AllocError> {
+    let mut sink = StdSink::new(Expecting::just(LINES));
+    match source_lines(alloc, sheet, reports, &mut sink) {
+        Err(Fault::OutOfMemory(_)) => Err(AllocError),
+        Ok(refused) => Ok(
+            refused.as_slice() == [(2, AT_FIRST_FACT)].as_slice() && sink.into_inner().is_met(),
+        ),
+        Err(_) => Ok(false),
+    }
+}
+
+fn tells_each_source(alloc: Global) -> Result<bool, AllocError> {
+    let sheet = sheet(alloc)?;
+    let reports = reports(alloc, [TWO, UNBOUND, HUNDRED].as_slice())?;
+    are_told(alloc, &sheet, &reports)
+}
+
+/// True if a sink with room for this many bytes holds exactly the first bytes, and the fault says
+/// so.
+fn holds_front(
+    alloc: Global,
+    sheet: &Sheet,
+    reports: &[Encoded],
+    room: usize,
+) -> Result<bool, AllocError> {
+    let mut sink = StdSink::new(TestWriter::new(alloc, Step::Few(1), room, Then::Fails)?);
+    match source_lines(alloc, sheet, reports, &mut sink) {
+        Err(Fault::OutOfMemory(_)) => Err(AllocError),
+        Err(Fault::Device(written)) => Ok(
+            written == room as u64 && Some(sink.into_inner().held()) == LINES.get(..room),
+        ),
+        _ => Ok(false),
+    }
+}
+
+fn is_written_up_to(alloc: Global, room: usize) -> Result<bool, AllocError> {
+    let sheet = sheet(alloc)?;
+    let reports = reports(alloc, [TWO, UNBOUND, HUNDRED].as_slice())?;
+    holds_front(alloc, &sheet, &reports, room)
+}
+
+#[test]
+fn each_fact_object_has_its_line(rt: HostRuntime) {
+    assert!(rt; holds(&rt, tells_each_source));
+}
+
+#[test]
+fn sources_are_written_up_to_a_place(rt: HostRuntime) -> Result<(), Fail> {
+    for room in [0, 9, 26] {
+        let mut answer = is_written_up_to(rt.alloc(), room);
+        if answer.is_err() {
+            tell_refused(&rt);
+            answer = is_written_up_to(rt.alloc(), room);
+        }
+        assert!(rt; answer == Ok(true));
+    }
+    Ok(())
+}

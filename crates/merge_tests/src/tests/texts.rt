@@ -1,0 +1,66 @@
+mod bodies;
+mod levels;
+mod orders;
+mod parts;
+mod prefixes;
+
+use crate::tests::asked_again::{INFO, SHEET, joined, tell_refused};
+use crate::tests::canonical_parts::{END, HEAD, MIDDLE};
+use crate::tests::expecting::Expecting;
+use oim_merge::{Fault, consolidate_bundle};
+use oim_write::StdSink;
+use std::test::Fail;
+
+// A call is repeated after a refused request for memory. A line on standard error reports it to
+// `tests/refused_memory`.
+
+const LINE: &str = "\n";
+
+const TWO_URIS: &str = r#""n1":"http://example.org/t","n2":"http://example.org/u""#;
+
+/// True if the bundle is merged to the text; None if memory was refused.
+fn merges(rt: &HostRuntime, bundle: &[u8], text: &[u8]) -> Option<bool> {
+    let mut sink = StdSink::new(Expecting::just(text));
+    let accepted = match consolidate_bundle(rt.alloc(), bundle, &mut sink) {
+        Ok(refusals) => refusals.as_slice().is_empty(),
+        Err(Fault::OutOfMemory(_written)) => return None,
+        Err(_fault) => false,
+    };
+    let out = sink.into_inner();
+    let same = accepted && out.is_met();
+    if !same {
+        let _ = eprintln!(rt; "bytes still expected: {}", out.left());
+    }
+    Some(same)
+}
+
+/// True if a bundle of these parts is merged to a text of these parts.
+fn gives(rt: &HostRuntime, bundle: &[&str], text: &[&str]) -> Result<bool, Fail> {
+    let bundle = joined(rt, bundle)?;
+    let text = joined(rt, text)?;
+    match merges(rt, &bundle, &text) {
+        None => {
+            tell_refused(rt);
+            Ok(merges(rt, &bundle, &text) == Some(true))
+        }
+        Some(same) => Ok(same),
+    }
+}
+
+/// Parts of a bundle, and of the text that it is merged to.
+type Row = (&'static [&'static str], &'static [&'static str]);
+
+/// Whether each bundle is merged to its text.
+fn all_give(rt: &HostRuntime, rows: &[Row]) -> Result<bool, Fail> {
+    let mut all = true;
+    for (bundle, text) in rows {
+        all = gives(rt, bundle, text)? && all;
+    }
+    Ok(all)
+}
+
+/// Whether these facts of one report are written so, by these namespaces.
+fn writes(rt: &HostRuntime, facts: &str, namespaces: &str, text: &str) -> Result<bool, Fail> {
+    let bundle = [SHEET, LINE, INFO, facts, END];
+    gives(rt, &bundle, &[HEAD, namespaces, MIDDLE, text, END])
+}

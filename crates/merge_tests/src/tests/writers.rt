@@ -1,0 +1,233 @@
+use crate::tests::asked_again::{OPEN_INFO, joined, tell_refused};
+use crate::tests::calls::HUNDRED;
+use crate::tests::canonical_parts::{
+    CONSISTENT_HEAD, END, HEAD, MIDDLE, ONE_URI, WRITTEN_BOTH, WRITTEN_HUNDRED,
+};
+use crate::tests::devices::{ComparingWriter, STEPS, Step, Then};
+use crate::tests::sinks::{base_of, sheet_of};
+use fact_base::Base;
+use oim_merge::{Fault, Refusals, consolidate, consolidate_bundle, verdict_lines};
+use oim_report::Sheet;
+use oim_value::Level;
+use oim_write::{Encoded, Sink, StdSink, write_to};
+use std::alloc::{AllocError, Global};
+use std::test::Fail;
+
+// Each call, over writers that stop at each byte of its text. After a refused request for memory
+// the table is tried again.
+
+/// The call that writes a text.
+#[derive(Clone, Copy)]
+enum Call<'a, 's> {
+    Base(&'a Base<'s>),
+    Reports(&'a Sheet, &'a [Encoded]),
+    Bundle(&'a [u8]),
+    Verdicts(&'a Sheet, &'a [Encoded]),
+}
+
+/// The result of a call.
+#[derive(Clone, Copy, PartialEq, Eq)]
+enum Ended {
+    /// The whole text was written, and no report was refused.
+    Whole,
+    /// The writer failed after this many bytes.
+    Device(u64),
+    Otherwise,
+}
+
+fn end_of(answer: Result<Refusals, Fault>) -> Result<Ended, AllocError> {
+    match answer {
+        Err(Fault::OutOfMemory(_)) => Err(AllocError),
+        Err(Fault::Device(written)) => Ok(Ended::Device(written)),
+        Ok(refusals) => Ok(whole(&refusals)),
+        Err(_) => Ok(Ended::Otherwise),
+    }
+}
+
+fn whole(refusals: &Refusals) -> Ended {
+    if refusals.as_slice().is_empty() {
+        Ended::Whole
+    } else {
+        Ended::Otherwise
+    }
+}
+
+/// Makes the call on a new sink over the writer. Returns its result, the failures of the sink, and
+/// true if the sink took the text.
+fn called(
+    alloc: Global,
+    call: Call<'_, '_>,
+    writer: ComparingWriter<'_>,
+) -> Result<(Ended, u64, bool), AllocError> {
+    let mut sink = StdSink::new(writer);
+    let answer = match call {
+        Call::Base(base) => match write_to(alloc, base, &mut sink) {
+            Ok(()) => Ok(Refusals::new(alloc)),
+            Err(fault) => Err(Fault::from(fault)),
+        },
+        Call::Reports(sheet, reports) => {
+            consolidate(alloc, sheet, reports, Level::All, &mut sink)
+        }
+        Call::Bundle(bundle) => consolidate_bundle(alloc, bundle, &mut sink),
+        Call::Verdicts(sheet, reports) => verdict_lines(alloc, sheet, reports, &mut sink),
+    };
+    let ended = end_of(answer)?;
+    let failures = sink.failures();
+    Ok((ended, failures, sink.into_inner().is_met()))
+}
+
+/// True if a writer of this size, which then stops like this, holds exactly the first bytes of the
+/// text, and the call says so.
+fn holds_the_front(
+    alloc: Global,
+    call: Call<'_, '_>,
+    text: &[u8],
+    room: usize,
+    step: Step,
+    then: Then,
+) -> Result<bool, AllocError> {
+    let front = text.get(..room).unwrap_or(text);
+    let left = called(alloc, call, ComparingWriter::new(front, step, room, then))?;
+    if room < text.len() {
+        return Ok(left == (Ended::Device(room as u64), 1, true));
+    }
+    Ok(left == (Ended::Whole, 0, true))
+}
+
+fn holds_each_front(alloc: Global, call: Call<'_, '_>, text: &[u8]) -> Result<bool, AllocError> {
+    for room in 0..=text.len() {
+        for step in STEPS {
+            for then in [Then::Ends, Then::Fails, Then::IsInterrupted] {
+                if !holds_the_front(alloc, call, text, room, step, then)? {
+                    return Ok(false);
+                }
+            }
+        }
+    }
+    Ok(true)
+}
+
+// A short sheet and a short report, since they are read once for each cell.
+
+const SHORT_SHEET: &str =
+    r#"{"namespaces":{"eg":"http://example.org/t"},"concepts":{"eg:A":"numeric"}}"#;
+
+fn report(alloc: Global, facts: &str) -> Result<String, AllocError> {
+    format!(in alloc;
+        "{OPEN_INFO},\"namespaces\":{{\"eg\":\"http://example.org/t\"}}}},\"facts\":{{{facts}{END}"
+    )
+}
+
+fn base_holds(alloc: Global, facts: &str, text: &[u8]) -> Result<bool, AllocError> {
+    let sheet = sheet_of(alloc, SHORT_SHEET)?;
+    let report = report(alloc, facts)?;
+    let base = base_of(alloc, &sheet, report.as_str())?;
+    holds_each_front(alloc, Call::Base(&base), text)
+}
+
+fn bundle_holds(alloc: Global, facts: &str, text: &[u8]) -> Result<bool, AllocError> {
+    let report = report(alloc, facts)?;
+    let bundle = format!(in alloc; "{SHORT_SHEET}\n{report}")?;
+    holds_each_front(alloc, Call::Bundle(bundle.as_bytes()), text)
+}
+
+fn reports_hold(
+    alloc: Global,
+    facts: &str,
+    text: &[u8],
+    verdicts: bool,
+) -> Result<bool, AllocError> {
+    let sheet = sheet_of(alloc, SHORT_SHEET)?;
+    let report = report(alloc, facts)?;
+    let reports = [Encoded::new(alloc, report.as_bytes())?];
+    let call = if verdicts {
+        Call::Verdicts(&sheet, reports.as_slice())
+    } else {
+        Call::Reports(&sheet, reports.as_slice())
+    };
+    holds_each_front(alloc, call, text)
+}
+
+/// The call to make.
+#[derive(Clone, Copy)]
+enum Kind {
+    Base,
+    Reports,
+    Bundle,
+    Verdicts,
+}
+
+fn kind_holds(alloc: Global, kind: Kind, facts: &str, text: &[u8]) -> Result<bool, AllocError> {
+    match kind {
+        Kind::Base => base_holds(alloc, facts, text),
+        Kind::Reports => reports_hold(alloc, facts, text, false),
+        Kind::Bundle => bundle_holds(alloc, facts, text),
+        Kind::Verdicts => reports_hold(alloc, facts, text, true),
+    }
+}
+
+/// The facts of a report, the text in parts, and its length.
+type Row = (&'static str, &'static [&'static str], usize);
+
+const NUMBER: Row = (HUNDRED, &[HEAD, ONE_URI, MIDDLE, WRITTEN_HUNDRED, END], 276);
+
+const TOUCHING: Row = (
+    r#""a":{"value":"100","decimals":0,"dimensions":{"concept":"eg:A"}},"b":{"value":"101","decimals":0,"dimensions":{"concept":"eg:A"}}"#,
+    &[CONSISTENT_HEAD, ONE_URI, MIDDLE, WRITTEN_BOTH, END],
+    348,
+);
+
+const APART: Row = (
+    r#""a":{"value":"100","decimals":0,"dimensions":{"concept":"eg:A"}},"b":{"value":"101","decimals":0,"dimensions":{"concept":"eg:A"}},"c":{"value":"102","decimals":0,"dimensions":{"concept":"eg:A"}}"#,
+    &["1 f1 f3 inconsistent apart f1 f3\n"],
+    33,
+);
+
+/// True if a writer of each size holds the first bytes of the row's text after the call.
+fn holds(rt: &HostRuntime, kind: Kind, row: &Row) -> Result<bool, Fail> {
+    let (facts, parts, length) = row;
+    let text = joined(rt, parts)?;
+    let mut answer = kind_holds(rt.alloc(), kind, facts, &text);
+    if answer.is_err() {
+        tell_refused(rt);
+        answer = kind_holds(rt.alloc(), kind, facts, &text);
+    }
+    Ok(answer? && text.len() == *length)
+}
+
+#[test]
+fn a_base_is_written_up_to_each_place(rt: HostRuntime) -> Result<(), Fail> {
+    assert!(rt; holds(&rt, Kind::Base, &NUMBER)?);
+    assert!(rt; holds(&rt, Kind::Base, &TOUCHING)?);
+    Ok(())
+}
+
+#[test]
+fn a_number_is_merged_up_to_each_place(rt: HostRuntime) -> Result<(), Fail> {
+    assert!(rt; holds(&rt, Kind::Reports, &NUMBER)?);
+    Ok(())
+}
+
+#[test]
+fn numbers_are_merged_up_to_each_place(rt: HostRuntime) -> Result<(), Fail> {
+    assert!(rt; holds(&rt, Kind::Reports, &TOUCHING)?);
+    Ok(())
+}
+
+#[test]
+fn a_bundle_of_a_number_is_merged_up_to_each_place(rt: HostRuntime) -> Result<(), Fail> {
+    assert!(rt; holds(&rt, Kind::Bundle, &NUMBER)?);
+    Ok(())
+}
+
+#[test]
+fn a_bundle_of_numbers_is_merged_up_to_each_place(rt: HostRuntime) -> Result<(), Fail> {
+    assert!(rt; holds(&rt, Kind::Bundle, &TOUCHING)?);
+    Ok(())
+}
+
+#[test]
+fn a_verdict_is_written_up_to_each_place(rt: HostRuntime) -> Result<(), Fail> {
+    assert!(rt; holds(&rt, Kind::Verdicts, &APART)?);
+    Ok(())
+}
