@@ -1,4 +1,4 @@
-// Readers and writers for tests: short, failing, interrupted, endless and counting.
+// Readers and writers for tests: short, failing, interrupted and counting.
 use std::alloc::{AllocError, Global};
 use std::io::{self, ErrorKind, Read, Write};
 
@@ -11,8 +11,6 @@ pub enum Then {
     Fails,
     /// It is interrupted.
     IsInterrupted,
-    /// A reader gives zeros for ever; a writer fails.
-    GoesOn,
 }
 
 /// How much of a request a device satisfies at once.
@@ -20,9 +18,7 @@ pub enum Then {
 pub enum Step {
     /// All of it.
     All,
-    /// Half of it, and at least one byte.
-    Half,
-    /// At most this many bytes.
+    /// So many bytes at most.
     Few(usize),
 }
 
@@ -30,14 +26,13 @@ impl Step {
     fn most(self, asked: usize) -> usize {
         match self {
             Step::All => asked,
-            Step::Half => (asked / 2).max(1),
             Step::Few(most) => most,
         }
     }
 }
 
-/// The steps that tables use.
-pub const STEPS: [Step; 3] = [Step::All, Step::Half, Step::Few(1)];
+/// Each step that tables go by.
+pub const STEPS: [Step; 2] = [Step::All, Step::Few(1)];
 
 fn fault(then: Then) -> io::Error {
     let kind = match then {
@@ -47,37 +42,26 @@ fn fault(then: Then) -> io::Error {
     io::Error::from(kind)
 }
 
-/// Gives its remaining bytes in steps and counts the calls.
+/// Gives the bytes that are left, a step at a time.
 #[derive(Clone, Copy)]
 pub struct TestReader<'a> {
     left: &'a [u8],
     step: Step,
     then: Then,
-    pub calls: u64,
 }
 
 impl<'a> TestReader<'a> {
     pub fn new(left: &'a [u8], step: Step, then: Then) -> TestReader<'a> {
-        TestReader {
-            left,
-            step,
-            then,
-            calls: 0,
-        }
+        TestReader { left, step, then }
     }
 }
 
 impl Read for TestReader<'_> {
     fn read(&mut self, buffer: &mut [u8]) -> io::Result<usize> {
-        self.calls = self.calls.saturating_add(1);
         let room = buffer.len().min(self.step.most(buffer.len()));
         if self.left.is_empty() {
             return match self.then {
                 Then::Ends => Ok(0),
-                Then::GoesOn => {
-                    buffer[..room].fill(0);
-                    Ok(room)
-                }
                 then => Err(fault(then)),
             };
         }
@@ -137,55 +121,6 @@ impl Write for TestWriter {
     }
 }
 
-/// Takes bytes like the writer above, but compares them with a text instead of keeping them.
-#[derive(Clone, Copy)]
-pub struct ComparingWriter<'a> {
-    left: &'a [u8],
-    differs: bool,
-    step: Step,
-    room: usize,
-    then: Then,
-}
-
-impl<'a> ComparingWriter<'a> {
-    pub fn new(text: &'a [u8], step: Step, room: usize, then: Then) -> ComparingWriter<'a> {
-        ComparingWriter {
-            left: text,
-            differs: false,
-            step,
-            room,
-            then,
-        }
-    }
-
-    /// True if it took exactly the text.
-    pub fn is_met(&self) -> bool {
-        self.left.is_empty() && !self.differs
-    }
-}
-
-impl Write for ComparingWriter<'_> {
-    fn write(&mut self, bytes: &[u8]) -> io::Result<usize> {
-        if self.room == 0 {
-            return match self.then {
-                Then::Ends => Ok(0),
-                then => Err(fault(then)),
-            };
-        }
-        let n = bytes.len().min(self.step.most(bytes.len())).min(self.room);
-        self.room -= n;
-        match self.left.strip_prefix(&bytes[..n]) {
-            Some(rest) => self.left = rest,
-            None => self.differs = true,
-        }
-        Ok(n)
-    }
-
-    fn flush(&mut self) -> io::Result<()> {
-        Ok(())
-    }
-}
-
 /// Takes every byte, and fails to flush.
 #[derive(Clone, Copy)]
 pub struct NeverFlushed;
@@ -200,33 +135,20 @@ impl Write for NeverFlushed {
     }
 }
 
-/// Takes this many bytes and then fails.
+/// Takes so many bytes and then fails, and counts how often it is flushed.
 #[derive(Clone, Copy)]
-pub struct FullAfter(pub usize);
-
-impl Write for FullAfter {
-    fn write(&mut self, bytes: &[u8]) -> io::Result<usize> {
-        let taken = bytes.len().min(self.0);
-        if taken == 0 && !bytes.is_empty() {
-            return Err(fault(Then::Fails));
-        }
-        self.0 -= taken;
-        Ok(taken)
-    }
-
-    fn flush(&mut self) -> io::Result<()> {
-        Ok(())
-    }
-}
-
-/// Takes this many bytes, then fails, and counts its flushes.
-#[derive(Clone, Copy)]
-pub struct CountsFlushes {
-    pub room: usize,
+pub struct FullAfter {
+    room: usize,
     pub flushes: u64,
 }
 
-impl Write for CountsFlushes {
+impl FullAfter {
+    pub fn new(room: usize) -> FullAfter {
+        FullAfter { room, flushes: 0 }
+    }
+}
+
+impl Write for FullAfter {
     fn write(&mut self, bytes: &[u8]) -> io::Result<usize> {
         let taken = bytes.len().min(self.room);
         if taken == 0 && !bytes.is_empty() {

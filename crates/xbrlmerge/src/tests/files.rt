@@ -36,7 +36,7 @@ fn stop_when_full(rt: &HostRuntime, rows: &[Full]) -> Result<bool, Fail> {
     let mut all = true;
     for (line, room, err) in rows {
         let words = words_of(rt, line)?;
-        all = stops(rt, &words, FullAfter(*room), err) && all;
+        all = stops(rt, &words, FullAfter::new(*room), err) && all;
     }
     Ok(all)
 }
@@ -54,7 +54,12 @@ fn stop_unflushed(rt: &HostRuntime, rows: &[(&str, &str)]) -> Result<bool, Fail>
 fn ends_unheard(rt: &HostRuntime, words: &[&str], status: u8, out: &[u8]) -> bool {
     let input = TestReader::new(b"", Step::All, Then::Fails);
     let mut out = Expecting::just(out);
-    let ended = run(rt.alloc(), rt, words, piped(input, &mut out, FullAfter(3)));
+    let ended = run(
+        rt.alloc(),
+        rt,
+        words,
+        piped(input, &mut out, FullAfter::new(3)),
+    );
     ended == status && out.is_met()
 }
 
@@ -91,7 +96,7 @@ fn shows_once(rt: &HostRuntime, words: &[&str], shown: &str) -> bool {
     let mut err = Expecting::just(shown.as_bytes());
     let mut streams = piped(
         TestReader::new(b"", Step::All, Then::Fails),
-        FullAfter(1_000),
+        FullAfter::new(1_000),
         &mut err,
     );
     streams.is_err_terminal = true;

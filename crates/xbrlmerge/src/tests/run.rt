@@ -2,9 +2,7 @@ use crate::lines::print_read_fault;
 use crate::run::run;
 use crate::tests::asked_again::{INFO, SHEET, joined, tell_refused};
 use crate::tests::canonical_parts::{END, HEAD, MIDDLE, MIDDLE_ALONE, ONE_URI, WRITTEN_HUNDRED};
-use crate::tests::devices::{
-    CountsFlushes, NeverFlushed, STEPS, Step, TestReader, TestWriter, Then,
-};
+use crate::tests::devices::{FullAfter, NeverFlushed, STEPS, Step, TestReader, TestWriter, Then};
 use crate::tests::expecting::{Either, Expecting};
 use crate::tests::ran::{NO_WORDS, piped};
 use oim_merge::ReadFault;
@@ -242,7 +240,7 @@ fn a_text_that_is_not_flushed_is_a_fault(rt: HostRuntime) -> Result<(), Fail> {
 /// The status and the number of flushes when standard output has this much room; None if memory was
 /// refused.
 fn flushed(rt: &HostRuntime, bundle: &[u8], room: usize) -> Option<(u8, u64)> {
-    let mut out = CountsFlushes { room, flushes: 0 };
+    let mut out = FullAfter::new(room);
     let mut err = Expecting::just(b"out of memory\n");
     let input = TestReader::new(bundle, Step::All, Then::Ends);
     let status = run(rt.alloc(), rt, NO_WORDS, piped(input, &mut out, &mut err));

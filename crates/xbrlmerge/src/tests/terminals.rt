@@ -11,7 +11,7 @@ fn shows_once(rt: &HostRuntime, words: &[&str], input: &str, lines: &str) -> boo
     let mut err = Expecting::just(lines.as_bytes());
     let streams = Streams {
         input: TestReader::new(input.as_bytes(), Step::All, Then::Ends),
-        out: FullAfter(0),
+        out: FullAfter::new(0),
         err: &mut err,
         is_input_terminal: true,
         is_err_terminal: true,

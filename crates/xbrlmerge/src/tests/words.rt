@@ -162,7 +162,7 @@ For more information, try '--help'.
 fn usage_tells_what_is_wrong(rt: HostRuntime) -> Result<(), Fail> {
     for (line, text) in USAGE {
         let words = words_of(&rt, line)?;
-        assert!(rt; stops(&rt, &words, FullAfter(0), text), "{line}");
+        assert!(rt; stops(&rt, &words, FullAfter::new(0), text), "{line}");
     }
     Ok(())
 }
@@ -210,7 +210,7 @@ fn replicas_are_counted_in_digits(rt: HostRuntime) -> Result<(), Fail> {
     for line in COUNTS {
         let words = words_of(&rt, line)?;
         let stopped = "file none: cannot be read\n";
-        assert!(rt; stops(&rt, &words, FullAfter(0), stopped), "{line}");
+        assert!(rt; stops(&rt, &words, FullAfter::new(0), stopped), "{line}");
     }
     Ok(())
 }
