@@ -37,7 +37,3 @@ put_all (member k d ms) onto = put_all ms (put k d onto)
 -- two pieces with a comma between them make a piece with the members of both (RFC 8259, section 4, as `serde_json` reads it)
 abbrev pub PiecesAreTheWhole : Type 0
 PiecesAreTheWhole = (a b : List ℕ) (found more : Members) → IsPiece a found → IsPiece b more → IsPiece (a ++ 44 ∷ b) (put_all more found)
-
--- ---- the next piece of a text
-
--- ---- a document with a member `facts`

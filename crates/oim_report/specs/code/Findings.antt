@@ -17,6 +17,6 @@ is_base_refused text = is_none (base_url text)
 abbrev pub when : Bool → Reason → Option Reason
 when holds reason = if holds then Some reason else None
 
--- those that there are
+-- the refusals that there are
 abbrev pub all_refusals : List (Option Reason) → List Reason
 all_refusals refusals = filter_map (λ r. r) refusals
