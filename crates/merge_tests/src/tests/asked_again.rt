@@ -37,7 +37,7 @@ pub(crate) fn read_sheet(rt: &HostRuntime) -> Result<Sheet, Reason> {
     }
 }
 
-/// Whether a call returns true.
+/// True if a call returns true.
 pub(crate) fn holds<F: Fn(Global) -> Result<bool, AllocError>>(rt: &HostRuntime, call: F) -> bool
     requires { F.IsAlwaysCallable call }
 {

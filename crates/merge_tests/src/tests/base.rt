@@ -12,7 +12,7 @@ use fact_base::{Base, Evidence, Verdict};
 use oim_report::{Report, Sheet, read_report};
 use std::alloc::AllocError;
 
-// A report of one fact, up to its value.
+// The text of a report of one fact, up to the value.
 const FACT: &str =
     r#"{"documentInfo":{"documentType":"https://xbrl.org/2021/xbrl-json","namespaces":{"eg":"http://example.org/t"}},"facts":{"a":{"#;
 

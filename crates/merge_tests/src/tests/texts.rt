@@ -59,7 +59,7 @@ fn all_give(rt: &HostRuntime, rows: &[Row]) -> Result<bool, Fail> {
     Ok(all)
 }
 
-/// Whether these facts of one report are written so, by these namespaces.
+/// True if these facts of one report are written as this text, with these namespaces.
 fn writes(rt: &HostRuntime, facts: &str, namespaces: &str, text: &str) -> Result<bool, Fail> {
     let bundle = [SHEET, LINE, INFO, facts, END];
     gives(rt, &bundle, &[HEAD, namespaces, MIDDLE, text, END])

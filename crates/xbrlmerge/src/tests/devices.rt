@@ -18,7 +18,7 @@ pub enum Then {
 pub enum Step {
     /// All of it.
     All,
-    /// So many bytes at most.
+    /// At most this many bytes.
     Few(usize),
 }
 
@@ -31,7 +31,7 @@ impl Step {
     }
 }
 
-/// Each step that tables go by.
+/// The steps that tables use.
 pub const STEPS: [Step; 2] = [Step::All, Step::Few(1)];
 
 fn fault(then: Then) -> io::Error {
@@ -135,7 +135,7 @@ impl Write for NeverFlushed {
     }
 }
 
-/// Takes so many bytes and then fails, and counts how often it is flushed.
+/// Takes this many bytes, then fails, and counts its flushes.
 #[derive(Clone, Copy)]
 pub struct FullAfter {
     room: usize,

@@ -41,7 +41,7 @@ const REFERENCE: &str =
 /// The text between the namespaces and the references, if no URI is used.
 const NO_URI: &str = r#""xbrl":"https://xbrl.org/2021"},"taxonomy":["#;
 
-/// The text after the members of `documentInfo` if there are no facts.
+/// The text after `documentInfo` if there are no facts.
 const NO_FACTS: &str = r#"},"facts":{}}"#;
 
 const ROWS: &[Row] = &[

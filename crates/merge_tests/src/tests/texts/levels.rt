@@ -25,7 +25,7 @@ const WITH_NIL: &str =
 const WIDE: &str =
     r#""f1":{"decimals":0,"dimensions":{"concept":"n1:A"},"value":"100"},"f2":{"decimals":0,"dimensions":{"concept":"n1:A"},"value":"102"}"#;
 
-/// Why the text of these facts with this level in place of its own is refused; none where it is not.
+/// The refusal of the text of these facts with another level declared; None if it is accepted.
 fn refusal(
     alloc: Global,
     rt: &HostRuntime,
@@ -85,7 +85,7 @@ fn a_text_is_held_to_its_level(rt: HostRuntime) -> Result<(), Fail> {
     Ok(())
 }
 
-/// The text of one fact of the value that follows, and what ends it.
+/// The text of one fact before and after its value.
 const ONE_VALUE: &str = r#""f1":{"decimals":0,"dimensions":{"concept":"n1:A"},"value":""#;
 
 const VALUE_END: &str = r#""}}}"#;

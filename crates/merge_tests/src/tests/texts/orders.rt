@@ -3,7 +3,7 @@ use crate::tests::asked_again::INFO;
 use crate::tests::canonical_parts::{CONTRADICTING_HEAD, END, HEAD, MIDDLE, ONE_URI};
 use std::test::Fail;
 
-// The order of facts, and the numbers that they get by it. Reports list them the other way round.
+// The order of facts and the identifiers that follow from it. Reports list the facts in reverse.
 
 /// The facts 1 to 9.
 const NINE: &str =

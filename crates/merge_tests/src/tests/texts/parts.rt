@@ -3,7 +3,7 @@ use crate::tests::asked_again::INFO;
 use crate::tests::canonical_parts::{END, HEAD, MIDDLE, ONE_URI};
 use std::test::Fail;
 
-// Parts of a fact, each by all its spellings.
+// Parts of a fact, each in all its spellings.
 
 const THREE_URIS: &str =
     r#""n1":"http://example.org/t","n2":"http://example.org/u","n3":"http://www.xbrl.org/2003/instance""#;
@@ -14,7 +14,7 @@ const WRITTEN: &str = r#""f1":{"dimensions":{"concept":"n1:"#;
 
 const BETWEEN: &str = r#""},"value":"#;
 
-/// Whether a value, as JSON, of the concept `A`, `T` or `Q` is written so.
+/// True if a JSON value of the concept `A`, `T` or `Q` is written as this text.
 fn writes_value<'a>(
     rt: &HostRuntime,
     concept: &'a str,
@@ -104,7 +104,7 @@ fn spellings_of_one_fact_are_one(rt: HostRuntime) -> Result<(), Fail> {
     Ok(())
 }
 
-/// Whether a fact of this unit is written with this end of its dimensions, by these namespaces.
+/// True if a fact with this unit ends with these dimensions, with these namespaces.
 fn writes_unit(rt: &HostRuntime, unit: &str, namespaces: &str, text: &str) -> Result<bool, Fail> {
     let said = r#""a":{"value":"1","dimensions":{"concept":"eg:A","unit":""#;
     let written = r#""f1":{"dimensions":{"concept":"n1:A""#;

@@ -5,7 +5,7 @@ use std::test::Fail;
 
 // Prefixes are numbered by the bytes of their URIs, not by first use.
 
-// One fact uses all URIs: that of its concept, and those of its measures.
+// One fact uses all URIs: in its concept and in its measures.
 
 const BOUND: &str = r#","namespaces":{"eg":"http://example.org/t","#;
 
@@ -14,7 +14,7 @@ const FACT: &str = r#"}},"facts":{"a":{"value":"1","dimensions":{"concept":"eg:A
 const WRITTEN: &str =
     r#","xbrl":"https://xbrl.org/2021"},"taxonomy":[]},"facts":{"f1":{"dimensions":{"concept":""#;
 
-/// A fact whose unit has a name in each of 99 namespaces, beside the namespace of its concept.
+/// A fact whose unit has one name in each of 99 namespaces, besides the namespace of its concept.
 const NINETY_NINE: &[&str] = &[
     SHEET,
     LINE,

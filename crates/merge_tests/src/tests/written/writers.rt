@@ -9,8 +9,8 @@ use std::test::Fail;
 
 // Writers that stop at each byte of a text, with and without a buffer.
 
-/// The result of a run: the length that the fault reported, how many bytes were taken, how often
-/// the sink failed, and whether the text was taken.
+/// The result of a run: the length that the fault reported, the bytes taken, the failures of the
+/// sink, and whether the whole text was taken.
 type Left = (Option<u64>, u64, u64, bool);
 
 fn left(told: Option<u64>, sink: StdSink<ComparingWriter<'_>>) -> Left {
