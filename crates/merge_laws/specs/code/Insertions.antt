@@ -27,11 +27,11 @@ module _ {K E : Type 0} (R : K → K → Ordering) (key : E → K) where
 
   -- the index of a key, or the index at which to insert it
   abbrev pub found_at : K → List E → Result ℕ ℕ
-  found_at k es = if has_key R key k es then Ok (place_of R key k es) else Err (place_of R key k es)
+  found_at k es = if has_key R key k es then Ok (place_of k es) else Err (place_of k es)
 
   -- an item that the others do not have
   abbrev pub new_item : List E → E → List (ℕ × E)
-  new_item es f = if has_key R key (key f) es then [] else (place_of R key (key f) es, f) ∷ []
+  new_item es f = if has_key R key (key f) es then [] else (place_of (key f) es, f) ∷ []
 
   abbrev pub new_items : List E → List E → List (ℕ × E)
   new_items es fs = flat_map (new_item es) fs
