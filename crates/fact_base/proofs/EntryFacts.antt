@@ -1,4 +1,4 @@
--- The facts of entries.
+-- The facts that entries contain.
 use Rattle.std.proofs.Common.{◌≡◌, List, [], ◌∷◌, ◌++◌, Option, Some, None, refl, sym, ap, subst, ◌∙◌}
 use Rattle.std.specs.Prelude.{◌↔◌, Contains}
 use Rattle.std.specs.List.{AllByRecursion, Any}
@@ -20,7 +20,7 @@ use Rattle.fact_base.proofs.Members.{each_in_turn, from_map, in_flat_map, in_map
 
 -- ---- order
 
--- two ascending lists, one above the other, ascend together
+-- two ascending lists ascend together if all items of the first are less than all items of the second
 rise_both : {A : Type 0} (R : A → A → Ordering) (xs ys : List A) → IsStrictlySortedBy R xs → IsStrictlySortedBy R ys → AllByRecursion (λ x. AllByRecursion (λ y. R x y ≡ Less) ys) xs → IsStrictlySortedBy R (xs ++ ys)
 unfolding IsStrictlySortedBy
 rise_both R [] ys h g below = g
@@ -57,12 +57,12 @@ from_facts_with s vs f h =
     let found = from_map (λ (w : Value). let g : Fact = record { dimensions = s; value = w } in g) vs f h in
     (ap (λ (g : Fact). g.dimensions) found.1.1, subst (Contains vs) (ap (λ (g : Fact). g.value) found.1.1) found.1.0)
 
--- there is an entry, and the value is among its values
+-- there is an entry, and it has the value
 abbrev pub Holds : Option Summed → Value → Type 0
 Holds None v = ⊥
 Holds (Some kept) v = Contains kept.0 v
 
--- the facts of entries include a fact exactly if its value is among the values at its dimensions
+-- ascending entries contain a fact exactly if the entry at its dimensions has its value
 pub tells_fact : (es : List Entry) (f : Fact) → IsRising dimensions_cmp entry_key es → Contains (facts_of_entries es) f ↔ Holds (value_at dimensions_cmp f.dimensions es) f.value
 tells_fact es f rise =
     let some = in_flat_map facts_of_entry es f in (

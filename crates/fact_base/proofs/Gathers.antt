@@ -1,4 +1,4 @@
--- Facts and references that are gathered.
+-- The facts and references that a gathering collects.
 use Rattle.std.proofs.Common.{◌≡◌, ℕ, List, [], ◌∷◌, ◌++◌, append-nil, sym, ap, subst, ◌∙◌, inl, inr, ⊎_elim, arith}
 use Rattle.std.specs.Prelude.{◌↔◌, ◌⊎◌, Bool, Result, Ok, Err, OnOk, Contains, IsPermutation}
 use Rattle.std.specs.Cmp.{Equal-is, IsEquivalence, IsTotalOrder}
@@ -34,7 +34,7 @@ use Rattle.fact_base.proofs.Unions.{rises}
 -- ---- sorting without repeats
 
 module _ {K : Type 0} {R : K → K → Ordering} (o : IsTotalOrder R) (exact : (x y : K) → R x y ≡ Equal → x ≡ y) where
-  -- the set of the items of a set is that set
+  -- making a set from a set changes nothing
   pub set_of_set : (xs : List K) → set_of R (set_of R xs) ≡ set_of R xs
   set_of_set xs =
       let all = set_of_is_set o exact xs in
@@ -47,7 +47,7 @@ module _ {K : Type 0} {R : K → K → Ordering} (o : IsTotalOrder R) (exact : (
         λ h. subst (λ ys. Contains ys x) (sym is) (Contains-dedup e (λ y z alike. exact y z ((Equal-is (R y z)).0 (sym (ties y z) ∙ alike))) sorted x (Contains-permutation xs sorted x moved h)),
       ))
 
-  -- ---- sets of the items of several lists
+  -- ---- sets from several lists
 
   in_set_of_both : (xs ys : List K) (x : K) → Contains (set_of R (xs ++ ys)) x ↔ (Contains xs x ⊎ Contains ys x)
   in_set_of_both xs ys x =
@@ -76,7 +76,7 @@ module _ {K : Type 0} {R : K → K → Ordering} (o : IsTotalOrder R) (exact : (
   pub sets_swap : (xs ys zs : List K) → set_of R (set_of R (xs ++ ys) ++ zs) ≡ set_of R (set_of R (xs ++ zs) ++ ys)
   sets_swap xs ys zs = sym (sets_associate xs ys zs) ∙ ap (λ s. set_of R (xs ++ s)) (sets_commute ys zs) ∙ sets_associate xs zs ys
 
--- ---- the orders of the code's types are those of the definitions
+-- ---- the code's types are ordered as the definitions say
 
 pub derived_set : (facts : List Fact) → set_of derived_fact.it facts ≡ set_of fact_cmp facts
 derived_set facts = λ i. set_of (λ (x y : Fact). facts_agree x y i) facts
@@ -90,7 +90,7 @@ always_ok (Err e) p = tt
 
 -- ---- one more report
 
--- the body of a document fits if its facts fit and its references are kept as they are
+-- the body of a document fits if its facts fit and its references are kept references
 pub document_fits : (sheet : Sheet) (d : Document) → All (FactFits sheet) d.facts → All IsKeptReference d.references → Fits sheet (body (d ∷ []))
 document_fits sheet d facts references =
     let all = set_of_is_set fact_cmp_total fact_cmp_exact (d.facts ++ []) in
@@ -114,13 +114,13 @@ nothing_fits sheet =
 pub same_gathered : (facts more : List Fact) (references others : List (List ℕ)) → set_of fact_cmp facts ≡ set_of fact_cmp more → set_of text_cmp references ≡ set_of text_cmp others → gathered facts references ≡ gathered more others
 same_gathered facts more references others p q = λ i. record { facts = p i; references = q i }
 
--- the body of a document's facts, in any order, and its references
+-- gathering a document's facts, in any order, and its references gives the document's body
 pub gathered_document : (facts : List Fact) (references : List (List ℕ)) (d : Document) → SameMembers facts d.facts → references ≡ d.references → gathered facts references ≡ body (d ∷ [])
 gathered_document facts references d same is = same_gathered facts (d.facts ++ []) references (d.references ++ [])
     (same_sets fact_cmp_total fact_cmp_exact facts d.facts same ∙ ap (set_of fact_cmp) (sym (append-nil d.facts)))
     (ap (set_of text_cmp) (is ∙ sym (append-nil d.references)))
 
--- the body of facts and references after others is a union
+-- gathering two groups of facts and references gives the union of their bodies
 pub gathered_both : (facts more : List Fact) (references others : List (List ℕ)) → gathered (facts ++ more) (references ++ others) ≡ union (gathered facts references) (gathered more others)
 gathered_both facts more references others =
     λ i. record { facts = set_of-both fact_cmp_total fact_cmp_exact facts more i; references = set_of-both text_cmp_total text_cmp_exact references others i }
@@ -133,7 +133,7 @@ with_nothing b rises = λ i. record {
   references = is_set_of text_cmp_total text_cmp_exact b.references (b.references ++ []) rises.references (λ r. (subst (λ rs. Contains rs r) (sym (append-nil b.references)), subst (λ rs. Contains rs r) (append-nil b.references))) i;
 }
 
--- ---- unions when one body comes first
+-- ---- unions in another order
 
 pub union_commutes : (a b : Body) → union a b ≡ union b a
 union_commutes a b = λ i. record {

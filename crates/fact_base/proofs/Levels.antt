@@ -146,7 +146,7 @@ level_of_more e es rises below =
 
 -- ---- the walk
 
--- the highest of a level and the levels of the entries
+-- the highest among a level and the levels of entries
 abbrev pub highest : Level → List Entry → Level
 highest level [] = level
 highest level (e ∷ es) = highest (ord_max level_cmp level (level_of_values e.1.0)) es

@@ -1,4 +1,4 @@
--- Entries that are built from front to end.
+-- Entries that are built one fact at a time.
 use Rattle.std.proofs.Common.{◌≡◌, ℕ, zero, suc, ◌<◌, ◌+◌, length, get_or, set, false, List, [], ◌∷◌, ◌++◌, refl, sym, ap, subst, ◌∙◌, arith, Some, slice_get}
 use mathlib.Core.Bool.{true≢false}
 use Rattle.std.specs.List.{All, AllByRecursion}
@@ -95,7 +95,7 @@ put_last (e ∷ d ∷ es) f (suc n) x kept rise count is same made =
 
 -- ---- facts that do not descend
 
--- if no entry is above a fact, none is above the next fact after it was added
+-- if no entry is above a fact, none is above the next fact once the first is added
 pub none_above_next : (es : List Entry) (f g : Fact) → NoneAbove f.dimensions es → is_gt (dimensions_cmp f.dimensions g.dimensions) ≡ false → NoneAbove g.dimensions (with_fact f es)
 none_above_next es f g up next =
     all_of_union dimensions_cmp_exact summed_of_both (λ s _. is_gt (dimensions_cmp s g.dimensions) ≡ false) (λ s _ _ h _. h) es (entry_of f ∷ [])
@@ -116,7 +116,7 @@ turned_up Less up = absurd (true≢false up)
 turned_up Equal up = refl
 turned_up Greater up = refl
 
--- dimensions do not descend between neighbouring indices of an order
+-- in an order of facts, dimensions do not descend from one fact to the next
 dimensions_rise : (facts : List Fact) (places : List ℕ) (i : ℕ) (f g : Fact) → IsOrderOf facts places → i + 1 < length places → f ≡ get_or facts (get_or places i 0) f → g ≡ get_or facts (get_or places (i + 1) 0) g → is_gt (dimensions_cmp f.dimensions g.dimensions) ≡ false
 dimensions_rise facts places i f g order within here there =
     let p : ℕ = get_or places i 0 in

@@ -34,7 +34,7 @@ entries_of rs = map entry_of rs
 abbrev facts_of_rows : List Row → List Fact
 facts_of_rows rs = facts_of_entries (entries_of rs)
 
--- the facts of rows with one fact added before them
+-- a fact that is added before rows becomes the first of their facts
 facts_before : (f : Fact) (rs : List Row) → facts_of_rows (before_rows f rs) ≡ f ∷ facts_of_rows rs
 facts_before f [] = refl
 facts_before f (r ∷ rs) = elim (is_eq (dimensions_cmp f.dimensions r.0)) as (λ b. is_eq (dimensions_cmp f.dimensions r.0) ≡ b → facts_of_rows (cond b ((r.0, f.value ∷ r.1) ∷ rs) ((f.dimensions, f.value ∷ []) ∷ r ∷ rs)) ≡ f ∷ facts_of_rows (r ∷ rs)) [
@@ -54,7 +54,7 @@ record IsRow (r : Row) : Type 0 where
   some : r.1 ≢ []
   in_order : IsSet value_cmp r.1
 
--- facts above a fact do not have lesser dimensions, and have greater values if their dimensions are the same
+-- the lesser of two facts has lesser dimensions, or the same dimensions and a lesser value
 lesser_dimensions : (f g : Fact) → fact_cmp f g ≡ Less → is_eq (dimensions_cmp f.dimensions g.dimensions) ≡ false → dimensions_cmp f.dimensions g.dimensions ≡ Less
 lesser_dimensions f g less other = by_order (dimensions_cmp f.dimensions g.dimensions) refl
   where
@@ -69,7 +69,7 @@ lesser_dimensions f g less other = by_order (dimensions_cmp f.dimensions g.dimen
 lesser_values : (f g : Fact) → fact_cmp f g ≡ Less → dimensions_cmp f.dimensions g.dimensions ≡ Equal → value_cmp f.value g.value ≡ Less
 lesser_values f g less same = sym (ap (λ o. ordering_then o (value_cmp f.value g.value)) same) ∙ less
 
--- a fact of a row is a fact of the rows
+-- each value of a row is a fact of the rows
 in_row : (rs : List Row) (r : Row) (v : Value) → Contains rs r → Contains r.1 v → Contains (facts_of_rows rs) (record { dimensions = r.0; value = v })
 in_row rs r v at held =
     (in_flat_map facts_of_entry (entries_of rs) (record { dimensions = r.0; value = v })).1

@@ -29,7 +29,7 @@ use Rattle.fact_base.specs.Verdict.{IsApartPair, IsCommonOf, IsPairOf, IsShownPa
 use Rattle.fact_base.specs.declared.verdict.Verdict.TheVariants.{Complete, Consistent, Inconsistent}
 use Rattle.fact_base.proofs.Members.{each_there, first_there, first_or_later, later_there, none_there}
 
--- ---- each two meet
+-- ---- each two values meet
 
 all_pass : {A : Type 0} (p : A → Bool) (P : A → Type 0) → ((x : A) → IsTrue (p x) ↔ P x) → (xs : List A) → IsTrue (list_all p xs) ↔ AllByRecursion P xs
 all_pass p P told [] = (λ _. tt, λ _. refl)
@@ -76,7 +76,7 @@ ends_told vs ends are = by_ends (summary_of_all vs).ends refl
 told_ends : (vs : List Value) (ends : Interval) → (summary_of_all vs).ends ≡ Some ends → AreEnds ends (intervals_of vs)
 told_ends vs ends is = subst (λ a. IfSome a (λ e. AreEnds e (intervals_of vs))) is (summary_tells_all vs).ends
 
--- the common part, unless there is a nil
+-- None if there is a nil, otherwise the ends
 abbrev unless : Bool → Interval → Option Interval
 unless b ends = cond b None (Some ends)
 
@@ -123,7 +123,7 @@ shows_shared vs ends between =
     ap (option_and_then (λ e. unless ((summary_of_all vs).nil || int_lt e.high e.low) e)) (ends_told vs ends between.ends)
     ∙ (λ i. unless (not_nil vs between.no_nil i || not_above ends.high ends.low between.points i) ends)
 
--- there is a common part exactly if each two of several values meet
+-- several values have a common part exactly if each two of them meet
 pub shared_where_meet : (vs : List Value) (s : Summarised) → AreSummarised vs s → 2 ≤ length vs → (ends : Interval) → shared_by s ≡ Some ends → EachTwoValuesMeet vs × MeetBetween vs ends
 shared_where_meet vs s summed several ends is =
     let between = shared_shows vs ends (ap shared_by (sym summed.summary) ∙ is) in
@@ -240,7 +240,7 @@ crossed_are_apart vs s summed several ends is no_nil apart =
         sym ((λ i. option_and_then (λ e. unless (no_nil i || int_lt e.high e.low) e) (is i)) ∙ ap (λ b. unless b ends) h)
         ∙ apart)))
 
--- ---- the first two
+-- ---- the first two values
 
 begins_with_nil : (vs : List Value) → IsSet value_cmp vs → Contains vs Nil → begin_with_numbers vs ≡ false
 unfolding IsStrictlySortedBy
@@ -292,7 +292,7 @@ pub no_number_is_apart : (vs : List Value) (s : Summarised) → AreSummarised vs
 no_number_is_apart vs s summed several none =
     first_are_apart vs several summed.different (begins_with_none vs (sym (summary_tells_all vs).number ∙ ap is_some (ap (λ (t : Summarised). t.ends) (sym summed.summary) ∙ none)))
 
--- ---- by the common part
+-- ---- whether there is a common part
 
 pub are_several : (vs : List Value) → vs ≢ [] → (length vs ≡ 1 → ⊥) → 2 ≤ length vs
 are_several [] some more = absurd (some refl)

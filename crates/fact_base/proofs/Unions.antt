@@ -23,7 +23,7 @@ use Rattle.fact_base.proofs.EntryFacts.{Holds, facts_rise, from_facts_with, in_f
 use Rattle.fact_base.proofs.Members.{each_by_there, each_there, first_there, in_one_of_both, none_there}
 use Rattle.fact_base.proofs.Sets.{is_set_of}
 
--- the values of two sorted lists, merged
+-- the union of two sorted lists has exactly the values of both
 pub in_values_of_both : (vs ws : List Value) → IsSet value_cmp vs → IsSet value_cmp ws → (v : Value) → Contains (set_union value_cmp vs ws) v ↔ (Contains vs v ⊎ Contains ws v)
 in_values_of_both vs ws h g v = (set_union_has_both value_cmp_total value_cmp_exact vs ws h g).members v
 

@@ -1,4 +1,4 @@
--- When a verdict states that facts contradict one another.
+-- A verdict is `Inconsistent` exactly if two of the values do not meet.
 use Rattle.std.proofs.Common.{◌≡◌, ◌≢◌, Bool, true, false, cond, ◌&&◌, List, [], ◌∷◌, Some, refl, sym, ap, subst, ◌∙◌, ⊎_elim}
 use mathlib.Core.Bool.{true≢false}
 use Rattle.std.specs.Prelude.{Contains, is_some}
@@ -26,7 +26,7 @@ apart_later x vs found = (found.0, found.1, (later_there x vs found.0 found.2.0,
 not_so : {P : Type 0} {b : Bool} → b ≡ false → (P → b ≡ true) → ¬ P
 not_so h told p = true≢false (sym (told p) ∙ h)
 
--- a value does not meet one of the others
+-- if a value does not meet all others, there is one that it does not meet
 apart_from_one : (v : Value) (ws : List Value) → list_all (values_meet v) ws ≡ false → (w : Value) × (Contains ws w × ¬ (Meets v w))
 apart_from_one v [] h = absurd (true≢false h)
 apart_from_one v (w ∷ ws) h = by_test (λ later. apart_from_one v ws later) (values_meet v w) refl

@@ -18,14 +18,14 @@ pub record Body : Type 0 where
   pub facts : List Fact
   pub references : List (List ℕ)
 
--- the facts of each document, and its references, one document after another
+-- the facts of all documents in sequence, and likewise their references
 abbrev pub all_facts : List Document → List Fact
 all_facts docs = flat_map (λ d. d.facts) docs
 
 abbrev pub all_references : List Document → List (List ℕ)
 all_references docs = flat_map (λ d. d.references) docs
 
--- the facts of all documents, and their references
+-- the set of all documents' facts and the set of their references
 abbrev pub body : List Document → Body
 body docs = record { facts = set_of fact_cmp (all_facts docs); references = set_of text_cmp (all_references docs) }
 

@@ -1,4 +1,4 @@
--- What holds for the facts that are read under a sheet (own).
+-- The conditions that facts read under a sheet satisfy (own).
 use Rattle.std.specs.Prelude.{◌≡◌, ℕ, List, Ok}
 use Rattle.std.specs.List.{All}
 use Rattle.oim_report.specs.Document.{Document}

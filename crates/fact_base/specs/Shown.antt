@@ -1,4 +1,4 @@
--- What contracts see of rows.
+-- Rows as contracts see them.
 use Rattle.std.specs.Prelude.{map, List, drop}
 use Rattle.fact_base.specs.Entries.{Entry}
 use Rattle.fact_base.specs.Rows.{Row}
@@ -9,7 +9,7 @@ use Rattle.fact_base.specs.declared.rows.Rows.{Rows}
 abbrev pub row_of : Entry → Row
 row_of e = (e.0, e.1.0)
 
--- what contracts see of a row
+-- a row as contracts see it
 abbrev pub shown : Lent → Row
 shown r = (r.dimensions.now, r.values.now)
 

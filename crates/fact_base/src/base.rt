@@ -153,8 +153,8 @@ impl<'s> Base<'s> {
     {
         let references = with_all(self.alloc, &self.references, other.taxonomy())?;
         // Values of a shared dimension set are copied into the other base, so that a refused
-        // request leaves this base unchanged. Absorbing one by one many bases whose values share
-        // dimensions therefore takes time that is quadratic in their number.
+        // request leaves this base unchanged. Absorbing many bases with shared dimension sets one
+        // by one therefore takes time that is quadratic in their number.
         self.entries.absorb(other.entries)?;
         replace(&mut self.references, references);
         Ok(())
@@ -206,7 +206,8 @@ impl<'s> Base<'s> {
         Some(verdict_of(values.as_slice(), summary))
     }
 
-    /// Returns the evidence for that verdict, or None if there are no facts with these dimensions.
+    /// Returns the evidence for the verdict on the facts with these dimensions, or None if there
+    /// are none.
     pub fn evidence(&self, dimensions: &Dimensions) -> Option<Evidence>
         ensures there { is_some result ≡ is_some (verdict self.now.body.facts dimensions.now) }
         ensures evidence { IfSome result (IsEvidence (values_at dimensions.now self.now.body.facts)) }

@@ -26,8 +26,8 @@ pub(crate) type Entries = SortedMap<Dimensions, (SortedSet<Value>, Summary)>;
 /// A dimension set with its values and their summary.
 type Entry = (Dimensions, (SortedSet<Value>, Summary));
 
-/// Returns the entries of facts. `order` visits each fact once, in ascending order, so each is
-/// added to the last entry or after it. It is copied once, without a look-up.
+/// Returns the entries of facts. `order` visits each fact once, in ascending order, so each fact
+/// is added to the last entry or after it. A fact is copied once, without a look-up.
 pub(crate) fn entries_of(
     alloc: Global,
     facts: &[Fact],

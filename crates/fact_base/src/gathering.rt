@@ -17,10 +17,10 @@ use std::marker::Model;
 /// Collects reports that become one base. It borrows the sheet under which they are read.
 ///
 /// A report with at least half as many facts and references as the base is absorbed, so that
-/// providers of the same figures cost one look-up a fact. A smaller report would cost a walk over
+/// providers of the same figures cost one look-up per fact. Absorbing a smaller report would walk
 /// the whole base. Its facts and references go to two lists instead, which are sorted without
-/// repeats whenever they have doubled. References count as facts do, because reports of the same
-/// facts with different references would otherwise be absorbed one by one.
+/// repeats whenever they have doubled. References count like facts: otherwise reports of the same
+/// facts with different references would be absorbed one by one.
 #[derive(Drop)]
 pub struct Gathering<'s> {
     alloc: Global,

@@ -38,9 +38,9 @@ pub(crate) fn evidence_of(values: &[Value], summary: &Summary) -> Evidence
     }
 }
 
-// Returns the indices of two values that do not meet. If one of the first two is not a number,
-// these are the first two, since nil comes before numbers. Otherwise they are the numbers whose
-// intervals end first and begin last.
+// Returns the indices of two values that do not meet. If one of the first two is not a number, the
+// first two are returned, since nil comes before numbers. Otherwise the numbers whose intervals
+// end first and begin last are returned.
 fn apart(values: &[Value], summary: &Summary) -> Evidence
     requires summed { AreSummarised values.now summary.now }
     requires apart { shared_by summary.now ≡ None }

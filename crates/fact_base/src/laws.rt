@@ -21,13 +21,13 @@ pub fn body_ignores_order()
     ensures { BodyIgnoresOrder }
 {}
 
-/// The body of one list of documents after another is the union of their bodies.
+/// The body of two lists of documents together is the union of their bodies.
 pub fn body_of_both()
     ensures { BodyOfBoth }
 {}
 
-/// The body of documents that are accepted under a sheet fits it, and so does the union of two
-/// bodies that fit.
+/// The body of documents that are accepted under a sheet fits the sheet, and so does the union of
+/// two bodies that fit it.
 pub fn accepted_fits()
     ensures accepted { AcceptedFits }
     ensures union { UnionFits }

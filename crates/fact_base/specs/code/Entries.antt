@@ -1,4 +1,4 @@
--- How a base keeps its entries, and how they are put together (own).
+-- How a base stores and merges its entries (own).
 use Rattle.std.specs.Prelude.{◌≡◌, ◌≢◌, ◌↔◌, ℕ, false, List, [], ◌∷◌, Contains}
 use Rattle.std.specs.List.{All}
 use Rattle.std.specs.Ordering.{is_gt}
@@ -16,25 +16,25 @@ use Rattle.oim_report.specs.Sheet.{Sheet}
 use Rattle.fact_base.specs.Body.{text_cmp}
 use Rattle.fact_base.specs.Entries.{Entry, Summed, facts_of_entries, facts_with}
 
--- two of them at one dimension set, merged
+-- the values and the summary of one dimension set, merged from two bases
 abbrev pub summed_of_both : Summed → Summed → Summed
 summed_of_both p q = (set_union value_cmp p.0 q.0, both_summaries p.1 q.1)
 
--- one value, and others with it added
+-- one value with its summary, and values with one more added
 abbrev pub summed : Value → Summed
 summed v = (v ∷ [], summary_of v)
 
 abbrev pub with_value : Value → Summed → Summed
 with_value v kept = summed_of_both kept (summed v)
 
--- the entry of one fact, and entries with one fact more
+-- the entry of one fact, and entries with one fact added
 abbrev pub entry_of : Fact → Entry
 entry_of f = (f.dimensions, summed f.value)
 
 abbrev pub with_fact : Fact → List Entry → List Entry
 with_fact f es = map_with dimensions_cmp summed_of_both f.dimensions (summed f.value) es
 
--- no entry is above some dimensions
+-- no entry is above these dimensions
 abbrev pub NoneAbove : DimensionSet → List Entry → Type 0
 NoneAbove s es = All (λ e. is_gt (dimensions_cmp e.0 s) ≡ false) es
 
@@ -45,14 +45,14 @@ pub record EntryFits (sheet : Sheet) (s : DimensionSet) (kept : Summed) : Type 0
   pub summary : kept.1 ≡ summary_of_all kept.0
   pub facts : All (FactFits sheet) (facts_with s kept.0)
 
--- what is stored for a base with this sheet
+-- the entries and texts that a base with this sheet can store
 pub record AreStored (sheet : Sheet) (es : List Entry) (texts : List (List ℕ)) : Type 0 where
   pub rise : IsRising dimensions_cmp entry_key es
   pub entries : All (λ e. EntryFits sheet e.0 e.1) es
   pub in_order : IsSet text_cmp texts
   pub references : All IsKeptReference texts
 
--- entries that rise, with exactly these facts; they fit every sheet that all of these fit
+-- ascending entries with exactly these facts; they fit every sheet that all of the facts fit
 pub record AreEntriesOf (facts : List Fact) (entries : List Entry) : Type 0 where
   pub rise : IsRising dimensions_cmp entry_key entries
   pub in_order : All (λ e. IsSet value_cmp e.1.0) entries

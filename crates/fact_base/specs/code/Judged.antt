@@ -12,7 +12,7 @@ use Rattle.oim_value.specs.declared.value.Value.{Value}
 use Rattle.fact_base.specs.declared.verdict.Verdict.{Verdict}
 use Rattle.fact_base.specs.declared.verdict.Verdict.TheVariants.{Complete, Consistent, Inconsistent}
 
--- different values in order, each nil or of one kind, and the summary of all
+-- different values in order, each nil or of one kind, and their summary
 pub record AreSummarised (vs : List Value) (told : Summarised) : Type 0 where
   pub some : vs ≢ []
   pub in_order : IsSet value_cmp vs
