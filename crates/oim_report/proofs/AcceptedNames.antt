@@ -11,7 +11,7 @@ use Rattle.oim_report.proofs.NameRefusals.{name_more}
 pub one_name : (has_form : List ℕ → Bool) (bs : List Binding) (t : List ℕ) (n : QName) → ExpandsAs has_form bs t n → names_refusal bs (record { has_form = has_form; text = t } ∷ []) ≡ None
 one_name has_form bs t n e = name_more bs (record { has_form = has_form; text = t }) [] (named_kept has_form bs t n e) refl
 
--- texts that name something
+-- texts that expand to names are not refused as names
 pub names_zip : (bs : List Binding) (ts : List (List ℕ)) (ns : List QName) → AllZip (Expands bs) ts ns → names_refusal bs (map a_name ts) ≡ None
 names_zip bs [] ns z = refl
 names_zip bs (t ∷ ts) [] z = absurd z

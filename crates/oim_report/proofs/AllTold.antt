@@ -1,4 +1,4 @@
--- The faults are the conditions that apply, except those that another condition hides.
+-- The faults are the conditions that apply and that no other condition hides.
 use Rattle.std.proofs.Common.{◌≡◌, List, [], ◌∷◌, map, Bool, true, false, not, ◌||◌, ◌&&◌, cond, refl, sym, ap, ◌∙◌}
 use Rattle.std.specs.Prelude.{Option, Some, None, codes, is_none, option_and_then, option_map}
 use Rattle.std.specs.List.{cons_option, filter, list_any}
@@ -20,7 +20,7 @@ use Rattle.oim_report.specs.Least.{hidden_by, told}
 use Rattle.oim_report.proofs.DocumentHolds.{base_same, feature_same, references_same}
 use Rattle.oim_report.proofs.ValueWords.{by_given}
 
--- ---- lists of conditions of which at most one applies
+-- ---- conditions that exclude one another
 
 one_kept : (b : Bool) (r : Reason) (later : List Reason) → cond b (r ∷ later) later ≡ cons_option (when b r) later
 one_kept true r later = refl
@@ -45,7 +45,7 @@ fact_told sheet bs d = refl
 abbrev pub refuses_references : Data → Bool
 refuses_references tree = is_none (said_references (unwrap_or (base_said tree) None) (taxonomy_of tree))
 
--- the level is refused; if an entry binds nothing, it is not tested
+-- the level is refused; it is not tested if an entry of `namespaces` binds nothing
 abbrev pub refuses_level : Data → Bool
 refuses_level tree = not (any_in binds_nothing (namespaces_of tree)) && is_none (level_said tree)
 

@@ -15,7 +15,7 @@ use Rattle.oim_report.specs.Holds.{holds}
 use Rattle.oim_report.specs.Least.{least}
 use Rattle.oim_report.proofs.FactHolds.{object_least}
 
--- a value that is no object is refused for its form
+-- a value that is not an object is refused for its form
 abbrev pub parts_outcome : Sheet → List Binding → Option FactParts → Result Fact Reason
 parts_outcome sheet bs None = Err MemberForm
 parts_outcome sheet bs (Some p) = fact_or (fact_refusal sheet bs p) (said_fact sheet bs p)

@@ -1,4 +1,4 @@
--- A list of names in which one may be repeated, read one after another.
+-- The test for repeated names, while a list of names is read.
 use Rattle.std.proofs.Common.{◌≡◌, ◌≢◌, ◌⊎◌, inl, inr, Result, Ok, Err, ℕ, List, [], ◌∷◌, Bool, true, false, cond, ◌||◌, refl, sym, ap, ◌∙◌}
 use Rattle.std.specs.Prelude.{Option, Some, None, if◌then◌else◌, is_some, IfErr}
 use Rattle.std.specs.FinMap as map
@@ -20,7 +20,7 @@ use Rattle.oim_report.specs.Names.{named}
 use Rattle.oim_report.proofs.Naming.{stands}
 use Rattle.oim_report.proofs.RisingNames.{name_total}
 
--- a name is in the map, or is repeated
+-- some name is in the map or is repeated
 abbrev pub again_after : {K : Type 0} → FinMap name_cmp K → List QName → Bool
 again_after m ns = list_any (λ n. map.contains_key m n) ns || comes_again ns
 
@@ -58,7 +58,7 @@ module _ {K : Type 0} where
   some_or true v o = refl
   some_or false v o = refl
 
-  -- the test after one more name
+  -- some name is in the map with a new entry exactly if it is the entry's name or was in the map before
   with_name : (m : FinMap name_cmp K) (n : QName) (k : K) (ns : List QName) → list_any (λ q. map.contains_key (map.insert m n k) q) ns ≡ (list_any (λ q. is_eq (name_cmp n q)) ns || list_any (λ q. map.contains_key m q) ns)
   with_name m n k [] = refl
   with_name m n k (q ∷ qs) =
@@ -68,7 +68,7 @@ module _ {K : Type 0} where
   put_as : (m : FinMap name_cmp K) (n : QName) (k : K) → map.contains_key m n ≡ false → (if map.contains_key m n then m else map.insert m n k) ≡ map.insert m n k
   put_as m n k new = ap (λ b. if b then m else map.insert m n k) new
 
-  -- a new name is no repeat, and the other names are tested after it
+  -- if a name is new, only the names after it remain to be tested
   pub next : (m after : FinMap name_cmp K) (n : QName) (k : K) (ns : List QName) → map.contains_key m n ≡ false → after ≡ (if map.contains_key m n then m else map.insert m n k) → again_after after ns ≡ again_after m (n ∷ ns)
   next m after n k ns new put =
       ap (λ m. again_after m ns) (put ∙ put_as m n k new)

@@ -1,4 +1,4 @@
--- The declarations of a level, one after another.
+-- Reading the declarations of a level one after another.
 use Rattle.std.proofs.Common.{◌≡◌, ℕ, List, [], ◌∷◌, true, cond, Option, Some, None, string_bytes, refl, sym, ap, ◌∙◌}
 use Rattle.std.specs.Prelude.{IsSome}
 use Rattle.oim_names.specs.Bindings.{Binding}

@@ -56,7 +56,7 @@ and_true false = refl
 pub colon_utf8 : (key : List ℕ) → IsUtf8 key → has_colon key ≡ is_defined key
 colon_utf8 key utf8 = and_true (has_colon key) ∙ ap (λ b. has_colon key && b) (sym (is_utf8-from_IsUtf8 key utf8))
 
--- the name that reading a key returns
+-- reading a key returns the name that the key expands to
 as_read : (bs : List Binding) (t : List ℕ) (read : Result QName Reason) → IfOk read (Expands bs t) → IfErr read (λ r. (r ≡ OutOfMemory) ⊎ (name_refusal bs t ≡ Some r)) → read ≢ Err OutOfMemory → result_ok read ≡ named bs t
 as_read bs t (Ok n) e refused other = sym (expanded is_name bs t n e)
 as_read bs t (Err r) e refused other = sym (read_none bs t (Err r) refl other refused)

@@ -25,7 +25,7 @@ use Rattle.oim_report.proofs.ValueWords.{by_given, text_same}
 
 -- ---- the conditions in two groups
 
--- a part is missing, or has another kind of value
+-- a part is missing or has the wrong kind of value
 abbrev pub has_misshapen_part : Data → Bool
 has_misshapen_part tree =
     not (is_object tree) || is_none (object_at (codes "documentInfo") tree) || is_no_object (info (codes "namespaces") tree) || is_no_object (info (codes "features") tree) || is_no_object (get (codes "facts") tree) || is_no_array (info (codes "taxonomy") tree)
@@ -159,7 +159,7 @@ flat false false false false false true g = refl
 flat false false false false false false true = refl
 flat false false false false false false false = refl
 
--- the conditions in two groups
+-- the first refusal of both groups
 abbrev pub grouped_refusal : Data → Option Reason
 grouped_refusal tree = first_refusal (shape_refusal tree ∷ info_refusal tree ∷ [])
 
@@ -175,7 +175,7 @@ document_least tree =
     (behind_test (is_none (base_said tree)) BaseUrl _ _ (λ based. λ i. if taxonomy_same tree based i then Some TaxonomyUrl else (if feature_same tree i then Some Feature else None))
     ∙ ap (λ b. if b then Some BaseUrl else (if document_holds tree TaxonomyUrl then Some TaxonomyUrl else (if document_holds tree Feature then Some Feature else None))) (base_same (info (codes "baseURL") tree))))
 
--- the first of the three conditions on the form
+-- the refusal for the form is the first of three conditions that applies
 pub shape_same : (tree : Data) → find (document_holds tree) (MemberForm ∷ UnknownMember ∷ DocumentType ∷ []) ≡ shape_refusal tree
 unfolding document_holds
 shape_same tree =

@@ -13,7 +13,7 @@ pub first-append : (rs ss : List (Option Reason)) → first_refusal (rs ++ ss) �
 first-append [] ss = refl
 first-append (r ∷ rs) ss = ap (or_refusal r) (first-append rs ss) ∙ sym (or_refusal-assoc r (first_refusal rs) (first_refusal ss))
 
--- a condition, followed by others
+-- the first refusal of a condition and later ones
 pub or_when : (holds : Bool) (reason : Reason) (later : Option Reason) → or_refusal (when holds reason) later ≡ (if holds then Some reason else later)
 or_when true reason later = refl
 or_when false reason later = refl

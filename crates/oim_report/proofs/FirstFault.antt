@@ -40,7 +40,7 @@ first_name bs ns = three (refuses_some NameForm bs ns) (refuses_some UnboundPref
 
 -- ---- the form
 
--- a member that is not refused as no object is missing or an object
+-- if a member is missing or an object, it has parts exactly if it is not missing
 pub missing : (o : Option Data) → is_no_object o ≡ false → is_none (option_map dimension_parts (option_and_then as_object o)) ≡ is_none o
 missing None h = refl
 missing (Some null) h = absurd (cc)
@@ -155,7 +155,7 @@ first_value kind value decimals fits =
     (λ i. or_refusal (there (is_absent value) (value_refusal kind value) fits i) (first_decimals kind decimals i))
     ∙ ap (or_refusal (value_refusal kind value)) (sym (or_none (decimals_refusal kind decimals)))
 
--- the period, the unit and the language
+-- the first refusal of the period, the unit and the language
 first_core : (kind : Option ConceptKind) (ds : DimensionParts) → first_refusal (core_refusals kind ds) ≡ or_refusal (period_refusal ds.period) (or_refusal (unit_refusal kind ds.unit) (language_refusal kind ds.language))
 first_core kind ds =
     ap (or_refusal (period_refusal ds.period)) (first-append (unit_refusals kind ds.unit) (language_refusals kind ds.language) ∙ (λ i. or_refusal (first_unit kind ds.unit i) (first_language kind ds.language i)))
@@ -205,7 +205,7 @@ module _ (sheet : Sheet) (bs : List Binding) (p : FactParts) where
 
 -- ---- a fact object
 
--- the refusals of a fact object with these parts, in the order of the numbers
+-- the refusals of a fact object with these parts, in the order of their numbers
 abbrev pub parts_refusals : Sheet → List Binding → Members → List (Option Reason)
 parts_refusals sheet bs ms = form_refusals (parts_of ms) (get_member (codes "dimensions") ms) ++ option_map_or (content_refusals sheet bs (parts_of ms)) (parts_of ms).dimensions []
 

@@ -1,4 +1,4 @@
--- Keys with their values, with one more added.
+-- Lists of keys and values, after one more is added.
 use Rattle.std.proofs.Common.{◌≡◌, ◌≢◌, ℕ, zero, suc, ◌<◌, length, get_or, List, [], ◌∷◌, refl, sym, subst, arith}
 use Rattle.std.specs.Prelude.{All, Any}
 use Rattle.std.specs.Ordering.{nat_cmp, match_ordering}

@@ -18,7 +18,7 @@ use Rattle.oim_report.specs.Sheet.{Sheet}
 
 -- ---- the form of a fact
 
--- the conditions on the form, from the parts and the value at `dimensions`, which exists if it is no object
+-- the conditions on the form of the parts; the value at `dimensions` may be of any kind
 abbrev pub form_refusals : FactParts → Option Data → List (Option Reason)
 form_refusals p dimensions =
     when (p.misshapen || is_absent p.value || in_dimensions has_misshapen_core p) MemberForm
@@ -37,7 +37,7 @@ names_refusals bs names =
     ∷ when (refuses_some ReservedNamespace bs names) ReservedNamespace
     ∷ []
 
--- ---- its concept and its dimensions; a text that is no name is not unknown, and an unknown concept has no kind
+-- ---- its concept and its dimensions; a text that is not a name is not unknown, and an unknown concept has no kind
 
 abbrev pub is_a_name : List Binding → List ℕ → Bool
 is_a_name bs t = is_none (name_refusal bs t)
@@ -61,7 +61,7 @@ defined_refusals sheet bs defined =
     ∷ when (list_any (has_misfit sheet bs) defined || comes_again (dimension_names bs defined)) DimensionValue
     ∷ []
 
--- the form of a unit, tested without the kind of the concept, and then whether a unit is allowed
+-- the form of a unit, whatever the kind of the concept, and then whether a unit is allowed
 abbrev pub unit_refusals : Option ConceptKind → Given → List (Option Reason)
 unit_refusals kind unit = unit_refusal None unit ∷ when (not (is_absent unit) && is_other_kind kind) UnitOnOther ∷ []
 

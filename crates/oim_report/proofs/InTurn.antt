@@ -25,7 +25,7 @@ use Rattle.oim_report.proofs.OneMembers.{same_rising}
 abbrev Item : Type 0
 Item = QName × Member
 
--- members after others are added one after another
+-- these members after others are added one by one
 abbrev pub with_each : List Item → List Item → List Item
 with_each [] es = es
 with_each (f ∷ fs) es = with_each fs (with_member f.0 f.1 es)
@@ -86,7 +86,7 @@ module _ (sheet : Sheet) (bs : List Binding) (xs : List (Bor (List ℕ) × Lent)
     nothing : drop i xs ≡ []
     nothing = none_left xs i past
 
-    -- a name is repeated exactly if the dimensions are refused for it
+    -- the dimensions are refused exactly if a name is repeated
     pub faulty_is : is_faulty sheet bs (seen_defined xs) ≡ repeats found
     faulty_is =
         let fit : some_misfit sheet bs (seen_defined xs) ≡ false = sym are.misfits ∙ ap (λ ys. some_misfit sheet bs (seen_defined ys)) nothing in
@@ -107,7 +107,7 @@ module _ (sheet : Sheet) (bs : List Binding) (xs : List (Bor (List ℕ) × Lent)
         (λ x c. Contains-permutation found sorted x moved (⊎_elim (λ old. absurd (none_in x old)) (λ one. one) (old_or_one found [] x c)))
         (λ x c. each_is_there found [] x (Contains-permutation sorted found x (IsPermutation-sym found sorted moved) c)))
 
--- one more member is found
+-- the state after one more member is found
 pub found_more : (sheet : Sheet) (bs : List Binding) (xs : List (Bor (List ℕ) × Lent)) (found new : List Item) (i : ℕ) (x : Bor (List ℕ) × Lent) (within : i < length xs) (kind : DimensionKind) (n : QName) (m : Member) → let d = seen_item (get_or xs i x) in
     dimension_kind sheet bs d.0 ≡ Some kind → named bs d.0 ≡ Some n → is_misfit (Some kind) d.1 ≡ false → said_member bs (Some kind) d.1 ≡ Some m → new ≡ found ++ (n, m) ∷ [] → AreFound sheet bs xs found i → AreFound sheet bs xs new (i + 1)
 found_more sheet bs xs found new i x within kind n m known names fits said pushed are =

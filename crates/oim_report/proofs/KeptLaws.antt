@@ -1,4 +1,4 @@
--- The text of an http or https URL is read as that URL, so a kept text is kept as it is.
+-- The text of an http or https URL is read as that URL, so keeping a kept text again does not change it.
 use Rattle.std.proofs.Common.{◌≡◌, ℕ, ◌||◌, ◌⊎◌, inl, inr, ⊎_elim, Bool, true, false, not, List, codes, bytes_eq, Option, Some, None, Ok, Err, refl, sym, ap, ◌∙◌, subst}
 use Rattle.std.specs.Option.{option_map_or}
 use Rattle.std.specs.Str.{is_utf8, IsUtf8}
@@ -58,7 +58,7 @@ has_text text r = option_map_or (λ url. bytes_eq (serialize url) text) (web_url
 never : (P : Type 0) → false ≡ true → P
 never P h = cc
 
--- a text that is kept as it is
+-- the text of an http or https URL is kept unchanged
 itself : (r : Parsed Parts) (text : List ℕ) → parse_url None text ≡ r → is_web_text text ≡ true → kept_by r None text ≡ Some text
 itself (Ok url) text reads h =
     let parsed : has_text text (Ok url) ≡ true = ap (has_text text) (sym reads) ∙ (and_parts _ _ h).1 in
@@ -108,7 +108,7 @@ kept_limit base reference text accepted h =
     let both = and_parts (is_within_limit reference) (is_text_within_limit (kept base reference)) (not_false _ accepted) in
     sym (ap is_text_within_limit h) ∙ both.1
 
--- a text within the limit that is kept as it is
+-- a text that is kept unchanged and is within the limit is accepted
 pub accepted_itself : (text : List ℕ) → kept None text ≡ Some text → is_within_limit text ≡ true → is_reference_refused None text ≡ false
 accepted_itself text itself limit = ap not (and_from _ _ limit (ap is_text_within_limit itself ∙ limit))
 

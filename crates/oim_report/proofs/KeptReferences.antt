@@ -60,6 +60,6 @@ under_base : (o : Option (Option Parts)) (ds : Items) (rs : List (List ℕ)) →
 under_base None ds rs e = absurd (cc)
 under_base (Some base) ds rs e = items_kept base ds rs e
 
--- each reference that a report says is kept as it is
+-- each reference of a report is a kept reference
 pub references_kept : (tree : Data) (rs : List (List ℕ)) → references_said tree ≡ Some rs → All IsKeptReference rs
 references_kept tree rs e = under_base (base_said tree) (taxonomy_of tree) rs e

@@ -18,12 +18,12 @@ use Rattle.oim_report.specs.PlainJson.{IsBefore}
 use Rattle.oim_report.proofs.PutMembers.{Ascends}
 use mathlib.Core.Bool.{false≢true}
 
--- the value at a key after these members, if it had this value before them
+-- the value at a key after these members are read, given the value that was found before
 abbrev pub last_at : List ℕ → Option Data → Members → Option Data
 last_at name found no_members = found
 last_at name found (member key d ms) = last_at name (if bytes_eq name key then Some d else found) ms
 
--- ---- a member of another key
+-- ---- a member with another key
 
 pub last_other : (name : List ℕ) (found : Option Data) (key : List ℕ) (d : Data) (ms : Members) → bytes_eq name key ≡ false → last_at name found ms ≡ last_at name found (member key d ms)
 last_other name found key d ms other = ap (λ b. last_at name (cond b (Some d) found) ms) (sym other)
@@ -35,11 +35,11 @@ colon_other name key plain colon = bytes_not_eq name key (λ same. false≢true 
 pub colon_known : (known : List (List ℕ)) (key : List ℕ) (d : Data) → has_colon key ≡ true → is_unknown known key d ≡ false
 colon_known known key d colon = ap (λ b. not b && not (list_any (λ k. bytes_eq k key) known)) colon
 
--- the same for a text that equals the key
+-- the same for a name that differs from the key
 pub text_other : (name key t : List ℕ) → t ≡ key → t ≢ name → bytes_eq name key ≡ false
 text_other name key t is differ = bytes_not_eq name key (λ same. differ (is ∙ sym same))
 
--- ---- the whole of the members
+-- ---- all members of an object
 
 other_key : (name key : List ℕ) → slice_cmp nat_cmp name key ≡ Less → bytes_eq name key ≡ false
 other_key name key less = sym (is_eq-slice_cmp name key) ∙ ap is_eq less

@@ -18,7 +18,7 @@ use Rattle.oim_report.specs.Said.{members_with, said_member}
 use Rattle.oim_report.specs.code.SeenParts.{seen_defined}
 use Rattle.oim_report.specs.Sheet.{Sheet}
 
--- a member is not of its dimension's kind
+-- some member does not have its dimension's kind
 abbrev pub some_misfit : Sheet → List Binding → List (List ℕ × Given) → Bool
 some_misfit sheet bs ds = list_any (λ d. is_misfit (dimension_kind sheet bs d.0) d.1) ds
 

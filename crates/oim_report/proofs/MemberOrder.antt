@@ -34,7 +34,7 @@ one_way a b other h =
 pub other_way : (a b : QName) → is_lt (name_cmp a b) ≡ true → is_lt (name_cmp b a) ≡ false
 other_way a b h = ap is_lt (name_total.antisymm b a ∙ ap ordering_reverse (less_is _ h))
 
--- inserting a member, in terms of the test of its name
+-- a member goes before an entry with a greater name, and after any other
 goes_before : (n : QName) (m : Member) (e : Entry) (es : List Entry) → is_lt (name_cmp n e.0) ≡ true → with_member n m (e ∷ es) ≡ (n, m) ∷ e ∷ es
 goes_before n m e es h = ap (λ b. cond b ((n, m) ∷ e ∷ es) (e ∷ with_member n m es)) h
 

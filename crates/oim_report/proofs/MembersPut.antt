@@ -118,7 +118,7 @@ put_first : (k : List ℕ) (d : Data) (ms : Members) → IsBefore k ms → put k
 put_first k d no_members h = refl
 put_first k d (member l e ms) h = put_less k l d e ms h.0
 
--- members with ascending keys are added as they are
+-- adding members with ascending keys to an empty object gives these members
 pub rising_stays : (ms : Members) → IsRising ms → put_all ms no_members ≡ ms
 rising_stays no_members h = refl
 rising_stays (member k d ms) h = put_all_later k d ms no_members (lacks_before k ms h.0) ∙ ap (put k d) (rising_stays ms h.1) ∙ put_first k d ms h.0
@@ -183,7 +183,7 @@ of_members-plus (j.member k v ms) ns old = after (of_json v) (λ d. of_members-p
     after None same = refl
     after (Some d) same = same d
 
--- The members of two texts are those of the first, with those of the second added.
+-- Two texts together have the first text's members with the second text's members added.
 pub both_found : (ms ns : j.Members) (found more : Members) → of_members ms no_members ≡ Some found → of_members ns no_members ≡ Some more → of_members (plus ms ns) no_members ≡ Some (put_all more found)
 both_found ms ns found more e f = of_members-plus ms ns no_members ∙ ap (option_and_then (of_members ns)) e ∙ found_onto ns more found f
 

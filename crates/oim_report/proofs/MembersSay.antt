@@ -59,7 +59,7 @@ dimension_says sheet bs d n m name says =
       member = k.2;
     }
 
--- ---- all members: they ascend, each name is in a single key, and some key says each member
+-- ---- all members: they ascend, each name is in a single key, and each member is said by some key
 
 abbrev IsApart : List Binding → List (QName × Member) → List (List ℕ × Given) → Type 0
 IsApart bs es ds = (n : QName) → Contains (dimension_names bs ds) n → ¬ (IsTrue (has_name n es))
@@ -158,7 +158,7 @@ walked sheet bs ds es none e = walk sheet bs ds [] es refl (once_by sheet bs ds 
 pub members_rise : (sheet : Sheet) (bs : List Binding) (ds : List (List ℕ × Given)) (es : List (QName × Member)) → defined_refusal sheet bs ds ≡ None → said_members sheet bs ds ≡ Some es → IsTrue (rises es)
 members_rise sheet bs ds es none e = (walked sheet bs ds es none e).rising
 
--- some key says each member
+-- each member is said by some key
 by_key : (sheet : Sheet) (bs : List Binding) (ds : List (List ℕ × Given)) (es : List (QName × Member)) → IsWalked sheet bs ds [] es → (e : QName × Member) → Contains es e → (d : List ℕ × Given) × Contains ds d × SaysDimension sheet bs d e
 by_key sheet bs ds es walk e c = ⊎_elim (λ none. absurd (none_in e none)) (λ found. found) (walk.others e c)
 

@@ -1,4 +1,4 @@
--- Why a unit is refused for its names, by the test of each reason.
+-- The reason for which a unit's names are refused, one test per reason.
 use Rattle.std.proofs.Common.{◌≡◌, ℕ, List, [], ◌∷◌, ◌++◌, Bool, true, false, ◌||◌, refl, ◌∙◌}
 use Rattle.std.specs.Prelude.{if◌then◌else◌, map}
 use Rattle.std.specs.List.{list_any}

@@ -27,7 +27,7 @@ abbrev is_memory : Reason → Bool
 is_memory OutOfMemory = true
 is_memory r = false
 
--- a refusal, if there is one, is not out of memory
+-- the reason, if any, is not `OutOfMemory`
 abbrev IsOther : Option Reason → Type 0
 IsOther None = Unit {0}
 IsOther (Some r) = is_memory r ≡ false

@@ -20,7 +20,7 @@ use Rattle.oim_report.specs.Duplicates.{allows, allows_each, allows_values, are_
 use Rattle.oim_dims.proofs.Orders.{dimensions_cmp_total}
 use Rattle.oim_report.proofs.ValuesMeet.{values_meet_self, values_meet_turns}
 
--- ---- a test of each two facts
+-- ---- a test of all pairs of facts
 
 list_all-Decides : {X : Type 0} (p : X → Bool) (xs : List X) → Decides (list_all p xs) (All (λ x. p x ≡ true) xs)
 list_all-Decides p xs = Decides-by_and p (λ x. p x ≡ true) (list_all p) (λ x. (λ h. h, λ h. h)) refl (λ _ _. refl) xs
@@ -97,7 +97,7 @@ pub level_ignores_order : LevelIgnoresOrder
 unfolding level_of
 level_ignores_order fs gs p = λ i. strictest (allows_each-IsPermutation Unique fs gs p i) (allows_each-IsPermutation Complete fs gs p i) (allows_each-IsPermutation Consistent fs gs p i)
 
--- ---- a level allows whatever a stricter level does
+-- ---- a level allows all that a stricter level allows
 
 either : (a b c : Bool) → (b ≡ true → c ≡ true) → (a || b) ≡ true → (a || c) ≡ true
 either true b c f h = refl

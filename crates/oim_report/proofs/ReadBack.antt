@@ -1,4 +1,4 @@
--- Part by part: what is written says the part, and the part alone, and is not refused.
+-- Part by part: the written text says exactly the part and is not refused.
 use Rattle.std.specs.Prelude.{◌≡◌, ℕ, List, All, IsTrue, Option, Some, None, IfSome}
 use Rattle.std.specs.List.{flat_map}
 use Rattle.std.specs.FinMap as map
@@ -82,6 +82,6 @@ pub record ValueReadsBack (bs : List Binding) (spelled : QName → List ℕ) (ki
   pub decimals_accepted : decimals_refusal (Some kind) (decimals_given spelled v) ≡ None
   pub names : names_refusal bs (value_names (Some kind) (value_given spelled v)) ≡ None
 
--- nil, a number with its decimals, a text, a name
+-- values of every kind are read back
 abbrev pub ValuesReadBack : Type 0
 ValuesReadBack = (bs : List Binding) (spelled : QName → List ℕ) (kind : ConceptKind) (v : Value) → ValueFits kind v → SpellsValue bs spelled v → ValueReadsBack bs spelled kind v

@@ -1,4 +1,4 @@
--- A fact is read as itself, from all its parts.
+-- A written fact is read back as the same fact.
 use Rattle.std.proofs.Common.{◌≡◌, ℕ, List, [], ◌∷◌, ◌++◌, false, Option, Some, None, Ok, refl, ap, ◌∙◌}
 use Rattle.std.specs.Prelude.{option_and_then, option_map, IfSome}
 use Rattle.std.specs.List.{flat_map}
@@ -63,7 +63,7 @@ measures_fit : (kind : ConceptKind) (m : Option Measures) → UnitFits kind m �
 measures_fit kind None fits = tt
 measures_fit kind (Some m) fits = fits
 
--- several refusals, one after another
+-- if neither the first nor a later condition refuses, nothing does
 then_none : (r : Option Reason) (rs : List (Option Reason)) → r ≡ None → first_refusal rs ≡ None → first_refusal (r ∷ rs) ≡ None
 then_none r rs here there = λ i. or_refusal (here i) (there i)
 

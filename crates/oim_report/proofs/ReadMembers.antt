@@ -1,4 +1,4 @@
--- The taxonomy-defined dimensions with their members are read as themselves.
+-- The taxonomy-defined dimensions with their members are read back.
 use Rattle.std.proofs.Common.{◌≡◌, ◌≢◌, ℕ, suc, List, [], ◌∷◌, true, false, refl, sym, ap, ◌∙◌, arith}
 use Rattle.std.specs.Prelude.{All, Any, Contains, Option, Some, None, is_none, option_and_then, option_map, ⊤}
 use Rattle.std.specs.FinMap as map

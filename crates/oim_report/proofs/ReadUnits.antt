@@ -1,4 +1,4 @@
--- A unit is read as itself.
+-- A written unit is read back.
 use Rattle.std.proofs.Common.{◌≡◌, ◌≢◌, ℕ, zero, suc, ◌+◌, ◌<◌, List, [], ◌∷◌, ◌++◌, length, get_or, map, true, false, not, cond, Some, None, refl, ap, ◌∙◌, arith}
 use Rattle.std.specs.Prelude.{option_and_then, option_map, ◌==◌, ⊤}
 use Rattle.std.specs.Char.{is_ascii_alphanumeric}

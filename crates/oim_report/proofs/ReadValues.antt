@@ -1,4 +1,4 @@
--- A value is read as itself, whether it is nil, a number with its decimals, a text or a name.
+-- A written value is read back, whether it is nil, a number with its decimals, a text or a name.
 use Rattle.std.proofs.Common.{◌≡◌, ℤ, Bool, true, false, not, cond, Some, None, refl, sym, ap}
 use Rattle.std.specs.Prelude.{option_map}
 use Rattle.oim_names.specs.QName.{is_name}

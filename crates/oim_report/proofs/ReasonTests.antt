@@ -1,4 +1,4 @@
--- The refusal that a reading returns, in terms of the row that applies.
+-- The refusal that a reading returns, in terms of the table's row that applies.
 use Rattle.std.proofs.Common.{◌≡◌, ℕ, ℤ, List, Bool, true, false, not, ◌||◌, ◌&&◌, Ok, Err, refl}
 use Rattle.std.specs.Prelude.{Option, Some, None, is_none, int_lt, if◌then◌else◌}
 use Rattle.std.specs.Option.{option_eq}

@@ -10,7 +10,7 @@ use Rattle.serde_json.specs.declared.value.Value.{Value}
 use Rattle.url.specs.Parts.{Parts}
 use Rattle.oim_report.specs.Info.{said_reference, said_references}
 
--- the kept references after further items
+-- the kept references after these items, given the references that were kept before
 abbrev pub kept_after : Option Parts → List (List ℕ) → Items → Option (List (List ℕ))
 kept_after base done no_items = Some done
 kept_after base done (item d ds) = option_and_then (λ t. kept_after base (done ++ t ∷ []) ds) (said_reference base d)
@@ -34,7 +34,7 @@ whole (Some ts) = refl
 pub kept_all : (base : Option Parts) (ds : Items) → kept_after base [] ds ≡ said_references base ds
 kept_all base ds = after base ds [] ∙ whole (said_references base ds)
 
--- the index at which the loop over an array stops, and its end
+-- the loop over an array stops at a refused reference, and otherwise at the end
 pub stops : (base : Option Parts) (done : List (List ℕ)) (items : List Value) (i : ℕ) (v : Value) → i < length items → v ≡ get_or items i v → said_reference base (view v) ≡ None → kept_after base done (items_view (drop i items)) ≡ None
 stops base done items i v h is none =
     ap (λ vs. kept_after base done (items_view vs)) (drop-cons items i v h)

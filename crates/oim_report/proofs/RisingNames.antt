@@ -46,7 +46,7 @@ module _ {K X : Type 0} {R : K → K → Ordering} (o : IsTotalOrder R) where
   rising_at (e ∷ es) zero (suc j) d h lt within = below_at e.0 es j d (and_parts (below_all R e.0 es) (is_sorted R es) h).0 (omega (arith, within))
   rising_at (e ∷ es) (suc i) (suc j) d h lt within = rising_at es i j d (and_parts (below_all R e.0 es) (is_sorted R es) h).1 (omega (arith, lt)) (omega (arith, within))
 
-  -- the value at the key of an index
+  -- the value at an entry's key is the entry's value
   pub found_at : (es : List (K × X)) (i : ℕ) (d : K × X) → is_sorted R es ≡ true → i < length es → find R (get_or es i d).0 es ≡ Some (get_or es i d).1
   found_at [] i d h within = absurd (omega (arith, within))
   found_at (e ∷ es) zero d h within = ap (λ r. cond (is_eq r) (Some e.1) (find R e.0 es)) (tied_itself o e.0)
@@ -142,7 +142,7 @@ module _ {K X : Type 0} (R : K → K → Ordering) where
   ]
 
 module _ {X : Type 0} where
-  -- an entry that is added to a map
+  -- adding an entry to the list keeps it sorted and adds the entry to the map
   pub put_among : (es : List (QName × X)) (q : QName) (v : X) → is_sorted name_cmp es ≡ true → (is_sorted name_cmp (put name_cmp q v es) ≡ true) × (map.from_sorted {R = name_cmp} (put name_cmp q v es) ≡ map.insert (map.from_sorted es) q v)
   put_among es q v h = (
     sorted_after es q v h,

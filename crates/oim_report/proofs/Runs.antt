@@ -1,4 +1,4 @@
--- The loop over sorted facts.
+-- The level of sorted facts, computed in one loop.
 use Rattle.std.proofs.Common.{◌≡◌, Bool, true, false, cond, not, ◌&&◌, ◌||◌, List, [], ◌∷◌, ◌++◌, append_assoc, refl, sym, ap, subst, ◌∙◌}
 use Rattle.std.specs.Prelude.{Option, if◌then◌else◌}
 use Rattle.std.specs.List.{list_all}
@@ -81,8 +81,8 @@ walk-other last f shared level fs h =
 
 -- ---- properties of the facts so far
 
--- no fact so far has dimensions above those of the last; a later fact with its dimensions meets the others exactly if it meets
--- their common part
+-- no fact so far has greater dimensions than the last fact; a later fact with the same dimensions meets the others exactly if it
+-- meets their common part
 pub record Knows (before : List Fact) (last : Fact) (shared : Option Interval) : Type 0 where
   pub below : list_all (λ f. not (is_gt (dims f last))) (before ++ last ∷ []) ≡ true
   pub sharing : (h : Fact) → dims last h ≡ Equal → value_cmp last.value h.value ≡ Less → list_all (λ f. allows Consistent f h) (before ++ last ∷ []) ≡ both_meet shared (interval_at h.value)
@@ -99,7 +99,7 @@ each_from : {X : Type 0} (p q : X → Bool) → ((x : X) → p x ≡ true → q 
 each_from p q f [] h = refl
 each_from p q f (x ∷ xs) h = let both = and_parts (p x) (list_all p xs) h in and_from (q x) (list_all q xs) (f x both.0) (each_from p q f xs both.1)
 
--- a test of all items of a list with one more at its end
+-- a test of all items of a list after one more is appended
 each_push : {X : Type 0} (p : X → Bool) (xs : List X) (x : X) → list_all p (xs ++ x ∷ []) ≡ (list_all p xs && p x)
 each_push p xs x = list_all-append p xs (x ∷ []) ∙ ap (λ b. list_all p xs && b) (and_true (p x))
 
@@ -225,7 +225,7 @@ level_repeated before last shared =
     ∙ repeated (allows_each Unique fs) (allows_each Complete fs) (allows_each Consistent fs) (unique_are_complete fs)
     ∙ (λ i. ord_max level_cmp (sym (level_of_is fs) i) (sym beside i))
 
--- the level after another value with the same dimensions
+-- the level after one more value for the same dimensions
 level_differing : (before : List Fact) (last f : Fact) (shared : Option Interval) → Knows before last shared → dims last f ≡ Equal → value_cmp last.value f.value ≡ Less → level_of ((before ++ last ∷ []) ++ f ∷ []) ≡ ord_max level_cmp (level_of (before ++ last ∷ [])) (level_beside last.value shared f.value)
 level_differing before last f shared known same less =
     let fs : List Fact = before ++ last ∷ [] in
@@ -266,7 +266,7 @@ walk_is (f ∷ fs) before last shared known rises =
     ∙ walk_is fs (before ++ last ∷ []) f (both_common shared (interval_at f.value)) (knows_duplicate before last f shared known equal up) rises.1
     ∙ ap level_of (append_assoc before (last ∷ []) (f ∷ fs)))
 
--- the loop from the first fact on
+-- the loop from the first fact on returns the level of all facts
 pub walk_from_first : (first : Fact) (fs : List Fact) → RisesFrom first fs → walk first (interval_at first.value) Unique fs ≡ level_of (first ∷ fs)
 unfolding level_of
 walk_from_first first fs rises = walk_is fs [] first (interval_at first.value) (knows_first first) rises

@@ -32,11 +32,11 @@ pub tied : (b : Bool) (q n : QName) → eq_by_cmp name_cmp q n ≡ b → b ≡ t
 tied b q n e t = exact_name q n ((Equal-is (name_cmp q n)).0 (e ∙ t))
 
 module _ {X : Type 0} where
-  -- the map with the entry, unless it has the name
+  -- adds an entry to the map unless its name is in the map
   abbrev pub with_entry : FinMap name_cmp X → QName × X → FinMap name_cmp X
   with_entry m e = if map.contains_key m e.0 then m else map.insert m e.0 e.1
 
-  -- the map with several entries, in their order
+  -- adds several entries in order
   abbrev pub onto : FinMap name_cmp X → List (QName × X) → FinMap name_cmp X
   onto m [] = m
   onto m (e ∷ es) = onto (with_entry m e) es
@@ -60,7 +60,7 @@ module _ {X : Type 0} where
   get-onto m [] q = sym (first_of-none (map.get m q))
   get-onto m (e ∷ es) q = get-onto (with_entry m e) es q ∙ at_one m e q (find name_cmp q es)
 
-  -- the entries of the map stay
+  -- entries of the map stay when others are added
   pub stays : (m : FinMap name_cmp X) (es : List (QName × X)) (q : QName) (k : X) → map.get m q ≡ Some k → map.get (onto m es) q ≡ Some k
   stays m es q k h = get-onto m es q ∙ ap (λ o. first_of o (find name_cmp q es)) h
 

@@ -45,7 +45,7 @@ sheet_least tree =
 
 -- ---- the order in which a sheet is read
 
--- the sheet is refused for a kind if nothing before it is refused
+-- a sheet with a bad kind is refused for it if no earlier condition applies
 pub kinds_refused : (tree : Data) (bs : List Binding) (ns cs ds : Option Members) → None ≡ find (sheet_holds tree) (MemberForm ∷ UnknownMember ∷ [])
     → ns ≡ object_at (codes "namespaces") tree → (bs ≡ bindings_in (members ns)) × (any_in binds_nothing ns ≡ false)
     → cs ≡ object_at (codes "concepts") tree → ds ≡ object_at (codes "dimensions") tree → None ≡ names_refusal bs (key_names (members cs) ++ key_names (members ds))

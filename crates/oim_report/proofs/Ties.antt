@@ -1,4 +1,4 @@
--- The derived comparisons are those of the definitions.
+-- The derived comparisons agree with the definitions.
 use Rattle.std.proofs.Common.{◌≡◌, cond, refl, ap, ◌∙◌}
 use Rattle.std.specs.Ordering.{is_eq, is_lt, ord_max}
 use Rattle.oim_value.specs.Level.{level_cmp}
@@ -22,7 +22,7 @@ equal_values_tie v w = values_match v w ∙ ap is_eq (values_agree v w)
 pub equal_dimensions_tie : (x y : DimensionSet) → dimensions_eq.it x y ≡ is_eq (dimensions_cmp x y)
 equal_dimensions_tie x y = dimensions_match x y ∙ ap is_eq (dimensions_agree x y)
 
--- the greater of two levels
+-- both orders give the same maximum of two levels
 pub level_max_is : (l m : Level) → ord_max derived.it l m ≡ ord_max level_cmp l m
 level_max_is l m = ap (λ o. cond (is_lt o) l m) (levels_agree m l)
   where

@@ -117,7 +117,6 @@ other_unit (n ∷ []) [] other = cond-false _ _ _ (not_pure n (λ same. other (�
 other_unit (n ∷ []) (d ∷ ds) other = refl
 other_unit (n ∷ m ∷ ns) ds other = refl
 
--- the unit that a text denotes is the result of the function
 pub unit_is : (bs : List Binding) (t : List ℕ) (u : Option Measures) → UnitOf bs t u → IfSome u IsUnit → unit_of bs t ≡ Some u
 unit_is bs t None says is = both_sides bs t pure_alone says alone_sorted none_sorted ∙ ap Some is_none
 unit_is bs t (Some m) says is = both_sides bs t m says.0 is.numerators is.denominators ∙ ap Some (other_unit m.numerators m.denominators says.1)

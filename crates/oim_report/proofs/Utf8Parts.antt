@@ -23,7 +23,7 @@ module _ (p : ℕ → Bool) (ascii : OnlyAscii p) (t : List ℕ) (utf8 : IsUtf8 
   passed : position_or_len p t < length t → get_or t (position_or_len p t) 0 < 128
   passed lt = ascii _ (passes_at_first p t 0 lt)
 
-  -- the texts after and before the first character that passes
+  -- the texts before and after the first character that passes are UTF-8
   pub after_utf8 : IsUtf8 (after_first p t)
   after_utf8 = elim (cases_lt (position_or_len p t) (length t)) [
     | inl lt ↦ IsUtf8-drop t (position_or_len p t + 1) utf8 (IsCharBoundary-after_ascii t (position_or_len p t) utf8 lt (passed lt))
@@ -36,7 +36,7 @@ module _ (p : ℕ → Bool) (ascii : OnlyAscii p) (t : List ℕ) (utf8 : IsUtf8 
     | inr ge ↦ subst IsUtf8 (sym (take_all (position_or_len p t) t (omega (arith, ge)))) utf8
   ]
 
--- the parts before and after an ASCII character
+-- the texts before and after an ASCII character are UTF-8
 at_seam : (xs ys : List ℕ) (c : ℕ) → get_or (xs ++ c ∷ ys) (length xs) 0 ≡ c
 at_seam [] ys c = refl
 at_seam (x ∷ xs) ys c = at_seam xs ys c

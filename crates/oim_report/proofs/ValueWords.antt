@@ -16,7 +16,7 @@ use Rattle.oim_report.specs.Refusal.{first_refusal, or_refusal}
 use Rattle.oim_report.specs.Holds.{as_text, as_whole, entries, is_some_and, no_text}
 use Rattle.oim_report.proofs.EachRefusal.{or_when}
 
--- a property of the given value and of the table's words holds for each value if it holds for the five kinds
+-- a property of the given value and of the table's words holds for each value if it holds for the four kinds
 pub by_given : (P : Given → Option (List ℕ) → Option ℤ → Option ⊤ → Type 0) → P nil None None (Some tt) → ((t : List ℕ) → P (text t) (Some t) None None) → ((n : ℤ) → P (whole n) None (Some n) None) → P other None None None
     → (d : Data) → P (given d) (as_text d) (as_whole d) (as_null d)
 by_given P of_nil of_text of_whole of_other null = of_nil
@@ -55,7 +55,7 @@ kept_same : (b : Bool) (key : List ℕ) (d : Data) (xs : List (List ℕ × Data)
 kept_same true key d xs ys same = ap (λ l. (key, given d) ∷ l) same
 kept_same false key d xs ys same = same
 
--- the members whose keys have a colon
+-- the table and the reader find the same members whose keys have a colon
 pub defined_same : (ms : Members) → defined_in ms ≡ map (λ m. (m.0, given m.1)) (filter (λ m. has_colon m.0 && is_utf8 m.0) (entries ms))
 defined_same no_members = refl
 defined_same (member key d ms) = kept_same (has_colon key && is_utf8 key) key d _ _ (defined_same ms)

@@ -5,6 +5,6 @@ use Rattle.oim_report.specs.code.FoundFacts.{AreFound}
 use Rattle.oim_report.proofs.PiecesInTurn.{IsUpTo}
 use Rattle.oim_report.proofs.pieces.facts_in_pieces.read_facts_in_pieces.Given as goal
 
--- each `&str` that the loop changes is a text
+-- the rest of the text is UTF-8, and the facts before it were found
 abbrev pub invariant-loop : goal.invariant-loop
 invariant-loop l = shadow (Utf8 l.left) × (objects : Members) × IsUpTo l.text l.left objects × AreFound l.sheet l.aliases objects l.identifiers.items l.facts.items
