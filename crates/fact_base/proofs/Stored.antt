@@ -49,7 +49,7 @@ stored_fits sheet es references stored = record {
         let some = (in_flat_map facts_of_entry ds f).0 at in
         each_there (FactFits sheet) (facts_of_entry some.1) f (each_there (λ e. EntryFits sheet e.0 e.1) ds some.1 fit (some.0, some.2, some.3)).facts some.4
 
--- a base keeps its conditions when entries and references are added
+-- a base still satisfies its conditions after entries and references are added
 pub stored_together : (sheet : Sheet) (es ds : List Entry) (references others wider : List (List ℕ)) → AreStored sheet es references → IsRising dimensions_cmp entry_key ds → Fit sheet ds → All IsKeptReference others → wider ≡ set_of text_cmp (references ++ others) → AreStored sheet (map_union dimensions_cmp summed_of_both es ds) wider
 stored_together sheet es ds references others wider stored rise fit kept is =
     let set = set_of_is_set text_cmp_total text_cmp_exact (references ++ others) in

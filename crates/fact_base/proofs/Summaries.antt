@@ -59,7 +59,7 @@ no_intervals (Number m d ∷ vs) h = absurd (true≢false h)
 no_intervals (AText t ∷ vs) h = no_intervals vs h
 no_intervals (AName n ∷ vs) h = no_intervals vs h
 
--- the ends in a summary are the ends of its values, if there are any
+-- if some values have ends, their summary contains these ends
 ends_told : (vs : List Value) (ends : Interval) → AreEnds ends (intervals_of vs) → (summary_of_all vs).ends ≡ Some ends
 ends_told vs ends are = by_ends (summary_of_all vs).ends refl
   where

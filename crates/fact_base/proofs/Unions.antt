@@ -1,4 +1,4 @@
--- Entries that are merged.
+-- Merging the entries of two bases.
 use Rattle.std.proofs.Common.{◌≡◌, List, [], ◌∷◌, ◌++◌, Option, Some, None, refl, sym, subst, ◌∙◌, inl, inr, ⊎_elim}
 use Rattle.std.specs.Prelude.{◌↔◌, ◌⊎◌, ◌≢◌, Contains}
 use Rattle.std.specs.List.{All}

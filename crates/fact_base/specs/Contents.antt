@@ -1,4 +1,4 @@
--- The view of a base that contracts see (own).
+-- A base as contracts see it (own).
 use Rattle.oim_report.specs.Sheet.{Sheet}
 use Rattle.fact_base.specs.Body.{Body}
 

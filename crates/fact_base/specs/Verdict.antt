@@ -41,7 +41,7 @@ InconsistentIsApart =
 
 -- ---- evidence
 
--- several values that meet, and the interval of exactly the numbers that lie in all their intervals
+-- there are several values, each two meet, and the interval contains exactly the numbers that lie in all their intervals
 pub record IsCommonOf (vs : List Value) (common : Interval) : Type 0 where
   pub several : 2 ≤ length vs
   pub each : EachTwoValuesMeet vs

@@ -168,8 +168,8 @@ fn same_at(one: &Entries, other: &Entries, place: usize) -> bool
     }
 }
 
-/// Returns the strictest level of duplicates that allows the facts. It reads only the number of
-/// values of each dimension set and their summary.
+/// Returns the strictest level of duplicates that allows the facts. For each dimension set, it
+/// reads only the number of values and their summary.
 pub(crate) fn level_of(entries: &Entries) -> Level
     requires rise { IsRising dimensions_cmp entry_key entries.now }
     requires summed { All (λ e. AreSummarised e.1.0 e.1.1) entries.now }

@@ -1,4 +1,4 @@
--- Names that nothing refuses.
+-- Names that are not refused.
 use Rattle.std.proofs.Common.{◌≡◌, ℕ, List, [], ◌∷◌, map, Bool, None, refl}
 use Rattle.std.specs.List.{AllZip}
 use Rattle.oim_names.specs.QName.{QName, is_name}

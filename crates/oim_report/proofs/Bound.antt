@@ -46,7 +46,7 @@ all_fresh : (es : List Entry) → AreFree [] es
 all_fresh [] = tt
 all_fresh (e ∷ es) = (refl, all_fresh es)
 
--- the step of the next lemma
+-- one step of the next lemma
 by_text : (bs : List Binding) (k : List ℕ) (rest : Members) (o : Option (List ℕ)) (more : List Binding → Option (List Binding)) (any : Bool)
     → uri_of bs k ≡ None
     → ((u : List ℕ) → more (bs ++ (record { prefix = k; uri = u }) ∷ []) ≡ cond any None (Some ((bs ++ (record { prefix = k; uri = u }) ∷ []) ++ bindings_in rest)))

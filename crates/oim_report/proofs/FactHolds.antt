@@ -78,7 +78,7 @@ unit_same : (o : Option Data) → map a_name (option_map_or pieces (option_and_t
 unit_same None = refl
 unit_same (Some d) = by_given (λ g t w n. map a_name (option_map_or pieces t []) ≡ unit_names g) refl pieces_same (λ n. refl) refl d
 
--- a prefix is not refused exactly if the text has a name in its namespace
+-- the prefix of a text is accepted exactly if the text has a name in the prefix's namespace
 by_uri : (u : Option (List ℕ)) (t : List ℕ) → is_none (prefix_refusal u) ≡ is_some (option_and_then (λ v. in_namespace v t) u)
 by_uri None t = refl
 by_uri (Some v) t =

@@ -1,4 +1,4 @@
--- Why the content of a fact is refused, part by part.
+-- The refusal of a fact's content, part by part.
 use Rattle.std.proofs.Common.{◌≡◌, List, [], ◌∷◌, ◌++◌, refl, sym, ap, ◌∙◌}
 use Rattle.std.specs.Prelude.{Option, Some, None}
 use Rattle.std.specs.List.{flat_map}
@@ -22,7 +22,7 @@ first_refusal-append : (rs ss : List (Option Reason)) → first_refusal (rs ++ s
 first_refusal-append [] ss = refl
 first_refusal-append (r ∷ rs) ss = ap (or_refusal r) (first_refusal-append rs ss) ∙ sym (or_refusal-assoc r (first_refusal rs) (first_refusal ss))
 
--- if no name of a fact is refused, no name in one of its parts is
+-- no name in one of the parts is refused
 pub record AreFree (sheet : Sheet) (bs : List Binding) (ds : DimensionParts) (given : Given) : Type 0 where
   pub entity : names_refusal bs (spelled_in an_entity ds.entity) ≡ None
   pub defined : names_refusal bs (flat_map (defined_names sheet bs) ds.defined) ≡ None

@@ -40,7 +40,7 @@ first_name bs ns = three (refuses_some NameForm bs ns) (refuses_some UnboundPref
 
 -- ---- the form
 
--- if a member is missing or an object, it has parts exactly if it is not missing
+-- unless it has another type, a member has parts exactly if it is present
 pub missing : (o : Option Data) → is_no_object o ≡ false → is_none (option_map dimension_parts (option_and_then as_object o)) ≡ is_none o
 missing None h = refl
 missing (Some null) h = absurd (cc)

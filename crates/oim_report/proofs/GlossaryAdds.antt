@@ -15,12 +15,12 @@ either R g t u a b is says true same found =
     subst (λ x. R x b) ((bytes_decides t u).0 same) (subst (λ x. R t x) value says)
 either R g t u a b is says false other found = is.each u b found
 
--- a glossary stays right if a right meaning is added
+-- a glossary stays correct if a correct meaning is added
 pub still : {A : Type 0} (R : List ℕ → A → Type 0) (g h : Glossary A) (t : List ℕ) (a : A) → IsGlossary R g → R t a → Adds g t a h → IsGlossary R h
 still R g h t a is says (inl same) = record { each = λ u b found. is.each u b (sym (same u) ∙ found) }
 still R g h t a is says (inr new) = record { each = λ u b found. either R g t u a b is says (bytes_eq t u) refl (sym (new u) ∙ found) }
 
--- an empty glossary is right
+-- an empty glossary is correct
 pub none_wrong : {A : Type 0} (R : List ℕ → A → Type 0) (g : Glossary A) → ((t : List ℕ) → meaning g t ≡ None) → IsGlossary R g
 none_wrong R g empty = record { each = λ t a found. let none = sym (empty t) ∙ found in cc }
 

@@ -37,7 +37,7 @@ names_refusals bs names =
     ∷ when (refuses_some ReservedNamespace bs names) ReservedNamespace
     ∷ []
 
--- ---- its concept and its dimensions; a text that is not a name is not unknown, and an unknown concept has no kind
+-- ---- its concept and its dimensions; a text that is not a name does not count as unknown, and an unknown concept has no kind
 
 abbrev pub is_a_name : List Binding → List ℕ → Bool
 is_a_name bs t = is_none (name_refusal bs t)

@@ -25,7 +25,7 @@ use Rattle.oim_report.proofs.OneMembers.{same_rising}
 abbrev Item : Type 0
 Item = QName × Member
 
--- these members after others are added one by one
+-- a list of members with others added one by one
 abbrev pub with_each : List Item → List Item → List Item
 with_each [] es = es
 with_each (f ∷ fs) es = with_each fs (with_member f.0 f.1 es)

@@ -62,7 +62,7 @@ rest_of : (b : Bool) (t : Token) (k : Place → List Token) (next : Place) → N
 rest_of true t k next h = h.1
 rest_of false t k next h = absurd (false≢true h.0)
 
--- the tokens after a token that has a place are good
+-- if no token is bad, none after the first is bad
 behind : (p : Place) (t : Token) (c : Bool) (k : Place → List Token) → NoBad (place_token p t c k) → (q : Place) × NoBad (k q)
 behind p begin_object c k h = (fresh, rest_of (may_begin p) begin_object k fresh h)
 behind p end_object c k h = (after_value, rest_of (may_close p) end_object k after_value h)

@@ -40,7 +40,7 @@ same_bytes xs = (bytes_eq-Decides xs xs).1 refl
 pub web_text-parsed : (url : Parts) → IsValid url → is_web url ≡ true → parse_url None (serialize url) ≡ Ok url
 web_text-parsed url valid web = parse_url-serialize_special url None valid (web_kind url web)
 
--- a valid http or https URL has this text
+-- the text of a valid http or https URL is its serialization
 pub web_text-valid : (url : Parts) → IsValid url → IsUtf8 (serialize url) → is_web url ≡ true → web_text (Some url) ≡ Some (serialize url)
 web_text-valid url valid utf8 web =
     let reads : web_url (parse_url None (serialize url)) ≡ Some url =

@@ -26,7 +26,7 @@ some_misfit sheet bs ds = list_any (λ d. is_misfit (dimension_kind sheet bs d.0
 abbrev pub names_of : List (QName × Member) → List QName
 names_of es = map (λ e. e.0) es
 
--- ---- the steps of the code
+-- ---- the steps of the loop
 
 -- an item as contracts see it
 abbrev pub seen_item : Bor (List ℕ) × Lent → List ℕ × Given

@@ -26,7 +26,7 @@ pub then_some : {A B : Type 0} (f : A → Option B) (o : Option A) (b : B) → o
 then_some f None b e = absurd (Prim.cc)
 then_some f (Some a) b e = (a, refl, e)
 
--- ---- the data of such a tree
+-- ---- the data of a JSON value
 
 number_only : (s : List ℕ) (x : Data) → of_json (j.number s) ≡ Some x → (n : d.Num) × (d.number n ≡ x)
 number_only s x e = let m = mapped_some d.number (number_of s) x e in (m.0, m.2)

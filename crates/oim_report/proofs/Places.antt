@@ -115,7 +115,7 @@ rest_within facts places rest first i order split here =
 pub first_within : (facts : List Fact) (places rest : List ℕ) (first : ℕ) → IsOrderOf facts places → places ≡ first ∷ rest → first < length facts
 first_within facts places rest first order split = All-head (λ p. p < length facts) first rest (subst (All (λ p. p < length facts)) split (places_within facts places order))
 
--- the facts at the indices from i on begin with the fact at the i-th
+-- the facts from the i-th index on begin with the fact at that index
 pub facts_at-drop : (facts : List Fact) (rest : List ℕ) (i : ℕ) (f : Fact) → i < length rest → get_or rest i 0 < length facts → f ≡ get_or facts (get_or rest i 0) f → facts_at facts (drop i rest) ≡ f ∷ facts_at facts (drop (i + 1) rest)
 facts_at-drop facts rest i f here within is =
     let next : i + 1 ≡ suc i = omega arith in

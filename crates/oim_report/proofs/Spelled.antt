@@ -88,7 +88,7 @@ module _ (bs : List Binding) (spelled : QName → List ℕ) (n : QName) (s : Spe
   pub spelled_colon : has_colon (spelled n) ≡ true
   spelled_colon = rw s.text (list_any-append is_colon s.prefix (58 ∷ n.local_part) ∙ or_right _ _ refl)
 
--- ---- the same for the functions
+-- ---- the functions return the name that a spelled name expands to
 
 pub named_back : (has_form : List ℕ → Bool) (bs : List Binding) (t : List ℕ) (n : QName) → ExpandsAs has_form bs t n → named_as has_form bs t ≡ Some n
 named_back has_form bs t n e =
