@@ -20,7 +20,7 @@ use Rattle.oim_report.specs.Least.{hidden_by, told}
 use Rattle.oim_report.proofs.DocumentHolds.{base_same, feature_same, references_same}
 use Rattle.oim_report.proofs.ValueWords.{by_given}
 
--- ---- conditions that exclude one another
+-- ---- the conditions that apply, as a list of refusals
 
 one_kept : (b : Bool) (r : Reason) (later : List Reason) → cond b (r ∷ later) later ≡ cons_option (when b r) later
 one_kept true r later = refl
