@@ -1,4 +1,4 @@
--- The members of bodies; neither order nor repetition matters (own).
+-- The facts and references of bodies; neither order nor repetition matters (own).
 use Rattle.std.specs.Prelude.{◌≡◌, ◌↔◌, ◌⊎◌, ℕ, List, ◌++◌, Contains}
 use Rattle.std.specs.List.{Any}
 use Rattle.merge_laws.specs.Members.{SameMembers}

@@ -18,7 +18,7 @@ abbrev pub values_at : DimensionSet → List Fact → List Value
 values_at s [] = []
 values_at s (f ∷ fs) = if is_eq (dimensions_cmp s f.dimensions) then f.value ∷ values_at s fs else values_at s fs
 
--- a fact added before rows: to the first row if it has the same dimensions, otherwise as a new row
+-- adds a fact before rows: to the first row if it has the same dimensions, otherwise as a new row
 abbrev pub before_rows : Fact → List Row → List Row
 before_rows f [] = (f.dimensions, f.value ∷ []) ∷ []
 before_rows f (r ∷ rs) = if is_eq (dimensions_cmp f.dimensions r.0) then (r.0, f.value ∷ r.1) ∷ rs else (f.dimensions, f.value ∷ []) ∷ r ∷ rs

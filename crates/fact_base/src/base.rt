@@ -112,7 +112,7 @@ impl<'s> Base<'s> {
         Ok(())
     }
 
-    /// Does what `take` does, and moves the facts of the report.
+    /// Does the same as `take`, but moves the facts of the report.
     ///
     /// Errors: out of memory; the base is then unchanged, and the report is lost.
     pub fn absorb_report(&mut self, report: Report<'_>) -> Result<(), AllocError>
@@ -143,7 +143,7 @@ impl<'s> Base<'s> {
         Ok(())
     }
 
-    /// Does what `join` does, and moves the new facts and references.
+    /// Does the same as `join`, but moves the new facts and references.
     ///
     /// Errors: out of memory; the base is then unchanged, and the other is lost.
     pub fn absorb(&mut self, other: Base<'_>) -> Result<(), AllocError>

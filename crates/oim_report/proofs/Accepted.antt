@@ -1,4 +1,4 @@
--- If an object says a fact, no group of conditions refuses it, and each part says its part of the fact.
+-- If an object says a fact, no group of conditions refuses the object, and each part says its part of the fact.
 use Rattle.std.proofs.Common.{◌≡◌, List, Option, Some, None, Ok, refl, sym, ap, ◌∙◌}
 use Rattle.std.specs.Prelude.{option_and_then}
 use Rattle.std.specs.Option.{option_map}

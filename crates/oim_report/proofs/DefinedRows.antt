@@ -23,7 +23,7 @@ use Rattle.oim_report.specs.Sheet.{Sheet, same_concept_kind}
 use Rattle.oim_report.proofs.ComesAgain.{read_none}
 use Rattle.oim_report.proofs.Naming.{expanded}
 
--- the table's list of these members
+-- the members whose keys have a colon and are UTF-8
 abbrev pub listed : Members → List (List ℕ × Data)
 listed ms = filter (λ m. has_colon m.0 && is_utf8 m.0) (entries ms)
 

@@ -1,4 +1,4 @@
--- If nothing refuses a report, its document is what its bytes say.
+-- If nothing refuses a report, its bytes say the document that is read.
 use Rattle.std.proofs.Common.{◌≡◌, ℕ, List, [], ◌∷◌, Bool, true, false, cond, Option, Some, None, Result, Ok, Err, refl, ap, subst, ◌∙◌}
 use Rattle.std.specs.Prelude.{All, is_none}
 use Rattle.oim_report.specs.FactFits.{FactFits}
@@ -70,7 +70,7 @@ pub not_refused : (o : Option Reason) (r : Result Document Refusal) (d : Documen
 not_refused None r d e = (refl, e)
 not_refused (Some q) r d e = absurd (cc)
 
--- the document of an accepted report is what its bytes say
+-- the bytes of an accepted report say its document
 pub document_is_said : (sheet : Sheet) (bytes : List ℕ) (tree : Data) (fs : List Fact) → json bytes ≡ Some tree → document_refusal tree ≡ None → facts_said sheet (bindings_of tree) (facts_of tree) ≡ Ok fs → SaysDocument sheet bytes (document_with tree fs)
 document_is_said sheet bytes tree fs read none said =
     let groups = none_of (shape_refusal tree) _ (document_least tree ∙ none) in

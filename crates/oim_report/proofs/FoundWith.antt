@@ -39,7 +39,7 @@ pub where_good : {A : Type 0} (bad : Bool) (bs : A) (test : A → Bool) → opti
 where_good true bs test = refl
 where_good false bs test = refl
 
--- ---- the result of the code
+-- ---- results of reading a part
 
 pub from_some : {A : Type 0} (o : Option A) (b : Bool) → is_some o ≡ not b → b ≡ is_none o
 from_some None true h = refl

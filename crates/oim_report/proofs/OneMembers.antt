@@ -47,7 +47,7 @@ not_below_itself n h = let tie = tied_itself name_total n in absurd (cc)
 not_later : (e : QName × Member) (es : List (QName × Member)) → is_below e.0 es ≡ true → Contains es e → ⊥
 not_later e es below c = not_below_itself e.0 (below_each e.0 es e below c)
 
--- a member of the rest of one list is in the rest of the other
+-- if one list contains another with the same first member, its rest contains the other's rest
 in_rest : (e f : QName × Member) (es fs : List (QName × Member)) → e ≡ f → is_below e.0 es ≡ true → ((x : QName × Member) → Contains (e ∷ es) x → Contains (f ∷ fs) x) → (x : QName × Member) → Contains es x → Contains fs x
 in_rest e f es fs one below to x c =
     ⊎_elim

@@ -13,7 +13,7 @@ use Rattle.oim_report.proofs.MembersPut.{IsRising, Lacks, lacks_parts, put_all_l
 use Rattle.oim_report.proofs.PiecesInTurn.{both_pieces, alone_same, piece_as}
 use Rattle.oim_report.proofs.AroundFacts.{Gives, piece_gives, less_deep, led_gives, both_give, facts_give, document_gives}
 
--- ---- a missing key is not found
+-- ---- if a look-up finds nothing, the key is missing
 
 not_equal : (q l : List ℕ) (d : Data) (r : Option Data) → match_ordering (slice_cmp nat_cmp q l) r (Some d) r ≡ None → (q ≡ l → ⊥) × (r ≡ None)
 not_equal q l d r e =

@@ -24,7 +24,7 @@ use Rattle.oim_report.proofs.AcceptedWhereFree.{all_free, all_ok, one_free, one_
 use Rattle.oim_report.proofs.Documents.{document_is_said}
 use Rattle.oim_report.proofs.OneDocument.{says_one_document}
 
--- ---- the first of several objects
+-- ---- the first object that is refused
 
 err_of : {A B : Type 0} (g : A → B) (r : Result A Refusal) (q : Refusal) → map_ok g r ≡ Err q → r ≡ Err q
 err_of g (Ok a) q e = absurd (cc)

@@ -25,7 +25,7 @@ use Rattle.oim_report.proofs.Fitting.{AreNamespaces, IsClean, bound_uri, name_fi
 use Rattle.oim_report.proofs.UnitSays.{HasSides, IsSide, alone, sides, unit}
 use Rattle.oim_report.proofs.Utf8Parts.{denominators_utf8, numerators_utf8}
 
--- a part of a text without reserved characters has none
+-- the rest of a text without reserved characters has none
 no_mark_after : (n : ℕ) (p : List ℕ) → list_any is_mark p ≡ false → list_any is_mark (drop n p) ≡ false
 no_mark_after zero p h = h
 no_mark_after (suc n) [] h = refl
