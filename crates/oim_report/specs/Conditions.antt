@@ -29,12 +29,12 @@ use Rattle.oim_report.specs.Sheet.{Sheet}
 
 -- ---- form
 
--- a core dimension exists and is no text
+-- a core dimension exists and is not a text
 abbrev pub has_misshapen_core : DimensionParts → Bool
 has_misshapen_core ds =
     is_no_text ds.concept || is_no_text ds.entity || is_no_text ds.period || is_no_text ds.unit || is_no_text ds.language
 
--- the dimensions, if there are any, pass a test
+-- the dimensions exist and pass a test
 abbrev pub in_dimensions : (DimensionParts → Bool) → FactParts → Bool
 in_dimensions test p = option_map_or test p.dimensions false
 
@@ -79,16 +79,16 @@ spelled_in form nil = []
 spelled_in form (whole n) = []
 spelled_in form other = []
 
--- the key of a taxonomy-defined dimension, and the text of its member if the dimension is explicit
 abbrev pub member_names : Option DimensionKind → Given → List Spelled
 member_names (Some Explicit) g = spelled_in a_name g
 member_names (Some Typed) g = []
 member_names None g = []
 
+-- the key of a taxonomy-defined dimension, and the text of its member if the dimension is explicit
 abbrev pub defined_names : Sheet → List Binding → List ℕ × Given → List Spelled
 defined_names sheet bs d = a_name d.0 ∷ member_names (dimension_kind sheet bs d.0) d.1
 
--- the pieces of a text that has the form of a unit
+-- the pieces of a unit's text, or none if the text does not have the form of a unit
 abbrev pub piece_names : List ℕ → List Spelled
 piece_names t = if is_unit_text t then map a_name (numerator_pieces t ++ denominator_pieces t) else []
 
@@ -118,14 +118,13 @@ concept_refusal sheet bs concept = first_holding (
     ∷ (is_none (concept_kind sheet bs concept), UnknownConcept)
     ∷ [])
 
--- a member is not of its dimension's kind (own: a typed member is a text or nil)
+-- a member does not fit the kind of its dimension (own: a typed member is a text or nil)
 abbrev pub is_misfit : Option DimensionKind → Given → Bool
 is_misfit (Some Explicit) (text t) = false
 is_misfit (Some Typed) (text t) = false
 is_misfit (Some Typed) nil = false
 is_misfit kind g = true
 
--- the names of dimensions
 abbrev pub dimension_names : List Binding → List (List ℕ × Given) → List QName
 dimension_names bs defined = filter_map (λ d. named bs d.0) defined
 
@@ -138,7 +137,7 @@ comes_again (n ∷ ns) = list_any (λ m. is_eq (name_cmp n m)) ns || comes_again
 abbrev pub lists_unknown : Sheet → List Binding → List (List ℕ × Given) → Bool
 lists_unknown sheet bs defined = list_any (λ d. is_none (dimension_kind sheet bs d.0)) defined
 
--- a member is not of its dimension's kind, or a dimension is repeated
+-- a member does not fit the kind of its dimension, or a dimension is repeated
 abbrev pub is_faulty : Sheet → List Binding → List (List ℕ × Given) → Bool
 is_faulty sheet bs defined =
     list_any (λ d. is_misfit (dimension_kind sheet bs d.0) d.1) defined || comes_again (dimension_names bs defined)
@@ -158,7 +157,7 @@ period_refusal nil = None
 period_refusal (whole n) = None
 period_refusal other = None
 
--- the pieces of a unit are tested with the names of the fact
+-- `names_of` contains the pieces of a unit, so they are not tested here
 abbrev pub unit_refusal : Option ConceptKind → Given → Option Reason
 unit_refusal kind unit = first_holding (
     (option_map_or (λ t. not (is_unit_text t)) (text_of unit) false, UnitForm)
@@ -190,7 +189,7 @@ decimals_refusal kind nil = Some DecimalsForm
 decimals_refusal kind (text t) = Some DecimalsForm
 decimals_refusal kind other = Some DecimalsForm
 
--- ---- all conditions, in the order of the refusals
+-- ---- all conditions, in the order in which they are tested
 
 abbrev pub dimension_refusals : Sheet → List Binding → Option ConceptKind → DimensionParts → List (Option Reason)
 dimension_refusals sheet bs kind ds =

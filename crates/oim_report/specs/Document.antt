@@ -11,14 +11,14 @@ use Rattle.oim_report.specs.Json.{json, values}
 use Rattle.oim_report.specs.Parts.{FactParts, fact_parts}
 use Rattle.oim_report.specs.Sheet.{Sheet}
 
--- the facts with their repeats, in byte order of their identifiers (law `identifiers_rise`); the references of `taxonomy` in
--- their order, as they are kept; and the declared level of duplicates
+-- the facts with their repeats, in byte order of their identifiers (law `identifiers_rise`); the kept texts of the references in
+-- `taxonomy`, in their order; and the declared level of duplicates
 pub record Document : Type 0 where
   pub facts : List Fact
   pub references : List (List ℕ)
   pub level : Level
 
--- a fact object says a fact
+-- the parts of a fact object say this fact
 pub record ObjectSays (sheet : Sheet) (bs : List Binding) (object : Data) (said : Fact) : Type 0 where
   pub parts : FactParts
   pub are : fact_parts object ≡ Some parts
@@ -32,6 +32,6 @@ pub record SaysDocument (sheet : Sheet) (bytes : List ℕ) (document : Document)
   pub references : references_said tree ≡ Some document.references
   pub level : level_said tree ≡ Some document.level
 
--- the documents that a report's bytes say under a sheet are one (own)
+-- a report's bytes say at most one document under a sheet (own)
 abbrev pub SaysOneDocument : Type 0
 SaysOneDocument = (sheet : Sheet) (bytes : List ℕ) (d e : Document) → SaysDocument sheet bytes d → SaysDocument sheet bytes e → d ≡ e

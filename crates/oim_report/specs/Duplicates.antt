@@ -36,7 +36,7 @@ allows_values All v w = true
 abbrev pub allows : Level → Fact → Fact → Bool
 allows l f g = not (are_duplicates f g) || allows_values l f.value g.value
 
--- a level allows each fact of a list beside each later one
+-- a level allows each pair of facts in a list
 abbrev pub allows_each : Level → List Fact → Bool
 allows_each l [] = true
 allows_each l (f ∷ fs) = list_all (allows l f) fs && allows_each l fs
@@ -46,11 +46,11 @@ unfoldable pub level_of : List Fact → Level
 level_of fs =
     if allows_each Unique fs then Unique else (if allows_each Complete fs then Complete else (if allows_each Consistent fs then Consistent else All))
 
--- the test of values decides `Meets`
+-- `values_meet` decides `Meets`
 abbrev pub ValuesMeetIsMeets : Type 0
 ValuesMeetIsMeets = (v w : Value) → IsTrue (values_meet v w) ↔ Meets v w
 
--- a level allows each two facts of a list exactly if it is no stricter than the level of the list
+-- a level allows each pair of facts in a list exactly if it is not stricter than the level of the list
 abbrev pub LevelIsStrictest : Type 0
 LevelIsStrictest = (l : Level) (fs : List Fact) → AllPairs (λ f g. IsTrue (allows l f g)) fs ↔ IsTrue (is_le (level_cmp (level_of fs) l))
 

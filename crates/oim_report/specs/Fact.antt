@@ -34,7 +34,7 @@ GivesText nil Says = ⊥
 GivesText (whole n) Says = ⊥
 GivesText other Says = ⊥
 
--- a text is given and the relation holds for it, or nothing is given
+-- a text is given and the relation holds for it, or nothing is given and IfAbsent holds
 abbrev pub GivesTextOr : Type 0 → Given → (List ℕ → Type 0) → Type 0
 GivesTextOr IfAbsent absent Says = IfAbsent
 GivesTextOr IfAbsent (text t) Says = Says t
@@ -42,7 +42,7 @@ GivesTextOr IfAbsent nil Says = ⊥
 GivesTextOr IfAbsent (whole n) Says = ⊥
 GivesTextOr IfAbsent other Says = ⊥
 
--- what an optional core dimension says
+-- the values of the optional core dimensions
 abbrev pub SaysEntity : List Binding → Given → Option QName → Type 0
 SaysEntity bs g said = GivesTextOr (said ≡ None) g (λ t. (n : QName) × (said ≡ Some n) × ExpandsEntity bs t n)
 
@@ -72,7 +72,7 @@ pub record SaysDimension (sheet : Sheet) (bs : List Binding) (d : List ℕ × Gi
   pub listed : map.get sheet.dimensions said.0 ≡ Some kind
   pub member : SaysMember bs kind d.1 said.1
 
--- each key says a member, and some key says each member
+-- each key says one of the members, and each member is said by some key
 pub record SaysMembers (sheet : Sheet) (bs : List Binding) (defined : List (List ℕ × Given)) (said : List (QName × Member)) : Type 0 where
   pub each : All (λ d. (e : QName × Member) × Contains said e × SaysDimension sheet bs d e) defined
   pub others : All (λ e. Any (λ d. SaysDimension sheet bs d e) defined) said

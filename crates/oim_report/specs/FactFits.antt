@@ -1,4 +1,4 @@
--- What holds for facts that are read under a sheet (own).
+-- The conditions that facts read under a sheet satisfy (own).
 use Rattle.std.specs.Prelude.{◌≡◌, ◌≢◌, ◌<ℤ◌, ⊤, ℕ, List, [], All, IsTrue, IsUtf8, Option, Some, None}
 use Rattle.std.specs.FinMap as map
 use Rattle.std.specs.Str.{str_to_ascii_lowercase}
@@ -25,7 +25,7 @@ use Rattle.oim_report.specs.Sheet.{Sheet}
 
 -- ---- names
 
--- a namespace in which a fact may have names
+-- a URI that a fact's names may have
 pub record IsNamespace (uri : List ℕ) : Type 0 where
   pub filled : uri ≢ []
   pub allowed : uri ≢ reserved_uri

@@ -1,4 +1,5 @@
--- The JSON object of a written fact (xBRL-JSON 1.0, section 3.1; the choice of texts is own). A function spells the names.
+-- The JSON object of a written fact (xBRL-JSON 1.0, section 3.1; the choice of texts is own). The function `spelled` spells its
+-- names.
 use Rattle.std.specs.Prelude.{ℕ, List, [], ◌∷◌, codes, Option, Some, None}
 use Rattle.oim_names.specs.QName.{QName}
 use Rattle.oim_value.specs.Plain.{plain}
@@ -13,7 +14,7 @@ use Rattle.oim_dims.specs.declared.member.Member.TheVariants.{Nil as NoMember, T
 use Rattle.serde_json.specs.Data.{Data, null, number, string, object, Members, no_members, put}
 use Rattle.serde_json.specs.Find.{of_integer}
 
--- the members with a text at a key, if there is a text
+-- puts a text at a key of the members, if there is a text
 abbrev pub put_text : List ℕ → Option (List ℕ) → Members → Members
 put_text key None ms = ms
 put_text key (Some t) ms = put key (string t) ms
@@ -32,12 +33,12 @@ module _ (spelled : QName → List ℕ) where
   member_data (MemberText t) = string t
   member_data (MemberName n) = string (spelled n)
 
-  -- other members with the taxonomy-defined dimensions
+  -- adds the taxonomy-defined dimensions to other members
   abbrev pub with_defined : List (QName × Member) → Members → Members
   with_defined [] ms = ms
   with_defined (e ∷ es) ms = put (spelled e.0) (member_data e.1) (with_defined es ms)
 
-  -- the members of `dimensions`, in byte order of their keys, whatever the spelling of names
+  -- the members of `dimensions`, in byte order of their keys, however names are spelled
   abbrev pub dimension_members : DimensionSet → Members
   dimension_members d =
       with_defined d.members
@@ -53,7 +54,7 @@ module _ (spelled : QName → List ℕ) where
   value_data (AText t) = string t
   value_data (AName n) = string (spelled n)
 
-  -- only numbers have decimals, and only finite ones are written
+  -- decimals are written only for numbers whose decimals are finite
   abbrev pub with_decimals : Value → Members → Members
   with_decimals (Number units (Some d)) ms = put (codes "decimals") (number (of_integer d)) ms
   with_decimals (Number units None) ms = ms

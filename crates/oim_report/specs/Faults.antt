@@ -25,7 +25,7 @@ use Rattle.oim_report.specs.Least.{told}
 
 -- ---- the facts
 
--- the faults of several fact objects, whose places are counted from n
+-- the faults of several fact objects, which are numbered from n
 abbrev pub faults_from : Sheet → List Binding → ℕ → List Data → List Refusal
 faults_from sheet bs n [] = []
 faults_from sheet bs n (d ∷ ds) = map (at (AtFact n)) (told (holds sheet bs d)) ++ faults_from sheet bs (n + 1) ds
@@ -48,8 +48,8 @@ is_above_level sheet tree = is_lt (level_cmp (unwrap_or (level_said tree) AllLev
 abbrev pub level_faults : Sheet → Data → List Refusal
 level_faults sheet tree = if is_above_level sheet tree then at AtDocument DisallowedDuplicates ∷ [] else []
 
--- the faults of the document; if it has none, the faults of its facts in byte order of their identifiers; if they have none, the
--- fault of the level
+-- the faults of the document; if it has none, the faults of its facts in byte order of their identifiers; if they have none
+-- either, the fault of the level
 abbrev pub tree_faults : Sheet → Data → List Refusal
 tree_faults sheet tree =
     or_else (map (at AtDocument) (told (document_holds tree)))

@@ -1,5 +1,5 @@
--- The conditions of a document and of a fact object, one clause for each (OIM Common 1.0; xBRL-JSON 1.0; own where marked). A
--- condition on a part that is missing does not apply.
+-- The conditions of a document and of a fact object, one clause per condition (OIM Common 1.0; xBRL-JSON 1.0; own where marked).
+-- A condition on a part that is missing does not apply.
 use Rattle.std.specs.Prelude.{ℕ, ℤ, List, [], ◌∷◌, ◌++◌, map, length, Bool, true, false, not, ◌||◌, ◌&&◌, nat_lt, int_lt, if◌then◌else◌, bytes_eq, codes, Option, Some, None, is_none, is_some, option_and_then}
 use Rattle.std.specs.Option.{option_map_or, option_to_list}
 use Rattle.std.specs.List.{filter, filter_map, flat_map, list_any}
@@ -39,11 +39,11 @@ use Rattle.oim_report.specs.Sheet.{Sheet, same_concept_kind, same_dimension_kind
 abbrev pub is_some_and : {A : Type 0} → (A → Bool) → Option A → Bool
 is_some_and test o = option_map_or test o false
 
--- the text of a string, which is always UTF-8 if it was read
+-- the text of a string; every string that was read is UTF-8
 abbrev pub as_text : Data → Option (List ℕ)
 as_text d = option_and_then (λ s. if is_utf8 s then Some s else None) (as_str d)
 
--- a whole number
+-- the value, if it is a whole number
 abbrev pub as_whole : Data → Option ℤ
 as_whole d = option_and_then as_integer (as_number d)
 
@@ -71,7 +71,7 @@ lacks_moment t = is_none (moment_of (start_part t)) || is_none (moment_of (end_p
 abbrev pub runs_backward : List ℕ → Bool
 runs_backward t = is_some_and (λ start. is_some_and (λ end. int_lt end start) (moment_of (end_part t))) (moment_of (start_part t))
 
--- the pieces of a text that has the form of a unit
+-- the pieces of a unit's text, or none if the text does not have the form of a unit
 abbrev pub pieces : List ℕ → List (List ℕ)
 pieces t = if is_unit_text t then numerator_pieces t ++ denominator_pieces t else []
 
@@ -160,7 +160,7 @@ holds sheet bs fact = holds_with sheet bs fact (members (object_at (codes "dimen
 -- ---- documents
 
 module _ (tree : Data) where
-  -- the base URL of relative references
+  -- the URL that relative references are resolved against
   abbrev pub base : Option Parts
   base = option_and_then base_url (option_and_then as_text (info (codes "baseURL") tree))
 
@@ -183,6 +183,6 @@ module _ (tree : Data) where
   document_holds Feature = nat_lt 1 (length declared) || list_any (λ m. is_none (option_and_then level_with (as_text m.1))) declared
   document_holds r = false
 
--- why a document is refused
+-- the refusal of a document, if one of its conditions applies
 abbrev pub document_refusal : Data → Option Reason
 document_refusal tree = least (document_holds tree)

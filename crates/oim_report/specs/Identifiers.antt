@@ -24,7 +24,7 @@ tree_identifiers tree = identifiers_in (keyed (facts_of tree))
 abbrev pub identifiers : List ℕ → Option (List (List ℕ))
 identifiers bytes = option_map tree_identifiers (json bytes)
 
--- the identifiers strictly ascend by bytes if the bytes are JSON
+-- if the bytes are JSON, the identifiers are in strictly ascending byte order
 abbrev pub IdentifiersRise : Type 0
 IdentifiersRise = (bytes : List ℕ) (tree : Data) → json bytes ≡ Some tree → IsStrictlySortedBy (slice_cmp nat_cmp) (tree_identifiers tree)
 
@@ -32,14 +32,14 @@ IdentifiersRise = (bytes : List ℕ) (tree : Data) → json bytes ≡ Some tree 
 abbrev pub IdentifierSays : Sheet → List Binding → List ℕ × Data → Fact → Type 0
 IdentifierSays sheet bs object said = ObjectSays sheet bs object.1 said
 
--- these are the identifiers of a document's facts: the object under each says the fact with the same index
+-- the identifiers of a document's facts; the object under each identifier says the fact with the same index
 pub record Identify (sheet : Sheet) (bytes : List ℕ) (document : Document) (is : List (List ℕ)) : Type 0 where
   pub tree : Data
   pub read : json bytes ≡ Some tree
   pub are : identifiers_in (keyed (facts_of tree)) ≡ is
   pub say : AllZip (IdentifierSays sheet (bindings_of tree)) (keyed (facts_of tree)) document.facts
 
--- the bytes of an accepted report contain exactly the identifiers of its facts
+-- the identifiers in the bytes of an accepted report identify its facts
 abbrev pub EachFactHasAnIdentifier : Type 0
 EachFactHasAnIdentifier =
     (sheet : Sheet) (bytes : List ℕ) (d : Document) → outcome sheet bytes ≡ Ok d → (is : List (List ℕ)) × (identifiers bytes ≡ Some is) × Identify sheet bytes d is

@@ -36,7 +36,7 @@ facts_of tree = members (object_at (codes "facts") tree)
 
 -- ---- the contents of the parts; each is None if it is refused
 
--- the base of relative references: an http or https URL, or none
+-- the URL that relative references are resolved against, which is http or https, or none
 abbrev pub said_base : Given → Option (Option Parts)
 said_base absent = Some None
 said_base (text t) = option_map Some (base_url t)
@@ -44,7 +44,7 @@ said_base nil = None
 said_base (whole n) = None
 said_base other = None
 
--- a reference in the text under which it is kept
+-- the kept text of a reference, if the reference is accepted
 abbrev pub accepted_reference : Option Parts → List ℕ → Option (List ℕ)
 accepted_reference base t = if is_reference_refused base t then None else kept base t
 
@@ -55,7 +55,7 @@ abbrev pub said_references : Option Parts → Items → Option (List (List ℕ))
 said_references base no_items = Some []
 said_references base (item d ds) = option_and_then (λ t. option_map (λ ts. t ∷ ts) (said_references base ds)) (said_reference base d)
 
--- a key of `features` is the feature `xbrl:allowedDuplicates`, with any prefix
+-- a key of `features` names the feature `xbrl:allowedDuplicates`, with any prefix
 abbrev pub is_allowed_duplicates : List Binding → List ℕ → Bool
 is_allowed_duplicates bs key =
     option_map_or (λ u. bytes_eq u reserved_uri) (uri_of bs (prefix_part key)) false && bytes_eq (local_part key) (codes "allowedDuplicates")
@@ -80,7 +80,7 @@ references_said tree = option_and_then (λ base. said_references base (taxonomy_
 abbrev pub level_said : Data → Option Level
 level_said tree = said_level (declarations (bindings_of tree) (features_of tree))
 
--- ---- the values that each part may have
+-- ---- the keys that objects may have, and the type of a document
 
 abbrev pub root_keys : List (List ℕ)
 root_keys = codes "documentInfo" ∷ codes "facts" ∷ []

@@ -20,7 +20,7 @@ json_text text = if is_utf8 text then read text else None
 abbrev pub json : List ℕ → Option Data
 json bytes = json_text (without_mark bytes)
 
--- ---- the value at a key, in the kinds that sheets and reports distinguish; a text is a string in UTF-8, as every string that
+-- ---- the value at a key, by the kinds that sheets and reports distinguish; a text is a UTF-8 string, like every string that
 -- was read
 
 pub data Given : Type 0 where
@@ -49,7 +49,7 @@ is_absent (text t) = false
 is_absent (whole n) = false
 is_absent other = false
 
--- there is a value that is no text
+-- there is a value that is not a text
 abbrev pub is_no_text : Given → Bool
 is_no_text absent = false
 is_no_text nil = true
@@ -57,7 +57,7 @@ is_no_text (text t) = false
 is_no_text (whole n) = true
 is_no_text other = true
 
--- the text that is given
+-- the given text, if there is one
 abbrev pub text_of : Given → Option (List ℕ)
 text_of absent = None
 text_of nil = None
@@ -75,7 +75,7 @@ given_at key ms = given_of (get_member key ms)
 abbrev pub object_at : List ℕ → Data → Option Members
 object_at key d = option_and_then as_object (get key d)
 
--- the member at a key of an object that is itself a member
+-- the value at a key of the object at an outer key
 abbrev pub within : List ℕ → List ℕ → Data → Option Data
 within outer key d = option_and_then (get key) (get outer d)
 
@@ -83,7 +83,7 @@ within outer key d = option_and_then (get key) (get outer d)
 abbrev pub members : Option Members → Members
 members ms = unwrap_or ms no_members
 
--- the members with their keys, in byte order of these
+-- the values of members with their keys, in byte order of the keys
 abbrev pub keyed : Members → List (List ℕ × Data)
 keyed no_members = []
 keyed (member key d ms) = (key, d) ∷ keyed ms
@@ -107,11 +107,11 @@ has_member ms = any_in (λ key d. true) ms
 
 -- ---- keys
 
--- a key belongs to an extension (own: if it has a colon)
+-- a key with a colon belongs to an extension (own)
 abbrev pub has_colon : List ℕ → Bool
 has_colon key = list_any is_colon key
 
--- a member's key is none of these and belongs to no extension
+-- a key is not known and does not belong to an extension
 abbrev pub is_unknown : List (List ℕ) → List ℕ → Data → Bool
 is_unknown known key d = not (has_colon key) && not (list_any (λ k. bytes_eq k key) known)
 
@@ -120,10 +120,10 @@ is_unknown known key d = not (has_colon key) && not (list_any (λ k. bytes_eq k 
 abbrev pub is_object : Data → Bool
 is_object d = is_some (as_object d)
 
--- there is a value that is no object
+-- there is a value that is not an object
 abbrev pub is_no_object : Option Data → Bool
 is_no_object d = option_map_or (λ v. not (is_object v)) d false
 
--- there is a value that is no array
+-- there is a value that is not an array
 abbrev pub is_no_array : Option Data → Bool
 is_no_array d = option_map_or (λ v. not (is_some (as_array v))) d false

@@ -1,4 +1,4 @@
--- The text under which a taxonomy reference is kept (xBRL-JSON 1.0, `taxonomy` and `baseURL` of a report; the form that is kept is own).
+-- The text under which a taxonomy reference is kept (xBRL-JSON 1.0, `taxonomy` and `baseURL` of a report; the kept form is own).
 use Rattle.std.specs.Prelude.{◌≡◌, ℕ, ◌&&◌, ◌||◌, Bool, true, false, not, nat_le, if◌then◌else◌, List, length, codes, bytes_eq, Option, Some, None, Ok, Err}
 use Rattle.std.specs.Option.{option_map_or}
 use Rattle.std.specs.Str.{is_utf8}
@@ -15,8 +15,8 @@ abbrev pub web_url : Parsed Parts → Option Parts
 web_url (Ok url) = if is_web url then Some url else None
 web_url (Err e) = None
 
--- the text is UTF-8, and is the text of the http or https URL that it parses as (URL Standard, sections 4.4 and 4.5). The text of
--- each such URL passes, so no code tests this.
+-- the text is UTF-8, parses as an http or https URL, and is the text of that URL (URL Standard, sections 4.4 and 4.5). The text
+-- of every http or https URL passes, so no code tests this.
 abbrev pub is_web_text : List ℕ → Bool
 is_web_text text = is_utf8 text && option_map_or (λ url. bytes_eq (serialize url) text) (web_url (parse_url None text)) false
 
@@ -25,8 +25,8 @@ abbrev pub web_text : Option Parts → Option (List ℕ)
 web_text None = None
 web_text (Some url) = if is_web_text (serialize url) then Some (serialize url) else None
 
--- the kept text of a reference, from what it parses as: an http or https URL is kept as its text, another URL as it is spelled. A
--- reference that is no URL is resolved to an http or https URL, or kept as it is spelled if there is no base.
+-- the kept text of a reference: an http or https URL is kept as its text, another URL as it is spelled. A reference that is not
+-- a URL is resolved to an http or https URL, or kept as it is spelled if there is no base.
 abbrev pub kept_by : Parsed Parts → Option Parts → List ℕ → Option (List ℕ)
 kept_by (Ok url) base reference = if is_web url then web_text (Some url) else Some reference
 kept_by (Err e) None reference = Some reference
@@ -40,11 +40,12 @@ kept base reference = kept_by (parse_url None reference) base reference
 abbrev pub is_within_limit : List ℕ → Bool
 is_within_limit text = nat_le (length text) MOST_REFERENCE_BYTES
 
--- the URL against which references are resolved: a text within the limit that parses as an http or https URL (own: other URLs are refused)
+-- the URL that references are resolved against: a text within the limit that parses as an http or https URL (own: other URLs are
+-- refused)
 abbrev pub base_url : List ℕ → Option Parts
 base_url text = if is_within_limit text then web_url (parse_url None text) else None
 
--- whether there is a text, and it is within the limit
+-- there is a text, and it is within the limit
 abbrev pub is_text_within_limit : Option (List ℕ) → Bool
 is_text_within_limit text = option_map_or is_within_limit text false
 
@@ -52,23 +53,23 @@ is_text_within_limit text = option_map_or is_within_limit text false
 abbrev pub is_reference_refused : Option Parts → List ℕ → Bool
 is_reference_refused base reference = not (is_within_limit reference && is_text_within_limit (kept base reference))
 
--- without a base a kept text is kept as it is
+-- a kept text stays the same if it is kept again without a base
 abbrev pub KeptIsKept : Type 0
 KeptIsKept = (base : Option Parts) (reference text : List ℕ) → kept base reference ≡ Some text → kept None text ≡ Some text
 
--- without a base the kept text of an accepted reference is accepted
+-- the kept text of an accepted reference is accepted without a base
 abbrev pub KeptIsAccepted : Type 0
 KeptIsAccepted =
     (base : Option Parts) (reference text : List ℕ) → is_reference_refused base reference ≡ false → kept base reference ≡ Some text →
     is_reference_refused None text ≡ false
 
--- the kept text of a reference in UTF-8 is UTF-8
+-- the kept text of a UTF-8 reference is UTF-8
 abbrev pub KeptIsUtf8 : Type 0
 KeptIsUtf8 =
     (base : Option Parts) (reference text : List ℕ) → is_utf8 reference ≡ true → kept base reference ≡ Some text →
     is_utf8 text ≡ true
 
--- a kept reference: it is kept as it is without a base, is UTF-8, and is within the limit
+-- a kept reference is UTF-8, is within the limit, and stays the same if it is kept again without a base
 pub record IsKeptReference (text : List ℕ) : Type 0 where
   pub kept : kept None text ≡ Some text
   pub short : is_within_limit text ≡ true

@@ -1,4 +1,4 @@
--- A refusal is the least condition that applies, and faults are all conditions that apply (own).
+-- A refusal is the least condition that applies; faults are all conditions that apply and are not hidden (own).
 use Rattle.std.specs.Prelude.{◌≡◌, ◌↔◌, ◌≤◌, List, [], ◌∷◌, map, Contains, Bool, false, not, ◌&&◌, IsTrue, Option, Some, None}
 use Rattle.std.specs.List.{filter, find, list_any}
 use Rattle.std.specs.List.Sorted.{IsStrictlyIncreasing}
@@ -10,7 +10,7 @@ use Rattle.oim_names.specs.declared.reason.Reason.TheVariants.{Namespace, Featur
 unfoldable pub least : (Reason → Bool) → Option Reason
 least holds = find holds reasons
 
--- the conditions that hide a condition: without prefixes, no key is the feature
+-- the conditions that hide a condition: if the namespaces are refused, keys cannot be compared with the feature
 abbrev pub hidden_by : Reason → List Reason
 hidden_by Feature = Namespace ∷ []
 hidden_by r = []

@@ -14,6 +14,6 @@ TextsAreWithinLimit = (text : List ℕ) → IsTrue (is_within_limit text) ↔ (l
 abbrev pub NestsWithinLimit : Type 0
 NestsWithinLimit = (bytes : List ℕ) (tree : Data) → json bytes ≡ Some tree → depth tree ≤ 127
 
--- an object that is 127 levels deep is read
+-- a plain object that is at most 127 levels deep is read from its compact text
 abbrev pub NestedIsRead : Type 0
 NestedIsRead = (ms : Members) → IsPlainJson (object ms) 127 → json (compact_text (object ms)) ≡ Some (object ms)

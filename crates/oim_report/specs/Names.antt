@@ -12,17 +12,17 @@ use Rattle.oim_names.specs.declared.reason.Reason.TheVariants.{NameForm, Unbound
 abbrev pub refuses_some : Reason → List Binding → List Spelled → Bool
 refuses_some reason bs names = list_any (refuses reason bs) names
 
--- the refusal with the least number among several names: for their form, prefix or namespace (own)
+-- the first of three reasons for which some name is refused: its form, its prefix or its namespace (own)
 abbrev pub names_refusal : List Binding → List Spelled → Option Reason
 names_refusal bs names = find (λ r. refuses_some r bs names) (NameForm ∷ UnboundPrefix ∷ ReservedNamespace ∷ [])
 
--- the name that a text expands to (XML Namespaces 1.0, section 4), as in `Expands`
 abbrev pub in_namespace : List ℕ → List ℕ → Option QName
 in_namespace u t = if bytes_eq u reserved_uri then None else Some (record { uri = u; local_part = local_part t })
 
 abbrev pub named_as : (List ℕ → Bool) → List Binding → List ℕ → Option QName
 named_as has_form bs t = if has_form t then option_and_then (λ u. in_namespace u t) (uri_of bs (prefix_part t)) else None
 
+-- the name that a text expands to (XML Namespaces 1.0, section 4), as in `Expands`
 abbrev pub named : List Binding → List ℕ → Option QName
 named = named_as is_name
 

@@ -1,4 +1,4 @@
--- What a report's bytes say, or the first refusal (own).
+-- The document that a report's bytes say, or the first refusal (own).
 use Rattle.std.specs.Prelude.{◌≢◌, ℕ, ◌+◌, List, [], ◌∷◌, map, if◌then◌else◌, Option, Some, None, option_and_then, Result, Ok, Err, ◌≡◌, ◌↔◌, false, ◌⊎◌, ◌++◌, length, true}
 use Rattle.std.specs.Option.{unwrap_or}
 use Rattle.std.specs.Ordering.{is_lt}
@@ -31,7 +31,7 @@ at place reason = record { reason = reason; place = place }
 
 -- ---- a fact
 
--- the fact that an object says, if no condition applies; an object that says none is refused for its form
+-- the fact that an object says, if no condition applies; an object that says no fact is refused for its form
 abbrev pub fact_or : Option Reason → Option Fact → Result Fact Reason
 fact_or None (Some fact) = Ok fact
 fact_or None None = Err MemberForm
@@ -40,7 +40,7 @@ fact_or (Some reason) fact = Err reason
 abbrev pub fact_outcome : Sheet → List Binding → Data → Result Fact Reason
 fact_outcome sheet bs d = fact_or (least (holds sheet bs d)) (option_and_then (said_fact sheet bs) (fact_parts d))
 
--- all facts, or the first refusal with its place, counted from n
+-- all facts, or the first refusal; the facts are numbered from n
 abbrev pub all_or_first : ℕ → List (Result Fact Reason) → Result (List Fact) Refusal
 all_or_first n [] = Ok []
 all_or_first n (Ok fact ∷ outcomes) = map_ok (λ facts. fact ∷ facts) (all_or_first (n + 1) outcomes)
@@ -79,23 +79,24 @@ tree_outcome sheet (Some tree) =
 unfoldable pub outcome : Sheet → List ℕ → Result Document Refusal
 outcome sheet bytes = tree_outcome sheet (json bytes)
 
--- no report is refused for lack of memory, which is not a condition of a report
+-- no report is refused for lack of memory
 abbrev pub OutcomesWantNoMemory : Type 0
 OutcomesWantNoMemory = (sheet : Sheet) (bytes : List ℕ) (place : Place) → outcome sheet bytes ≢ Err (at place OutOfMemory)
 
--- ---- what is not refused says something
+-- ---- an object that is not refused says a fact
 
--- an object's parts that no condition refuses say a fact, so that MemberForm for want of one is never answered (own)
+-- parts that no condition refuses say a fact, so `fact_outcome` never returns MemberForm because a fact is missing (own)
 abbrev pub FactsAreSaid : Type 0
 FactsAreSaid = (sheet : Sheet) (bs : List Binding) (p : FactParts) → fact_refusal sheet bs p ≡ None → (f : Fact) × (said_fact sheet bs p ≡ Some f)
 
--- ---- which reports are accepted, by the conditions and not by the outcome (own)
+-- ---- accepted reports, in terms of the conditions instead of `outcome` (own)
 
--- no condition holds for a fact object
+-- no condition applies to a fact object
 abbrev pub IsFree : Sheet → List Binding → Data → Type 0
 IsFree sheet bs d = (r : Reason) → holds sheet bs d r ≡ false
 
--- the bytes are JSON, no condition holds for the document or a fact, they say this document, and the level of its facts is not above the declared one
+-- the bytes are JSON, no condition applies to the document or a fact, they say this document, and the level of its facts is not
+-- above the declared one
 pub record Accepts (sheet : Sheet) (bytes : List ℕ) (d : Document) : Type 0 where
   pub tree : Data
   pub read : json bytes ≡ Some tree
@@ -104,13 +105,13 @@ pub record Accepts (sheet : Sheet) (bytes : List ℕ) (d : Document) : Type 0 wh
   pub said : SaysDocument sheet bytes d
   pub level : is_lt (level_cmp d.level (level_of d.facts)) ≡ false
 
--- a report is accepted as a document exactly if that holds
+-- a report is accepted as a document exactly if `Accepts` holds
 abbrev pub AcceptedWhereFree : Type 0
 AcceptedWhereFree = (sheet : Sheet) (bytes : List ℕ) (d : Document) → (outcome sheet bytes ≡ Ok d) ↔ Accepts sheet bytes d
 
--- ---- which are refused and why, by the conditions and not by the outcome (own)
+-- ---- refused reports and their refusals, in terms of the conditions instead of `outcome` (own)
 
--- the first refused object of several, after `earlier` others
+-- the refusal of the first object to which a condition applies; the objects are numbered from `earlier`
 pub record RefusesOne (sheet : Sheet) (bs : List Binding) (earlier : ℕ) (objects : List Data) (r : Refusal) : Type 0 where
   pub before : List Data
   pub object : Data
@@ -121,20 +122,20 @@ pub record RefusesOne (sheet : Sheet) (bs : List Binding) (earlier : ℕ) (objec
   pub refused : IsLeast (holds sheet bs object) reason
   pub answer : r ≡ at (AtFact (earlier + length before)) reason
 
--- the level of what is said is above the declared one
+-- the level of the document's facts is above the declared one
 pub record RefusesLevel (sheet : Sheet) (bytes : List ℕ) (r : Refusal) : Type 0 where
   pub document : Document
   pub said : SaysDocument sheet bytes document
   pub above : is_lt (level_cmp document.level (level_of document.facts)) ≡ true
   pub answer : r ≡ at AtDocument DisallowedDuplicates
 
--- for a document without a condition that holds: the first fact with one, or else the level
+-- if no condition applies to the document: the refusal of the first fact to which one applies, or else of the level
 abbrev pub RefusesFacts : Sheet → List ℕ → Data → Refusal → Type 0
 RefusesFacts sheet bytes tree r =
     RefusesOne sheet (bindings_of tree) 1 (values (facts_of tree)) r
     ⊎ (AllByRecursion (IsFree sheet (bindings_of tree)) (values (facts_of tree)) × RefusesLevel sheet bytes r)
 
--- for JSON: the least condition of the document that holds, or else the facts
+-- the least condition that applies to the document, or else the refusal of its facts
 abbrev pub RefusesTree : Sheet → List ℕ → Data → Refusal → Type 0
 RefusesTree sheet bytes tree r =
     ((reason : Reason) × IsLeast (document_holds tree) reason × (r ≡ at AtDocument reason)) ⊎ (((reason : Reason) → document_holds tree reason ≡ false) × RefusesFacts sheet bytes tree r)
@@ -143,6 +144,6 @@ abbrev pub Refuses : Sheet → List ℕ → Refusal → Type 0
 Refuses sheet bytes r =
     ((json bytes ≡ None) × (r ≡ at AtDocument NotJson)) ⊎ ((tree : Data) × (json bytes ≡ Some tree) × RefusesTree sheet bytes tree r)
 
--- a report is refused so exactly if that holds
+-- a report is refused with r exactly if `Refuses` holds
 abbrev pub RefusedWhereHeld : Type 0
 RefusedWhereHeld = (sheet : Sheet) (bytes : List ℕ) (r : Refusal) → (outcome sheet bytes ≡ Err r) ↔ Refuses sheet bytes r

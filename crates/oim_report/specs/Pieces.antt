@@ -1,9 +1,9 @@
--- The text of an object's members, read in pieces, each as the one object of an array (own).
+-- The text of an object's members, in pieces. Each piece is read as the only object of an array (own).
 use Rattle.std.specs.Prelude.{◌≡◌, ℕ, List, [], ◌∷◌, ◌++◌, Some, ⊤}
 use Rattle.serde_json.specs.Data.{Data, array, object, no_items, item, Members, no_members, member, put}
 use Rattle.serde_json.specs.Read.{read}
 
--- the text of an array of one object with the members in `piece`
+-- the text of an array with one object, which has the members in `piece`
 abbrev pub alone : List ℕ → List ℕ
 alone piece = 91 ∷ 123 ∷ (piece ++ 125 ∷ 93 ∷ [])
 
@@ -29,7 +29,8 @@ pub record IsPiece (piece : List ℕ) (found : Members) : Type 0 where
 
 -- ---- the members of several pieces
 
--- the members put one after another into an object that has others: of a repeated key the last one stays (RFC 8259, section 4, as `serde_json` reads it)
+-- puts the members into `onto` one after another; the last value of a repeated key is kept (RFC 8259, section 4, as `serde_json`
+-- reads it)
 abbrev pub put_all : Members → Members → Members
 put_all no_members onto = onto
 put_all (member k d ms) onto = put_all ms (put k d onto)

@@ -38,7 +38,7 @@ abbrev mutual
   MembersArePlain no_members = ⊤
   MembersArePlain (member k d ms) = IsPlain d × IsBefore k ms × MembersArePlain ms
 
--- each text and each key is UTF-8
+-- each string and each key is UTF-8
 abbrev mutual
   pub HasUtf8 : Data → Type 0
   HasUtf8 null = ⊤

@@ -27,7 +27,7 @@ use Rattle.oim_report.specs.Outcome.{fact_outcome}
 use Rattle.oim_report.specs.PlainJson.{IsPlainJson}
 use Rattle.oim_report.specs.Sheet.{Sheet}
 
--- ---- names that a function from names to texts spells
+-- ---- names as a function spells them
 
 -- a name is spelled with a prefix that is bound to its URI and consists of one or more ASCII letters and digits
 pub record SpellsName (bs : List Binding) (spelled : QName → List ℕ) (n : QName) : Type 0 where
@@ -70,7 +70,7 @@ abbrev pub option_given : Option (List ℕ) → Given
 option_given None = absent
 option_given (Some t) = text t
 
--- a key with its value, added to others in byte order
+-- adds a key with its value to others, in byte order
 abbrev pub with_given : List ℕ → Given → List (List ℕ × Given) → List (List ℕ × Given)
 with_given key g [] = (key, g) ∷ []
 with_given key g (d ∷ ds) = match_ordering (slice_cmp nat_cmp key d.0) ((key, g) ∷ d ∷ ds) ((d.0, g) ∷ ds) (d ∷ with_given key g ds)
@@ -125,7 +125,7 @@ module _ (spelled : QName → List ℕ) where
 abbrev pub FactObjectHasParts : Type 0
 FactObjectHasParts = (sheet : Sheet) (bs : List Binding) (spelled : QName → List ℕ) (f : Fact) → FactFits sheet f → SpellsFact bs spelled f → fact_parts (fact_object spelled f) ≡ Some (parts_given spelled f)
 
--- ---- all parts at once
+-- ---- all parts are accepted
 
 -- the parts have the form of a fact
 abbrev pub FormsAreAccepted : Type 0
@@ -137,11 +137,11 @@ NamesAreAccepted = (sheet : Sheet) (bs : List Binding) (spelled : QName → List
 
 -- ---- the fact
 
--- the object of a fact is read from its compact text, and is two levels deep
+-- the object of a fact is plain JSON that is at most two levels deep
 abbrev pub FactObjectIsPlain : Type 0
 FactObjectIsPlain = (sheet : Sheet) (bs : List Binding) (spelled : QName → List ℕ) (f : Fact) → FactFits sheet f → SpellsFact bs spelled f → IsPlainJson (fact_object spelled f) 2
 
--- a fact object has parts that are not refused and say the fact, and they say no other fact
+-- the parts of a fact object are not refused and say the fact, and the outcome of the object is this fact
 pub record IsReadAs (sheet : Sheet) (bs : List Binding) (d : Data) (f : Fact) : Type 0 where
   pub parts : FactParts
   pub are : fact_parts d ≡ Some parts

@@ -1,4 +1,4 @@
--- Conditions and their refusals, and the first of them that applies (own).
+-- Conditions with their refusals, and the first condition that applies (own).
 use Rattle.std.specs.Prelude.{Bool, List, [], ◌∷◌, if◌then◌else◌, Option, Some, None, Result, Ok, Err}
 use Rattle.oim_names.specs.declared.reason.Reason.{Reason}
 
@@ -11,7 +11,7 @@ abbrev pub first_holding : List Condition → Option Reason
 first_holding [] = None
 first_holding (c ∷ cs) = if c.0 then Some c.1 else first_holding cs
 
--- the first refusal of several parts, in their order
+-- the first refusal, or the later one if there is none
 abbrev pub or_refusal : Option Reason → Option Reason → Option Reason
 or_refusal None later = later
 or_refusal (Some reason) later = Some reason

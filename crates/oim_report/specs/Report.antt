@@ -1,4 +1,4 @@
--- What a report is, once it is read (own).
+-- A report after it is read (own).
 use Rattle.std.specs.Prelude.{◌≡◌, ℕ, List, All, Ok, length, slice_get}
 use Rattle.std.specs.List.{range_with_len}
 use Rattle.std.specs.List.Sorted.{IsPermutation, IsSorted}
@@ -18,16 +18,16 @@ pub record Reading : Type 0 where
   pub document : Document
   pub order : List ℕ
 
--- compares the facts at two places
+-- compares the facts at two indices
 abbrev pub place_cmp : List Fact → ℕ → ℕ → Ordering
 place_cmp facts i j = option_cmp fact_cmp (slice_get facts i) (slice_get facts j)
 
--- each place of a list once, so that the facts at them do not fall
+-- each index of a list once, in the order of their facts
 pub record IsOrderOf (facts : List Fact) (places : List ℕ) : Type 0 where
   pub each_once : IsPermutation (range_with_len 0 (length facts)) places
   pub rising : IsSorted (place_cmp facts) places
 
--- each fact fits the sheet, each reference is its own kept text, and the facts at the places of the order do not fall
+-- each fact fits the sheet, each reference is a kept text, and `order` sorts the facts
 pub record IsReading (r : Reading) : Type 0 where
   pub facts : All (FactFits r.sheet) r.document.facts
   pub references : All IsKeptReference r.document.references
@@ -41,6 +41,6 @@ OutcomesAreSaid = (sheet : Sheet) (bytes : List ℕ) (d : Document) → outcome 
 abbrev pub AcceptedFactsFit : Type 0
 AcceptedFactsFit = (sheet : Sheet) (bytes : List ℕ) (d : Document) → outcome sheet bytes ≡ Ok d → All (FactFits sheet) d.facts
 
--- the references of an accepted report are kept as they are
+-- each reference of an accepted report is a kept text
 abbrev pub AcceptedReferencesAreKept : Type 0
 AcceptedReferencesAreKept = (sheet : Sheet) (bytes : List ℕ) (d : Document) → outcome sheet bytes ≡ Ok d → All IsKeptReference d.references

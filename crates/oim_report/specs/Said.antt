@@ -28,7 +28,7 @@ use Rattle.oim_report.specs.Parts.{DimensionParts, FactParts}
 use Rattle.oim_report.specs.Conditions.{concept_kind, dimension_kind}
 use Rattle.oim_report.specs.Sheet.{Sheet}
 
--- a part that may be absent, with the value that it then has
+-- the value of an optional part, which is `none` if the part is absent
 abbrev pub said_text : {A : Type 0} → A → (List ℕ → Option A) → Given → Option A
 said_text none says absent = Some none
 said_text none says (text t) = says t
@@ -55,7 +55,7 @@ abbrev pub all_named : List Binding → List (List ℕ) → Option (List QName)
 all_named bs [] = Some []
 all_named bs (t ∷ ts) = option_and_then (λ n. option_map (λ ns. n ∷ ns) (all_named bs ts)) (named bs t)
 
--- names in sorted order, with their repeats
+-- adds a name to names in sorted order, and keeps repeats
 abbrev pub with_name : QName → List QName → List QName
 with_name n [] = n ∷ []
 with_name n (m ∷ ms) = if is_lt (name_cmp m n) then m ∷ with_name n ms else n ∷ m ∷ ms
@@ -67,7 +67,7 @@ in_order (n ∷ ns) = with_name n (in_order ns)
 abbrev pub side_of : List Binding → List (List ℕ) → Option (List QName)
 side_of bs ps = option_map in_order (all_named bs ps)
 
--- the unit of both sides; `pure` alone is none (own)
+-- the unit with these sides, or None if it is `pure` alone (own)
 abbrev pub unit_with : List QName → List QName → Option Measures
 unit_with (n ∷ []) [] = if is_eq (name_cmp n pure_name) then None else Some (record { numerators = n ∷ []; denominators = [] })
 unit_with ns ds = Some (record { numerators = ns; denominators = ds })
@@ -87,7 +87,7 @@ said_member bs (Some Typed) (text t) = Some (MemberText t)
 said_member bs (Some Typed) nil = Some NoMember
 said_member bs kind g = None
 
--- the members, extended by the members of several keys
+-- the members `es` and the members of several keys
 abbrev pub members_with : Sheet → List Binding → List (QName × Member) → List (List ℕ × Given) → Option (List (QName × Member))
 members_with sheet bs es [] = Some es
 members_with sheet bs es (d ∷ ds) =

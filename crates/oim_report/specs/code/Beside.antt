@@ -14,7 +14,7 @@ abbrev pub interval_at : Value → Option Interval
 interval_at (Number units decimals) = Some (interval units decimals)
 interval_at other = None
 
--- the common part of several intervals and one more, if both exist
+-- the common part of two intervals, if both exist
 abbrev pub both_common : Option Interval → Option Interval → Option Interval
 both_common (Some i) (Some j) = Some (common_part i j)
 both_common i j = None
@@ -24,6 +24,6 @@ abbrev pub both_meet : Option Interval → Option Interval → Bool
 both_meet (Some i) (Some j) = intervals_meet i j
 both_meet i j = false
 
--- the strictest level that allows one more value after values with this last one and this common part of their intervals
+-- the strictest level that allows v after `last`; `common` is the common part of the intervals of all earlier values
 abbrev pub level_beside : Value → Option Interval → Value → Level
 level_beside last common v = if is_eq (value_cmp last v) then Complete else (if both_meet common (interval_at v) then Consistent else All)

@@ -21,7 +21,7 @@ in_first part = record { uri = first_uri; local_part = part }
 abbrev pub in_second : List ℕ → QName
 in_second part = record { uri = second_uri; local_part = part }
 
--- spells a name with the prefix `n1` or `n2`, which depends on its URI
+-- spells a name with the prefix of its URI, `n1` or `n2`
 abbrev pub numbered : QName → List ℕ
 numbered n = (if bytes_eq n.uri first_uri then codes "n1:" else codes "n2:") ++ n.local_part
 
@@ -29,7 +29,7 @@ numbered n = (if bytes_eq n.uri first_uri then codes "n1:" else codes "n2:") ++ 
 abbrev pub bindings : List Binding
 bindings = record { prefix = codes "eg"; uri = first_uri } ∷ record { prefix = codes "n1"; uri = first_uri } ∷ record { prefix = codes "n2"; uri = second_uri } ∷ []
 
--- the dimensions of a concept alone
+-- dimensions with a concept and nothing else
 abbrev pub alone : QName → DimensionSet
 alone concept = record { concept = concept; entity = None; period = Forever; unit = None; language = None; members = [] }
 
@@ -62,7 +62,7 @@ number_fact = fact (record {
   members = [];
 }) (Number (negsuc 14999999999999999999) (Some (pos 1)))
 
--- numbers with only a concept and a unit
+-- a fact with only a concept and a unit
 abbrev pub measured : List QName → List QName → Value → Fact
 measured numerators denominators = fact (record (alone (in_first (codes "A"))) { unit = Some (record { numerators = numerators; denominators = denominators }) })
 
@@ -81,7 +81,7 @@ zero_fact = fact (alone (in_first (codes "A"))) (Number (pos 0) None)
 abbrev pub name_fact : Fact
 name_fact = fact (alone (in_first (codes "Q"))) (AName (in_first (codes "North")))
 
--- a text with control characters, by an entity with a line end; one typed member looks like a name, and one is nil
+-- a text with control characters; its entity contains a line end, one typed member looks like a name, and one is nil
 abbrev pub odd_fact : Fact
 odd_fact = fact (record {
   concept = in_first (codes "T");

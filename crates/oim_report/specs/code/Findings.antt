@@ -1,4 +1,4 @@
--- What code tests on the way to a refusal.
+-- Tests in the code that refuses reports, and the refusals that follow from them.
 use Rattle.std.specs.Prelude.{ℕ, List, Bool, false, bytes_eq, is_none, if◌then◌else◌, Option, Some, None}
 use Rattle.std.specs.Option.{option_map_or}
 use Rattle.std.specs.List.{filter_map}
@@ -6,17 +6,17 @@ use Rattle.oim_names.specs.declared.reason.Reason.{Reason}
 use Rattle.oim_report.specs.Json.{Given, text_of}
 use Rattle.oim_report.specs.Kept.{base_url}
 
--- whether this text is given
+-- the given value is this text
 abbrev pub is_text : List ℕ → Given → Bool
 is_text t g = option_map_or (λ u. bytes_eq u t) (text_of g) false
 
 abbrev pub is_base_refused : List ℕ → Bool
 is_base_refused text = is_none (base_url text)
 
--- a refusal, where its condition holds
+-- the refusal, if its condition applies
 abbrev pub when : Bool → Reason → Option Reason
 when holds reason = if holds then Some reason else None
 
--- the refusals that there are
+-- the refusals in a list, without each None
 abbrev pub all_refusals : List (Option Reason) → List Reason
 all_refusals refusals = filter_map (λ r. r) refusals

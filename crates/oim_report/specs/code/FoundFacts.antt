@@ -1,4 +1,4 @@
--- Facts that were found in a text, in its order, each with its identifier (own).
+-- Facts in the order of a text, with their identifiers (own).
 use Rattle.std.specs.Prelude.{◌≡◌, ℕ, List, [], ◌∷◌, Bool, true, false, if◌then◌else◌, Option, Some, None, Ok, String, ⊤}
 use Rattle.std.specs.declared.alloc.Global.{Global}
 use Rattle.std.specs.Ordering.{nat_cmp, is_lt}
@@ -10,7 +10,7 @@ use Rattle.serde_json.specs.Data.{Members, no_members, member}
 use Rattle.oim_report.specs.Outcome.{fact_outcome}
 use Rattle.oim_report.specs.Sheet.{Sheet}
 
--- these are the keys of the members, and the facts that their values say
+-- the lists are the keys of the members and the facts that their values say
 abbrev pub AreFound : Sheet → List Binding → Members → List (String Global) → List Fact → Type 0
 AreFound sheet bs no_members [] [] = ⊤
 AreFound sheet bs no_members [] (f ∷ fs) = ⊥
@@ -19,12 +19,12 @@ AreFound sheet bs (member k d ms) [] fs = ⊥
 AreFound sheet bs (member k d ms) (s ∷ ss) [] = ⊥
 AreFound sheet bs (member k d ms) (s ∷ ss) (f ∷ fs) = (string_bytes s ≡ k) × (fact_outcome sheet bs d ≡ Ok f) × AreFound sheet bs ms ss fs
 
--- a key is above the key before it
+-- a key is greater than the last one, if there is one
 abbrev pub is_above : Option (List ℕ) → List ℕ → Bool
 is_above None key = true
 is_above (Some last) key = is_lt (slice_cmp nat_cmp last key)
 
--- each key is above the key before it, and the first is above the last key so far
+-- the keys ascend strictly, and the first is greater than `last`, if there is one
 abbrev pub rise_after : Option (List ℕ) → List (String Global) → Bool
 rise_after last [] = true
 rise_after last (s ∷ ss) = if is_above last (string_bytes s) then rise_after (Some (string_bytes s)) ss else false

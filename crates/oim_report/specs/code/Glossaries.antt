@@ -1,4 +1,4 @@
--- The meanings of a report's texts under a sheet and prefixes (own).
+-- The meanings of a report's texts, given its sheet and its prefixes (own).
 use Rattle.std.specs.Prelude.{◌≡◌, ℕ, List, true, Option, Some, Ok, IfSome}
 use Rattle.std.specs.Borrow.{Bor}
 use Rattle.std.specs.Str.{str_to_ascii_lowercase}

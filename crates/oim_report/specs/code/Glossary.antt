@@ -1,4 +1,4 @@
--- What texts that were read stand for (own).
+-- The meanings of texts that were read (own).
 use Rattle.std.specs.Prelude.{◌≡◌, ◌⊎◌, ℕ, List, Option, Some, None}
 use Rattle.std.specs.Str.{bytes_eq}
 use Rattle.std.specs.HashMap.{get_by}
@@ -13,7 +13,7 @@ use Rattle.oim_report.specs.declared.fact.glossary.Glossary.{Glossary}
 abbrev pub meaning : {A : Type 0} → Glossary A → List ℕ → Option A
 meaning g t = get_by (λ k. bytes_eq t k.now) g.meanings
 
--- h is g, or g with the meaning a of t added
+-- h is g, or g with t and its meaning a added
 abbrev pub Adds : {A : Type 0} → Glossary A → List ℕ → A → Glossary A → Type 0
 Adds g t a h = ((u : List ℕ) → meaning h u ≡ meaning g u) ⊎ ((u : List ℕ) → meaning h u ≡ update bytes_eq (meaning g) t (Some a) u)
 
@@ -21,6 +21,6 @@ Adds g t a h = ((u : List ℕ) → meaning h u ≡ meaning g u) ⊎ ((u : List �
 pub record IsGlossary {A : Type 0} (R : List ℕ → A → Type 0) (g : Glossary A) : Type 0 where
   pub each : (t : List ℕ) (a : A) → meaning g t ≡ Some a → R t a
 
--- the dimensions of a concept with these members, and nothing else
+-- dimensions with this concept and these members, and nothing else
 abbrev pub concept_with : QName → List (QName × Member) → DimensionSet
 concept_with concept members = record { concept = concept; entity = None; period = Forever; unit = None; language = None; members = members }

@@ -1,4 +1,4 @@
--- Kinds that pass the test are equal.
+-- `same_concept_kind` and `same_dimension_kind` are true exactly for equal kinds.
 use Rattle.std.specs.Prelude.{◌≡◌, true, refl}
 use mathlib.Core.Bool.{false≢true}
 use Rattle.oim_report.specs.declared.concept_kind.ConceptKind.{ConceptKind}

@@ -15,7 +15,7 @@ abbrev pub append : Members → Members → Members
 append no_members ns = ns
 append (member k d ms) ns = member k d (append ms ns)
 
--- a piece, and after a comma what is left
+-- a piece, followed by a comma and the rest if there is one
 abbrev pub with_rest : List ℕ → Option (List ℕ) → List ℕ
 with_rest piece None = piece
 with_rest piece (Some rest) = piece ++ 44 ∷ rest
@@ -34,13 +34,13 @@ AreSpaces (x ∷ xs) = (is_space x ≡ true) × AreSpaces xs
 abbrev pub facts_key : List ℕ
 facts_key = 34 ∷ 102 ∷ 97 ∷ 99 ∷ 116 ∷ 115 ∷ 34 ∷ []
 
--- white space and then the other text
+-- `text` is white space followed by `rest`
 pub record AfterSpaces (text rest : List ℕ) : Type 0 where
   pub spaces : List ℕ
   pub are : AreSpaces spaces
   pub splits : text ≡ spaces ++ rest
 
--- the text and then white space
+-- `text` is `front` followed by white space
 pub record BeforeSpaces (text front : List ℕ) : Type 0 where
   pub spaces : List ℕ
   pub are : AreSpaces spaces
@@ -50,12 +50,12 @@ pub record BeforeSpaces (text front : List ℕ) : Type 0 where
 abbrev pub facts_text : List ℕ → List ℕ → List ℕ → List ℕ → List ℕ
 facts_text s3 s4 facts s5 = facts_key ++ (s3 ++ 58 ∷ (s4 ++ 123 ∷ (facts ++ (s5 ++ 125 ∷ []))))
 
--- members before others, if there are any
+-- if `before` exists, it precedes `rest`, with a comma between them
 abbrev pub with_before : Option (List ℕ) → List ℕ → List ℕ → List ℕ
 with_before None spaces rest = rest
 with_before (Some before) spaces rest = before ++ (spaces ++ 44 ∷ rest)
 
--- and after others
+-- if `behind` exists, it follows `front`, with a comma between them
 abbrev pub with_behind : List ℕ → List ℕ → Option (List ℕ) → List ℕ
 with_behind front spaces None = front
 with_behind front spaces (Some behind) = front ++ (spaces ++ 44 ∷ behind)
@@ -94,7 +94,7 @@ pub record IsSplit (text : List ℕ) (before : Option (List ℕ)) (facts : List 
   pub head_is : IsHead head before
   pub tail_is : IsTail tail facts behind
 
--- two texts of members, and both with a comma between them, give these members
+-- each text is a piece, and both joined by a comma are the piece with the members `all`
 pub record AreBoth (before behind : List ℕ) (all : Members) : Type 0 where
   pub found : Members
   pub more : Members
@@ -102,13 +102,13 @@ pub record AreBoth (before behind : List ℕ) (all : Members) : Type 0 where
   pub second : IsPiece behind more
   pub both : IsPiece (before ++ 44 ∷ behind) all
 
--- the members beside `facts`
+-- the members before and after `facts`; there is at least one
 abbrev pub IsBeside : Option (List ℕ) → Option (List ℕ) → Members → Type 0
 IsBeside None None found = ⊥
 IsBeside (Some before) None found = IsPiece before found
 IsBeside None (Some behind) found = IsPiece behind found
 IsBeside (Some before) (Some behind) found = AreBoth before behind found
 
--- the object without its member `facts`, whose members' text is `facts`: whatever that text gives
+-- `text` is read as `tree` with a member `facts` put into it; the members of that member are in the text `facts`
 abbrev pub IsOutline : List ℕ → Data → List ℕ → Type 0
 IsOutline text tree facts = (before : Members) × (tree ≡ object before) × ((found : Members) → IsPiece facts found → read text ≡ Some (object (put (codes "facts") (object found) before)))

@@ -1,4 +1,4 @@
--- The tests in the table of conditions for one member of `dimensions`.
+-- Tests from the table of conditions, for one member of `dimensions`.
 use Rattle.std.specs.Prelude.{ℕ, List, ◌∷◌, map, Bool, ◌&&◌, Option, None, if◌then◌else◌, is_none}
 use Rattle.std.specs.Option.{option_to_list}
 use Rattle.std.specs.List.{filter_map}
@@ -15,7 +15,7 @@ use Rattle.oim_report.specs.Names.{named, refuses_some}
 use Rattle.oim_names.specs.Expansion.{a_name}
 use Rattle.oim_report.specs.Sheet.{Sheet}
 
--- the value at a key is no text
+-- the value at a key is not a text
 abbrev pub lacks_text : List ℕ → Members → Bool
 lacks_text key ms = is_some_and no_text (get_member key ms)
 
@@ -27,7 +27,7 @@ is_defined key = has_colon key && is_utf8 key
 abbrev pub any_defined : (List ℕ → Data → Bool) → Members → Bool
 any_defined test ms = any_member (λ key d. is_defined key && test key d) ms
 
--- a name is refused for this reason: the key, or the member if the dimension is explicit
+-- the key is refused for this reason, or the member of an explicit dimension is
 abbrev pub refuses_in : Reason → Sheet → List Binding → List ℕ → Data → Bool
 refuses_in r sheet bs key d = refuses_some r bs (a_name key ∷ map a_name (option_to_list (explicit_text sheet bs null no_members (key, d))))
 

@@ -1,4 +1,4 @@
--- The values that the borrowed parts of the code represent.
+-- The values that the code's borrowed parts represent.
 use Rattle.std.specs.Prelude.{List, ℕ, map, option_map}
 use Rattle.std.specs.Borrow.{Bor}
 use Rattle.oim_report.specs.declared.fact.given.Given.{Given as Lent}
