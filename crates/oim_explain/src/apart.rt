@@ -25,7 +25,7 @@ pub(crate) fn two_apart(
     }
 }
 
-/// The declared level.
+/// Returns the declared level.
 fn declared(tree: &Value) -> Level {
     let Some(features) = info(tree, "features").and_then(Value::as_object) else {
         return Level::All;
@@ -33,7 +33,7 @@ fn declared(tree: &Value) -> Level {
     level_of(declaration(tree, features))
 }
 
-/// The value of the first feature that declares a level.
+/// Returns the value of the first feature that declares a level.
 fn declaration<'t>(tree: &Value, features: &'t Map<String, Value>) -> Option<&'t Value> {
     for (key, value) in features.iter() {
         if is_declaration(tree, key.as_str()) {
@@ -43,7 +43,7 @@ fn declaration<'t>(tree: &Value, features: &'t Map<String, Value>) -> Option<&'t
     None
 }
 
-/// The level with this name, or the level that allows all duplicates.
+/// Returns the level with this name, or the level that allows all duplicates.
 fn level_of(value: Option<&Value>) -> Level {
     value
         .and_then(Value::as_str)
@@ -51,7 +51,7 @@ fn level_of(value: Option<&Value>) -> Level {
         .unwrap_or(Level::All)
 }
 
-/// Removes the features; a report without them allows all duplicates.
+/// Removes the features. A report without them allows all duplicates.
 fn drop_features(tree: &mut Value) {
     if let Some(info) = tree.get_mut("documentInfo") {
         if let Some(members) = info.as_object_mut() {
@@ -60,7 +60,8 @@ fn drop_features(tree: &mut Value) {
     }
 }
 
-/// The first fact that the level does not allow beside an earlier one, with that earlier fact.
+/// Returns the indices of two facts that the level does not allow together. The second one is the
+/// first fact in sorted order that conflicts with an earlier one.
 fn first_apart(facts: &[Fact], order: &[usize], level: Level) -> Option<(usize, usize)> {
     let mut group: Option<Group<'_>> = None;
     for place in order {
@@ -78,8 +79,8 @@ fn first_apart(facts: &[Fact], order: &[usize], level: Level) -> Option<(usize, 
     None
 }
 
-/// Two facts with the same dimensions and their indices: the one whose interval ends first, and the
-/// one whose interval begins last.
+/// Two of the facts with the same dimensions, with their indices: the interval of `lowest` ends
+/// first, and the interval of `highest` begins last.
 #[derive(Clone, Copy)]
 struct Group<'f> {
     lowest: (usize, &'f Fact),
@@ -94,7 +95,7 @@ impl<'f> Group<'f> {
         }
     }
 
-    /// The index of an earlier fact that the level does not allow beside this one.
+    /// Returns the index of an earlier fact that the level does not allow together with this one.
     fn apart_from(&self, fact: &Fact, level: Level) -> Option<usize> {
         if !allows(level, self.lowest.1, fact) {
             Some(self.lowest.0)
@@ -135,7 +136,7 @@ fn high(fact: &Fact) -> Option<i128> {
     }
 }
 
-/// True if a level allows two facts with the same dimensions.
+/// Returns whether a level allows two facts with the same dimensions.
 fn allows(level: Level, fact: &Fact, other: &Fact) -> bool {
     match level {
         Level::Unique => false,

@@ -1,17 +1,17 @@
 use std::fmt;
 
-/// The most characters of a text that are shown.
+/// At most this many characters of a text are shown.
 const MOST_CHARACTERS: usize = 80;
 
-/// A text that is safe to print on a terminal. Control characters, invisible characters, and those
-/// that end the line or change its direction are written as JSON escapes. Otherwise a prefix after
-/// a byte order mark would look bound, and the name of a file could imitate a line.
+/// A text that is safe to print on a terminal. Control characters, invisible characters, and
+/// characters that end the line or change its direction are written as JSON escapes. Otherwise a
+/// prefix after a byte order mark would look bound, and a file name could imitate a line.
 #[derive(Clone, Copy)]
 pub struct Escaped<'t>(pub &'t str);
 
 impl fmt::Display for Escaped<'_> {
     fn fmt<W: fmt::Write>(&self, f: &mut fmt::Formatter<W>) -> fmt::Result {
-        // the text between two escapes is written at once, so a plain text in one piece
+        // the text between two escapes is written at once, so a text without escapes in one piece
         let mut from = 0;
         for (place, character) in self.0.char_indices() {
             if !is_shown(character) {
@@ -56,7 +56,7 @@ fn is_shown(character: char) -> bool {
         )
 }
 
-/// The first `MOST_CHARACTERS` characters of a text, or a shorter text as it is.
+/// Returns the first `MOST_CHARACTERS` characters of a text, or the whole text if it is shorter.
 pub(crate) fn front_of(text: &str) -> &str {
     for (count, (place, _)) in text.char_indices().enumerate() {
         if count >= MOST_CHARACTERS {

@@ -14,10 +14,10 @@ use oim_report::{Place, Refusal, Sheet, faults};
 use serde_json::{Error, Value};
 use std::alloc::{AllocError, Global};
 
-/// Returns one line for each fault of a report that is read under a sheet. The faults that `faults`
-/// of `oim_report` finds come first, in its order. Then come members that are repeated in an object,
-/// of which only the last is read (RFC 8259, section 4). A line begins with the name of the file,
-/// shows at most 80 characters of a text, and contains nothing that changes a terminal.
+/// Returns one line for each fault of a report that is read under a sheet. The faults that
+/// `oim_report` finds come first, in its order. Members that are repeated in an object follow;
+/// only the last one is read (RFC 8259, section 4). A line begins with the name of the file, shows
+/// at most 80 characters of a text, and contains nothing that changes a terminal.
 ///
 /// A file that is not JSON has only one line, which says so.
 ///
@@ -39,8 +39,8 @@ pub fn explain(
     Ok(lines.explained())
 }
 
-/// True if the file is not JSON. Its repeated members are then not listed, although `json`, which
-/// accepts numbers of any size, may find some.
+/// Returns whether the file is not JSON. Its repeated members are then not listed, although `json`
+/// may find some, because it accepts numbers of any size.
 fn is_unread(found: &[Refusal]) -> bool {
     matches!(
         found.first(),
@@ -67,7 +67,7 @@ fn push_faults(
     }
 }
 
-/// The message of `serde_json` for a file that is not JSON.
+/// Returns the message of `serde_json` for a file that is not JSON.
 ///
 /// Errors: out of memory.
 pub(crate) fn words_of(alloc: Global, error: &Error) -> Result<String, AllocError> {
@@ -75,12 +75,12 @@ pub(crate) fn words_of(alloc: Global, error: &Error) -> Result<String, AllocErro
     format!(in alloc; "{}", Escaped(words.as_str()))
 }
 
-/// The fault of a file that is not JSON, with the message of `serde_json`.
+/// Returns the fault of a file that is not JSON, with the message of `serde_json`.
 pub(crate) fn unread<'w>(words: &'w str, bytes: &[u8]) -> Finding<'w> {
     Finding::of_document(Reason::NotJson, Found::Words(words)).with_kind(kind_of_bytes(bytes))
 }
 
-/// The bytes after a byte order mark.
+/// Returns the bytes without a byte order mark.
 pub(crate) fn without_mark(bytes: &[u8]) -> &[u8] {
     match bytes.strip_prefix(b"\xef\xbb\xbf") {
         Some(rest) => rest,
@@ -159,7 +159,7 @@ fn push_apart(lines: &mut Lines<'_>, sheet: &Sheet, tree: &mut Value) -> Result<
     lines.push(&Finding::of_document(Reason::DisallowedDuplicates, found))
 }
 
-/// The identifiers at two indices.
+/// Returns the identifiers at two indices.
 fn two_of<'a>(
     facts: &[(&'a str, &'a Value)],
     two: Option<(usize, usize)>,
@@ -168,7 +168,7 @@ fn two_of<'a>(
     Some((facts.get(one)?.0, facts.get(other)?.0))
 }
 
-/// The facts in byte order of their identifiers.
+/// Returns the facts in byte order of their identifiers.
 fn facts_of(alloc: Global, tree: &Value) -> Result<Vec<(&str, &Value)>, AllocError> {
     let mut facts = Vec::new(alloc);
     if let Some(members) = tree.get("facts").and_then(Value::as_object) {
@@ -179,7 +179,7 @@ fn facts_of(alloc: Global, tree: &Value) -> Result<Vec<(&str, &Value)>, AllocErr
     Ok(facts)
 }
 
-/// The number, the identifier and the object of a fact.
+/// Returns the number, the identifier and the object of a fact.
 fn fact_at<'a>(facts: &[(&'a str, &'a Value)], place: Place) -> Option<(u64, &'a str, &'a Value)> {
     let Place::Fact(number) = place else {
         return None;

@@ -10,8 +10,8 @@ use oim_names::Reason;
 use serde_json::Value;
 use std::alloc::{AllocError, Global};
 
-/// Returns the line that says why a sheet is refused. It shows the text at fault, and says what
-/// kind of file it is if the first bytes or members show that (own).
+/// Returns a line with the reason to refuse a sheet. The line shows the text at fault, and the
+/// kind of file if its first bytes or members reveal it (own).
 ///
 /// Errors: out of memory.
 pub fn explain_sheet(
@@ -35,8 +35,8 @@ fn sentence_of_sheet(alloc: Global, tree: &Value, reason: Reason) -> Result<Stri
         .sentence(alloc)
 }
 
-/// Returns one line for each member that is repeated in an object of a sheet. Only the last such
-/// member is read (own).
+/// Returns one line for each member that is repeated in an object of a sheet. Only the last one is
+/// read (own).
 ///
 /// Errors: out of memory.
 pub fn explain_repeated(

@@ -17,7 +17,8 @@ pub(crate) fn kind_of_bytes(bytes: &[u8]) -> Option<&'static str> {
     kind_of_text(text_of(bytes))
 }
 
-/// True for a byte order mark of UTF-16, and for JSON or XML in UTF-16 without one.
+/// Returns whether the bytes begin with a byte order mark of UTF-16, or like JSON or XML in
+/// UTF-16.
 fn is_utf16(bytes: &[u8]) -> bool {
     for start in UTF_16 {
         if bytes.starts_with(start) {
@@ -27,7 +28,7 @@ fn is_utf16(bytes: &[u8]) -> bool {
     false
 }
 
-/// The longest UTF-8 text at the start, after byte order marks and white space.
+/// Returns the longest UTF-8 text at the start, after byte order marks and white space.
 fn text_of(bytes: &[u8]) -> &str {
     match bytes.utf8_chunks().next() {
         Some(chunk) => chunk.valid().trim_start_matches('\u{feff}').trim_start(),
@@ -53,8 +54,8 @@ fn kind_of_text(text: &str) -> Option<&'static str> {
     }
 }
 
-/// True if a line belongs to a table: it has a separator, but no braces and colons as in JSON, and
-/// no white space after its separators as in prose.
+/// Returns whether a line looks like a row of a table: it has a separator, no braces or colons as
+/// in JSON, and no space after a separator as in prose.
 fn is_row(line: &str) -> bool {
     line.contains([',', ';', '\t'])
         && !line.contains(['{', '}'])

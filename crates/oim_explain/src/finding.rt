@@ -15,7 +15,7 @@ pub(crate) struct Finding<'a> {
 }
 
 impl<'a> Finding<'a> {
-    /// A reason alone is a refusal of the document.
+    /// Returns a finding about the document.
     pub(crate) fn of_document(reason: Reason, found: Found<'a>) -> Finding<'a> {
         Finding {
             fact: None,
@@ -30,7 +30,7 @@ impl<'a> Finding<'a> {
         Finding { kind, ..self }
     }
 
-    /// The sentence that says what is wrong.
+    /// Returns the sentence that says what is wrong.
     ///
     /// Errors: out of memory.
     pub(crate) fn sentence(&self, alloc: Global) -> Result<String, AllocError> {

@@ -11,11 +11,11 @@ pub(crate) enum Found<'a> {
     Nothing,
     /// A message.
     Words(&'a str),
-    /// The member with this key, and what is wrong with it.
+    /// A key, and the words that say what is wrong with its member.
     Quoted(&'static str, &'static str),
     /// A text.
     Text(&'a str),
-    /// A text, and the place in which it was found.
+    /// A text, and the name of the part that contains it.
     Within(&'a str, &'static str),
     /// The text of an entity.
     Entity(&'a str),
@@ -23,12 +23,12 @@ pub(crate) enum Found<'a> {
     Pair(&'a str, &'a str),
     /// A value.
     Value(&'a Value),
-    /// The member with this key.
+    /// A key with its value.
     Member(&'a str, &'a Value),
 }
 
 impl<'a> Found<'a> {
-    /// A value, if there is one.
+    /// Returns the value, or `Nothing` if there is none.
     pub(crate) fn of(value: Option<&'a Value>) -> Found<'a> {
         match value {
             Some(value) => Found::Value(value),
@@ -36,7 +36,7 @@ impl<'a> Found<'a> {
         }
     }
 
-    /// A text, if there is one.
+    /// Returns the text, or `Nothing` if there is none.
     pub(crate) fn of_text(text: Option<&'a str>) -> Found<'a> {
         match text {
             Some(text) => Found::Text(text),
@@ -44,7 +44,7 @@ impl<'a> Found<'a> {
         }
     }
 
-    /// Two texts, if there are any.
+    /// Returns both texts, or `Nothing` if there are none.
     pub(crate) fn of_two(two: Option<(&'a str, &'a str)>) -> Found<'a> {
         match two {
             Some((one, other)) => Found::Pair(one, other),
@@ -52,7 +52,7 @@ impl<'a> Found<'a> {
         }
     }
 
-    /// The sentence about this part.
+    /// Returns the sentence about this part.
     fn said(self, reason: Reason) -> Sentence {
         match self {
             Found::Entity(_) => of_entity(reason),
@@ -81,7 +81,7 @@ impl<'a> Found<'a> {
         }
     }
 
-    /// Appends the part as JSON, cut if it is long.
+    /// Appends the part. Texts and values are written as JSON, and cut if they are long.
     fn push_to(self, alloc: Global, line: &mut String) -> Result<(), AllocError> {
         match self {
             Found::Nothing => Ok(()),
@@ -134,7 +134,7 @@ fn push_json(line: &mut String, json: &str) -> Result<(), AllocError> {
     write!(line, "{}{end}", Escaped(front))
 }
 
-/// The first unknown key without a colon.
+/// Returns the first unknown key without a colon.
 pub(crate) fn unknown_key<'a>(
     members: Option<&'a Map<String, Value>>,
     known: &[&str],
@@ -148,7 +148,7 @@ pub(crate) fn unknown_key<'a>(
     None
 }
 
-/// True if the text is in the list.
+/// Returns whether the text is in the list.
 pub(crate) fn is_one_of(key: &str, known: &[&str]) -> bool {
     for name in known {
         if *name == key {

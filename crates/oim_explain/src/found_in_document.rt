@@ -20,12 +20,12 @@ const INFO_MEMBERS: [&str; 7] = [
 
 const RESERVED: &str = "https://xbrl.org/2021";
 
-/// The member of `documentInfo` at a key.
+/// Returns the member of `documentInfo` at a key.
 pub(crate) fn info<'a>(tree: &'a Value, key: &str) -> Option<&'a Value> {
     tree.get(INFO)?.get(key)
 }
 
-/// Finds the part at fault in a document, apart from its facts.
+/// Finds the part at fault in a document, outside its facts.
 ///
 /// Errors: out of memory.
 pub(crate) fn found_in_document(
@@ -66,7 +66,7 @@ fn misshapen(tree: &Value) -> &'static str {
     "\"taxonomy\" is no array"
 }
 
-/// True for a value that is not an object.
+/// Returns whether there is a value that is not an object.
 pub(crate) fn is_no_object(value: Option<&Value>) -> bool {
     match value {
         Some(value) => !value.is_object(),
@@ -84,7 +84,7 @@ fn unknown(tree: &Value) -> Found<'_> {
     }
 }
 
-/// The first entry of `namespaces` that binds no prefix.
+/// Returns the first entry of `namespaces` that binds no prefix.
 pub(crate) fn unbound(entries: Option<&Map<String, Value>>) -> Found<'_> {
     let Some(entries) = entries else {
         return Found::Nothing;
@@ -112,8 +112,8 @@ fn is_uri(value: &Value) -> bool {
     }
 }
 
-/// The first declaration that names no level, or else all features, since two of them declare a
-/// level.
+/// Returns the first declaration whose value is not a level. If there is none, the level is
+/// declared twice, and all features are returned.
 fn misdeclared(tree: &Value) -> Found<'_> {
     let features = info(tree, "features");
     if let Some(entries) = features.and_then(Value::as_object) {
@@ -130,7 +130,7 @@ fn is_level(value: &Value) -> bool {
     value.as_str().and_then(Level::read).is_some()
 }
 
-/// True if a feature with this key declares the level of duplicates.
+/// Returns whether a feature with this key declares the level of duplicates.
 pub(crate) fn is_declaration(tree: &Value, key: &str) -> bool {
     match key.split_once(':') {
         Some((prefix, local)) => local == "allowedDuplicates"
@@ -139,7 +139,7 @@ pub(crate) fn is_declaration(tree: &Value, key: &str) -> bool {
     }
 }
 
-/// The URI to which a prefix is bound.
+/// Returns the URI that a prefix is bound to.
 fn uri<'a>(tree: &'a Value, prefix: &str) -> Option<&'a str> {
     info(tree, "namespaces")?.get(prefix)?.as_str()
 }

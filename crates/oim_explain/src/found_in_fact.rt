@@ -5,7 +5,7 @@ use oim_report::{Part, Sheet, fact_part};
 use serde_json::Value;
 use std::alloc::{AllocError, Global};
 
-/// The tables that resolve the names in a report.
+/// The sheet and the prefixes, which resolve the names in a report.
 #[derive(Clone, Copy)]
 pub(crate) struct Names<'n> {
     pub sheet: &'n Sheet,
@@ -46,7 +46,7 @@ fn found_as<'a>(aliases: &Aliases, part: Part<'a>, reason: Reason) -> Found<'a> 
     }
 }
 
-/// The first piece of a unit that is not a name for this reason.
+/// Returns the first piece of a unit that is refused as a name for this reason.
 fn found_in_unit<'a>(aliases: &Aliases, unit: &'a str, reason: Reason) -> Option<&'a str> {
     for piece in unit.split(['*', '/', '(', ')']) {
         if !piece.is_empty() && aliases.name_refusal(piece) == Some(reason) {
@@ -56,7 +56,7 @@ fn found_in_unit<'a>(aliases: &Aliases, unit: &'a str, reason: Reason) -> Option
     None
 }
 
-/// Two keys for one dimension.
+/// Returns two keys that name the same dimension.
 fn two_keys<'a>(
     alloc: Global,
     aliases: &Aliases,

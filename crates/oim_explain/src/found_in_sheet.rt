@@ -49,12 +49,13 @@ fn unknown(tree: &Value) -> Found<'_> {
     }
 }
 
-/// The concepts or the dimensions of a sheet.
+/// Returns the concepts or the dimensions of a sheet.
 fn listed<'t>(tree: &'t Value, part: &str) -> Option<&'t Map<String, Value>> {
     tree.get(part)?.as_object()
 }
 
-/// The first concept whose key is not a name for this reason, or else the first such dimension.
+/// Returns the first concept whose key is refused as a name for this reason, or else the first
+/// such dimension.
 fn refused_name<'t>(aliases: &Aliases, tree: &'t Value, reason: Reason) -> Option<&'t str> {
     let of_concepts = first_refused(aliases, listed(tree, CONCEPTS), reason);
     if of_concepts.is_some() {
@@ -76,7 +77,8 @@ fn first_refused<'t>(
     None
 }
 
-/// The first entry without a valid kind; else two entries for one name with different kinds.
+/// Returns the first entry without a valid kind, or else two keys that give one name different
+/// kinds.
 fn found_kind(alloc: Global, tree: &Value) -> Result<Found<'_>, AllocError> {
     let (concepts, dimensions) = (listed(tree, CONCEPTS), listed(tree, DIMENSIONS));
     if let Some((key, value)) = first_unkind(concepts, &["numeric", "text", "name"]) {
@@ -92,7 +94,7 @@ fn found_kind(alloc: Global, tree: &Value) -> Result<Found<'_>, AllocError> {
     }
 }
 
-/// The first entry whose value is not in the list.
+/// Returns the first entry whose value is not in the list.
 fn first_unkind<'t>(
     members: Option<&'t Map<String, Value>>,
     kinds: &[&str],
@@ -105,7 +107,7 @@ fn first_unkind<'t>(
     None
 }
 
-/// Two keys for one name with different kinds.
+/// Returns two keys that give one name different kinds.
 fn two_kinds<'t>(
     alloc: Global,
     aliases: &Aliases,

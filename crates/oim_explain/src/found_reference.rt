@@ -4,10 +4,10 @@ use serde_json::Value;
 use std::alloc::{AllocError, Global};
 use url::{ParseError, ParseResult, Url};
 
-/// The most bytes in a reference.
+/// The greatest length in bytes of a base, a reference and its URL.
 const MOST_BYTES: usize = 65_536;
 
-/// The first reference in `taxonomy` that is refused.
+/// Returns the first refused reference in `taxonomy`.
 ///
 /// Errors: out of memory.
 pub(crate) fn lost_reference(alloc: Global, tree: &Value) -> Result<Found<'_>, AllocError> {
@@ -22,7 +22,7 @@ pub(crate) fn lost_reference(alloc: Global, tree: &Value) -> Result<Found<'_>, A
     Ok(Found::Nothing)
 }
 
-/// The URL against which references are resolved, if the report has a valid one.
+/// Returns the URL that references are resolved against, if the report has a valid one.
 fn base_of(alloc: Global, tree: &Value) -> Result<Option<Url>, AllocError> {
     match info(tree, "baseURL").and_then(Value::as_str) {
         Some(text) if text.len() <= MOST_BYTES => {
@@ -32,7 +32,7 @@ fn base_of(alloc: Global, tree: &Value) -> Result<Option<Url>, AllocError> {
     }
 }
 
-/// The parsed URL, or None if the text is not one.
+/// Returns the parsed URL, or None if the text is not one.
 fn read(parsed: ParseResult<Url>) -> Result<Option<Url>, AllocError> {
     match parsed {
         Ok(url) => Ok(Some(url)),
@@ -45,8 +45,8 @@ fn is_web(url: &Url) -> bool {
     matches!(url.scheme(), "http" | "https")
 }
 
-/// True if a reference is accepted, within the limit: as a URL of its own, as a web address
-/// resolved against the base, or as spelled if there is no base.
+/// Returns whether a reference is accepted: it is a URL, it resolves to an http or https URL, or
+/// there is no base. The reference and an http or https URL must also be within the limit.
 fn is_kept(alloc: Global, base: Option<&Url>, reference: &Value) -> Result<bool, AllocError> {
     let Some(text) = reference.as_str() else {
         return Ok(false);

@@ -1,9 +1,10 @@
-//! Sentences about all faults of a report or a sheet, with the text at fault. This crate finds no
-//! faults itself; `oim_report` does.
+//! Explains all faults of a report or a sheet in sentences that show the text at fault.
+//! `oim_report` finds the faults; this crate finds only repeated members.
 //!
-//! Sentences may change between versions; numbers, names and their order may not. At most 80
-//! characters of a text are shown, counted before escaping, so no escape is cut in two. Identifiers
-//! are cut too: each is repeated in all lines for its fact, so a short file could print gigabytes.
+//! Sentences may change between versions, but numbers, names and their order do not. At most 80
+//! characters of a text are shown, counted before escaping, so no escape is cut in two.
+//! Identifiers are cut too: each is repeated in every line for its fact, so otherwise a short file
+//! could print gigabytes.
 #![tactic(auto)]
 
 mod apart;

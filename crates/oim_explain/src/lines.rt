@@ -39,7 +39,7 @@ impl<'n> Lines<'n> {
         }
     }
 
-    /// Adds a refusal.
+    /// Adds a line for a refusal.
     ///
     /// Errors: out of memory.
     pub(crate) fn push(&mut self, finding: &Finding<'_>) -> Result<(), AllocError> {
@@ -76,7 +76,7 @@ impl<'n> Lines<'n> {
         object.push_to(self.alloc, &mut self.text, &self.input)
     }
 
-    /// Adds a repeated member. Only the last of them is read.
+    /// Adds a line for a repeated member. Only the last such member is read.
     ///
     /// Errors: out of memory.
     pub(crate) fn push_repeated(&mut self, key: &str, sentence: &str) -> Result<(), AllocError> {
@@ -84,7 +84,7 @@ impl<'n> Lines<'n> {
         if let Format::Text = self.input.format {
             return write!(self.text, "{}: {sentence}\n", Escaped(self.input.name));
         }
-        // a fact may have many repeated members, and each line would repeat its identifier
+        // a fact may have many repeated members, and each line would repeat its long identifier
         let object = Object {
             place: None,
             reason: None,

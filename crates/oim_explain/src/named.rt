@@ -2,7 +2,7 @@ use oim_names::{Aliases, Reason};
 use serde_json::Value;
 use std::alloc::{AllocError, Global};
 
-/// The prefixes of a document whose `namespaces` are accepted.
+/// Reads the prefixes of a document whose `namespaces` are accepted.
 ///
 /// Errors: out of memory.
 pub(crate) fn read_aliases(
@@ -22,7 +22,7 @@ pub(crate) fn read_aliases(
     Ok(aliases)
 }
 
-/// Two keys for one name with different kinds, for the first such name.
+/// Returns two keys that give one name different kinds; of several such names, the first.
 ///
 /// Errors: out of memory.
 pub(crate) fn two_of_one_name<'a>(
@@ -30,7 +30,7 @@ pub(crate) fn two_of_one_name<'a>(
     aliases: &Aliases,
     keys: &[(&'a str, &'a str)],
 ) -> Result<Option<(&'a str, &'a str)>, AllocError> {
-    // sorted, so the cost is not quadratic in the number of keys
+    // names are sorted, so the cost is not quadratic in the number of keys
     let mut named = Vec::with_capacity(alloc, keys.len())?;
     for (place, (key, kind)) in keys.iter().enumerate() {
         if let Ok((uri, local)) = aliases.resolve(key) {
@@ -50,7 +50,7 @@ pub(crate) fn two_of_one_name<'a>(
     Ok(None)
 }
 
-/// The keys at two indices.
+/// Returns the keys at two indices.
 fn two_at<'a>(keys: &[(&'a str, &'a str)], one: usize, other: usize) -> Option<(&'a str, &'a str)> {
     Some((keys.get(one)?.0, keys.get(other)?.0))
 }

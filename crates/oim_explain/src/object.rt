@@ -7,7 +7,8 @@ use oim_report::Place;
 use serde_json::Value;
 use std::alloc::{AllocError, Global};
 
-/// A fault as a JSON object. A repeated member is not a refusal: only the last two fields are set.
+/// A fault as a JSON object. For a repeated member, which is not a refusal, only the last two
+/// fields are set.
 #[derive(Clone, Copy)]
 pub(crate) struct Object<'f, 's> {
     pub place: Option<Place>,
@@ -18,8 +19,7 @@ pub(crate) struct Object<'f, 's> {
 }
 
 impl Object<'_, '_> {
-    /// Appends the object on a line. Characters that a terminal does not show are escaped, as in a
-    /// text.
+    /// Appends the object as one line. Characters that a terminal does not show are escaped.
     ///
     /// Errors: out of memory.
     pub(crate) fn push_to(
@@ -64,7 +64,7 @@ fn put_text(writer: &mut Writer, key: &str, text: Option<&str>) -> Result<(), Al
     }
 }
 
-/// Writes a place in the words that the other commands use.
+/// Writes a place as other commands print it.
 fn put_place(alloc: Global, writer: &mut Writer, place: Option<Place>) -> Result<(), AllocError> {
     match place {
         Some(Place::Document) => writer.string("document"),
@@ -94,7 +94,8 @@ fn put_part(alloc: Global, writer: &mut Writer, part: Found<'_>) -> Result<(), A
     }
 }
 
-/// Writes a value of `serde_json`. It is parsed again, since `json` writes only its own values.
+/// Writes a value of `serde_json`. It is printed and parsed again, since `json` writes only its
+/// own values.
 fn put_value(alloc: Global, writer: &mut Writer, value: &Value) -> Result<(), AllocError> {
     let text = value.to_string(alloc)?;
     let mut scratch = Scratch::new(alloc);

@@ -11,7 +11,7 @@ pub(crate) enum Role {
     Sheet,
 }
 
-/// Adds the repeated members in the parts that are read. A file that is not JSON has none.
+/// Adds the repeated members in the parts that are read. A file that is not JSON adds none.
 ///
 /// Errors: out of memory.
 pub(crate) fn push_repeated(
@@ -65,8 +65,8 @@ fn push_facts(lines: &mut Lines<'_>, facts: &Value<'_>) -> Result<(), AllocError
     Ok(())
 }
 
-/// Adds the repeated members of an object, in this fact or in the document. Their lines end with
-/// the place of the object.
+/// Adds the repeated members of an object. `fact` is the identifier of its fact, or None for an
+/// object of the document; `place` names the object in the sentence.
 fn push_of(
     lines: &mut Lines<'_>,
     fact: Option<&str>,
@@ -88,7 +88,7 @@ fn push_of(
     Ok(())
 }
 
-/// Adds a repeated member, with the words before and after it in its sentence.
+/// Adds a repeated member, with the words around its key in the sentence.
 fn push_member(
     lines: &mut Lines<'_>,
     before: &str,
@@ -104,7 +104,7 @@ fn push_member(
     lines.push_repeated(key, sentence.as_str())
 }
 
-/// The repeated keys, each once, in byte order.
+/// Returns the repeated keys, each once, in byte order.
 fn repeated_keys<'a>(
     alloc: Global,
     members: &[(&'a str, Value<'a>)],

@@ -17,7 +17,7 @@ fn around(before: &'static str, behind: &'static str, alone: &'static str) -> Se
     }
 }
 
-/// The sentence for this reason.
+/// Returns the sentence for this reason.
 pub(crate) fn said_of(reason: Reason) -> Sentence {
     match reason {
         Reason::NotJson => around(
@@ -47,7 +47,7 @@ pub(crate) fn said_of(reason: Reason) -> Sentence {
     }
 }
 
-/// The sentence for two texts that contradict each other.
+/// Returns the sentence about two texts that contradict each other.
 pub(crate) fn of_pair(reason: Reason) -> Sentence {
     match reason {
         Reason::DisallowedDuplicates => around(
@@ -64,7 +64,7 @@ pub(crate) fn of_pair(reason: Reason) -> Sentence {
     }
 }
 
-/// The sentence for the text of an entity.
+/// Returns the sentence about an entity.
 pub(crate) fn of_entity(reason: Reason) -> Sentence {
     match reason {
         Reason::NameForm => around(

@@ -33,14 +33,14 @@ pub fn web_texts_read_back(url: &Url)
     let _text = url.as_str();
 }
 
-/// A text names exactly what it expands to. The same holds for the texts of entities.
+/// `named` returns exactly the name that a text expands to, and `entity_named` the entity.
 pub fn names_are_expanded()
     ensures names { (bs : List Binding) (t : List ℕ) (n : QName) → (named bs t ≡ Some n) ↔ Expands bs t n }
     ensures entities { (bs : List Binding) (t : List ℕ) (n : QName) → (entity_named bs t ≡ Some n) ↔ ExpandsEntity bs t n }
 {}
 
-/// A kept text is kept without a change if there is no base. If the reference is UTF-8 or within
-/// the limit, so is its kept text.
+/// A kept text stays the same if it is kept again without a base. If a reference is accepted, so
+/// is its kept text; if it is UTF-8, so is its kept text.
 pub fn kept_is_kept()
     ensures kept { KeptIsKept }
     ensures accepted { KeptIsAccepted }
@@ -52,7 +52,8 @@ pub fn values_meet_is_meets()
     ensures { ValuesMeetIsMeets }
 {}
 
-/// Each two facts of a list are allowed at its level and at each later one, and at no stricter one.
+/// A level allows each pair of facts in a list exactly if it is not stricter than the level of the
+/// list.
 pub fn level_is_strictest()
     ensures { LevelIsStrictest }
 {}
@@ -62,7 +63,7 @@ pub fn level_ignores_order()
     ensures { LevelIgnoresOrder }
 {}
 
-/// No sheet is refused for lack of memory, which is not a condition of a sheet.
+/// `sheet_outcome` refuses no sheet for lack of memory.
 pub fn sheet_outcomes_want_no_memory()
     ensures { SheetOutcomesWantNoMemory }
 {}
@@ -73,8 +74,9 @@ pub fn sheet_refused_where_held()
     ensures { SheetRefusedWhereHeld }
 {}
 
-/// An accepted sheet lists a concept with a kind exactly if a key of `concepts` expands to it and
-/// the value at the key names the kind. The same holds for dimensions and `dimensions`.
+/// An accepted sheet lists a concept with a kind exactly if a key of `concepts` expands to the
+/// concept and the value at the key names the kind. The same holds for dimensions and
+/// `dimensions`.
 pub fn sheet_lists_what_it_says()
     ensures concepts { ConceptsAreListed }
     ensures dimensions { DimensionsAreListed }
@@ -85,8 +87,8 @@ pub fn says_one_document()
     ensures { SaysOneDocument }
 {}
 
-/// An accepted report says its document member by member. Its facts fit the sheet, and its
-/// references are kept as they are.
+/// An accepted report says its document member by member. Its facts fit the sheet, and each of its
+/// references is a kept text.
 pub fn outcomes_are_said()
     ensures said { OutcomesAreSaid }
     ensures facts { AcceptedFactsFit }
@@ -99,7 +101,8 @@ pub fn each_fact_has_an_identifier()
     ensures { EachFactHasAnIdentifier }
 {}
 
-/// If the bytes of a file are JSON, the identifiers of its facts strictly ascend by bytes.
+/// If the bytes of a file are JSON, the identifiers of its facts are in strictly ascending byte
+/// order.
 pub fn identifiers_rise()
     ensures { IdentifiersRise }
 {}
@@ -119,7 +122,7 @@ pub fn refused_where_held()
 {}
 
 /// A report has no faults exactly if it is accepted. The first fault is the refusal that
-/// `read_report` returns. Both follow from the conditions and the level alone.
+/// `read_report` returns.
 pub fn faults_begin_with_the_refusal()
     ensures none { NoFaultsWhereAccepted }
     ensures first { FirstFaultIsAnswered }
@@ -130,13 +133,12 @@ pub fn facts_are_said_unless_refused()
     ensures { FactsAreSaid }
 {}
 
-/// No report is refused for lack of memory, which is not a condition of a report.
+/// `outcome` refuses no report for lack of memory.
 pub fn outcomes_want_no_memory()
     ensures { OutcomesWantNoMemory }
 {}
 
-/// The object of a written fact has the parts that were written, whatever the order of its spelled
-/// keys.
+/// The object of a written fact has the parts that were written, in any order of its spelled keys.
 pub fn fact_object_has_parts()
     ensures { FactObjectHasParts }
 {}
@@ -173,19 +175,20 @@ pub fn plain_text_reads_back()
     ensures whole { PlainHasNoFloat }
 {}
 
-/// The object of a fact is plain and two levels deep, so its text is read as the object.
+/// The object of a fact is plain and at most two levels deep, so its compact text is read as the
+/// object.
 pub fn fact_object_is_plain()
     ensures { FactObjectIsPlain }
 {}
 
-/// For any conditions, `least` returns the one with the least number that applies. `told` lists
-/// those that apply and are not hidden. The numbers in that list strictly ascend, and it begins
-/// with the least.
+/// `least` returns the condition with the least number that applies. `told` lists the conditions
+/// that apply and are not hidden. Their numbers strictly ascend, and the list begins with the
+/// least.
 pub fn least_is_answered()
     ensures { LeastIsAnswered }
 {}
 
-/// Take two texts of members, each of which can be read alone. With a comma between them they are
+/// Suppose that two texts of members can each be read alone. With a comma between them they are
 /// read as the members of both (RFC 8259, section 4; `serde_json` keeps the last value of a
 /// repeated name).
 pub fn pieces_are_the_whole()

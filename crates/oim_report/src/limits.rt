@@ -1,4 +1,4 @@
-// The limits of this project's profile.
+// Limits of the profile and of the reader.
 
 /// The greatest length in bytes of a base, a taxonomy reference and its kept text.
 pub const MOST_REFERENCE_BYTES: usize = 65_536;

@@ -62,8 +62,8 @@ pub(crate) fn read_document<'s>(
 }
 
 /// Does the same as `read_report`, but reads the facts in pieces of `size` bytes or more, with one
-/// piece in memory at a time. It returns `None` if the text cannot be split or anything is refused.
-/// Only reading the whole text shows why.
+/// piece in memory at a time. It returns `None` if the text cannot be split or anything is
+/// refused. To find out why, read the whole text.
 pub(crate) fn read_in_pieces<'s>(
     alloc: Global,
     sheet: &'s Sheet,

@@ -72,8 +72,7 @@ impl<'s> Report<'s> {
         self.facts.as_slice()
     }
 
-    /// Returns the references of its taxonomy with their repeats, in their order and in the text
-    /// under which they are kept.
+    /// Returns the kept texts of its taxonomy references, in their order and with repeats.
     pub fn taxonomy(&self) -> &[Text]
         ensures { result.now ≡ self.now.document.references }
     {
@@ -102,7 +101,7 @@ impl<'s> Report<'s> {
         self.sheet
     }
 
-    /// Returns the indices of the facts, each once, in the order of the facts.
+    /// Returns the indices of all facts, sorted by their facts.
     pub fn order(&self) -> &[usize]
         ensures { result.now ≡ self.now.order }
     {
@@ -118,8 +117,8 @@ impl<'s> Report<'s> {
         (facts, order)
     }
 
-    /// Does nothing. Its contract states that each fact fits the sheet, that each reference is kept
-    /// as it is, and that the order is one of the facts.
+    /// Does nothing. Its contract states that each fact fits the sheet, each reference is a kept
+    /// text, and `order` sorts the facts.
     pub fn known(&self)
         ensures { IsReading self.now }
     {

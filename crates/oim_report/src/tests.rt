@@ -13,8 +13,8 @@ use oim_names::{Aliases, Reason};
 use std::alloc::AllocError;
 
 // If a request for memory is refused, the call is repeated once. A refused call must not have
-// changed anything. A line on standard error reports it to `tests/refused_memory`, and whether the
-// request was the test's own.
+// changed anything. A line on standard error reports the refusal to `tests/refused_memory`, and
+// whether the test itself made the request.
 
 const SHEET: &str =
     r#"{"namespaces":{"eg":"http://example.org/t"},"concepts":{"eg:A":"numeric","eg:B":"numeric","eg:T":"text","eg:Q":"name"},"dimensions":{"eg:Reg":"explicit","eg:Sku":"typed"}}"#;
@@ -27,7 +27,7 @@ fn tell_refused_here(rt: &HostRuntime) {
     let _ = eprintln!(rt; "refused here");
 }
 
-// Returns whether a test holds for a text, and prints the text if not.
+// Returns `holds`, and prints the text if it is false.
 fn told(rt: &HostRuntime, holds: bool, text: &str) -> bool {
     if !holds {
         let _ = eprintln!(rt; "otherwise: {text}");

@@ -7,8 +7,8 @@ use oim_dims::Fact;
 use oim_value::{Interval, Level, Value, common, interval_of, meets};
 
 /// Returns the strictest level of duplicates that allows the facts with their repeats
-/// (`xbrl:allowedDuplicates` of OIM Common 1.0). `order` is the result of `order_of`. It takes no
-/// memory and visits each fact once. That is enough: each two of sorted values meet exactly if all
+/// (`xbrl:allowedDuplicates` of OIM Common 1.0). `order` is the result of `order_of`. The function
+/// takes no memory and visits each fact once. This suffices: values meet pairwise exactly if all
 /// are equal, or all are numbers whose intervals have a common part.
 pub(crate) fn level_of(facts: &[Fact], order: &[usize]) -> Level
     requires { IsOrderOf facts.now order.now }
@@ -34,8 +34,8 @@ pub(crate) fn level_of(facts: &[Fact], order: &[usize]) -> Level
     level
 }
 
-// Returns the strictest level that allows one more value after earlier values with the same
-// dimensions. It needs only the last of these, and the common part of their intervals.
+// Returns the strictest level that allows `value` after earlier values with the same dimensions.
+// It needs only the last of these and the common part of their intervals.
 fn level_beside(last: &Value, shared: Option<Interval>, value: &Value) -> Level
     ensures { result ≡ level_beside last.now shared value.now }
 {

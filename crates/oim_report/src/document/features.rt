@@ -45,7 +45,7 @@ fn declared_level(aliases: &Aliases, features: &Map<String, Value>) -> Option<Le
     Some(declared.unwrap_or(Level::All))
 }
 
-// Returns the declared level, if none was declared before it.
+// Returns the level that the value declares, if none was declared before.
 fn only_level(before: Option<Level>, value: Given<'_>) -> Option<Level>
     ensures first { before ≡ None → result ≡ said_level (seen value.entry ∷ []) }
     ensures again { IsSome before → result ≡ None }

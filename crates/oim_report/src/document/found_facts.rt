@@ -36,7 +36,7 @@ impl FoundFacts {
     }
 }
 
-// Returns whether each identifier is above the one before it.
+// Returns whether the identifiers ascend strictly.
 fn rise(identifiers: &[String]) -> bool
     ensures { result ≡ rise_after None identifiers.now }
 {

@@ -15,8 +15,8 @@ use serde_json::{Map, Value};
 use std::alloc::Global;
 
 /// Returns the identifiers of a report's facts, in byte order (xBRL-JSON 1.0, section 2). For an
-/// accepted report this is the order of `Report::facts`. It returns None if the bytes are JSON
-/// without an object `facts`, and tests no other condition.
+/// accepted report this is the order of `Report::facts`. If the bytes are JSON without an object
+/// `facts`, the list is empty. No other condition is tested.
 ///
 /// Errors: `NotJson` if the bytes are not JSON; `OutOfMemory`.
 pub fn fact_identifiers(alloc: Global, bytes: &[u8]) -> Result<Vec<Text>, Reason>

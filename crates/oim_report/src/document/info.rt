@@ -17,17 +17,17 @@ use std::alloc::Global;
 /// The contents of a report outside its facts.
 #[derive(Drop)]
 pub(crate) struct Info {
-    /// The prefixes that it binds.
+    /// The prefixes that the report binds.
     pub(crate) aliases: Aliases,
-    /// The references of its `taxonomy`, in the text under which they are kept.
+    /// The kept texts of the references in `taxonomy`.
     pub(crate) references: Vec<Text>,
-    /// The level of duplicates that it allows.
+    /// The declared level of duplicates.
     pub(crate) level: Level,
 }
 
 /// Reads the contents of a report outside its facts.
 ///
-/// Errors: the first condition of the document that applies; `OutOfMemory`.
+/// Errors: the least condition of the document that applies; `OutOfMemory`.
 pub(crate) fn read_info(alloc: Global, tree: &Value) -> Result<Info, Reason>
     ensures aliases { IfOk result (λ info. info.aliases ≡ bindings_of (view tree.now)) }
     ensures references { IfOk result (λ info. references_said (view tree.now) ≡ Some info.references.items) }

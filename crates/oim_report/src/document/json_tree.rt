@@ -83,7 +83,7 @@ pub(crate) fn has_colon(key: &str) -> bool
     key.as_bytes().iter().any(|byte| *byte == b':')
 }
 
-/// Returns the first key of an object that is none of these and belongs to no extension.
+/// Returns the first key of an object that is not known and does not belong to an extension.
 pub(crate) fn unknown_in<'a>(
     object: Option<&'a Map<String, Value>>,
     known: &[&str],
@@ -115,7 +115,7 @@ fn is_unknown_key(key: &str, known: &[&str]) -> bool
     !has_colon(key) && !is_one_of(key, known)
 }
 
-/// Returns whether a key is one of these.
+/// Returns whether a key is in a list.
 pub(crate) fn is_one_of(key: &str, known: &[&str]) -> bool
     ensures { result ≡ list_any (λ k. bytes_eq k key.now) (map (λ s. s.now) known.now) }
 {
@@ -127,7 +127,7 @@ pub(crate) fn is_one_of(key: &str, known: &[&str]) -> bool
     false
 }
 
-/// Returns whether there is a value that is no object.
+/// Returns whether there is a value that is not an object.
 pub(crate) fn is_no_object(member: Option<&Value>) -> bool
     ensures { result ≡ is_no_object (option_map (λ v. view v.now) member.entry) }
 {
@@ -137,7 +137,7 @@ pub(crate) fn is_no_object(member: Option<&Value>) -> bool
     }
 }
 
-/// Returns whether there is a value that is no array.
+/// Returns whether there is a value that is not an array.
 pub(crate) fn is_no_array(member: Option<&Value>) -> bool
     ensures { result ≡ is_no_array (option_map (λ v. view v.now) member.entry) }
 {

@@ -11,8 +11,7 @@ use oim_names::{Reason, Text};
 use serde_json::Value;
 use std::alloc::Global;
 
-/// Returns the references of a report's `taxonomy`, in their order and in the text under which they
-/// are kept.
+/// Returns the kept texts of the references in a report's `taxonomy`, in their order.
 ///
 /// Errors: `TaxonomyUrl`; `OutOfMemory`.
 pub(crate) fn read_taxonomy(

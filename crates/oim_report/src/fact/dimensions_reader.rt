@@ -18,7 +18,7 @@ use std::alloc::Global;
 
 /// Returns the dimensions of a fact with this concept. The parts are well-formed.
 ///
-/// Errors: any condition that applies; `OutOfMemory`.
+/// Errors: some condition that applies; `OutOfMemory`.
 pub(crate) fn read_dimensions<'s, 'a>(
     alloc: Global,
     sheet: &'s Sheet,

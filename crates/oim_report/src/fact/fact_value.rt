@@ -14,7 +14,7 @@ use std::alloc::Global;
 
 /// Returns the value of a fact whose concept has this kind.
 ///
-/// Errors: any condition that applies; `OutOfMemory`.
+/// Errors: some condition that applies; `OutOfMemory`.
 pub(crate) fn read_value(
     alloc: Global,
     aliases: &Aliases,

@@ -26,7 +26,7 @@ pub(crate) fn text(value: Option<&Value>) -> Option<&str>
     Given::of(value).text()
 }
 
-/// Returns whether there is a value that is no text.
+/// Returns whether there is a value that is not a text.
 pub(crate) fn is_no_text(value: Option<&Value>) -> bool
     ensures { result ≡ is_some_and no_text (option_map (λ v. view v.now) value.entry) }
 {

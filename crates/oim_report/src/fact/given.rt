@@ -5,7 +5,7 @@ ghost use Rattle.oim_report.specs.Json.{given, given_of, is_absent, is_no_text, 
 
 use serde_json::Value;
 
-/// The value at a key of an object, in the kinds that sheets and reports distinguish.
+/// The value at a key of an object, by the kinds that sheets and reports distinguish.
 #[derive(Clone, Copy, Debug)]
 pub(crate) enum Given<'a> {
     /// There is no value.
@@ -14,14 +14,14 @@ pub(crate) enum Given<'a> {
     Nil,
     /// A text.
     Text(&'a str),
-    /// A whole number of at most 64 bits, signed or not.
+    /// A whole number in the range of `i64` or `u64`.
     Whole(i128),
     /// Anything else.
     Other,
 }
 
 impl<'a> Given<'a> {
-    /// Returns the kind of a member, if there is one.
+    /// Classifies the value of a member, which may be absent.
     pub(crate) fn of(member: Option<&'a Value>) -> Given<'a>
         ensures { seen result ≡ given_of (option_map (λ v. view v.now) member.entry) }
     {
@@ -31,7 +31,7 @@ impl<'a> Given<'a> {
         }
     }
 
-    /// Returns the kind of a value.
+    /// Classifies a value.
     pub(crate) fn of_value(value: &'a Value) -> Given<'a>
         ensures { seen result ≡ given (view value.now) }
     {
@@ -63,7 +63,7 @@ impl<'a> Given<'a> {
         matches!(self, Given::Absent)
     }
 
-    /// Returns whether there is a value that is no text.
+    /// Returns whether there is a value that is not a text.
     pub(crate) fn is_no_text(self) -> bool
         ensures { result ≡ is_no_text (seen self.entry) }
     {

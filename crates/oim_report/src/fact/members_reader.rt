@@ -18,9 +18,9 @@ use oim_names::{Aliases, Copied, Name, Reason, Text};
 use std::alloc::Global;
 
 /// Returns the dimensions of a fact with this concept and these taxonomy-defined dimensions. Keys
-/// are in the order of prefixes, so the members are sorted by name once, at the end.
+/// are sorted by prefix, so the members are sorted by name once, at the end.
 ///
-/// Errors: any condition that applies; `OutOfMemory`.
+/// Errors: some condition that applies; `OutOfMemory`.
 pub(crate) fn read_members<'s, 'a>(
     alloc: Global,
     sheet: &'s Sheet,

@@ -21,7 +21,7 @@ pub(crate) struct DimensionParts<'a> {
     pub(crate) note: Given<'a>,
     /// The members whose keys have a colon, in byte order of the keys.
     pub(crate) defined: Vec<(&'a str, Given<'a>)>,
-    /// Whether there is a member with another key.
+    /// Whether there is another key without a colon.
     pub(crate) unknown: bool,
 }
 
@@ -37,8 +37,8 @@ impl<'a> DimensionParts<'a> {
         }
     }
 
-    // Sorts the members into the core dimensions (OIM Common 1.0) and the others. No key is
-    // repeated.
+    // Separates the core dimensions (OIM Common 1.0) from the other members. The keys of a map are
+    // distinct.
     fn of_members(
         alloc: Global,
         members: &'a Map<String, Value>,
@@ -88,9 +88,9 @@ pub(crate) struct FactParts<'a> {
     pub(crate) dimensions: Option<DimensionParts<'a>>,
     /// Whether `links` has a member.
     pub(crate) linked: bool,
-    /// Whether `dimensions` or `links` exists and is no object.
+    /// Whether `dimensions` or `links` exists and is not an object.
     pub(crate) misshapen: bool,
-    /// Whether there is another member whose key has no colon.
+    /// Whether there is another key without a colon.
     pub(crate) unknown: bool,
 }
 
@@ -105,8 +105,8 @@ impl<'a> FactParts<'a> {
         }
     }
 
-    // Returns the members that belong to no extension (xBRL-JSON 1.0, section 3.1). No key is
-    // repeated.
+    // Returns the members that do not belong to an extension (xBRL-JSON 1.0, section 3.1). The
+    // keys of a map are distinct.
     fn of_members(
         alloc: Global,
         members: &'a Map<String, Value>,

@@ -1,6 +1,6 @@
-//! The meaning of a text, from a glossary. A text that is not in the glossary is read and added. A
-//! test that depends on more than the text, such as the kind of a unit's concept, is made each
-//! time.
+//! Looks up the meaning of a text in a glossary. If the text is missing, it is read and added.
+//! Tests that depend on more than the text, such as the kind of a unit's concept, are repeated
+//! each time.
 
 ghost use Rattle.std.specs.Prelude.{◌≡◌, ◌⊎◌, Some, IsTrue, IfOk, IfErr, IfSome, OnOk, option_map};
 ghost use Rattle.std.specs.Str.{str_to_ascii_lowercase};
@@ -66,7 +66,7 @@ pub(crate) fn recall_dimension<'s, 'a>(
 
 /// Returns the expanded name that the text spells.
 ///
-/// Errors: what `Aliases::name_refusal` returns; `OutOfMemory`.
+/// Errors: the refusal that `Aliases::name_refusal` returns; `OutOfMemory`.
 pub(crate) fn recall_name<'a>(
     alloc: Global,
     aliases: &Aliases,
@@ -89,7 +89,7 @@ pub(crate) fn recall_name<'a>(
 
 /// Returns the entity that the text spells.
 ///
-/// Errors: what `Aliases::entity_refusal` returns; `OutOfMemory`.
+/// Errors: the refusal that `Aliases::entity_refusal` returns; `OutOfMemory`.
 pub(crate) fn recall_entity<'a>(
     alloc: Global,
     aliases: &Aliases,
@@ -132,7 +132,7 @@ pub(crate) fn recall_period<'a>(
     read
 }
 
-/// Returns the unit that the text denotes, or none.
+/// Returns the unit that the text denotes, or None if it is `pure` alone.
 ///
 /// Errors: as for `read_unit`.
 pub(crate) fn recall_unit<'a>(

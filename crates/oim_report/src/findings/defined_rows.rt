@@ -62,8 +62,8 @@ fn is_unlisted(sheet: &Sheet, aliases: &Aliases, key: &str) -> bool
         && find_dimension(sheet, aliases, key).is_none()
 }
 
-/// Returns the first dimension whose member is not of its kind, or `Twice` if two keys name one
-/// dimension.
+/// Returns the first dimension whose member does not fit its kind, or `Twice` if two keys name the
+/// same dimension.
 ///
 /// Errors: out of memory.
 #[tactic(auto, unfolding(crate::specs::Holds::holds), using(crate::proofs::DefinedRows::any_of, crate::proofs::DefinedRows::names_of))]
@@ -118,7 +118,7 @@ fn is_misfit(sheet: &Sheet, aliases: &Aliases, key: &str, value: &Value) -> bool
     }
 }
 
-// Returns whether two keys name one dimension.
+// Returns whether two keys name the same dimension.
 fn names_twice(
     alloc: Global,
     aliases: &Aliases,

@@ -70,7 +70,7 @@ fn bound_in(alloc: Global, tree: &Value) -> Result<Aliases, Reason>
     read_namespaces(alloc, namespaces)
 }
 
-// Returns the base of relative references, or that there is none, unless the base is refused.
+// Returns the base of relative references, which may be absent, or None if the base is refused.
 fn said_base(alloc: Global, tree: &Value) -> Result<Option<Option<Base>>, AllocError>
     ensures { IfOk result (λ base. base ≡ base_said (view tree.now)) }
 {
@@ -85,7 +85,7 @@ fn refuses_references(alloc: Global, base: Option<Base>, tree: &Value) -> Result
     Ok(references.is_none())
 }
 
-// Returns whether the declared level is refused. Without prefixes it is not tested.
+// Returns whether the declared level is refused. If the prefixes are refused, it is not tested.
 fn refuses_level(aliases: &Option<Aliases>, tree: &Value) -> bool
     ensures { result ≡ option_map_or (λ bs. is_none (said_level (declarations bs (features_of (view tree.now))))) aliases.now false }
 {

@@ -57,7 +57,7 @@ pub(crate) fn add_fact_faults(
     add_each(alloc, sheet, aliases, object, place, reasons, faults)
 }
 
-// Appends the given conditions, if they apply.
+// Appends each given condition that applies.
 fn add_each(
     alloc: Global,
     sheet: &Sheet,

@@ -62,7 +62,7 @@ impl Faults {
     }
 
     /// Returns the refusals of the document, or else of its facts in byte order of their
-    /// identifiers. At one place they are in the order of their numbers.
+    /// identifiers. Refusals with the same place are sorted by number.
     pub fn as_slice(&self) -> &[Refusal]
         ensures { result.now ≡ self.now }
     {

@@ -18,11 +18,12 @@ use oim_names::Reason;
 use serde_json::Value;
 use std::alloc::{AllocError, Global};
 
-/// Returns all faults of a report's bytes under a sheet (own), while `read_report` returns only the
-/// first. If the bytes are not JSON, that is the only fault. Otherwise the faults are all
+/// Returns all faults of a report's bytes under a sheet (own), while `read_report` returns only
+/// the first. If the bytes are not JSON, that is the only fault. Otherwise the faults are all
 /// conditions that apply to the document. If there are none, they are all conditions that apply to
-/// a fact, each with its place. If there are none either, the only fault is the level of
-/// duplicates. `Feature` is left out if `Namespace` applies. An accepted report has no faults.
+/// a fact, each with its place. If there are none either, the only possible fault is
+/// `DisallowedDuplicates`. `Feature` is left out if `Namespace` applies. An accepted report has no
+/// faults.
 ///
 /// Errors: out of memory.
 #[tactic(auto, unfolding(crate::specs::Faults::faults, crate::specs::Outcome::outcome))]

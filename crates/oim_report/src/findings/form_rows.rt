@@ -14,7 +14,8 @@ use crate::findings::part::{Part, value_if};
 use oim_names::Reason;
 use serde_json::Value;
 
-/// Returns the fact, or a member that is missing or has another kind of value.
+/// Returns the whole fact if it is not an object, or a member that is missing or has the wrong
+/// kind of value.
 #[tactic(auto, unfolding(crate::specs::Holds::holds))]
 pub(crate) fn misshapen(object: &Value) -> Option<Part<'_>>
     ensures { (sheet : Sheet) (bs : List Binding) →
@@ -59,7 +60,7 @@ fn misshapen_dimension(object: &Value) -> Option<Part<'_>>
     None
 }
 
-/// Returns the first key of the fact, or of its dimensions, that the format does not know.
+/// Returns the first key of the fact, or of its dimensions, that the format does not define.
 #[tactic(auto, unfolding(crate::specs::Holds::holds), using(crate::proofs::DimensionAt::any_members))]
 pub(crate) fn unknown(object: &Value) -> Option<Part<'_>>
     ensures { (sheet : Sheet) (bs : List Binding) →

@@ -5,7 +5,7 @@ use serde_json::Value;
 /// The part of a fact that violates a condition.
 #[derive(Clone, Copy)]
 pub enum Part<'a> {
-    /// Nothing can be shown: a part is missing, or two keys have one name.
+    /// Nothing can be shown, because a part is missing.
     Nothing,
     /// The whole fact, which is not an object.
     Whole,
@@ -19,9 +19,9 @@ pub enum Part<'a> {
     Key(&'a str),
     /// A key of its dimensions.
     DimensionKey(&'a str),
-    /// A text that is not a name, though it must be.
+    /// A name, as the fact spells it.
     Name(&'a str),
-    /// A text that is not an entity, though it must be.
+    /// An entity, as the fact spells it.
     Entity(&'a str),
     /// A unit with a refused piece.
     Piece(&'a str),
@@ -29,11 +29,11 @@ pub enum Part<'a> {
     Value(&'a Value),
     /// A dimension with its member.
     Member(&'a str, &'a Value),
-    /// One dimension that two keys name.
+    /// Two keys that name the same dimension.
     Twice,
 }
 
-/// Returns the value if the condition applies.
+/// If the condition applies, returns the value, or `Nothing` if there is no value.
 pub(crate) fn value_if(holds: bool, value: Option<&Value>) -> Option<Part<'_>>
     ensures { is_some result ≡ holds }
 {

@@ -17,7 +17,7 @@ use std::alloc::Global;
 
 /// Reads the facts in a text of fact objects, in pieces of `size` bytes or more, and returns them
 /// in byte order of their identifiers. It returns `None` if a piece cannot be read, a fact is
-/// refused, or a request for memory is refused. Only reading the whole text shows which.
+/// refused, or a request for memory is refused. To find out which, read the whole text.
 pub(crate) fn read_facts_in_pieces(
     alloc: Global,
     sheet: &Sheet,

@@ -7,9 +7,9 @@ use crate::pieces::spaces::strip_front;
 use serde_json::{Map, Value};
 use std::alloc::Global;
 
-/// Reads the next piece of a text of members, of `size` bytes or more, and returns it with the text
-/// after its comma. It returns `None` if the piece cannot be read, or a request for memory is
-/// refused.
+/// Reads the next piece of a text of members: `size` bytes or more, up to a comma or the end of
+/// the text. Returns its members and the text after the comma. Returns `None` if the piece cannot
+/// be read, or a request for memory is refused.
 pub(crate) fn read_next<'t>(
     alloc: Global,
     buffer: &mut String,
@@ -38,7 +38,7 @@ fn split_piece(text: &str, size: usize) -> (&str, Option<&str>)
     }
 }
 
-// Returns the text before and after the comma at an index.
+// Returns the text before and after the comma at an index, if there is a comma.
 fn cut_at_comma(text: &str, at: usize) -> Option<(&str, &str)>
     ensures { IfSome result (λ p. text.now ≡ p.0.now ++ 44 ∷ p.1.now) }
 {

@@ -80,7 +80,7 @@ fn split_tail(text: &str) -> Option<(&str, Option<&str>)>
     Some((facts, behind))
 }
 
-// Returns the text before and after the closing brace at an index.
+// Returns the text before and after the closing brace at an index, if there is one.
 fn cut_at_brace(text: &str, at: usize) -> Option<(&str, &str)>
     ensures { IfSome result (λ p. text.now ≡ p.0.now ++ 125 ∷ p.1.now) }
 {
@@ -101,8 +101,8 @@ fn split_end(text: &str) -> Option<Option<&str>>
     Some(Some(strip_front(front, ",")?))
 }
 
-// Guesses the index of the brace that closes `facts`. Read from the end of the document, it is the
-// last brace that is not matched again.
+// Guesses the index of the brace that closes `facts`. Scanning backwards, it is the last closing
+// brace or bracket that is not inside another pair.
 fn guess_end(bytes: &[u8]) -> usize {
     let mut end = 0;
     let mut depth: usize = 0;

@@ -8,9 +8,9 @@ use std::alloc::{AllocError, Global};
 use std::collections::BTreeMap;
 use std::marker::Model;
 
-/// The names of a sheet with their kinds, while it is read. Keys are in the order of prefixes,
-/// which may differ from the order of URIs. Inserting each into the middle of a list would take
-/// time that is quadratic in their number, so this is an ordered map.
+/// The names of a sheet with their kinds, while the sheet is read. Keys are sorted by prefix, and
+/// names by URI, so the names do not arrive in order. Inserting each one into the middle of a list
+/// would take quadratic time, so this is an ordered map.
 #[derive(Drop)]
 pub(crate) struct Gathered<K: Kind> {
     kinds: BTreeMap<Name, K>,
@@ -49,8 +49,8 @@ impl<K: Kind> Gathered<K> {
         self.kinds.contains_key(name)
     }
 
-    /// Adds the name with the kind unless the map has the name, and returns the kind that the name
-    /// then has.
+    /// Adds the name with the kind, unless the map has the name. Returns the kind of the name in
+    /// the map.
     ///
     /// Errors: out of memory; the map is then unchanged.
     pub(crate) fn put(&mut self, name: Name, kind: K) -> Result<K, AllocError>

@@ -11,8 +11,8 @@ use std::alloc::Global;
 use std::cmp::Ordering;
 use std::marker::Model;
 
-/// The names of a sheet with their kinds, in order, so that a name is found by bisection. The
-/// search takes URI and local part, so no name is allocated for it.
+/// The names of a sheet with their kinds, in order, so a name is found by bisection. The search
+/// takes a URI and a local part, so it allocates no name.
 #[derive(Debug, Drop)]
 pub(crate) struct Listing<K: Kind> {
     entries: Vec<(Name, K)>,

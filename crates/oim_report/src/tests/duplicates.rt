@@ -76,7 +76,7 @@ const LEVELS: [(Level, &[(&str, Said)]); 22] = [
     (Unique, &[]),
     (Unique, &[("eg:A", Number("1"))]),
     (Unique, &[("eg:B", Number("1")), ("eg:A", Number("1"))]),
-    // equal facts are complete
+    // equal facts are complete duplicates
     (
         Complete,
         &[
@@ -113,7 +113,7 @@ const LEVELS: [(Level, &[(&str, Said)]); 22] = [
             ("eg:A", Name("eg:N")),
         ],
     ),
-    // numbers that meet are consistent, also if one of them is repeated
+    // numbers that meet are consistent duplicates, even if one of them is repeated
     (
         Consistent,
         &[("eg:A", Rounded("1", 0)), ("eg:A", Number("1"))],
@@ -150,7 +150,7 @@ const LEVELS: [(Level, &[(&str, Said)]); 22] = [
             ("eg:A", Number("1.5")),
         ],
     ),
-    // it is not enough that neighbours meet
+    // every two numbers must meet, not only neighbours
     (
         All,
         &[
@@ -163,7 +163,7 @@ const LEVELS: [(Level, &[(&str, Said)]); 22] = [
         Consistent,
         &[("eg:A", Rounded("101", 0)), ("eg:A", Rounded("102", 0))],
     ),
-    // other different values need `all`
+    // values that do not meet need `all`
     (All, &[("eg:B", Nil), ("eg:A", Nil), ("eg:A", Number("1"))]),
     (
         All,

@@ -3,7 +3,8 @@ use crate::{Faults, Place, Refusal, Sheet, faults};
 use std::alloc::AllocError;
 use std::test::Fail;
 
-// The number of each fault, and the place of its fact, or 0 for the document.
+// Texts with their faults: the number of each fault, and the number of its fact or 0 for the
+// document.
 type Rows<'t> = &'t [(&'t str, &'t [(u8, u64)])];
 
 const DOCUMENTS: Rows<'static> = &[
@@ -16,8 +17,8 @@ const DOCUMENTS: Rows<'static> = &[
     ),
     // a missing type is not reported if `documentInfo` is missing
     (r#"{"x":1,"facts":{"a":7}}"#, &[(2, 0), (3, 0)]),
-    // if the base is refused, references that need it are not reported; another refused reference
-    // is
+    // if the base is refused, references that need it are not reported, but other refused
+    // references are
     (
         r#"{"documentInfo":{"documentType":"https://xbrl.org/2021/xbrl-json","baseURL":"x","taxonomy":["y"]},"facts":{"a":7}}"#,
         &[(6, 0)],
@@ -43,32 +44,32 @@ const START: &str =
 const FACTS: Rows<'static> = &[
     ("", &[]),
     (r#""a":{"value":"1","dimensions":{"concept":"eg:A"}}"#, &[]),
-    // each condition of a fact's form
+    // all conditions on a fact's form
     (
         r#""a":{"x":1,"dimensions":[],"links":{"y":1}},"b":7,"c":{"links":[]}"#,
         &[(2, 1), (3, 1), (9, 1), (2, 2), (2, 3), (11, 3)],
     ),
-    // conditions of the value and the decimals, without dimensions
+    // conditions on the value and the decimals of facts without dimensions
     (
         r#""a":{"value":1,"decimals":"x"},"b":{"value":null,"decimals":19},"c":{"value":"x","decimals":1}"#,
         &[(11, 1), (25, 1), (28, 1), (11, 2), (29, 2), (11, 3)],
     ),
-    // conditions of the content, with conditions of the form
+    // conditions on the content together with conditions on the form
     (
         r#""a":{"dimensions":{"concept":"q:A","noteId":1}},"b":{"value":"1","dimensions":{"concept":1}}"#,
         &[(2, 1), (10, 1), (13, 1), (2, 2)],
     ),
-    // each condition of a name, with several names
+    // all conditions on names, in several names
     (
         r#""a":{"value":"1","dimensions":{"concept":"A","eg:Reg":"xbrl:b","entity":"q:a"}}"#,
         &[(12, 1), (13, 1), (14, 1)],
     ),
-    // each condition of a name, in the pieces of one unit
+    // all conditions on names, in the pieces of one unit
     (
         r#""a":{"value":"1","dimensions":{"concept":"eg:A","unit":"xbrl:a*a/q:a"}}"#,
         &[(12, 1), (13, 1), (14, 1)],
     ),
-    // a text that is no name is not unknown, and an unknown concept has no kind
+    // a name with an unbound prefix is not reported as unknown, and an unknown concept has no kind
     (
         r#""a":{"value":"x","decimals":1,"dimensions":{"concept":"eg:Z","eg:Z":1,"q:Z":1,"unit":"x:a","language":"en"}}"#,
         &[(13, 1), (16, 1), (17, 1)],
@@ -81,7 +82,7 @@ const FACTS: Rows<'static> = &[
         r#""a":{"value":"1","dimensions":{"concept":"eg:A","eg:Sku":"x","zz:Sku":"x"}}"#,
         &[(18, 1)],
     ),
-    // each condition of a value
+    // conditions on values, decimals and core dimensions
     (
         r#""a":{"value":"x","decimals":19,"dimensions":{"concept":"eg:T","period":"2020","unit":"a/","language":"e n"}}"#,
         &[(19, 1), (21, 1), (22, 1), (23, 1), (29, 1), (30, 1)],

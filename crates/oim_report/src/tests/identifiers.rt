@@ -67,7 +67,7 @@ fn identified<'s>(
     }
 }
 
-/// Returns whether the fact object with this identifier says this text.
+/// Returns whether the fact with this index has this identifier and this text.
 fn says(read: &(Report<'_>, Vec<Text>), place: usize, identifier: &str, text: &str) -> bool {
     let (report, identifiers) = read;
     match (report.facts().get(place), identifiers.get(place)) {

@@ -25,7 +25,7 @@ fn kept(rt: &HostRuntime, base: Option<&Base>, reference: &str) -> Result<Text, 
     }
 }
 
-// Returns whether a reference is kept as the text, or is refused if there is none.
+// Returns whether a reference is kept as the text, or is refused if no text is given.
 fn is_kept(rt: &HostRuntime, base: Option<&Base>, reference: &str, text: Option<&str>) -> bool {
     match kept(rt, base, reference) {
         Ok(found) => text == Some(found.as_str()),
@@ -86,7 +86,7 @@ fn refusal(rt: &HostRuntime, text: &str) -> Option<Reason> {
     base(rt, text).err()
 }
 
-// Returns the refusal of a base that consists of this start and `count` repeats.
+// Returns the refusal of a base that ends with `count` letters `a`.
 fn refusal_of_long(rt: &HostRuntime, count: usize) -> Result<Option<Reason>, AllocError> {
     let text = long(rt, "http://x.org/", "a", count)?;
     Ok(refusal(rt, &text))
@@ -120,7 +120,8 @@ fn long(rt: &HostRuntime, start: &str, piece: &str, count: usize) -> Result<Stri
     joined(rt, start, &pieces, "")
 }
 
-// Returns whether the kept text has this length, or is refused if there is none.
+// Returns whether the kept text has this length, or the reference is refused if no length is
+// given.
 fn has_length(
     rt: &HostRuntime,
     base: Option<&Base>,

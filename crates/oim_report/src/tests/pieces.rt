@@ -7,14 +7,14 @@ use std::test::Fail;
 const START: &str =
     r#"{"documentInfo":{"documentType":"https://xbrl.org/2021/xbrl-json","namespaces":{"eg":"http://example.org/t"}},"facts":{"#;
 
-// A report is cut between these two parts: the value of one fact, and the identifier of the next.
+// The text around two signs: one in the value of a fact, and one in the identifier of the next.
 const BEFORE: &str = r#""f1":{"dimensions":{"concept":"eg:T","language":"en"},"value":""#;
 
 const BETWEEN: &str = r#""},"g"#;
 
 const AFTER: &str = r#"":{"value":"2","dimensions":{"concept":"eg:T","language":"en"}}}}"#;
 
-// Texts that look like a cut, in the form in which JSON writes them.
+// Parts of a string that look like a cut, as JSON spells them.
 const SIGNS: &[&str] = &[
     ",", "{", "}", "[", r#"\""#, r"\\", "},", "}},", r#"},\""#, r#"\\\""#, ":{", " ",
 ];
@@ -56,8 +56,7 @@ fn in_pieces<'s>(
     }
 }
 
-// Returns whether a short text that is read in pieces has the facts that it has when read as a
-// whole.
+// Returns whether a text has the same facts when it is read in pieces and as a whole.
 fn is_read_alike(rt: &HostRuntime, sheet: &Sheet, text: &str, size: usize) -> bool {
     let Some(report) = in_pieces(rt, sheet, text, size) else {
         return told(rt, false, text);

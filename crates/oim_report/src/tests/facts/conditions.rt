@@ -78,7 +78,7 @@ const FAULTS: [(Reason, &[&str]); 24] = [
             r#"{"value":"1","dimensions":{"concept":"eg:A","entity":"xbrl:1"}}"#,
         ],
     ),
-    // a sheet lists each name of a fact
+    // the sheet lists the concept and the dimensions of a fact
     (MissingConcept, &[r#"{"value":"1","dimensions":{}}"#]),
     (
         UnknownConcept,

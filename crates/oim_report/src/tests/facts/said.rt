@@ -107,7 +107,7 @@ const READ: [(&str, Said); 7] = [
         r#"{"value":"eg:North","dimensions":{"concept":"eg:Q"}}"#,
         Said::North,
     ),
-    // `pure` is no unit, but `pure` over another measure is one
+    // `pure` alone is not a unit, but `pure` over another measure is one
     (
         r#"{"value":"1","dimensions":{"concept":"eg:A","unit":"(xbrli:pure)"}}"#,
         Said::HasUnit(false),

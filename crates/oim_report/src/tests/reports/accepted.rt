@@ -23,7 +23,7 @@ const LEVELS: &[Table] = &[
         ],
         end: "}}",
     },
-    // spellings of one fact are equal
+    // different spellings of a fact are equal
     Table {
         start: FACTS,
         rows: &[
@@ -64,7 +64,7 @@ const LEVELS: &[Table] = &[
         ],
         end: "}}",
     },
-    // each two numbers must meet
+    // every two numbers must meet
     Table {
         start: FACTS,
         rows: &[

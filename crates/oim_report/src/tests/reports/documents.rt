@@ -50,7 +50,7 @@ const HUNDRED: &str =
 fn a_document_is_a_whole_json_text(rt: HostRuntime) -> Result<(), Fail> {
     assert!(rt; hold(&rt, SHEET, &TEXTS)?);
     let sheet = read_sheet(&rt, SHEET)?;
-    // it is UTF-8
+    // a document is UTF-8
     assert!(rt; is_answer(&rt, &sheet, b"{\"eg:x\":\"\xff\"}", &InDocument(1)));
     assert!(rt; no_prefix_is_read(&rt, &sheet, HUNDRED.as_bytes()));
     Ok(())
@@ -117,7 +117,7 @@ const MEMBERS: [Table; 4] = [
         ],
         end: "}",
     },
-    // the document type is the one of xBRL-JSON
+    // the document type must be xBRL-JSON
     Table {
         start: r#"{"documentInfo":{"#,
         rows: &[

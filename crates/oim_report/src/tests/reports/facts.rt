@@ -41,7 +41,7 @@ const PLACES: [Table; 3] = [
         ],
         end: "}}",
     },
-    // a text that is repeated elsewhere is read anew
+    // a text is tested again where other conditions apply
     Table {
         start: FACTS,
         rows: &[
