@@ -11,7 +11,7 @@ pub struct Escaped<'t>(pub &'t str);
 
 impl fmt::Display for Escaped<'_> {
     fn fmt<W: fmt::Write>(&self, f: &mut fmt::Formatter<W>) -> fmt::Result {
-        // the text between two escapes is written at once, so a text without escapes in one piece
+        // the text between two escapes is written at once; a text without escapes is one piece
         let mut from = 0;
         for (place, character) in self.0.char_indices() {
             if !is_shown(character) {

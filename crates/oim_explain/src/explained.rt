@@ -16,8 +16,9 @@ use std::alloc::{AllocError, Global};
 
 /// Returns one line for each fault of a report that is read under a sheet. The faults that
 /// `oim_report` finds come first, in its order. Members that are repeated in an object follow;
-/// only the last one is read (RFC 8259, section 4). A line begins with the name of the file, shows
-/// at most 80 characters of a text, and contains nothing that changes a terminal.
+/// only the last one is read (RFC 8259, section 4). A line of text begins with the name of the
+/// file and shows at most 80 characters of a value or key. No line contains anything that changes
+/// a terminal.
 ///
 /// A file that is not JSON has only one line, which says so.
 ///

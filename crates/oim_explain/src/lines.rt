@@ -84,7 +84,7 @@ impl<'n> Lines<'n> {
         if let Format::Text = self.input.format {
             return write!(self.text, "{}: {sentence}\n", Escaped(self.input.name));
         }
-        // a fact may have many repeated members, and each line would repeat its long identifier
+        // no identifier: a fact may have many repeated members, and each line would repeat it
         let object = Object {
             place: None,
             reason: None,

@@ -1,5 +1,5 @@
 -- Why a fact object is refused (OIM Common 1.0; xBRL-JSON 1.0, section 3.1; own where marked). Each part has a group of
--- conditions. A condition on a part that is missing does not apply.
+-- conditions. A condition on a missing part does not apply.
 use Rattle.std.specs.Prelude.{ℕ, List, [], ◌∷◌, ◌++◌, map, Bool, true, false, not, ◌||◌, ◌&&◌, if◌then◌else◌, Option, Some, None, is_none, option_and_then}
 use Rattle.std.specs.Option.{option_map_or}
 use Rattle.std.specs.Result.{result_err}

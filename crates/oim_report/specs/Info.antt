@@ -36,7 +36,7 @@ facts_of tree = members (object_at (codes "facts") tree)
 
 -- ---- the contents of the parts; each is None if it is refused
 
--- the URL that relative references are resolved against, which is http or https, or none
+-- the http or https URL that relative references are resolved against; `Some None` if there is none
 abbrev pub said_base : Given → Option (Option Parts)
 said_base absent = Some None
 said_base (text t) = option_map Some (base_url t)

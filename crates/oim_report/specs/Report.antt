@@ -12,7 +12,7 @@ use Rattle.oim_report.specs.Kept.{IsKeptReference}
 use Rattle.oim_report.specs.Outcome.{outcome}
 use Rattle.oim_report.specs.Sheet.{Sheet}
 
--- the sheet of a report, its document, and the indices of its facts in order
+-- the sheet of a report, its document, and the indices of its facts, sorted by fact
 pub record Reading : Type 0 where
   pub sheet : Sheet
   pub document : Document
@@ -22,7 +22,7 @@ pub record Reading : Type 0 where
 abbrev pub place_cmp : List Fact → ℕ → ℕ → Ordering
 place_cmp facts i j = option_cmp fact_cmp (slice_get facts i) (slice_get facts j)
 
--- each index of a list once, in the order of their facts
+-- all indices of a list, each once, sorted by fact
 pub record IsOrderOf (facts : List Fact) (places : List ℕ) : Type 0 where
   pub each_once : IsPermutation (range_with_len 0 (length facts)) places
   pub rising : IsSorted (place_cmp facts) places

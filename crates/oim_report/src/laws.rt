@@ -75,7 +75,7 @@ pub fn sheet_refused_where_held()
 {}
 
 /// An accepted sheet lists a concept with a kind exactly if a key of `concepts` expands to the
-/// concept and the value at the key names the kind. The same holds for dimensions and
+/// concept and the value at the key names the kind. The same holds for dimensions and the keys of
 /// `dimensions`.
 pub fn sheet_lists_what_it_says()
     ensures concepts { ConceptsAreListed }
@@ -138,7 +138,7 @@ pub fn outcomes_want_no_memory()
     ensures { OutcomesWantNoMemory }
 {}
 
-/// The object of a written fact has the parts that were written, in any order of its spelled keys.
+/// The object of a written fact has the parts that were written, however its keys are spelled.
 pub fn fact_object_has_parts()
     ensures { FactObjectHasParts }
 {}

@@ -3,12 +3,12 @@
 /// The greatest length in bytes of a base, a taxonomy reference and its kept text.
 pub const MOST_REFERENCE_BYTES: usize = 65_536;
 
-/// The greatest number of texts in a glossary. Few texts are repeated often. The limit bounds the
-/// memory, and the time that many texts with the same hash would take.
+/// The greatest number of texts in a glossary. Only few texts are repeated often. The limit bounds
+/// the memory, and the time for many texts with the same hash.
 pub const MOST_MEANINGS: usize = 1_024;
 
 /// The least size in bytes of a piece of a report. For each piece the reader fills 16 kB with
-/// zeros, and larger pieces cause more page faults.
+/// zeros, so small pieces are slow. Larger pieces cause more page faults.
 pub const PIECE_BYTES: usize = 65_536;
 
 /// The least size in bytes of a report that is read in pieces.

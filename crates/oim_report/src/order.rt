@@ -5,7 +5,7 @@ use oim_dims::Fact;
 use std::alloc::{AllocError, Global};
 use std::cmp::Ordering;
 
-/// Returns the indices of all facts, sorted by their facts.
+/// Returns the indices of all facts, sorted by fact.
 pub(crate) fn order_of(alloc: Global, facts: &[Fact]) -> Result<Vec<usize>, AllocError>
     ensures { IfOk result (λ places. IsOrderOf facts.now places.items) }
 {

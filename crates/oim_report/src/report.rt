@@ -101,7 +101,7 @@ impl<'s> Report<'s> {
         self.sheet
     }
 
-    /// Returns the indices of all facts, sorted by their facts.
+    /// Returns the indices of all facts, sorted by fact.
     pub fn order(&self) -> &[usize]
         ensures { result.now ≡ self.now.order }
     {

@@ -17,6 +17,6 @@ is_base_refused text = is_none (base_url text)
 abbrev pub when : Bool → Reason → Option Reason
 when holds reason = if holds then Some reason else None
 
--- the refusals in a list, without each None
+-- the refusals in a list that are not None
 abbrev pub all_refusals : List (Option Reason) → List Reason
 all_refusals refusals = filter_map (λ r. r) refusals

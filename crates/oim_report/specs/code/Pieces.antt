@@ -46,7 +46,7 @@ pub record BeforeSpaces (text front : List ℕ) : Type 0 where
   pub are : AreSpaces spaces
   pub splits : text ≡ front ++ spaces
 
--- the member `facts`, with white space where JSON has it
+-- the member `facts`, with white space where JSON allows it
 abbrev pub facts_text : List ℕ → List ℕ → List ℕ → List ℕ → List ℕ
 facts_text s3 s4 facts s5 = facts_key ++ (s3 ++ 58 ∷ (s4 ++ 123 ∷ (facts ++ (s5 ++ 125 ∷ []))))
 

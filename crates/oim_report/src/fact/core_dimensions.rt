@@ -54,7 +54,7 @@ pub(crate) fn read_period<'a>(
     }
 }
 
-/// Returns the unit, if the fact has one, for a concept of this kind.
+/// Returns the unit of a fact whose concept has this kind, if there is one.
 pub(crate) fn read_unit<'a>(
     alloc: Global,
     aliases: &Aliases,
@@ -78,7 +78,7 @@ pub(crate) fn read_unit<'a>(
     Ok(read)
 }
 
-/// Returns the language in lower case, if the fact has one, for a concept of this kind.
+/// Returns the language, in lower case, of a fact whose concept has this kind, if there is one.
 pub(crate) fn read_language<'a>(
     alloc: Global,
     languages: &mut Glossary<'a, Text>,

@@ -16,7 +16,7 @@ use oim_dims::Dimensions;
 use oim_names::{Aliases, Name, Reason, Text};
 use std::alloc::Global;
 
-/// Returns the dimensions of a fact with this concept. The parts are well-formed.
+/// Returns the dimensions of a fact with this concept. The parts must be well-formed.
 ///
 /// Errors: some condition that applies; `OutOfMemory`.
 pub(crate) fn read_dimensions<'s, 'a>(

@@ -5,8 +5,7 @@ ghost use Rattle.oim_report.specs.code.SeenParts.{seen_parts};
 
 use crate::fact::parts::{DimensionParts, FactParts};
 
-/// Returns the parts of a fact's dimensions if the members of the fact have their forms, and there
-/// are no links or notes.
+/// Returns the parts of a fact's dimensions, if no condition on the form of the fact applies.
 pub(crate) fn well_formed<'p, 'a>(parts: &'p FactParts<'a>) -> Option<&'p DimensionParts<'a>>
     ensures there { IfSome result (λ found. parts.now.dimensions ≡ Some found.now) }
     ensures accepted { IfSome result (λ _. form_refusal (seen_parts parts.now) ≡ None) }

@@ -62,8 +62,8 @@ fn least_fault(alloc: Global, sheet: &Sheet, aliases: &Aliases, object: &Value) 
 }
 
 // Returns the fact, unless a condition applies or a request for memory is refused. Most facts are
-// accepted, so this visits each part once, and does not determine the condition with the least
-// number.
+// accepted, so this function visits each part once, and does not look for the condition with the
+// least number.
 fn read_object<'s, 'a>(
     alloc: Global,
     sheet: &'s Sheet,
@@ -84,7 +84,7 @@ fn read_object<'s, 'a>(
     read_content(alloc, sheet, aliases, glossaries, &parts, dimensions)
 }
 
-// Reads a fact from its parts, which are well-formed.
+// Reads a fact from its parts, which must be well-formed.
 fn read_content<'s, 'a>(
     alloc: Global,
     sheet: &'s Sheet,

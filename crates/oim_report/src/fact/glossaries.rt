@@ -26,7 +26,7 @@ pub(crate) struct Glossaries<'s, 'a> {
 }
 
 impl<'s, 'a> Glossaries<'s, 'a> {
-    /// Returns empty caches, each with capacity for this number of texts, and at most
+    /// Returns empty caches, each with capacity for this number of texts, but at most
     /// `MOST_MEANINGS`.
     ///
     /// Errors: out of memory.

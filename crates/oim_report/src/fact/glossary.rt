@@ -13,7 +13,7 @@ pub(crate) struct Glossary<'a, T> {
 }
 
 impl<'a, T> Glossary<'a, T> {
-    /// Returns an empty cache with capacity for this number of texts, and at most `MOST_MEANINGS`.
+    /// Returns an empty cache with capacity for this number of texts, but at most `MOST_MEANINGS`.
     ///
     /// Errors: out of memory.
     pub(crate) fn with_room(alloc: Global, texts: usize) -> Result<Self, AllocError>

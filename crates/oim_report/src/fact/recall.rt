@@ -1,5 +1,5 @@
 //! Looks up the meaning of a text in a glossary. If the text is missing, it is read and added.
-//! Tests that depend on more than the text, such as the kind of a unit's concept, are repeated
+//! Tests that also depend on something else, such as the kind of a unit's concept, are repeated
 //! each time.
 
 ghost use Rattle.std.specs.Prelude.{◌≡◌, ◌⊎◌, Some, IsTrue, IfOk, IfErr, IfSome, OnOk, option_map};

@@ -1,4 +1,4 @@
-//! Finds the name of a fact object that violates a condition on names. It takes no memory.
+//! Finds the name of a fact object that violates a condition on names. The search takes no memory.
 
 ghost use Rattle.std.specs.Prelude.{◌≡◌, ◌&&◌, [], codes, if◌then◌else◌, is_some, map, option_map, option_and_then};
 ghost use Rattle.std.specs.Option.{option_map_or, option_to_list};

@@ -4,7 +4,7 @@ use crate::concept_kind::ConceptKind;
 use crate::dimension_kind::DimensionKind;
 use std::fmt::Debug;
 
-/// A kind that a sheet gives to a name, spelled as a text.
+/// A kind that a sheet gives to a name.
 pub(crate) trait Kind: Copy + Debug + Drop {
     ghost use Rattle.std.specs.Prelude.{ℕ, List, Bool, true, Option};
 
