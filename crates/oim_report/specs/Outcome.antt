@@ -79,7 +79,7 @@ tree_outcome sheet (Some tree) =
 unfoldable pub outcome : Sheet → List ℕ → Result Document Refusal
 outcome sheet bytes = tree_outcome sheet (json bytes)
 
--- no report is refused for lack of memory
+-- the outcome of a report is never a refusal for lack of memory
 abbrev pub OutcomesWantNoMemory : Type 0
 OutcomesWantNoMemory = (sheet : Sheet) (bytes : List ℕ) (place : Place) → outcome sheet bytes ≢ Err (at place OutOfMemory)
 

@@ -135,7 +135,7 @@ sheet_of (Some tree) = unless (least (sheet_holds tree)) (said_sheet tree)
 unfoldable pub sheet_outcome : List ℕ → Result Sheet Reason
 sheet_outcome bytes = sheet_of (json bytes)
 
--- no sheet is refused for lack of memory
+-- the outcome of a sheet is never a refusal for lack of memory
 abbrev pub SheetOutcomesWantNoMemory : Type 0
 SheetOutcomesWantNoMemory = (bytes : List ℕ) → sheet_outcome bytes ≢ Err OutOfMemory
 

@@ -63,7 +63,7 @@ pub fn level_ignores_order()
     ensures { LevelIgnoresOrder }
 {}
 
-/// `sheet_outcome` refuses no sheet for lack of memory.
+/// `sheet_outcome` is never a refusal for lack of memory.
 pub fn sheet_outcomes_want_no_memory()
     ensures { SheetOutcomesWantNoMemory }
 {}
@@ -133,7 +133,7 @@ pub fn facts_are_said_unless_refused()
     ensures { FactsAreSaid }
 {}
 
-/// `outcome` refuses no report for lack of memory.
+/// `outcome` is never a refusal for lack of memory.
 pub fn outcomes_want_no_memory()
     ensures { OutcomesWantNoMemory }
 {}

@@ -72,7 +72,7 @@ fn level(rt: &HostRuntime, aliases: &Aliases, rows: &[(&str, Said)]) -> Result<L
 }
 
 const LEVELS: [(Level, &[(&str, Said)]); 22] = [
-    // facts with different dimensions are unique
+    // facts with different dimensions are not duplicates
     (Unique, &[]),
     (Unique, &[("eg:A", Number("1"))]),
     (Unique, &[("eg:B", Number("1")), ("eg:A", Number("1"))]),

@@ -44,7 +44,7 @@ const LEVELS: &[Table] = &[
         ],
         end: "}}",
     },
-    // facts that differ in one part are unique
+    // facts that differ in one dimension are not duplicates
     Table {
         start: FACTS,
         rows: &[
