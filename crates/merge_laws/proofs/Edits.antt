@@ -48,7 +48,7 @@ module _ {K E : Type 0} {R : K → K → Ordering} (key : E → K) (o : IsTotalO
   unfolding IsStrictlySortedBy
   rest_rises e es h = h.1
 
-  -- the item with the key is the item at its index
+  -- the item with a key is the item at the index of the key
   pub item_there : (k : K) (es : List E) (d : E) → IsRising R key es → has_key R key k es ≡ true → item_at R key k es ≡ Some (get_or es (place_of R key k es) d)
   item_there k [] d h has = absurd (true≢false (sym has))
   item_there k (e ∷ es) d h has =
@@ -86,7 +86,7 @@ module _ {K E : Type 0} {R : K → K → Ordering} (key : E → K) (o : IsTotalO
               ∙ ap (λ s. e ∷ s) (replaced x es d (rest_rises e es h) (sym (not_here (key x) e es p) ∙ has))
         ] refl
 
-    -- if the older item is kept, adding an item whose key is there changes nothing
+    -- if joining keeps the older item, adding an item whose key is in the list changes nothing
     pub unchanged : ((e y : E) → join e y ≡ e) → (x : E) (es : List E) → IsRising R key es → has_key R key (key x) es ≡ true → with_item R key join x es ≡ es
     unchanged older x [] h has = absurd (true≢false (sym has))
     unchanged older x (e ∷ es) h has =
@@ -105,7 +105,7 @@ module _ {K E : Type 0} {R : K → K → Ordering} (key : E → K) (o : IsTotalO
   unfolding IsStrictlySortedBy
   nothing_rises = tt
 
-  -- the item that a search found
+  -- a look-up returns the item at the index that a search found
   pub item_found : (k : K) (es : List E) (i : ℕ) (d : E) → IsRising R key es → Ok i ≡ found_at R key k es → item_at R key k es ≡ Some (get_or es i d)
   item_found k es i d h at =
       let told = tells_ok (has_key R key k es) (place_of R key k es) i at in

@@ -63,7 +63,7 @@ module _ {K E : Type 0} {R : K → K → Ordering} (key : E → K) (o : IsTotalO
     | inr over ↦ (let same : j ≡ length es - 1 = omega (arith, over, lt) in ap (λ n. R (key (get_or es n d)) k) same ∙ sym (ap (λ e. R (key e) k) (is d)) ∙ p)
   ]) (λ j d ge lt. absurd (omega (arith, ge, lt)))
 
-  -- the partition point that a search finds in an ascending list
+  -- a search in an ascending list finds a partition point
   pub parted : (es : List E) (k : K) (i : ℕ) → IsRising R key es → (IsNonDecreasingBy (λ e. ordering_index (R (key e) k)) es → IsPartitionPoint (λ e. R (key e) k ≡ Less) (λ e. R (key e) k ≡ Greater) es i) → IsPartitionPoint (λ e. R (key e) k ≡ Less) (λ e. R (key e) k ≡ Greater) es i
   parted es k i h found = found (searchable_from_sorted o key es k (λ j d _ lt.
       ap is_lt (turned_less key o _ _ (rising_at es h j (j + 1) d (omega arith) lt))))
@@ -102,7 +102,7 @@ module _ {K E : Type 0} {R : K → K → Ordering} (key : E → K) (o : IsTotalO
     | false ↦ λ t. let count : place_of R key k (e ∷ es) ≡ 0 = ap (λ b. cond (not (not b)) (1 + place_of R key k es) 0) t in absurd (omega (arith, lt, count))
   ] refl)
 
-  -- the next of the other items is above all items that were passed
+  -- all items before the index of one of the other items are below the next of the others
   pub passed_next : (es fs : List E) (i : ℕ) (x d : E) → IsRising R key fs → i + 1 < length fs → x ≡ get_or fs i x → (j : ℕ) (e : E) → j < place_of R key (key x) es → R (key (get_or es j e)) (key (get_or fs (i + 1) d)) ≡ Less
   passed_next es fs i x d h within is j e lt =
       o.trans _ _ _ (before_place (key x) es j e lt)

@@ -1,4 +1,4 @@
--- Inserting items from the last on, each at the index that a search found, makes the union.
+-- Inserting the new items, the last one first, each at the index that a search found, gives the union.
 use Rattle.std.proofs.Common.{◌≡◌, suc, ◌+◌, ◌≤◌, arith, true, false, not, cond, List, [], ◌∷◌, ◌++◌, append-nil, take, drop, take-append-drop, Option, Some, None, refl, sym, ap, subst, ◌∙◌, ℕ}
 use Rattle.std.specs.Prelude.{reverse, is_some}
 use Rattle.std.specs.Option.{option_or}
@@ -58,7 +58,7 @@ module _ {K E : Type 0} {R : K → K → Ordering} (key : E → K) (o : IsTotalO
             record { below = subst (λ i. AllBelow key o k (take i (e ∷ es))) behind (lower, rest.below); above = subst (λ i. Below key o k (drop i (e ∷ es))) behind rest.above }
       ] refl
 
-  -- a look-up of a lower key needs only the items below
+  -- a look-up of a lower key needs only the items below k
   below_finds : (w k : K) (es : List E) → IsRising R key es → R w k ≡ Less → item_at R key w (take (place_of R key k es) es) ≡ item_at R key w es
   below_finds w k [] h p = refl
   below_finds w k (e ∷ es) h p =
@@ -95,7 +95,7 @@ module _ {K E : Type 0} {R : K → K → Ordering} (key : E → K) (o : IsTotalO
       above : is_lt (R (key e) k) ≡ false → R (key e) w ≡ Greater → place_of R key w (take (place_of R key k (e ∷ es)) (e ∷ es)) ≡ place_of R key w (e ∷ es)
       above t q = ap (λ i. place_of R key w (take i (e ∷ es))) (place_here key o k e es t) ∙ sym (place_here key o w e es (ap is_lt q))
 
-  -- items below a key are inserted at the same indices
+  -- the insertions of items below a key depend only on the items below the key
   below_news : (k : K) (es fs : List E) → IsRising R key es → AllBelow key o k fs → new_items R key es fs ≡ new_items R key (take (place_of R key k es) es) fs
   below_news k es [] h b = refl
   below_news k es (f ∷ fs) h b =
@@ -134,7 +134,7 @@ module _ {K E : Type 0} {R : K → K → Ordering} (key : E → K) (o : IsTotalO
     below = λ k low_es low_fs. taken.below k low_es (all_front (λ e. R (key e) k ≡ Less) fs (f ∷ []) low_fs);
   }
 
-  -- a new item is inserted
+  -- the state after a new item is inserted
   taken_new : (es fs out : List E) (f : E) → IsRising R key es → has_key R key (key f) es ≡ false → AllBelow key o (key f) fs → IsTaken (take (place_of R key (key f) es) es) fs out → IsTaken es (fs ++ f ∷ []) (out ++ f ∷ drop (place_of R key (key f) es) es)
   taken_new es fs out f h has low taken =
       let i = place_of R key (key f) es in

@@ -42,7 +42,7 @@ module _ {K V : Type 0} {R : K → K → Ordering} (o : IsTotalOrder R) (merged 
   revalued_or (Some x) None = refl
   revalued_or (Some x) (Some y) = refl
 
-  -- the same entries are new, whatever the values of the others
+  -- replacing values does not change which entries are new
   same_news : (es out fs : List (K × V)) → IsRevalued o merged es fs out → (gs : List (K × V)) → new_items R entry_key es gs ≡ new_items R entry_key out gs
   same_news es out fs is [] = refl
   same_news es out fs is (g ∷ gs) = λ n. cond (sym (is.has g.0) n) [] ((sym (is.place g.0) n, g) ∷ []) ++ same_news es out fs is gs n

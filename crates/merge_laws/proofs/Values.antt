@@ -1,4 +1,4 @@
--- Values that replace others at keys that both maps have.
+-- Replacing the values at the keys that both maps have.
 use Rattle.std.proofs.Common.{◌≡◌, ℕ, zero, suc, ◌+◌, ◌<◌, true, false, not, cond, List, [], ◌∷◌, ◌++◌, append-nil, length, get_or, set, Option, Some, None, refl, sym, ap, subst, ◌∙◌, arith}
 use Rattle.std.specs.Prelude.{is_some}
 use Rattle.std.specs.Option.{option_or}
@@ -50,7 +50,7 @@ module _ {K V : Type 0} {R : K → K → Ordering} (o : IsTotalOrder R) where
   place_kept k zero v (e ∷ es) = refl
   place_kept k (suc i) v (e ∷ es) = ap (λ n. cond (not (not (is_lt (R e.0 k)))) (1 + n) 0) (place_kept k i v es)
 
-  -- the value at each key after one is replaced
+  -- the item at each key after one value is replaced
   value_come : (q k : K) (v : V) (es : List (K × V)) (e : K × V) → IsRising R entry_key es → item_at R entry_key k es ≡ Some e → item_at R entry_key q (with_value (place_of R entry_key k es) v es) ≡ cond (is_eq (R q k)) (Some (e.0, v)) (item_at R entry_key q es)
   value_come q k v [] e h is = absurd (true≢false (sym (ap is_some is)))
   value_come q k v (f ∷ es) e h is =
@@ -96,7 +96,7 @@ module _ {K V : Type 0} {R : K → K → Ordering} (o : IsTotalOrder R) where
     none_above q [] h = refl
     none_above q (f ∷ fs) h = ap (λ r. cond (is_eq r) (Some f) (item_at R entry_key q fs)) (o.antisymm q f.0 ∙ ap ordering_reverse h.0) ∙ none_above q fs h.1
 
-    -- a key that only the others have
+    -- an entry whose key only the others have does not change any value
     other_alone : (es fs out : List (K × V)) (f : K × V) → item_at R entry_key f.0 es ≡ None → IsRevalued es fs out → IsRevalued es (fs ++ f ∷ []) out
     other_alone es fs out f none before = record {
       rises = before.rises;
@@ -109,7 +109,7 @@ module _ {K V : Type 0} {R : K → K → Ordering} (o : IsTotalOrder R) where
       ] refl;
     }
 
-    -- a key that both have
+    -- an entry whose key both maps have replaces the value at the key
     other_shared : (es fs out : List (K × V)) (f e : K × V) → item_at R entry_key f.0 es ≡ Some e → AllBelow entry_key o f.0 fs → IsRevalued es fs out → IsRevalued es (fs ++ f ∷ []) (with_value (place_of R entry_key f.0 es) (merged e.1 f.1) out)
     other_shared es fs out f e here low before =
         let v = merged e.1 f.1 in

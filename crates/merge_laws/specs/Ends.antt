@@ -28,7 +28,7 @@ abbrev pub summary_of_all : List Value → Summarised
 summary_of_all [] = record { nil = false; ends = None }
 summary_of_all (v ∷ vs) = both_summaries (summary_of v) (summary_of_all vs)
 
--- a summary records whether the values include a nil and whether they include a number, and has exactly their ends
+-- a summary records whether a value is nil, whether a value is a number, and the ends of the numbers' intervals
 pub record TellsAll (vs : List Value) (s : Summarised) : Type 0 where
   pub nil : IsTrue s.nil ↔ Contains vs Nil
   pub number : is_some s.ends ≡ list_any has_interval vs

@@ -15,7 +15,7 @@ module _ {K E : Type 0} (R : K → K → Ordering) (key : E → K) (join : E →
   union_of es [] = es
   union_of es (f ∷ fs) = with_item f (union_of es fs)
 
--- the joined value if both have one, otherwise the value of the one that has it
+-- the joined value if both are present, otherwise the one that is present, if any
 abbrev pub either_or_both : {A : Type 0} → (A → A → A) → Option A → Option A → Option A
 either_or_both join None b = b
 either_or_both join (Some x) None = Some x
@@ -49,7 +49,7 @@ module _ {K : Type 0} (R : K → K → Ordering) where
     pub rises : IsSet R set
     pub members : (x : K) → Contains set x ↔ (Contains xs x ⊎ Contains ys x)
 
-  -- a set reports a key exactly if it contains it
+  -- a look-up finds an item exactly if the list contains it
   abbrev pub SetTellsItem : Type 0
   SetTellsItem = (xs : List K) (x : K) → IsTrue (has_key R itself x xs) ↔ Contains xs x
 
@@ -60,12 +60,12 @@ module _ {K : Type 0} (R : K → K → Ordering) where
   SetWithHasItem = (xs : List K) (x : K) → IsSet R xs → IsSetOfBoth xs (x ∷ []) (set_with R x xs)
 
 module _ {K V : Type 0} (R : K → K → Ordering) (merged : V → V → V) where
-  -- a map has exactly the keys of two maps, with the merge of their values if both have one
+  -- a map has exactly the keys of two maps; if both have a key, its value is the merge of their values
   pub record IsMapOfBoth (es fs map : List (K × V)) : Type 0 where
     pub rises : IsRising R entry_key map
     pub values : (k : K) → value_at R k map ≡ either_or_both merged (value_at R k es) (value_at R k fs)
 
-  -- a map reports a value at a key exactly if it has this entry
+  -- a look-up finds a value at a key exactly if the map has this entry
   abbrev pub MapTellsEntry : Type 0
   MapTellsEntry = (es : List (K × V)) (k : K) (v : V) → IsRising R entry_key es → (value_at R k es ≡ Some v) ↔ Contains es (k, v)
 

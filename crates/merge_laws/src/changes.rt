@@ -53,7 +53,8 @@ pub(crate) fn changes_of<K: Key, V: Merge>(
     ensures values { IfOk result (λ changes. changes.values.items ≡ new_values K.cmp V.merged entries.now others.items) }
     ensures new_entries { IfOk result (λ changes. changes.new_entries.items ≡ new_items K.cmp entry_key entries.now others.items) }
 {
-    // Most keys are new, as in reports with different dimensions, so this much capacity is needed.
+    // If the reports have different dimensions, most keys are new, so most of this capacity is
+    // used.
     let mut changes = Changes {
         values: Vec::new(alloc),
         new_entries: Vec::with_capacity(alloc, others.len())?,

@@ -6,8 +6,8 @@ ghost use Rattle.oim_value.specs.Ends.{AllMeetIffEndsMeet};
 use crate::merge::Merge;
 use oim_names::Key;
 
-/// The union of two sets has exactly the items of both. A set with an item inserted has exactly its
-/// items and that item. A set reports an item exactly if it contains it.
+/// The union of two sets has exactly the items of both. Inserting an item adds exactly that item. A
+/// look-up finds an item exactly if the set contains it.
 pub fn set_has_both<T: Key>()
     ensures told { SetTellsItem T.cmp }
     ensures union { SetUnionHasBoth T.cmp }
@@ -15,22 +15,22 @@ pub fn set_has_both<T: Key>()
 {}
 
 /// The union of two maps has the keys of both. If both have a key, its value is the merge of their
-/// values. After `put`, a map also has the key, with the merged value if it had one before. A map
-/// reports a value at a key exactly if it has this entry.
+/// values. After `put`, a map also has the key, with the merged value if it had one before. A
+/// look-up finds a value at a key exactly if the map has this entry.
 pub fn map_has_both<K: Key, V: Merge>()
     ensures told { MapTellsEntry K.cmp V.merged }
     ensures union { MapUnionHasBoth K.cmp V.merged }
     ensures put { MapWithMerges K.cmp V.merged }
 {}
 
-/// If no interval is empty, each two meet exactly if the greatest low end is at most the least high
-/// end.
+/// If no interval is empty, each two intervals meet exactly if the greatest low end is at most the
+/// least high end.
 pub fn all_meet_iff_ends_meet()
     ensures { AllMeetIffEndsMeet }
 {}
 
-/// A summary records whether the values include a nil and whether they include a number, and has
-/// exactly the greatest low end and the least high end.
+/// A summary records whether a value is nil, whether a value is a number, and the greatest low end
+/// and the least high end of the numbers' intervals.
 pub fn summary_tells_all()
     ensures { SummaryTellsAll }
 {}
@@ -53,9 +53,8 @@ pub fn map_keeps_what_merging_keeps<K: Key, V: Merge>()
     ensures put { MapWithKeeps K.cmp V.merged }
 {}
 
-/// The summary of two lists, one after the other, is the merge of their summaries. So is the
-/// summary of the union of two sets. A summary does not depend on the order or repetition of
-/// values.
+/// The summary of two lists in a row is the merge of their summaries. So is the summary of the
+/// union of two sets. A summary does not depend on the order or repetition of values.
 pub fn summary_is_of_members()
     ensures one { SummaryOfOne }
     ensures both { SummaryOfBoth }

@@ -6,7 +6,7 @@ use std::alloc::{AllocError, Global};
 /// A value that merges with others of its type. The result does not depend on the order, grouping or
 /// repetition of the values.
 pub trait Merge: Copied {
-    /// What holds for each value of the type.
+    /// The property that every value of the type has.
     ghost is_known: { Self → Type 0 };
 
     /// The merge of two values.
@@ -19,11 +19,11 @@ pub trait Merge: Copied {
         ensures ok { OnOk result (self.new ≡ merged self.old other.now) }
         ensures err { OnErr result (self.new ≡ self.old) };
 
-    /// Does nothing. Its contract states what holds for each value of the type.
+    /// Does nothing. Its contract states the property that every value of the type has.
     fn known(&self)
         ensures { is_known self.now };
 
-    /// The merge of two values is a value of the type.
+    /// The merge of two values has the property, too.
     ghost closed: { (x y : Self) → is_known x → is_known y → is_known (merged x y) };
 
     /// Merging three values gives the same result whichever two are merged first.

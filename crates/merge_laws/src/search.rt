@@ -78,8 +78,8 @@ pub(crate) fn find_from<K: Key, E: Keyed<K>>(
     halve(items, key, low, items.len())
 }
 
-// Does the same as `find` by halving, for a key above all keys before `from` and below all keys at
-// `to` and after it.
+// Does the same as `find`, by binary search, for a key above all keys before `from` and below all
+// keys from `to` on.
 fn halve<K: Key, E: Keyed<K>>(items: &[E], key: &K, from: usize, to: usize) -> Result<usize, usize>
     requires rises { IsRising K.cmp E.key_of items.now }
     requires order { from ≤ to }

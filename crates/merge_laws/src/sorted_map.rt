@@ -105,7 +105,7 @@ impl<K: Key, V: Merge> SortedMap<K, V> {
     }
 
     /// Returns the number of keys. Its contract also states that the keys ascend and that each
-    /// value is known.
+    /// value has the property `is_known`.
     pub fn len(&self) -> usize
         ensures count { result ≡ length self.now }
         ensures map { IsMap K.cmp V.is_known self.now }
@@ -122,7 +122,7 @@ impl<K: Key, V: Merge> Copied for SortedMap<K, V> {
     }
 }
 
-// Does nothing. Its contract states what holds for each value.
+// Does nothing. Its contract states the property that each value has.
 fn know_values<K, V: Merge>(entries: &[(K, V)])
     ensures { AllByRecursion (λ e. V.is_known e.1) entries.now }
 {

@@ -1,4 +1,4 @@
--- The index at which a text of each class was added last (own).
+-- For each class of texts, the index at which one was added last (own).
 use Rattle.std.specs.Prelude.{ℕ, List, length, ◌+◌, ◌-◌, ◌*◌, ◌%◌}
 use Rattle.std.specs.List.{slice_index_or}
 
@@ -10,6 +10,6 @@ byte_from_end t back = slice_index_or t (length t - back) 0
 unfoldable pub text_class : List ℕ → ℕ
 text_class t = (length t % 2048 + 31 * (byte_from_end t 1 + 31 * (byte_from_end t 2 + 31 * (byte_from_end t 3 + 31 * byte_from_end t 4)))) % 2048
 
--- the index of a text's class
+-- the index that is stored for a text's class
 abbrev pub place_in : List ℕ → List ℕ → ℕ
 place_in places t = slice_index_or places (text_class t) 0

@@ -16,11 +16,11 @@ use std::alloc::{AllocError, Global};
 use std::collections::BTreeMap;
 use std::marker::Model;
 
-/// The namespace of xBRL's own words. No name of a fact may lie in it.
+/// xBRL's own namespace. No name in a fact may be in it.
 const RESERVED: &str = "https://xbrl.org/2021";
 
 /// Prefixes and their URIs. Contracts see the bindings in the order in which they were added.
-/// Adding a binding and finding a URI take a number of steps that grows as the logarithm of the
+/// Adding a binding and finding a URI take a number of steps that grows with the logarithm of the
 /// number of bindings.
 #[derive(Debug, Drop)]
 pub struct Aliases {
@@ -104,8 +104,8 @@ impl Aliases {
         self.uri_text(prefix).map(|uri| uri.as_str())
     }
 
-    /// Returns the same URI as a `Text`, so that a name can share it. Most prefixes are the last of
-    /// their class in the cache, which takes one step.
+    /// Returns the URI as a `Text`, so that names can share it. The cache finds most prefixes in
+    /// one step.
     fn uri_text(&self, prefix: &str) -> Option<&Text>
         ensures found { option_copied result ≡ uri_of self.now prefix.now }
         ensures filled { IfSome result (λ uri. uri.now ≢ []) }
@@ -137,7 +137,7 @@ impl Aliases {
     /// Expands a prefixed name: a bound prefix, a colon and a local part (XML Namespaces 1.0,
     /// section 4). The name shares the URI of its prefix.
     ///
-    /// Errors: what `name_refusal` returns; `OutOfMemory`.
+    /// Errors: the reason that `name_refusal` returns; `OutOfMemory`.
     pub fn expand(&self, text: &str) -> Result<Name, Reason>
         ensures ok { IfOk result (Expands self.now text.now) }
         ensures uri { IfOk result (λ name. name.uri ≢ []) }
@@ -152,7 +152,7 @@ impl Aliases {
 
     /// Returns the URI and the local part of a prefixed name. It takes no memory.
     ///
-    /// Errors: what `name_refusal` returns.
+    /// Errors: the reason that `name_refusal` returns.
     pub fn resolve<'a>(&'a self, text: &'a str) -> Result<(&'a str, &'a str), Reason>
         ensures ok { IfOk result (λ parts. Expands self.now text.now
             (record { uri = parts.0.now; local_part = parts.1.now })) }
@@ -188,7 +188,7 @@ impl Aliases {
     /// may be any text but the empty one (xBRL-JSON 1.0, section 3.1.4). The name shares the URI of
     /// its prefix.
     ///
-    /// Errors: what `entity_refusal` returns; `OutOfMemory`.
+    /// Errors: the reason that `entity_refusal` returns; `OutOfMemory`.
     pub fn expand_entity(&self, text: &str) -> Result<Name, Reason>
         ensures ok { IfOk result (ExpandsEntity self.now text.now) }
         ensures uri { IfOk result (λ entity. entity.uri ≢ []) }
@@ -203,7 +203,7 @@ impl Aliases {
 
     /// Returns the scheme's URI and the identifier of an entity. It takes no memory.
     ///
-    /// Errors: what `entity_refusal` returns.
+    /// Errors: the reason that `entity_refusal` returns.
     pub fn resolve_entity<'a>(&'a self, text: &'a str) -> Result<(&'a str, &'a str), Reason>
         ensures ok { IfOk result (λ parts. ExpandsEntity self.now text.now
             (record { uri = parts.0.now; local_part = parts.1.now })) }
@@ -235,7 +235,7 @@ impl Aliases {
         Ok((self.naming_uri(prefix)?, identifier))
     }
 
-    /// Returns the URI of the prefix, or why no name may have it.
+    /// Returns the URI of the prefix, or the reason to refuse a name with this prefix.
     fn naming_uri(&self, prefix: &str) -> Result<&Text, Reason>
         ensures uri { IfOk result (λ uri. uri_of self.now prefix.now ≡ Some uri.now) }
         ensures filled { IfOk result (λ uri. uri.now ≢ []) }

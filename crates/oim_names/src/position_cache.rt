@@ -7,8 +7,8 @@ use std::marker::Model;
 const CLASSES: usize = 2048;
 
 /// Remembers, for each class of texts, the index at which one was added last. The index is a hint:
-/// it may belong to another text of the class, or to none, so the caller compares what it finds
-/// there. Contracts see one index for each class.
+/// it may belong to another text of the class, or to none, so the caller compares the text at the
+/// index. Contracts see one index for each class.
 #[derive(Clone, Copy, Debug)]
 pub struct PositionCache {
     places: [u16; CLASSES],

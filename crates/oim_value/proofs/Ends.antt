@@ -32,7 +32,7 @@ le_from x y h = grind (arith, ints)
 le_to : (x y : ℤ) → x ≤ℤ y → int_le x y ≡ true
 le_to x y h = grind (arith, ints)
 
--- the low end at one index is at most the high end at another
+-- if each two intervals meet, every low end is at most every high end
 crossed : (is : List Interval) (d : Interval) → All HasPoints is → EachTwoMeet is → (i j : ℕ) → i < length is → j < length is → (get_or is i d).low ≤ℤ (get_or is j d).high
 crossed is d points meet i j li lj = elim (cases_lt i j) [
   | inl under ↦ le_from _ _ (first_true (int_le (get_or is i d).low (get_or is j d).high) (int_le (get_or is j d).low (get_or is i d).high) (meet i j d under lj))
@@ -61,7 +61,7 @@ all_meet_iff_ends_meet is e points ends = (
       (le_to _ _ (chain (ends.low_greatest j d within) le (ends.high_least i d li))),
 )
 
--- ---- there are ends
+-- ---- the ends exist
 
 -- some item has a property if an item after the first has it
 later : {A : Type 0} (P : A → Type 0) (x : A) (xs : List A) → Any P xs → Any P (x ∷ xs)
@@ -106,7 +106,7 @@ ends_exist [] some = absurd (omega (arith, some))
 ends_exist (i ∷ []) some = (i, ends_of_one i)
 ends_exist (i ∷ j ∷ is) some = let rest = ends_exist (j ∷ is) (omega arith) in (common_part i rest.0, ends_of_more i rest.0 (j ∷ is) rest.1)
 
--- ---- there are no others
+-- ---- the ends are unique
 
 one_number : {x y : ℤ} → x ≤ℤ y → y ≤ℤ x → x ≡ y
 one_number p q = omega (arith, ints, p, q)

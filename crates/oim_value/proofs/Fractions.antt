@@ -14,7 +14,7 @@ step_after v w n d p q h e = rw (h, e) (grind arith)
 first_alone : (v d p w : ℕ) → v ≡ (0 * 10 + d) * p + w → v ≡ d * p + w
 first_alone v d p w h = omega (arith, h)
 
--- digits after n add their own value to n * 10^(their number)
+-- digits after n add their own value to n * 10^(number of digits)
 pub after_split : (n : ℕ) (ds : List ℕ) → digits_value_after 10 n ds ≡ n * 10 ^ length ds + digits_value_after 10 0 ds
 after_split n [] = omega arith
 after_split n (d ∷ ds) =
@@ -47,7 +47,7 @@ no_first : (d p w : ℕ) → 0 < p → d * p + w ≡ 0 → (d ≡ 0) × (w ≡ 0
 no_first zero p w some h = (refl, omega arith)
 no_first (suc d) p w some h = absurd (omega arith)
 
--- digits of value zero are all trailing zeros
+-- digits with the value zero are all trailing zeros
 pub without_trailing-nothing : (ds : List ℕ) → list_all is_ascii_digit ds ≡ true → digits_value_after 10 0 ds ≡ 0 → without_trailing ds ≡ []
 without_trailing-nothing [] e h = refl
 without_trailing-nothing (d ∷ ds) e h =

@@ -33,7 +33,7 @@ is_zero c e = grind (arith, nat_tests)
 pub digit_small : (c : ℕ) → is_ascii_digit c ≡ true → digit_value c < 10
 digit_small c e = grind (arith, nat_tests)
 
--- arithmetic of the next lemmas
+-- arithmetic for the next lemmas
 step_lt : (v n d p q : ℕ) → d < 10 → v < (n * 10 + d + 1) * p → q ≡ p * 10 → v < (n + 1) * q
 step_lt v n d p q small rest is = let more : p * (n * 10 + d + 1) ≤ p * (n * 10 + 10) = mul-le-mul_left p (omega arith) in rw is (grind (arith, rest, more))
 

@@ -46,7 +46,7 @@ pub without_trailing-without_trailing : (ds : List ℕ) → without_trailing (wi
 without_trailing-without_trailing [] = refl
 without_trailing-without_trailing (d ∷ ds) = kept_onto d (without_trailing ds) (without_trailing-without_trailing ds)
 
--- ---- the plain text is plain
+-- ---- `plain` returns a plain text
 
 worth : (s q r d p v : ℕ) → q * d + r ≡ s → v * d ≡ r * p → s * p ≡ d * (q * p + v)
 worth s q r d p v e f = rw (← e) (omega (arith, f))

@@ -137,7 +137,7 @@ each_two_from vs all meet i j d under lj =
     let here = meet i j (interval_at d) under inside in
     meet_from (get_or vs i d) (get_or vs j d) (all i d li) (all j d lj) (rw (get_or-map interval_at vs i d (interval_at d) li, get_or-map interval_at vs j d (interval_at d) lj) at here)
 
--- ---- some value has the interval that is found
+-- ---- each interval belongs to one of the values
 
 record Found (P : Interval → Type 0) (vs : List Value) : Type 0 where
   place : ℕ

@@ -8,7 +8,7 @@ use Rattle.oim_value.specs.declared.limits.TheConstants.{MOST_DIGITS, UNIT_PLACE
 use Rattle.oim_value.proofs.Numerals.{whole_value}
 use Rattle.oim_value.specs.Number.{signed, integer_part, fraction_part, is_negative, is_number, without_leading, without_trailing, Denotes, IsShort}
 
--- a number of few digits, followed by few zeros, is bounded
+-- a number with at most MOST_DIGITS digits, followed by at most UNIT_PLACES zeros, is bounded
 pub size_bound : (n e : ℕ) → n < 10 ^ MOST_DIGITS → e ≤ UNIT_PLACES → n * 10 ^ e ≤ 10 ^ (MOST_DIGITS + UNIT_PLACES)
 size_bound n e few within =
     let p : 10 ^ e ≤ 10 ^ UNIT_PLACES = pow-le-pow_right (omega arith) within in
@@ -36,7 +36,7 @@ short_signed b n p few within = record { number = n; places = p; few = few; with
 pub ten_to : (i j : ℕ) → i ≤ j → 10 ^ i ≤ 10 ^ j
 ten_to i j h = pow-le-pow_right {n = 10} (omega arith) {i = i} {j = j} h
 
--- a text denotes the number of its significant digits, moved to its decimal place
+-- a text denotes the number that its significant digits write, scaled to units
 pub denotes_from : (t i f : List ℕ) (n p : ℕ) (z : ℤ) → i ≡ integer_part t → f ≡ fraction_part t → IsTrue (is_number t) → n ≡ digits_value_after 10 0 (without_leading i ++ without_trailing f) → p ≡ length (without_trailing f) → p ≤ MOST_DIGITS → z ≡ signed (is_negative t) (n * 10 ^ (UNIT_PLACES - p)) → Denotes t z
 denotes_from t i f n p z ei ef form en ep le ez = record {
   form = form;

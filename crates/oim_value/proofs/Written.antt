@@ -52,7 +52,7 @@ point_some (f ∷ fs) some = refl
 abbrev pub all_places : ℤ → List ℕ
 all_places m = sign_text m ++ (integer_digits (unsigned_abs m) ++ 46 ∷ with_leading_zeros UNIT_PLACES (decimal (unsigned_abs m % 10 ^ UNIT_PLACES)))
 
--- the plain text of a number without a fraction
+-- the plain text of a number without a fraction is its sign and its integer digits
 pub plain_whole : (m : ℤ) → unsigned_abs m % 10 ^ UNIT_PLACES ≡ 0 → sign_text m ++ integer_digits (unsigned_abs m) ≡ plain m
 plain_whole m none =
     ap (λ ds. sign_text m ++ ds) (sym (append-nil (integer_digits (unsigned_abs m))) ∙ ap (λ fs. integer_digits (unsigned_abs m) ++ with_point fs) (sym (no_digits (unsigned_abs m % 10 ^ UNIT_PLACES) none)))

@@ -13,11 +13,11 @@ pub record AreEnds (e : Interval) (is : List Interval) : Type 0 where
   pub high_reached : Any (λ i. i.high ≡ e.high) is
   pub high_least : All (λ i. e.high ≤ℤ i.high) is
 
--- one or more intervals have such ends
+-- one or more intervals have a greatest low end and a least high end
 abbrev pub EndsExist : Type 0
 EndsExist = (is : List Interval) → 0 < length is → (e : Interval) × AreEnds e is
 
--- several intervals have at most one such pair of ends
+-- the greatest low end and the least high end are unique
 abbrev pub EndsAreOne : Type 0
 EndsAreOne = (is : List Interval) (d e : Interval) → AreEnds d is → AreEnds e is → d ≡ e
 
@@ -25,7 +25,7 @@ EndsAreOne = (is : List Interval) (d e : Interval) → AreEnds d is → AreEnds 
 abbrev pub WithinEndsIsWithinEach : Type 0
 WithinEndsIsWithinEach = (is : List Interval) (e : Interval) (units : ℤ) → AreEnds e is → IsWithin units e ↔ All (IsWithin units) is
 
--- if some number lies in all intervals, only the interval between the ends contains exactly these numbers
+-- an interval that is not empty and contains exactly the numbers in all intervals is the interval between their ends
 abbrev pub EndsAreCommonInterval : Type 0
 EndsAreCommonInterval = (is : List Interval) (e : Interval) → 0 < length is → HasPoints e → ((units : ℤ) → IsWithin units e ↔ All (IsWithin units) is) → AreEnds e is
 
@@ -33,7 +33,7 @@ EndsAreCommonInterval = (is : List Interval) (e : Interval) → 0 < length is �
 abbrev pub EachTwoMeet : List Interval → Type 0
 EachTwoMeet = AllPairs (λ i j. IsTrue (intervals_meet i j))
 
--- if no interval is empty, each two meet exactly if the greatest low end is at most the least high end
+-- if no interval is empty, each meets each later one exactly if the greatest low end is at most the least high end
 abbrev pub AllMeetIffEndsMeet : Type 0
 AllMeetIffEndsMeet = (is : List Interval) (e : Interval) → All HasPoints is → AreEnds e is → EachTwoMeet is ↔ (e.low ≤ℤ e.high)
 

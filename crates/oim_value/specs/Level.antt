@@ -12,14 +12,14 @@ pub record LevelEntry : Type 0 where
   pub place : ℕ
   pub text : List ℕ
 
--- the rank of a level, from the strictest on, and the text that declares it
+-- the rank of a level, which is 0 for the strictest, and the text that declares it
 abbrev pub level_entry : Level → LevelEntry
 level_entry Unique = record { place = 0; text = codes "none" }
 level_entry Complete = record { place = 1; text = codes "complete" }
 level_entry Consistent = record { place = 2; text = codes "consistent" }
 level_entry All = record { place = 3; text = codes "all" }
 
--- every level, in the order of ranks
+-- all levels, by rank
 abbrev pub levels : List Level
 levels = Unique ∷ Complete ∷ Consistent ∷ All ∷ []
 

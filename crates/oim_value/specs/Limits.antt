@@ -1,4 +1,4 @@
--- The limits of numbers (own): the constants of the code, and what they mean.
+-- The limits of numbers (own): the constants of the code and their meaning.
 use Rattle.std.specs.Prelude.{◌≡◌, ◌↔◌, ℕ, ◌^◌, ◌≤◌, ℤ, pos, neg_ℤ, ◌≤ℤ◌, IsTrue, List, codes}
 use Rattle.oim_value.specs.declared.limits.TheConstants.{MOST_DECIMALS, MOST_DIGITS, UNIT_PLACES}
 use Rattle.oim_value.specs.Decimals.{is_finite_decimals}

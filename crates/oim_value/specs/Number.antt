@@ -45,8 +45,8 @@ abbrev pub signed : Bool → ℕ → ℤ
 signed true n = neg_ℤ (pos n)
 signed false n = pos n
 
--- the text denotes this number of units: units / 10^UNIT_PLACES is the number of all digits / 10^(number of digits after the
--- point)
+-- the text denotes this number of units: units * 10^(number of digits after the point) is 10^UNIT_PLACES times the signed number
+-- that all digits write
 pub record Denotes (t : List ℕ) (units : ℤ) : Type 0 where
   pub form : IsTrue (is_number t)
   pub value : units *ℤ pos (10 ^ length (fraction_part t)) ≡ signed (is_negative t) (10 ^ UNIT_PLACES * digits_value 10 (both_parts t))
@@ -56,7 +56,7 @@ abbrev pub without_leading : List ℕ → List ℕ
 without_leading [] = []
 without_leading (c ∷ cs) = if c == 48 then without_leading cs else c ∷ cs
 
--- a digit before digits without trailing zeros; a zero before no digits is dropped
+-- a digit put before digits without trailing zeros; a zero is dropped if no digits follow
 abbrev pub onto_digit : ℕ → List ℕ → List ℕ
 onto_digit c [] = if c == 48 then [] else c ∷ []
 onto_digit c (d ∷ ds) = c ∷ d ∷ ds

@@ -1,4 +1,4 @@
--- The only text that a number is written as (own).
+-- The plain text of a number, which is the only text that is written for it (own).
 use Rattle.std.specs.Prelude.{◌≡◌, ◌≢◌, ◌↔◌, ℕ, ◌-◌, ◌/◌, ◌%◌, ◌^◌, ◌<◌, ℤ, pos, negsuc, ◌<ℤ◌, unsigned_abs, FitsSigned, Bool, IsTrue, List, [], ◌∷◌, ◌++◌, length, replicate, slice_index, None}
 use Rattle.std.specs.List.{list_any}
 use Rattle.std.specs.Fmt.{decimal}
@@ -58,7 +58,7 @@ FittingIsWritable = (units : ℤ) → FitsSigned w128 units → IsWritable units
 abbrev pub ShortIsWritable : Type 0
 ShortIsWritable = (units : ℤ) → IsShort units → IsWritable units
 
--- `plain` of a number is a plain text of it
+-- `plain` returns a plain text of the number
 abbrev pub PlainIsPlain : Type 0
 PlainIsPlain = (units : ℤ) → IsWritable units → IsPlain (plain units) units
 

@@ -18,7 +18,8 @@ AreDifferent = AllPairs (λ x y. x ≢ y)
 abbrev pub EachTwoValuesMeet : List Value → Type 0
 EachTwoValuesMeet = AllPairs Meets
 
--- each two values meet exactly if any two members do; repeats and order do not matter, since each value meets itself
+-- each value meets each later one exactly if all members meet each other; repeats and order do not matter, since each value
+-- meets itself
 abbrev pub EachTwoMeetByMembers : Type 0
 EachTwoMeetByMembers = (vs : List Value) → EachTwoValuesMeet vs ↔ ((x y : Value) → Contains vs x → Contains vs y → Meets x y)
 

@@ -8,6 +8,6 @@ use Rattle.oim_value.specs.Number.{signed, is_negative, both_parts, fraction_par
 abbrev pub units_of : List ℕ → ℤ
 units_of t = signed (is_negative t) (10 ^ UNIT_PLACES * digits_value 10 (both_parts t) / 10 ^ length (fraction_part t))
 
--- a short number denotes these units, and nothing else
+-- a text that is accepted as a number denotes exactly these units
 abbrev pub ShortNumbersDenote : Type 0
 ShortNumbersDenote = (t : List ℕ) (units : ℤ) → number_refusal t ≡ None → Denotes t units ↔ (units ≡ units_of t)

@@ -50,8 +50,8 @@ impl Fixed {
 /// Part 2, section 3.2.3). Leading zeros of the integer digits and trailing zeros of the fraction
 /// digits are not significant.
 ///
-/// Errors: `NumberForm` if the text is no number; `NumberDigits` if it has more than `MOST_DIGITS`
-/// significant digits.
+/// Errors: `NumberForm` if the text is not a number; `NumberDigits` if it has more than
+/// `MOST_DIGITS` significant digits.
 pub fn read_fixed(text: &str) -> Result<Fixed, Reason>
     ensures denoted { IfOk result (Denotes text.now) }
     ensures refused { result_err result ≡ number_refusal text.now }
@@ -104,7 +104,7 @@ fn size_of(number: u64, zeros: u32) -> i128
     (u128::from(number) * 10u128.pow(zeros)) as i128
 }
 
-/// Writes a number as its only plain text, in the way of `write_units`.
+/// Writes a number as its only plain text, as `write_units` does.
 ///
 /// Errors: out of memory.
 pub fn write_fixed(alloc: Global, value: Fixed) -> Result<Text, AllocError>

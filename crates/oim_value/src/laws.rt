@@ -31,7 +31,7 @@ pub fn denotes_one()
     ensures { DenotesOne }
 {}
 
-/// A short number denotes `units_of` its text, and nothing else.
+/// A text that is accepted as a number denotes exactly the units that `units_of` returns.
 pub fn short_numbers_denote()
     ensures { ShortNumbersDenote }
 {}
@@ -41,7 +41,7 @@ pub fn short_is_kept()
     ensures { ShortIsKept }
 {}
 
-/// Every number of units that fits 128 bits is written in full, and so is every number of at most
+/// Every number of units that fits 128 bits is written in full, and so is every number with at most
 /// 18 significant digits.
 pub fn units_are_writable()
     ensures fitting { FittingIsWritable }
@@ -55,7 +55,7 @@ pub fn plain_is_the_text()
     ensures ascii { PlainIsAscii }
 {}
 
-/// Reading `plain` of a number of at most 18 significant digits returns the number.
+/// Reading the plain text of a number with at most 18 significant digits returns the number.
 pub fn plain_reads_back()
     ensures { PlainReadsBack }
 {}
@@ -65,18 +65,18 @@ pub fn plain_tells_apart()
     ensures { PlainTellsApart }
 {}
 
-/// Values are ordered by kind. Values of the same kind have the order of that kind.
+/// Values are ordered as `value_cmp` defines: by kind, and then within each kind.
 pub fn values_are_ordered()
     ensures { (x y : Seen) → ⟦<Value as Ord>⟧.cmp x y ≡ value_cmp x y }
 {}
 
-/// Levels are ordered from the strictest on.
+/// Levels are ordered by rank, the strictest first. No two levels share a rank.
 pub fn levels_are_ordered()
     ensures order { (x y : SeenLevel) → ⟦<Level as Ord>⟧.cmp x y ≡ level_cmp x y }
     ensures places { LevelsStandApart }
 {}
 
-/// Returns `INFINITE`, which is no finite number.
+/// Returns `INFINITE`, which contracts see as None.
 pub fn infinite_is_no_number() -> Decimals
     ensures { result ≡ None }
 {
@@ -99,8 +99,8 @@ pub fn interval_has_what_is_near()
 {}
 
 /// Both ends of a number's interval are smaller in size than 10 to the power of `MOST_DIGITS` +
-/// `UNIT_PLACES` plus the half width of `-MOST_DECIMALS`. This bound is 15 * 10^36 units, which
-/// fits an `i128`.
+/// `UNIT_PLACES` plus the half width for `-MOST_DECIMALS` decimals. This bound is 15 * 10^36 units,
+/// which fits an `i128`.
 pub fn interval_ends_are_bounded()
     ensures { IntervalEndsAreBounded }
 {}
@@ -130,8 +130,8 @@ pub fn values_meet_both_ways()
     ensures symmetric { MeetsIsSymmetric }
 {}
 
-/// Each two values of a list meet exactly if any two of its members do, so order and repeats do not
-/// matter.
+/// Each value of a list meets each later one exactly if all its members meet each other, so order
+/// and repeats do not matter.
 pub fn each_two_meet_by_members()
     ensures { EachTwoMeetByMembers }
 {}
@@ -145,16 +145,16 @@ pub fn ends_are_common_interval()
     ensures common { EndsAreCommonInterval }
 {}
 
-/// If no interval is empty, each two meet exactly if the greatest low end is at most the least high
-/// end.
+/// If no interval is empty, each two intervals meet exactly if the greatest low end is at most the
+/// least high end.
 pub fn all_meet_iff_ends_meet()
     ensures { AllMeetIffEndsMeet }
 {}
 
 /// Take several different values, each nil or of one kind. Each two of them meet exactly if all are
-/// numbers and the greatest low end of their intervals is at most the least high end. If it is
-/// above, the first number with the least high end and the first with the greatest low end do not
-/// meet.
+/// numbers and the greatest low end of their intervals is at most the least high end. If the low
+/// end is above the high end, the first number with the least high end and the first with the
+/// greatest low end do not meet.
 pub fn different_meet_between_ends()
     ensures numbers { DifferentMeetAsNumbers }
     ensures between { DifferentMeetBetweenEnds }

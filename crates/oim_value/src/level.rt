@@ -3,7 +3,7 @@ ghost use Rattle.oim_value.specs.declared.level.Level.{Level as Said};
 ghost use Rattle.oim_value.specs.Level.{level_entry, level_with};
 
 /// Which duplicate facts a report may have (`xbrl:allowedDuplicates` of the Open Information
-/// Model), from the strictest level on.
+/// Model), the strictest level first.
 #[derive(Clone, Copy, Debug, PartialEq, Eq, PartialOrd, Ord)]
 pub enum Level {
     /// No two facts may have the same dimensions.

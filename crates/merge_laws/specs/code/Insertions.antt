@@ -1,5 +1,5 @@
--- What one list takes from another (own): new items, each with the index before which it is inserted, and merged values. Private
--- functions ensure these as steps towards a union, which Union defines.
+-- The changes that merging one list into another makes (own): new items, each with the index before which it is inserted, and
+-- merged values. Private functions ensure these as steps towards a union, which Union defines.
 use Rattle.std.specs.Prelude.{ℕ, zero, suc, ◌≤◌, if◌then◌else◌, List, [], ◌∷◌, ◌++◌, take, drop, Option, Some, None, Result, Ok, Err, not}
 use Rattle.std.specs.List.{AllByRecursion, flat_map, position_or_len}
 use Rattle.std.specs.declared.cmp.Ordering.{Ordering}
@@ -29,7 +29,7 @@ module _ {K E : Type 0} (R : K → K → Ordering) (key : E → K) where
   abbrev pub found_at : K → List E → Result ℕ ℕ
   found_at k es = if has_key R key k es then Ok (place_of k es) else Err (place_of k es)
 
-  -- an item that the others do not have
+  -- the item with the index of its key, if the list does not have the key
   abbrev pub new_item : List E → E → List (ℕ × E)
   new_item es f = if has_key R key (key f) es then [] else (place_of (key f) es, f) ∷ []
 
@@ -37,7 +37,7 @@ module _ {K E : Type 0} (R : K → K → Ordering) (key : E → K) where
   new_items es fs = flat_map (new_item es) fs
 
 module _ {K V : Type 0} (R : K → K → Ordering) (merged : V → V → V) where
-  -- the merged value of a key that both have
+  -- the merged value, with the index of its key, if both maps have the key
   abbrev pub shared_value : ℕ → V → Option (K × V) → List (ℕ × V)
   shared_value i w None = []
   shared_value i w (Some e) = (i, merged e.1 w) ∷ []

@@ -1,4 +1,4 @@
--- The laws of unions, for every kind of item whose join has them (own).
+-- The laws of unions (own). A union is associative, commutative or idempotent if the join of two items is.
 use Rattle.std.specs.Prelude.{◌≡◌, true, false, cond, List, [], ◌∷◌, Option, Some, None, IfSome, refl}
 use Rattle.std.proofs.Common.{sym, ap, ◌∙◌}
 use Rattle.std.specs.declared.cmp.Ordering.{Ordering}
@@ -11,7 +11,7 @@ use Rattle.merge_laws.specs.Union.{with_item, union_of, either_or_both, older, m
 use Rattle.merge_laws.specs.code.Items.{same_items, rises_union, item_at-union}
 
 module _ {K E : Type 0} {R : K → K → Ordering} (key : E → K) (o : IsTotalOrder R) (join : E → E → E) (keeps : (x y : E) → key (join x y) ≡ key x) (P : E → Type 0) where
-  -- an item that was found has the key
+  -- an item that a look-up finds has the key and the property P
   abbrev IsFound : K → Option E → Type 0
   IsFound q a = IfSome a (λ e. P e × (R q (key e) ≡ Equal))
 
@@ -88,7 +88,7 @@ module _ {K : Type 0} {R : K → K → Ordering} (o : IsTotalOrder R) where
   pub set_commutes : ((x y : K) → R x y ≡ Equal → x ≡ y) → (xs ys : List K) → IsSet R xs → IsSet R ys → set_union R xs ys ≡ set_union R ys xs
   set_commutes exact xs ys g h = union_commutes itself o older (λ _ _. refl) (λ _. Unit {0}) (λ x y _ _ e. exact x y e) xs ys g h (any xs) (any ys)
 
--- the laws of maps, if the values have the laws of merging
+-- the laws of maps, if merging their values has the same laws
 module _ {K V : Type 0} {R : K → K → Ordering} (o : IsTotalOrder R) (P : V → Type 0) (merged : V → V → V) where
   abbrev Has : K × V → Type 0
   Has e = P e.1
