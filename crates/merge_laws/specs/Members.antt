@@ -37,7 +37,7 @@ module _ {K V : Type 0} (R : K → K → Ordering) (merged : V → V → V) wher
 abbrev pub SummaryOfOne : Type 0
 SummaryOfOne = (v : Value) → summary_of_all (v ∷ []) ≡ summary_of v
 
--- the summary of two lists in a row is the merge of their summaries
+-- the summary of two concatenated lists is the merge of their summaries
 abbrev pub SummaryOfBoth : Type 0
 SummaryOfBoth = (vs ws : List Value) → summary_of_all (vs ++ ws) ≡ both_summaries (summary_of_all vs) (summary_of_all ws)
 

@@ -53,7 +53,7 @@ pub fn map_keeps_what_merging_keeps<K: Key, V: Merge>()
     ensures put { MapWithKeeps K.cmp V.merged }
 {}
 
-/// The summary of two lists in a row is the merge of their summaries. So is the summary of the
+/// The summary of two concatenated lists is the merge of their summaries. So is the summary of the
 /// union of two sets. A summary does not depend on the order or repetition of values.
 pub fn summary_is_of_members()
     ensures one { SummaryOfOne }

@@ -29,7 +29,7 @@ day_range y m d low h =
     let number = days_from_civil-day_count (pos y) m d in
     (omega (arith, signed_arith, before, number, zero_day, day_count-last_of_year (pos 0), days_in_year_bounds (pos 0)), omega (arith, signed_arith, number, day_count_bounds (pos y) m d h))
 
--- a date that jiff makes of three numbers is a date of the calendar
+-- a date that jiff makes from three numbers is in the calendar and has their day number
 pub date_is : (date : Date) (y m d : ℕ) → IsYmd (to_z w16 y) (to_z w8 m) (to_z w8 d) date → y < 10000 → m < 100 → d < 100 → IsCivilDate (pos y) m d × (epoch_day date ≡ days_from_civil (pos y) m d)
 date_is date y m d h few_y few_m few_d =
     let ey : date.year ≡ pos y = omega (arith, ints, h.0) in
@@ -37,11 +37,10 @@ date_is date y m d h few_y few_m few_d =
     let ed : date.day ≡ d = omega (arith, ints, h.2) in
     (rw (ey, em, ed) at (civil date), rw (ey, em, ed) refl)
 
--- a date of the calendar passes the tests
+-- a date in the calendar passes the tests
 pub is_real : (y m d : ℕ) → 1 ≤ y → IsCivilDate (pos y) m d → (nat_le 1 y && is_in_range 1 12 m && is_in_range 1 (days_in_month (pos y) m) d) ≡ true
 is_real y m d low h = grind (arith, nat_tests)
 
--- a comparison that holds passes its test
 pub le_true : (a b : ℤ) → a ≤ℤ b → int_le a b ≡ true
 le_true a b h = grind (arith, ints)
 
@@ -57,14 +56,14 @@ greatest_is p (suc n) k h low here above =
       | inr le ↦ let e : k ≡ suc n = omega arith in let passes = rw e at here in rw passes (sym e)
     ]
 
--- counts of days have the same order as day numbers
+-- a lesser count of days gives a lesser day number
 earlier : (a b : ℤ) (m d n e : ℕ) → day_count a m d < day_count b n e → days_from_civil a m d <ℤ days_from_civil b n e
 earlier a b m d n e h = omega (arith, signed_arith, days_from_civil-day_count a m d, days_from_civil-day_count b n e)
 
 no_later : (a b : ℤ) (m d n e : ℕ) → day_count a m d ≤ day_count b n e → days_from_civil a m d ≤ℤ days_from_civil b n e
 no_later a b m d n e h = omega (arith, signed_arith, days_from_civil-day_count a m d, days_from_civil-day_count b n e)
 
--- the year, month and day of a day number
+-- a date has the year, month and day that are computed from its day number
 pub year_is : (y m d : ℕ) → 1 ≤ y → IsCivilDate (pos y) m d → year_of (days_from_civil (pos y) m d) ≡ y
 unfolding year_of
 year_is y m d low h =
@@ -92,7 +91,7 @@ positive : (z : ℤ) → pos 1 ≤ℤ z → (z ≡ pos (unsigned_abs z)) × (1 �
 positive (pos n) h = (refl, omega (arith, signed_arith))
 positive (negsuc n) h = absurd (omega (arith, signed_arith))
 
--- the parts of a date from the year 0001 on
+-- a date of jiff in the year 0001 or later has the parts that are computed from its day number
 pub date_parts : (date : Date) (z : ℤ) → epoch_day date ≡ z → neg_ℤ (pos 719_162) ≤ℤ z → (date.year ≡ pos (year_of z)) × (date.month ≡ month_of z) × (date.day ≡ day_of z)
 date_parts date z is low =
     let h = civil date in

@@ -9,7 +9,7 @@ use Rattle.jiff_core.proofs.SignedLemmas.{signed_arith}
 use Rattle.oim_dims.specs.DateTime.{greatest, year_of, month_of, day_of}
 use Rattle.oim_dims.proofs.Calendar.{first_day, le_true}
 
--- the greatest number up to a limit that passes the test
+-- g is the greatest number from k to n that passes the test
 record IsGreatest (p : ℕ → Bool) (n k g : ℕ) : Type 0 where
   low : k ≤ g
   high : g ≤ n
@@ -39,7 +39,6 @@ greatest_passes p (suc n) k low high here =
       ]
     ] refl
 
--- a comparison that passes its test holds
 le_is : (a b : ℤ) → int_le a b ≡ true → a ≤ℤ b
 le_is a b h = grind (arith, ints)
 
@@ -85,7 +84,7 @@ day_holds y m z within n g =
           (omega (arith, signed_arith, here, number, first, from_first, within), omega (arith, signed_arith, here, number, first, from_first, within, few, g.high))
     ]
 
--- the date of a day
+-- y, m and d are the date with the day number z
 pub record IsDateOf (z : ℤ) (y m d : ℕ) : Type 0 where
   pub first : 1 ≤ y
   pub civil : IsCivilDate (pos y) m d

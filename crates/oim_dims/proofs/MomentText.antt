@@ -106,7 +106,7 @@ pub moment_back : (z : ℤ) → IsMoment z → moment_of (moment_text z) ≡ Som
 unfolding moment_text date_text time_text
 moment_back z h = spelled_back z _ _ _ _ _ _ h (parts z h)
 
--- a byte from 48 on is no `/`
+-- a byte of 48 or more is not `/`
 not_slash : (k : ℕ) → is_slash (48 + k) ≡ false
 not_slash k = grind (arith, nat_tests)
 

@@ -1,4 +1,4 @@
--- The measures that the pieces of a unit name.
+-- The measures that a unit's pieces expand to.
 use Rattle.std.proofs.Common.{◌≡◌, ◌≢◌, ◌⊎◌, inl, inr, ◌∙◌, ℕ, zero, suc, ◌<◌, Bool, true, false, cond, List, [], ◌∷◌, length, drop, get_or, refl, sym, ap, arith}
 use Rattle.std.specs.Prelude.{Option, Some, None, All, IsTrue, not, if◌then◌else◌, ◌&&◌, ◌==◌}
 use Rattle.std.proofs.lemmas.Bool.{and_parts, or_parts, not-true}
@@ -26,7 +26,7 @@ none_of_three true true c h k l = cc
 none_of_three true false true h k l = cc
 none_of_three true false false h k l = refl
 
--- a piece that passes the three tests names a measure
+-- a piece that passes the three tests is not refused as a name
 piece_named : (bs : List Binding) (p : List ℕ) → lacks_form is_name p ≡ false → lacks_binding is_name bs p ≡ false → lies_in_reserved is_name bs p ≡ false → name_refusal bs p ≡ None
 piece_named bs p h k l = none_of_three (is_name p) (is_unbound bs p) (is_reserved bs p) h k l
 
@@ -38,13 +38,13 @@ all_named bs (p ∷ ps) h k l =
     let c = or_parts (lies_in_reserved is_name bs p) (list_any (lies_in_reserved is_name bs) ps) l in
     All-cons (λ q. name_refusal bs q ≡ None) p ps (piece_named bs p a.0 b.0 c.0) (all_named bs ps a.1 b.1 c.1)
 
--- the measures of a text that is not refused
+-- the text has the form of a unit, and no piece is refused as a name
 pub record IsNamed (bs : List Binding) (t : List ℕ) : Type 0 where
   pub form : is_unit_text t ≡ true
   pub numerators : All (λ p. name_refusal bs p ≡ None) (numerator_pieces t)
   pub denominators : All (λ p. name_refusal bs p ≡ None) (denominator_pieces t)
 
--- the refusal in terms of four tests
+-- the refusal of a unit in terms of its four tests
 abbrev first_of_four : Bool → Bool → Bool → Bool → Option Reason
 first_of_four form named unbound reserved =
     if not form then Some UnitForm else (if named then Some NameForm else (if unbound then Some UnboundPrefix else (if reserved then Some ReservedNamespace else None)))
@@ -68,7 +68,7 @@ unit_named bs t h =
 pub only_memory : (bs : List Binding) (p : List ℕ) (e : Reason) → name_refusal bs p ≡ None → (e ≡ OutOfMemory) ⊎ (name_refusal bs p ≡ Some e) → e ≡ OutOfMemory
 only_memory bs p e none h = elim h [ inl memory ↦ memory | inr refused ↦ absurd (cc (sym none ∙ refused)) ]
 
--- a part of a text without reserved characters has none
+-- dropping the first bytes of a text without reserved characters adds none
 no_mark_after : (n : ℕ) (p : List ℕ) → list_any is_mark p ≡ false → list_any is_mark (drop n p) ≡ false
 no_mark_after zero p h = h
 no_mark_after (suc n) [] h = refl
@@ -86,7 +86,7 @@ measure_of_piece bs p n were e h =
       plain = rw e.local_part (no_mark_after _ p plain);
     }
 
--- each piece names a measure
+-- the names that pieces expand to are measures
 pub measures_of_pieces : (bs : List Binding) (ps : List (List ℕ)) (ns : List QName) → AreBindings bs → AllZip (Expands bs) ps ns → list_all is_piece ps ≡ true → All IsMeasure ns
 measures_of_pieces bs [] [] were z h = λ j d lt. absurd (omega arith)
 measures_of_pieces bs [] (n ∷ ns) were z h = absurd z
@@ -113,7 +113,7 @@ long bs (p ∷ ps) (n ∷ ns) z = omega (arith, long bs ps ns z.1)
 pub side_some : (bs : List Binding) (s : List ℕ) (ns ms : List QName) → AllZip (Expands bs) (slice_split is_star s) ns → length ms ≡ length ns → ms ≢ []
 side_some bs s ns ms z same e = let none : length ms ≡ 0 = ap length e in omega (arith, long bs (slice_split is_star s) ns z, split_some s)
 
--- lists of at most one name
+-- a list of length 1 has only its first name
 pub alone_is : (ns : List QName) (n : QName) → length ns ≡ 1 → n ≡ get_or ns 0 n → ns ≡ n ∷ []
 alone_is [] n one h = absurd (omega arith)
 alone_is (m ∷ []) n one h = ap (λ x. x ∷ []) (sym h)

@@ -1,4 +1,4 @@
--- What refuses a unit's text, and that a text denotes only one unit.
+-- A text that denotes a unit is not refused, and it denotes only one unit.
 use Rattle.std.proofs.Common.{◌≡◌, ◌≢◌, ◌⊎◌, inl, inr, ℕ, suc, true, false, List, [], ◌∷◌, refl, subst, sym, ap, ◌∙◌, arith}
 use Rattle.std.specs.Prelude.{Some, None, All}
 use Rattle.std.specs.List.{AllZip, list_any}
@@ -18,7 +18,7 @@ use Rattle.oim_dims.specs.Unit.{Measures, NamesEach, HasMeasures, unit_refusal, 
 use Rattle.oim_dims.proofs.Naming.{unit_named}
 use Rattle.oim_dims.proofs.SortedOnce.{sorted_once}
 
--- pieces name only one list of names
+-- pieces expand to at most one list of names
 same_names : (bs : List Binding) (ps : List (List ℕ)) (ms ns : List QName) → AllZip (Expands bs) ps ms → AllZip (Expands bs) ps ns → ms ≡ ns
 same_names bs [] [] [] a b = refl
 same_names bs [] [] (n ∷ ns) a b = absurd b
@@ -51,7 +51,7 @@ one_unit bs t None (Some n) a b h k = absurd (b.1 (sym (one_unit_of bs t pure_al
 one_unit bs t (Some m) None a b h k = absurd (a.1 (one_unit_of bs t m pure_alone a.0 b h.numerators h.denominators (alone_sorted pure_name) none_sorted))
 one_unit bs t (Some m) (Some n) a b h k = ap Some (one_unit_of bs t m n a.0 b.0 h.numerators h.denominators k.numerators k.denominators)
 
--- a piece that names something passes the three tests
+-- the piece passes the three tests for a name
 record IsFree (bs : List Binding) (p : List ℕ) : Type 0 where
   form : lacks_form is_name p ≡ false
   prefix : lacks_binding is_name bs p ≡ false
@@ -65,7 +65,7 @@ free bs p n e =
     let other = differs n.uri reserved_uri e.allowed in
     record { form = rw e.form refl; prefix = rw (e.form, e.uri) refl; space = rw (e.form, e.uri, other) refl }
 
--- no piece is refused if each piece names something
+-- no piece is refused if each piece expands to a name
 none_refused : (bs : List Binding) (ps : List (List ℕ)) (ns : List QName) → AllZip (Expands bs) ps ns → (list_any (lacks_form is_name) ps ≡ false) × (list_any (lacks_binding is_name bs) ps ≡ false) × (list_any (lies_in_reserved is_name bs) ps ≡ false)
 none_refused bs [] [] z = (refl, refl, refl)
 none_refused bs [] (n ∷ ns) z = absurd z
@@ -95,7 +95,7 @@ all_named bs (p ∷ ps) h =
 each_named : (bs : List Binding) (ps : List (List ℕ)) → All (λ p. name_refusal bs p ≡ None) ps → (ns : List QName) × NamesEach bs ps ns
 each_named bs ps h = let found = all_named bs ps h in (found.0, record { spelled = found.0; expands = found.1; same = IsPermutation-refl found.0 })
 
--- two names are equal or not, so measures are `pure` alone or not
+-- equality of names can be decided, so measures are `pure` alone or they are not
 same_name : (m n : QName) → (m ≡ n) ⊎ (m ≢ n)
 same_name m n =
     elim (name_cmp m n) as (λ r. name_cmp m n ≡ r → (m ≡ n) ⊎ (m ≢ n)) [

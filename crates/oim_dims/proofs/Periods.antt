@@ -18,7 +18,7 @@ not_less m = grind (arith, ints)
 one_moment : (t : List ℕ) (m : ℤ) → list_any is_slash t ≡ false → start_part t ≡ t → moment_of t ≡ Some m → period_of t ≡ Ok (Instant m)
 one_moment t m none start h = rw (none, start, h, not_less m) refl
 
--- a text without `/` is a single moment
+-- a text without `/` denotes an instant if it denotes a moment
 pub alone : (t : List ℕ) (m : ℤ) → position_or_len is_slash t ≡ length t → moment_of t ≡ Some m → Ok (Instant m) ≡ period_of t
 alone t m whole h = sym (one_moment t m (none_passes is_slash t whole) (rw whole (take_all (length t) t (omega arith))) h)
 

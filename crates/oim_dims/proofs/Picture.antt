@@ -44,7 +44,7 @@ pictured_digits t i j h zeros =
     let same : 19 ≡ length t = omega (arith, pictured_length t h) in
     part_digits i (j - i) picture t same e.1 zeros
 
--- the form and the text match at one index, and at the indices after it
+-- the form and the text match from index i on exactly if they match at i and after it
 picture_at : (i : ℕ) (ps cs : List ℕ) → i < length ps → i < length cs → list_all matches_picture (zip (drop i ps) (drop i cs)) ≡ (matches_picture (get_or ps i 0, get_or cs i 0) && list_all matches_picture (zip (drop (i + 1) ps) (drop (i + 1) cs)))
 picture_at i ps cs h k = rw (drop-cons ps i 0 h, drop-cons cs i 0 k, add-one) refl
 

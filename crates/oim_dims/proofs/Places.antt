@@ -25,7 +25,7 @@ less_is Less h = refl
 less_is Equal h = cc
 less_is Greater h = cc
 
--- a name below a name that is below all names is not in the list
+-- a name n below k is not in the list if k is below all names of the list
 below_none : (n k : QName) (es : List (QName × Member)) → name_cmp n k ≡ Less → is_below k es ≡ true → has_name n es ≡ false
 below_none n k [] less h = refl
 below_none n k (e ∷ es) less h =
@@ -47,7 +47,7 @@ below_all n k (e ∷ es) less h =
     let here : name_cmp n e.0 ≡ Less = name_total.trans n k e.0 less (less_is _ b.0) in
     rw here (below_all n k es less b.1)
 
--- a name that is below all names stays so after a greater one is added
+-- a name below all names of the list is still below them after a greater name is added
 below_with : (k n : QName) (m : Member) (es : List (QName × Member)) → name_cmp k n ≡ Less → is_below k es ≡ true → is_below k (with_member n m es) ≡ true
 below_with k n m [] less h = rw less refl
 below_with k n m (e ∷ es) less h =
@@ -78,7 +78,7 @@ pub still_rises : {T E : Type 0} (r : Result T E) (new es : List (QName × Membe
 still_rises (Ok x) new es place n m h none is ok err = rw (ok, is) (rises_with n m es h (not_there (has_name n es) none))
 still_rises (Err e) new es place n m h none is ok err = rw err h
 
--- each dimension of the list has a member
+-- a name in the list has a member
 there : (n : QName) (es : List (QName × Member)) → IsTrue (has_name n es) → (m : Member) × Contains es (n, m)
 there n [] h = absurd (cc)
 there n (e ∷ es) h =
@@ -103,7 +103,7 @@ here_at n (e ∷ es) m (suc k) within is = rw (here_at n es m k (omega arith) is
 pub names_are_there : NamesAreThere
 names_are_there n es = (there n es, λ found. here_at n es found.0 found.1.0 found.1.1 found.1.2)
 
--- each item of a list is its first item, or in the rest
+-- an item of a list is the first item or in the rest
 head_or_tail : (e f : QName × Member) (es : List (QName × Member)) → Contains (e ∷ es) f → (e ≡ f) ⊎ Contains es f
 head_or_tail e f es c = at c.0 c.1 c.2
   where

@@ -1,4 +1,4 @@
--- The prefix of a URI is bound to it.
+-- The prefix that is found for a URI is bound to it.
 use Rattle.std.proofs.Common.{◌≡◌, ◌≢◌, ℕ, suc, Bool, true, false, cond, List, [], ◌∷◌, refl, sym, ap, ◌∙◌, arith}
 use Rattle.std.specs.Prelude.{Some, All, AllPairs}
 use Rattle.std.specs.Option.{option_map}
@@ -11,7 +11,7 @@ not_same : (s t : List ℕ) (b : Bool) → bytes_eq s t ≡ b → s ≢ t → b 
 not_same s t true e ne = absurd (ne (same_bytes s t e))
 not_same s t false e ne = refl
 
--- a prefix that differs from each bound prefix differs from a prefix with a URI
+-- a prefix that differs from all bound prefixes differs from a prefix with a URI
 differs : (bs : List Binding) (p u k : List ℕ) → uri_of bs p ≡ Some u → All (λ b. k ≢ b.prefix) bs → k ≢ p
 differs [] p u k e each = absurd (cc)
 differs (b ∷ bs) p u k e each =

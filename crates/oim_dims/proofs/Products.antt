@@ -5,12 +5,12 @@ use Rattle.std.proofs.lemmas.List.{take_more, map-append}
 use Rattle.oim_names.specs.QName.{QName}
 use Rattle.oim_dims.specs.Unit.{product_text}
 
--- joining pieces and one more adds a separator and the piece
+-- one more piece adds a separator and the piece to the joined text
 join_push : (c : ℕ) (x y : List ℕ) (xs : List (List ℕ)) → join_with_byte c ((x ∷ xs) ++ y ∷ []) ≡ join_with_byte c (x ∷ xs) ++ c ∷ y
 join_push c x y [] = refl
 join_push c x y (z ∷ xs) = ap (λ t. x ++ (c ∷ t)) (join_push c z y xs) ∙ sym (append_assoc x (c ∷ join_with_byte c (z ∷ xs)) (c ∷ y))
 
--- the product of measures and one more adds `*` and the measure's text
+-- one more measure adds `*` and its text to a product
 pub product_next : (f : QName → List ℕ) (m n : QName) (ns : List QName) (i : ℕ) → i < length ns → n ≡ get_or ns i n → product_text f (m ∷ take (i + 1) ns) ≡ product_text f (m ∷ take i ns) ++ 42 ∷ f n
 product_next f m n ns i within is =
     ap (λ x. product_text f (m ∷ x)) (take_more ns i n within ∙ ap (λ x. take i ns ++ x ∷ []) (sym is))

@@ -31,7 +31,7 @@ and_false : (b : Bool) → (b && false) ≡ false
 and_false true = refl
 and_false false = refl
 
--- after a lesser name, all names ascend exactly if the others do
+-- if the first name is below the second, all names ascend exactly if those after the first do
 pub rises_behind : (e f : Item) (es : List Item) → is_lt (name_cmp e.0 f.0) ≡ true → rises (e ∷ f ∷ es) ≡ rises (f ∷ es)
 rises_behind e f es lesser =
     ap (λ b. (b && is_below e.0 es) && (is_below f.0 es && rises es)) lesser
@@ -47,7 +47,7 @@ falls_behind e f es no_lesser = ap (λ b. (b && is_below e.0 es) && (is_below f.
 pub at_place : (es : List Item) (i : ℕ) (e : Item) → i < length es → e ≡ get_or es i e → drop i es ≡ e ∷ drop (i + 1) es
 at_place es i e within is = rw add-one (drop-cons es i e within ∙ ap (λ x. x ∷ drop (suc i) es) (sym is))
 
--- ---- none is repeated
+-- ---- repeated names
 
 abbrev same_name : Item → Item → Bool
 same_name x y = is_eq (name_cmp x.0 y.0)

@@ -33,7 +33,7 @@ some_after xs ys c = some_long (length (xs ++ c ∷ ys)) (omega (arith, length-a
     some_long : (n : ℕ) → 0 < n → not (n == 0) ≡ true
     some_long n h = grind (arith, nat_tests)
 
--- the text of a measure by bindings spells the measure
+-- `measure_text` spells a measure that the bindings can write
 spelled : (bs : List Binding) (n : QName) → AreBindings bs → IsMeasure n → is_writable bs n ≡ true → Spells bs (measure_text bs n) n
 spelled bs n were h w =
     elim (prefix_of bs n.uri) as (λ o. prefix_of bs n.uri ≡ o → option_map_or (λ p. not (list_any is_mark p)) o false ≡ true → Spells bs (unwrap_or o [] ++ 58 ∷ n.local_part) n) [
@@ -55,12 +55,12 @@ bindings_spell bs m were h w =
     let b = and_parts (list_all (is_writable bs) m.numerators) (list_all (is_writable bs) m.denominators) w in
     record { numerators = all_spelled bs m.numerators were h.multiplied b.0; denominators = all_spelled bs m.denominators were h.divided b.1 }
 
--- each text of a list spells the name at its index
+-- the texts of a list of names spell the names
 each_spelled : (bs : List Binding) (f : QName → List ℕ) (ns : List QName) → All (λ n. Spells bs (f n) n) ns → AllZip (Spells bs) (map f ns) ns
 each_spelled bs f [] h = tt
 each_spelled bs f (n ∷ ns) h = (h 0 n (omega arith), each_spelled bs f ns (All-tail (λ m. Spells bs (f m) m) n ns h))
 
--- a text without reserved characters has none that passes the test
+-- a text without reserved characters has no character that passes a test for some of them
 without : (p : ℕ → Bool) → ((c : ℕ) → is_mark c ≡ false → p c ≡ false) → (xs : List ℕ) → list_any is_mark xs ≡ false → list_any p xs ≡ false
 without p under [] h = refl
 without p under (x ∷ xs) h =
@@ -141,7 +141,7 @@ side_slash bs f ns h =
       | false ↦ neither_in is_slash (product_text f ns) 41 [] (product_slash bs f ns h) refl refl
     ]
 
--- each piece has the form of a piece and names its measure
+-- a text that spells a measure has the form of a piece
 pieces_are : (bs : List Binding) (ts : List (List ℕ)) (ns : List QName) → AllZip (Spells bs) ts ns → list_all is_piece ts ≡ true
 pieces_are bs [] ns z = refl
 pieces_are bs (t ∷ ts) [] z = absurd z

@@ -8,7 +8,7 @@ use Rattle.oim_dims.specs.declared.limits.TheConstants.{DAY_SECONDS, FIRST_MOMEN
 use Rattle.jiff.specs.Words.{IsBetween, days_in_month}
 use Rattle.jiff_core.specs.Calendar.{days_from_civil}
 
--- the form of a date-time (own: without a time zone and a fraction of a second); 0 means any digit
+-- the form of a date-time (own: no time zone, no fraction of a second); 0 means any digit
 abbrev pub picture : List ℕ
 picture = codes "0000-00-00T00:00:00"
 
@@ -18,7 +18,7 @@ matches_picture e = if e.0 == 48 then is_ascii_digit e.1 else e.1 == e.0
 unfoldable pub has_picture : List ℕ → Bool
 has_picture t = length t == 19 && list_all matches_picture (zip picture t)
 
--- the numbers of a date-time
+-- the number that the bytes i to j - 1 write, and the year, month and day of a date-time
 abbrev pub number : List ℕ → ℕ → ℕ → ℕ
 number t i j = digits_value 10 (slice_range t i j)
 
@@ -51,7 +51,7 @@ day_number t = days_from_civil (pos (year t)) (month t) (day t)
 abbrev pub IsMoment : ℤ → Type 0
 IsMoment = IsBetween FIRST_MOMENT LAST_MOMENT
 
--- the second that a date-time denotes: the seconds of whole days, and the seconds since midnight
+-- the second that a date-time denotes: the seconds of whole days plus the seconds since midnight
 abbrev pub second_at : List ℕ → ℤ
 second_at t = day_number t *ℤ pos DAY_SECONDS +ℤ pos (second_of_day t)
 
@@ -59,7 +59,7 @@ second_at t = day_number t *ℤ pos DAY_SECONDS +ℤ pos (second_of_day t)
 abbrev pub is_date_time : List ℕ → Bool
 is_date_time t = has_picture t && has_date t && has_time t && int_le (second_at t) LAST_MOMENT
 
--- the moment of a date-time
+-- the moment that a text denotes if it is a date-time
 abbrev pub moment_of : List ℕ → Option ℤ
 moment_of t = if is_date_time t then Some (second_at t) else None
 
@@ -68,7 +68,7 @@ unfoldable pub greatest : (ℕ → Bool) → ℕ → ℕ
 greatest p zero = 0
 greatest p (suc n) = if p (suc n) then suc n else greatest p n
 
--- the date of a day: the last year, month and day that do not begin later than it
+-- the date with a day number: the last year, month and day that begin on that day or before
 unfoldable pub year_of : ℤ → ℕ
 year_of d = greatest (λ y. int_le (days_from_civil (pos y) 1 1) d) 9999
 

@@ -48,7 +48,7 @@ pub record IsDimensionSet (d : DimensionSet) : Type 0 where
   pub unit : IfSome d.unit IsUnit
   pub period : HasMoments d.period
 
--- a name is in the list exactly if it is there with a member
+-- a name is in the list exactly if the list has a member with it
 abbrev pub NamesAreThere : Type 0
 NamesAreThere = (n : QName) (es : List (QName × Member)) → IsTrue (has_name n es) ↔ ((m : Member) × Contains es (n, m))
 

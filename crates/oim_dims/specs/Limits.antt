@@ -4,7 +4,7 @@ use Rattle.oim_dims.specs.declared.limits.TheConstants.{DAY_SECONDS, FIRST_MOMEN
 use Rattle.oim_dims.specs.DateTime.{moment_of}
 
 -- a day has 86,400 seconds, the first moment begins the year 0001, and the last moment is the last second of the year 9999; the
--- end of that year is no moment
+-- end of that year is not a moment
 pub record LimitsAre : Type 0 where
   pub day : DAY_SECONDS ≡ 86_400
   pub first : moment_of (codes "0001-01-01T00:00:00") ≡ Some FIRST_MOMENT

@@ -16,7 +16,7 @@ start_part t = before_first is_slash t
 abbrev pub end_part : List ℕ → List ℕ
 end_part t = if list_any is_slash t then after_first is_slash t else t
 
--- the period from one moment to another that is not before it (own: the period is an instant if both are equal)
+-- the period from start to end, or the reason to refuse it (own: an instant if both moments are equal)
 abbrev pub from_to : Option ℤ → Option ℤ → Result Period Reason
 from_to None end = Err PeriodForm
 from_to (Some start) None = Err PeriodForm
@@ -45,7 +45,7 @@ EndsAfterStart Forever = ⊤
 EndsAfterStart (Instant m) = ⊤
 EndsAfterStart (Duration start end) = start <ℤ end
 
--- what holds for each period that a text denotes
+-- the conditions that each period denoted by a text satisfies
 pub record IsPeriod (p : Period) : Type 0 where
   pub moments : HasMoments p
   pub forward : EndsAfterStart p

@@ -15,7 +15,7 @@ use Rattle.oim_names.specs.declared.reason.Reason.TheVariants.{UnitForm, NameFor
 abbrev pub is_mark : ℕ → Bool
 is_mark c = c == 40 || c == 41 || c == 42 || c == 47
 
--- a side without the parentheses around the whole side
+-- a side without its outer parentheses
 abbrev pub inner : List ℕ → List ℕ
 inner s = if slice_index s 0 == 40 && slice_index s (length s - 1) == 41 then slice_range s 1 (length s - 1) else s
 
@@ -42,7 +42,7 @@ some_piece p t = list_any p (numerator_pieces t) || list_any p (denominator_piec
 abbrev pub is_piece : List ℕ → Bool
 is_piece p = not (length p == 0) && not (list_any is_mark p)
 
--- the form of a unit: one side, or two with one `/`, and each side of pieces with `*` between them (own: parentheses are
+-- the form of a unit: one side, or two with `/` between them; a side has pieces with `*` between them (own: parentheses are
 -- optional)
 abbrev pub is_unit_text : List ℕ → Bool
 is_unit_text t = each_piece is_piece t
@@ -52,7 +52,7 @@ pub record Measures : Type 0 where
   pub numerators : List QName
   pub denominators : List QName
 
--- the pieces name exactly these measures, with repeats
+-- the pieces expand to exactly these names, in any order and with repeats
 pub record NamesEach (bs : List Binding) (ps : List (List ℕ)) (names : List QName) : Type 0 where
   pub spelled : List QName
   pub expands : AllZip (Expands bs) ps spelled
@@ -84,7 +84,7 @@ unit_refusal bs t =
     if some_piece (lacks_binding is_name bs) t then Some UnboundPrefix else (
     if some_piece (lies_in_reserved is_name bs) t then Some ReservedNamespace else None)))
 
--- a measure that a unit can be spelled with
+-- the conditions that a name satisfies to be a measure
 pub record IsMeasure (n : QName) : Type 0 where
   pub filled : n.uri ≢ []
   pub allowed : n.uri ≢ reserved_uri
@@ -125,7 +125,7 @@ unit_text f m =
     if length m.denominators == 0 then product_text f m.numerators
     else side_text f m.numerators ++ 47 ∷ side_text f m.denominators
 
--- a text spells a measure in a unit's text
+-- a text has the form of a piece and expands to the measure
 pub record Spells (bs : List Binding) (t : List ℕ) (n : QName) : Type 0 where
   pub piece : IsTrue (is_piece t)
   pub expands : Expands bs t n
@@ -135,7 +135,7 @@ pub record SpellsEach (bs : List Binding) (f : QName → List ℕ) (m : Measures
   pub numerators : All (λ n. Spells bs (f n) n) m.numerators
   pub denominators : All (λ n. Spells bs (f n) n) m.denominators
 
--- a text denotes only this unit: it is not refused, and each unit that it denotes is this one
+-- a text denotes this unit, is not refused, and denotes no other unit
 pub record DenotesUnit (bs : List Binding) (t : List ℕ) (m : Measures) : Type 0 where
   pub unit : UnitOf bs t (Some m)
   pub accepted : unit_refusal bs t ≡ None

@@ -41,8 +41,8 @@ impl Model for Dimensions {
 }
 
 impl Dimensions {
-    /// Returns the dimensions of a fact that has only a concept: its period is forever. Later calls
-    /// take their memory from `alloc`.
+    /// Returns dimensions that have only a concept and the period forever. Later calls take their
+    /// memory from `alloc`.
     pub fn new(alloc: Global, concept: Name) -> Dimensions
         ensures { result ≡ record { concept = concept; entity = None; period = Forever; unit = None; language = None; members = [] } }
     {
@@ -56,7 +56,7 @@ impl Dimensions {
         }
     }
 
-    /// Does nothing. Its contract states what holds for each dimension set.
+    /// Does nothing. Its contract states the conditions that each dimension set satisfies.
     pub fn known(&self)
         ensures { IsDimensionSet self.now }
     {
@@ -67,15 +67,14 @@ impl Dimensions {
         }
     }
 
-    /// Returns the concept: what the fact reports.
+    /// Returns the concept that the fact reports.
     pub fn concept(&self) -> &Name
         ensures { result.now ≡ self.now.concept }
     {
         &self.concept
     }
 
-    /// Returns the entity that reports, or that the report is about: the URI of a scheme, and an
-    /// identifier.
+    /// Returns the entity that the fact is about: the URI of a scheme and an identifier.
     pub fn entity(&self) -> Option<&Name>
         ensures { option_copied result ≡ self.now.entity }
     {
@@ -140,7 +139,7 @@ impl Dimensions {
         self.language = Some(language);
     }
 
-    /// Adds a taxonomy-defined dimension with its member. After an error nothing has changed.
+    /// Adds a taxonomy-defined dimension with its member. An error changes nothing.
     ///
     /// Errors: `DimensionValue` exactly if the set has the dimension; `OutOfMemory`.
     pub fn add(&mut self, name: Name, member: Member) -> Result<(), Reason>
@@ -159,7 +158,7 @@ impl Dimensions {
     }
 
     /// Replaces the taxonomy-defined dimensions and their members. The new ones may be in any
-    /// order. After an error nothing has changed. It takes no memory.
+    /// order. An error changes nothing. It takes no memory.
     ///
     /// Errors: `DimensionValue` exactly if a dimension is repeated.
     pub fn set_members(&mut self, mut members: Vec<(Name, Member)>) -> Result<(), Reason>

@@ -8,9 +8,9 @@ use std::alloc::{AllocError, Global};
 /// A fact: its dimensions and its value. Facts are ordered by dimensions, then by value.
 #[derive(Debug, Drop, PartialEq, Eq, PartialOrd, Ord)]
 pub struct Fact {
-    /// What the fact is about.
+    /// The concept, entity, period, unit, language and other dimensions.
     pub dimensions: Dimensions,
-    /// What the fact reports.
+    /// The value that the fact reports.
     pub value: Value,
 }
 

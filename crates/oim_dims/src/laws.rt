@@ -28,13 +28,13 @@ pub fn read_periods_are_periods()
     ensures { ReadPeriodsArePeriods }
 {}
 
-/// A language in lower case is a language, and is read without a change.
+/// A language in lower case is a language, and reading it changes nothing.
 pub fn languages_are_kept()
     ensures { LanguagesAreKept }
 {}
 
-/// The text of a unit denotes that unit and no other, if each measure is spelled. Bindings that can
-/// write the unit spell each measure.
+/// The text of a unit denotes that unit and no other if the text of each measure expands to it. It
+/// does under all bindings that can write the unit.
 pub fn units_read_back()
     ensures back { UnitsReadBack }
     ensures spelled { BindingsSpell }
@@ -48,8 +48,8 @@ pub fn texts_denote_one_unit()
     ensures refused { OthersAreRefused }
 {}
 
-/// A set has a dimension exactly if the dimension has a member. Adding a member with a new name
-/// adds exactly that member.
+/// A list of members has a name exactly if it has a member with that name. Adding a member with a
+/// new name adds exactly that member.
 pub fn members_grow()
     ensures there { NamesAreThere }
     ensures more { MembersGrow }

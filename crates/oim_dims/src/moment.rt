@@ -82,7 +82,7 @@ fn time_of(second: u32) -> Time
 }
 
 /// Returns the moment of a date-time (XML Schema Part 2, section 3.2.7), or `None` if the text is
-/// no date-time.
+/// not a date-time.
 pub(crate) fn read_moment(text: &[u8]) -> Option<Moment>
     ensures { result ≡ moment_of text.now }
 {

@@ -7,8 +7,8 @@ use oim_names::{Copied, Key, Reason, Text};
 use std::alloc::{AllocError, Global};
 use std::cmp::Ordering;
 
-/// When a fact holds (OIM Common 1.0, the core dimension period). Periods are ordered by kind, in
-/// the order of the variants. A duration that was read ends after its start.
+/// The time for which a fact holds (OIM Common 1.0, the core dimension period). Periods are ordered
+/// by kind, in the order of the variants. A duration that was read ends after its start.
 #[derive(Clone, Copy, Debug, PartialEq, Eq, PartialOrd, Ord)]
 pub enum Period {
     /// The fact has no period: it always holds.

@@ -11,7 +11,7 @@ use std::marker::Model;
 /// The unit of a number: measures that are multiplied, and measures that the product is divided by
 /// (OIM Common 1.0, the core dimension unit). Both lists are in the order of names and may have
 /// repeats. There is at least one numerator, no local part has `*`, `/`, `(` or `)`, and `pure`
-/// alone is no unit.
+/// alone is not a unit.
 #[derive(Debug, Drop, PartialEq, Eq, PartialOrd, Ord)]
 pub struct Unit {
     numerators: Sequence<Name>,
@@ -46,7 +46,7 @@ impl Unit {
         }
     }
 
-    /// Does nothing. Its contract states what holds for each unit.
+    /// Does nothing. Its contract states the conditions that each unit satisfies.
     pub fn known(&self)
         ensures { IsUnit self.now }
     {

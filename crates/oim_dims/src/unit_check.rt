@@ -6,8 +6,8 @@ ghost use Rattle.oim_dims.specs.Unit.{inner, is_piece, is_mark, is_unit_text, so
 
 use oim_names::{Aliases, Reason};
 
-/// Returns both sides of a unit's text, without the parentheses around a whole side. There is no
-/// second side if the text has no `/`.
+/// Returns both sides of a unit's text, without their outer parentheses. A text without `/` has
+/// only one side.
 pub(crate) fn sides(text: &str) -> (&str, Option<&str>)
     ensures numerators { slice_split is_star result.0.now ≡ numerator_pieces text.now }
     ensures denominators { MatchOption result.1 (denominator_pieces text.now ≡ []) (λ side. slice_split is_star side.now ≡ denominator_pieces text.now) }

@@ -14,10 +14,10 @@ use std::alloc::Global;
 
 /// Reads a unit: measures with `*` between them and, if there are denominators, `/` and measures
 /// with `*` between them. Each side may be in parentheses (xBRL-JSON 1.0). It returns `None` for
-/// `pure` alone, which is no unit.
+/// `pure` alone, which is not a unit.
 ///
 /// Errors: `UnitForm` exactly if the text does not have this form; otherwise the first of
-/// `NameForm`, `UnboundPrefix` and `ReservedNamespace` that holds for any piece; `OutOfMemory`.
+/// `NameForm`, `UnboundPrefix` and `ReservedNamespace` that applies to any piece; `OutOfMemory`.
 pub fn read_unit(alloc: Global, aliases: &Aliases, text: &str) -> Result<Option<Unit>, Reason>
     ensures unit { IfOk result (UnitOf aliases.now text.now) }
     ensures sorted { IfOk result (λ unit. IfSome unit IsUnit) }
@@ -33,8 +33,9 @@ pub fn read_unit(alloc: Global, aliases: &Aliases, text: &str) -> Result<Option<
     }
 }
 
-// Reads the measures of both sides. If the text is not refused, every error is out of memory. Most
-// units are not refused, so `read_unit` reads first and looks for the refusal only after an error.
+// Reads the measures of both sides. If the text is not refused, the only error is `OutOfMemory`.
+// Most units are not refused, so `read_unit` reads first and looks for the refusal only after an
+// error.
 fn read_sides(alloc: Global, aliases: &Aliases, text: &str) -> Result<Option<Unit>, Reason>
     ensures unit { IfOk result (UnitOf aliases.now text.now) }
     ensures sorted { IfOk result (λ unit. IfSome unit IsUnit) }

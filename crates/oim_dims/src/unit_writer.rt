@@ -7,8 +7,8 @@ use crate::unit_check::has_mark;
 use oim_names::{Aliases, Name, Text};
 use std::alloc::{AllocError, Global};
 
-/// Writes a unit under these aliases, each side in the order of names (xBRL-JSON 1.0). The text
-/// reads back. `can_write_unit` tests the condition of this call.
+/// Writes a unit under these aliases, each side in the order of names (xBRL-JSON 1.0). Reading the
+/// text returns the unit. `can_write_unit` tests the precondition.
 ///
 /// Errors: out of memory.
 pub fn write_unit(alloc: Global, aliases: &Aliases, unit: &Unit) -> Result<Text, AllocError>

@@ -1,6 +1,6 @@
-//! Tests of `oim_names`, `oim_value`, `merge_laws` and `oim_dims`, by their public calls.
+//! Tests the public calls of `oim_names`, `oim_value`, `merge_laws` and `oim_dims`.
 //!
-//! They are in a crate of their own because a crate that contains tests is proved twice.
+//! The tests have their own crate because a crate that contains tests is proved twice.
 #![tactic(auto)]
 
 #[cfg(test)]

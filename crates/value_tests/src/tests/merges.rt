@@ -14,7 +14,8 @@ use std::test::Fail;
 
 const UNIT: i128 = 10_000_000_000_000_000_000;
 
-// Merges the set of some items, and returns whether the set then has exactly the items of `all`.
+// Merges a set with these items into `first`, and returns whether `first` then has exactly the
+// items of `all`.
 fn merges_to(rt: &HostRuntime, first: &mut Items, items: &[&str], all: &[&str]) -> bool {
     match set(rt, items) {
         Ok(second) => merge(rt, first, &second).is_ok() && has_just(first, all),
@@ -59,12 +60,12 @@ fn a_copy_stays_as_it_is(rt: HostRuntime) -> Result<(), Fail> {
     Ok(())
 }
 
-// Returns whether an item is new to the set.
+// Inserts an item, and returns whether it was new to the set.
 fn is_new(rt: &HostRuntime, set: &mut Items, item: &str) -> bool {
     insert(rt, set, item) == Ok(true)
 }
 
-// Returns whether an item was in the set before it is inserted.
+// Inserts an item, and returns whether the set had it before.
 fn is_there(rt: &HostRuntime, set: &mut Items, item: &str) -> bool {
     insert(rt, set, item) == Ok(false)
 }
@@ -186,7 +187,7 @@ fn has_value_alone(rt: &HostRuntime, map: &SummaryAt, value: &Summary) -> bool {
         && has_value(rt, map, "l", None)
 }
 
-// Returns whether a copy has the value at the key `k`, and none at keys before and after it.
+// Returns whether a copy has the value at the key `k`.
 fn copy_has_value(rt: &HostRuntime, map: &SummaryAt, value: &Summary) -> bool {
     match copied(rt, map) {
         Ok(copy) => has_value(rt, &copy, "k", Some(value)),
@@ -232,7 +233,7 @@ fn copy_is_merged(rt: &HostRuntime, map: &ItemsAt) -> bool {
     }
 }
 
-// Returns whether a map has the merged items after it has merged a map of these rows.
+// Returns whether a map has the merged items after it merges a map of these rows.
 fn merges_rows(rt: &HostRuntime, map: &mut ItemsAt, rows: &[(&str, &str)]) -> bool {
     match items_at(rt, rows) {
         Ok(other) => merge(rt, map, &other).is_ok() && copy_is_merged(rt, map),
@@ -299,7 +300,7 @@ fn pairs_merge_part_by_part(rt: HostRuntime) -> Result<(), Fail> {
     Ok(())
 }
 
-// Returns the value after a copy of it was merged in.
+// Returns a copy of the value after the value was merged into it.
 fn doubled<M: Same>(rt: &HostRuntime, value: &M) -> Result<M, AllocError> {
     let mut copy = copied(rt, value)?;
     merge(rt, &mut copy, value)?;
@@ -358,8 +359,8 @@ fn is_summary_of_members(rt: &HostRuntime) -> Result<bool, AllocError> {
     Ok(both(rt, &second, &rounded("102"))? == first)
 }
 
-// The function of a law does nothing. Each is called once, so that it is compiled for a type of
-// values.
+// A law is a function that does nothing. Each law is called once, so that it is compiled for a
+// concrete type.
 #[test]
 fn laws_hold(rt: HostRuntime) {
     laws::set_has_both::<Text>();

@@ -8,7 +8,7 @@ use std::test::Fail;
 
 pub(crate) const UNIT: i128 = 10_000_000_000_000_000_000;
 
-/// Eighteen nines.
+/// The greatest number: eighteen nines.
 const GREATEST: i128 = 999_999_999_999_999_999 * UNIT;
 
 // If a request for memory is refused, the call is repeated, and the next request succeeds.

@@ -1,5 +1,5 @@
-// Calls on dimension sets with every part, whose request for memory may be refused. A refused call
-// must not change anything.
+// Tests calls on dimension sets with every part while memory is refused. A refused call must not
+// change anything.
 
 use super::sets::{Kind, Part, equals_its_copy, fact, is_copied, member, with};
 use super::{example, name};
@@ -8,7 +8,7 @@ use oim_names::{Aliases, Reason};
 use oim_value::Value;
 use std::test::Fail;
 
-// Parts of every kind, with more members than a list has space for at first.
+// Parts of every kind, with more members than a new list has space for.
 const EVERY: [Part; 10] = [
     Part::Entity("x:529900"),
     Part::Period("2020-01-01T00:00:00/2020-12-31T24:00:00"),

@@ -12,8 +12,8 @@ pub(super) enum Kind {
     Nil,
 }
 
-// A part of a dimension set other than its concept, as it is spelled. A member is given by its
-// dimension.
+// A part of a dimension set other than its concept, spelled as in a report. A member is given by
+// the name of its dimension and by its kind.
 pub(super) enum Part {
     Entity(&'static str),
     Period(&'static str),
@@ -88,7 +88,7 @@ fn put_all(
     Ok(())
 }
 
-// Returns the dimensions of a concept with other parts.
+// Returns dimensions with this concept and these other parts.
 pub(super) fn with(
     rt: &HostRuntime,
     aliases: &Aliases,
@@ -140,7 +140,7 @@ const UNIT: [Part; 1] = [Part::Unit("x:a")];
 
 const PURE: [Part; 1] = [Part::Unit("xbrli:pure")];
 
-// Returns whether the set of eg:A with one other part has exactly the expected parts.
+// Returns whether the set with the concept eg:A and this part has exactly the expected parts.
 fn is_set(rt: &HostRuntime, aliases: &Aliases, part: &[Part], wanted: (bool, bool, bool)) -> bool {
     match with(rt, aliases, "eg:A", part) {
         Ok(set) => has_just(&set, wanted.0, wanted.1, wanted.2),
@@ -203,7 +203,7 @@ const TWICE: [Part; 2] = [
 
 const NIL: [Part; 1] = [Part::Member("eg:b", Kind::Nil)];
 
-// Returns whether a dimension that the set has is refused, and the members do not change.
+// Returns whether a repeated dimension is refused and the members do not change.
 fn is_kept_once(rt: &HostRuntime, aliases: &Aliases) -> bool {
     match with(rt, aliases, "eg:A", &TWICE) {
         Ok(mut set) => {
@@ -251,8 +251,8 @@ fn takes(rt: &HostRuntime, aliases: &Aliases, set: &mut Dimensions, names: &[&st
 
 const LAST: [Part; 1] = [Part::Member("eg:c", Kind::Nil)];
 
-// Returns whether members are stored in the order of names, whatever their order before, and do not
-// change when others are refused.
+// Returns whether `set_members` stores members in the order of names, and changes nothing if it
+// refuses others.
 fn are_put_in_order(rt: &HostRuntime, aliases: &Aliases) -> bool {
     match with(rt, aliases, "eg:A", &LAST) {
         Ok(mut set) => {
@@ -361,7 +361,7 @@ fn sets_are_ordered_part_by_part(rt: HostRuntime) -> Result<(), Fail> {
     Ok(())
 }
 
-// Returns the fact of a concept with a value.
+// Returns a fact with this concept and this value.
 pub(super) fn fact(
     rt: &HostRuntime,
     aliases: &Aliases,

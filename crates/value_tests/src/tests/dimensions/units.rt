@@ -4,7 +4,7 @@ use oim_names::{Aliases, Name, Reason, Text};
 use std::alloc::AllocError;
 use std::test::Fail;
 
-// Returns the text of a unit that can be written.
+// Returns the text of a unit, or `None` if it cannot be written.
 fn unit_text(rt: &HostRuntime, aliases: &Aliases, unit: &Unit) -> Result<Option<Text>, AllocError> {
     if !can_write_unit(aliases, unit) {
         return Ok(None);
@@ -233,10 +233,10 @@ fn units_are_written_and_read_back(rt: HostRuntime) -> Result<(), Fail> {
     Ok(())
 }
 
-// A prefix for only one of the measures.
+// Bindings with a prefix for only one of the measures.
 const FEW: [(&str, &str); 1] = [("x", "http://example.org/u")];
 
-// Two prefixes for the other measure. The first has a reserved character.
+// Bindings with two prefixes for the other measure. The first has a reserved character.
 const HIDDEN: [(&str, &str); 3] = [
     ("x", "http://example.org/u"),
     ("e*g", "http://example.org/t"),

@@ -13,7 +13,8 @@ use std::test::Fail;
 
 type PairsAt = SortedMap<Text, Pair>;
 
-// Absorbs the set of some items, and returns whether the set then has exactly the items of `all`.
+// Absorbs a set with these items into `first`, and returns whether `first` then has exactly the
+// items of `all`.
 fn absorbs_to(rt: &HostRuntime, first: &mut Items, items: &[&str], all: &[&str]) -> bool {
     match set(rt, items) {
         Ok(second) => absorb_set(rt, first, second).is_ok() && has_just(first, all),
@@ -37,7 +38,7 @@ fn absorbs_copy_to(rt: &HostRuntime, second: &mut Items, first: &Items, all: &[&
     }
 }
 
-// Returns whether a set does not change when it absorbs its copy.
+// Returns whether a set does not change when another set absorbs a copy of it.
 fn copy_is_absorbed(rt: &HostRuntime, first: &Items) -> bool {
     match set(rt, &["b", "c"]) {
         Ok(mut second) => {
@@ -61,7 +62,8 @@ fn an_empty_set_absorbs_all(rt: HostRuntime) {
     assert!(rt; absorbs_to(&rt, &mut items, &[], &["a", "c"]));
 }
 
-// Returns whether a set of one item absorbs others, and is absorbed by others.
+// Returns whether an empty set can absorb a copy of a set of one item, and whether that set accepts
+// and absorbs other items.
 fn one_is_a_set(rt: &HostRuntime, mut one: Items) -> bool {
     has_just(&one, &["b"])
         && absorbs_copy_to(rt, &mut SortedSet::new(rt.alloc()), &one, &["b"])
@@ -86,7 +88,7 @@ fn absorb_rows(
     absorb(rt, map, other)
 }
 
-// Returns whether an empty map has one row after it has absorbed the row and an empty map.
+// Returns whether an empty map has one row after it absorbs the row and an empty map.
 fn absorbs_row(rt: &HostRuntime, map: &mut ItemsAt) -> bool {
     absorb_rows(rt, map, &[("k", "a")]).is_ok()
         && absorb_rows(rt, map, &[]).is_ok()
@@ -105,7 +107,7 @@ fn absorb_copy(rt: &HostRuntime, map: &mut ItemsAt, other: &ItemsAt) -> Result<(
     absorb(rt, map, copy)
 }
 
-// Returns whether a map has the merged items after it has absorbed a copy of the map of these rows.
+// Returns whether a map has the merged items after it absorbs a copy of the map of these rows.
 fn absorbs_copy(rt: &HostRuntime, map: &mut ItemsAt, rows: &[(&str, &str)]) -> bool {
     match items_at(rt, rows) {
         Ok(other) => absorb_copy(rt, map, &other).is_ok() && is_merged(map),
@@ -176,7 +178,7 @@ fn keyed_pair(
     Ok((key, pair(rt, items.0, items.1)?))
 }
 
-// Returns the map of one key and a pair of sets, each with one item.
+// Returns a map with one key, at which there is a pair of sets with one item each.
 fn pair_at(rt: &HostRuntime, key: &str, items: (&str, &str)) -> Result<PairsAt, AllocError> {
     let mut entries = room(rt)?;
     entries.push_reserved(keyed_pair(rt, key, items)?);

@@ -146,7 +146,7 @@ fn put_items(
     put(rt, map, &key, items)
 }
 
-// Returns the map in which each row's item was added at its key.
+// Returns a map to which each row's item was added at the row's key.
 pub(super) fn items_at(rt: &HostRuntime, rows: &[(&str, &str)]) -> Result<ItemsAt, AllocError> {
     let mut map = SortedMap::new(rt.alloc());
     for (key, item) in rows {

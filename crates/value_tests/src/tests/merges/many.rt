@@ -39,8 +39,8 @@ fn has_multiples(map: &Many, step: i64, end: i64) -> bool {
     map.len() == seen
 }
 
-// Puts a value at the next multiple of a step. The expected earlier value is computed from the
-// number, since copying the map each time would take too long.
+// Puts a value at the next multiple of a step. After a refusal, the expected map is computed from
+// the number, since copying the map before each call would take too long.
 fn put_next(rt: &HostRuntime, map: &mut Many, step: i64, number: i64) -> Result<(), AllocError> {
     let value = rounded("1");
     match map.put(&place(number), &value) {

@@ -5,7 +5,7 @@ use oim_names::{Aliases, Reason, Text};
 use std::alloc::AllocError;
 use std::test::Fail;
 
-// More bindings than a list has space for at first.
+// More bindings than a new list has space for.
 const BINDINGS: [(&str, &str); 6] = [
     ("eg", "http://example.org/t"),
     ("x", "http://example.org/u"),
