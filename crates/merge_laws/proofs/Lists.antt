@@ -73,13 +73,13 @@ module _ {K E : Type 0} {R : K → K → Ordering} (key : E → K) (o : IsTotalO
   rises_back [] ys h = h
   rises_back (x ∷ xs) ys h = rises_back xs ys h.1
 
-  -- the items before the last one are below it
+  -- in an ascending list, the items before y are below y
   pub below_last : (xs : List E) (y : E) (zs : List E) → IsRising R key (xs ++ y ∷ zs) → AllBelow (key y) xs
   unfolding IsStrictlySortedBy
   below_last [] y zs h = tt
   below_last (x ∷ xs) y zs h = ((all_back (λ f. R (key x) (key f) ≡ Less) xs (y ∷ zs) h.0).0, below_last xs y zs h.1)
 
-  -- a list ascends if items below y are followed by y and then items above y
+  -- ascending items below y, then y, then ascending items above y make an ascending list
   pub rises_around : (xs : List E) (y : E) (zs : List E) → IsRising R key xs → AllBelow (key y) xs → AllByRecursion (λ f. R (key y) (key f) ≡ Less) zs → IsRising R key zs → IsRising R key (xs ++ y ∷ zs)
   unfolding IsStrictlySortedBy
   rises_around [] y zs h below above g = (above, g)

@@ -50,7 +50,7 @@ module _ {K : Type 0} {R : K → K → Ordering} (o : IsTotalOrder R) (exact : (
   pub map_is_its_values : (V : Type 0) → MapIsItsValues R V
   map_is_its_values V es fs g h same = same_items entry_key o es fs g h (λ k. entry_there k es ∙ ap (λ (a : Option V). option_map (λ v. (k, v)) a) (same k) ∙ sym (entry_there k fs))
 
--- a property of all items, by recursion and by index
+-- a property that all items have by recursion holds at every index
 pub all_by_place : {A : Type 0} (P : A → Type 0) (xs : List A) → AllByRecursion P xs → All P xs
 all_by_place P [] h k d lt = absurd (omega (arith, lt))
 all_by_place P (x ∷ xs) h zero d lt = h.0

@@ -56,7 +56,7 @@ module _ {K E : Type 0} {R : K → K → Ordering} (key : E → K) (o : IsTotalO
       ]) in
       sym (λ n. cond (absent n) (Ok (place n)) (Err (place n)))
 
-  -- a key above the last key is above all
+  -- for a key above the last key, the search returns the length
   pub found_behind : (es : List E) (k : K) (last : E) → IsRising R key es → 0 < length es → ((d : E) → last ≡ get_or es (length es - 1) d) → R (key last) k ≡ Less → Err (length es) ≡ found_at R key k es
   found_behind es k last h some is p = found_gap es k (length es) (omega arith) (λ j d lt. elim (cases_lt (j + 1) (length es)) [
     | inl under ↦ o.trans _ _ _ (rising_at es h j (length es - 1) d (omega (arith, under)) (omega (arith, some))) (sym (ap (λ e. R (key e) k) (is d)) ∙ p)

@@ -73,7 +73,7 @@ module _ {K V : Type 0} {R : K → K → Ordering} (o : IsTotalOrder R) where
       ] refl
 
   module _ (merged : V → V → V) where
-    -- an entry after its value was merged with the value at its key in the others
+    -- an entry whose value is merged with the value at its key in the other map, if there is one
     abbrev pub revalued : Option (K × V) → Option (K × V) → Option (K × V)
     revalued None b = None
     revalued (Some e) None = Some e

@@ -25,11 +25,11 @@ module _ {K V : Type 0} (R : K → K → Ordering) (merged : V → V → V) wher
   abbrev pub MergesKeep : (K × V → Bool) → Type 0
   MergesKeep test = (k : K) (v w : V) → IsTrue (test (k, v)) → IsTrue (test (k, w)) → IsTrue (test (k, merged v w))
 
-  -- all entries of a union pass such a test if all entries of both maps do
+  -- all entries of a union pass a test that merging keeps, if all entries of both maps do
   abbrev pub MapUnionKeeps : Type 0
   MapUnionKeeps = (test : K × V → Bool) → MergesKeep test → (es fs : List (K × V)) → AllPass test es → AllPass test fs → AllPass test (map_union R merged es fs)
 
-  -- all entries of a map after `put` pass such a test if its entries and the new one do
+  -- all entries of a map after `put` pass a test that merging keeps, if its entries and the new one do
   abbrev pub MapWithKeeps : Type 0
   MapWithKeeps = (test : K × V → Bool) → MergesKeep test → (es : List (K × V)) (k : K) (v : V) → AllPass test es → IsTrue (test (k, v)) → AllPass test (map_with R merged k v es)
 

@@ -1,4 +1,4 @@
-//! Merges with laws: the order, grouping and repetition of values do not matter.
+//! Merges whose results do not depend on the order, grouping or repetition of the values.
 #![tactic(auto)]
 
 mod changes;

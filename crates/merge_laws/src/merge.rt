@@ -32,6 +32,6 @@ pub trait Merge: Copied {
     /// Merging two values gives the same result in either order.
     ghost commutative: { (x y : Self) → is_known x → is_known y → merged x y ≡ merged y x };
 
-    /// A value merged with itself is itself.
+    /// Merging a value with itself gives the same value.
     ghost idempotent: { (x : Self) → is_known x → merged x x ≡ x };
 }

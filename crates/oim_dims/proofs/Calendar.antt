@@ -37,7 +37,7 @@ date_is date y m d h few_y few_m few_d =
     let ed : date.day ≡ d = omega (arith, ints, h.2) in
     (rw (ey, em, ed) at (civil date), rw (ey, em, ed) refl)
 
--- a date in the calendar passes the tests
+-- a date in the calendar passes the tests of `has_date`
 pub is_real : (y m d : ℕ) → 1 ≤ y → IsCivilDate (pos y) m d → (nat_le 1 y && is_in_range 1 12 m && is_in_range 1 (days_in_month (pos y) m) d) ≡ true
 is_real y m d low h = grind (arith, nat_tests)
 

@@ -68,7 +68,7 @@ unit_named bs t h =
 pub only_memory : (bs : List Binding) (p : List ℕ) (e : Reason) → name_refusal bs p ≡ None → (e ≡ OutOfMemory) ⊎ (name_refusal bs p ≡ Some e) → e ≡ OutOfMemory
 only_memory bs p e none h = elim h [ inl memory ↦ memory | inr refused ↦ absurd (cc (sym none ∙ refused)) ]
 
--- dropping the first bytes of a text without reserved characters adds none
+-- a text without reserved characters has none after its first n bytes
 no_mark_after : (n : ℕ) (p : List ℕ) → list_any is_mark p ≡ false → list_any is_mark (drop n p) ≡ false
 no_mark_after zero p h = h
 no_mark_after (suc n) [] h = refl

@@ -33,7 +33,7 @@ below_none n k (e ∷ es) less h =
     let here : name_cmp n e.0 ≡ Less = name_total.trans n k e.0 less (less_is _ b.0) in
     rw here (below_none n k es less b.1)
 
--- a name below the name at its index is not in the list
+-- a name that belongs at index i or later is not in the list if it is below the name at i
 pub below_here : (n : QName) (es : List (QName × Member)) (i : ℕ) (e : QName × Member) → i < length es → e ≡ get_or es i e → name_cmp n e.0 ≡ Less → IsPast n es i → has_name n es ≡ false
 below_here n es i e within is less h =
     let here : drop i es ≡ e ∷ drop (suc i) es = drop-cons es i e within ∙ ap (λ x. x ∷ drop (suc i) es) (sym is) in

@@ -60,7 +60,7 @@ each_spelled : (bs : List Binding) (f : QName → List ℕ) (ns : List QName) �
 each_spelled bs f [] h = tt
 each_spelled bs f (n ∷ ns) h = (h 0 n (omega arith), each_spelled bs f ns (All-tail (λ m. Spells bs (f m) m) n ns h))
 
--- a text without reserved characters has no character that passes a test for some of them
+-- if only reserved characters pass a test, nothing passes it in a text without them
 without : (p : ℕ → Bool) → ((c : ℕ) → is_mark c ≡ false → p c ≡ false) → (xs : List ℕ) → list_any is_mark xs ≡ false → list_any p xs ≡ false
 without p under [] h = refl
 without p under (x ∷ xs) h =

@@ -9,7 +9,7 @@ use Rattle.oim_dims.specs.declared.period.Period.TheVariants.{Forever, Instant, 
 use Rattle.oim_dims.specs.Separators.{is_slash}
 use Rattle.oim_dims.specs.DateTime.{moment_of, moment_text, IsMoment}
 
--- the parts before and after the first `/`; each is the whole text if there is none
+-- the parts before and after the first `/`; each is the whole text if there is no `/`
 abbrev pub start_part : List ℕ → List ℕ
 start_part t = before_first is_slash t
 
@@ -23,7 +23,7 @@ from_to (Some start) None = Err PeriodForm
 from_to (Some start) (Some end) =
     if int_lt end start then Err PeriodOrder else (if int_eq start end then Ok (Instant start) else Ok (Duration start end))
 
--- the period that a text denotes: one date-time, or two with one `/`
+-- the period that a text denotes: one date-time, or two with `/` between them
 abbrev pub period_of : List ℕ → Result Period Reason
 period_of t = from_to (moment_of (start_part t)) (moment_of (end_part t))
 

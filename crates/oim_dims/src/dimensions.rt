@@ -141,7 +141,7 @@ impl Dimensions {
 
     /// Adds a taxonomy-defined dimension with its member. An error changes nothing.
     ///
-    /// Errors: `DimensionValue` exactly if the set has the dimension; `OutOfMemory`.
+    /// Errors: `DimensionValue` exactly if the set already has the dimension; `OutOfMemory`.
     pub fn add(&mut self, name: Name, member: Member) -> Result<(), Reason>
         ensures ok { OnOk result (self.new ≡ record self.old { members = with_member name member self.old.members }) }
         ensures refused { (result ≡ Err Reason.DimensionValue) ↔ IsTrue (has_name name self.old.members) }

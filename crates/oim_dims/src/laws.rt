@@ -33,8 +33,8 @@ pub fn languages_are_kept()
     ensures { LanguagesAreKept }
 {}
 
-/// The text of a unit denotes that unit and no other if the text of each measure expands to it. It
-/// does under all bindings that can write the unit.
+/// If the text of each measure expands to the measure, the text of the unit denotes that unit and
+/// no other. This is so under all bindings that can write the unit.
 pub fn units_read_back()
     ensures back { UnitsReadBack }
     ensures spelled { BindingsSpell }

@@ -15,7 +15,7 @@ use std::marker::Model;
 /// The form of a date-time; `0` means any digit.
 const PICTURE: [u8; 19] = *b"0000-00-00T00:00:00";
 
-/// A whole second of the years 0001 to 9999, on a calendar and a clock without a time zone.
+/// A whole second of the years 0001 to 9999, without a time zone.
 #[derive(Clone, Copy, Debug, PartialEq, Eq, PartialOrd, Ord)]
 pub struct Moment {
     seconds: i64,

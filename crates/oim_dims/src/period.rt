@@ -65,8 +65,8 @@ fn from_to(start: Option<Moment>, end: Option<Moment>) -> Result<Period, Reason>
     }
 }
 
-/// Writes a period, or returns `None` for forever. Hours range from 00 to 23. The text of an
-/// instant reads back, and so does the text of a duration that ends after its start.
+/// Writes a period, or returns `None` for forever. Hours range from 00 to 23. Reading the text of
+/// an instant, or of a duration that ends after its start, returns the period.
 ///
 /// Errors: out of memory.
 pub fn write_period(alloc: Global, period: &Period) -> Result<Option<Text>, AllocError>

@@ -65,7 +65,7 @@ fn push_unit(
     push_side(text, aliases, denominators)
 }
 
-// Writes one of two sides.
+// Writes one side of a quotient.
 fn push_side(text: &mut String, aliases: &Aliases, names: &[Name]) -> Result<(), AllocError>
     requires { list_all (is_writable aliases.now) names.now ≡ true }
     ensures { OnOk result (string_bytes text.new ≡ string_bytes text.old ++ side_text (measure_text aliases.now) names.now) }

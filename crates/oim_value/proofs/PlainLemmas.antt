@@ -16,7 +16,7 @@ use Rattle.oim_value.specs.declared.limits.TheConstants.{UNIT_PLACES}
 use Rattle.oim_value.specs.Number.{onto_digit, without_trailing}
 use Rattle.oim_value.specs.Plain.{with_leading_zeros}
 
--- the text that `{:0width$}` writes
+-- `{:0width$}` writes leading zeros up to the width
 pub padded_integral-zeros : (ds : List ℕ) → padded_integral (format_spec 32 0 4 UNIT_PLACES (2 ^ 64 - 1)) false [] ds ≡ with_leading_zeros UNIT_PLACES ds
 unfolding padded_integral char_count
 padded_integral-zeros ds =

@@ -98,9 +98,9 @@ pub fn interval_has_what_is_near()
     ensures points { IntervalHasPoints }
 {}
 
-/// Both ends of a number's interval are smaller in size than 10 to the power of `MOST_DIGITS` +
-/// `UNIT_PLACES` plus the half width for `-MOST_DECIMALS` decimals. This bound is 15 * 10^36 units,
-/// which fits an `i128`.
+/// Both ends of a number's interval are smaller in size than 10^(`MOST_DIGITS` + `UNIT_PLACES`)
+/// plus the half width for decimals of `-MOST_DECIMALS`. This bound is 15 * 10^36 units, which fits
+/// an `i128`.
 pub fn interval_ends_are_bounded()
     ensures { IntervalEndsAreBounded }
 {}

@@ -40,7 +40,7 @@ module _ {K E : Type 0} {R : K → K → Ordering} (key : E → K) (o : IsTotalO
   pub turned_greater : (x y : K) → R x y ≡ Greater → R y x ≡ Less
   turned_greater x y p = o.antisymm y x ∙ ap ordering_reverse p
 
-  -- a key below all keys has no item
+  -- a look-up of a key below the keys of all items finds nothing
   pub none_below : (q : K) (es : List E) → Below q es → item_at R key q es ≡ None
   none_below q [] h = refl
   none_below q (e ∷ es) h = ap (λ r. cond (is_eq r) (Some e) (item_at R key q es)) h.0 ∙ none_below q es h.1

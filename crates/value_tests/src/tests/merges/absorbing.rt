@@ -62,8 +62,8 @@ fn an_empty_set_absorbs_all(rt: HostRuntime) {
     assert!(rt; absorbs_to(&rt, &mut items, &[], &["a", "c"]));
 }
 
-// Returns whether an empty set can absorb a copy of a set of one item, and whether that set accepts
-// and absorbs other items.
+// Returns whether a set of one item can be absorbed, and whether it has other items after `insert`
+// and `absorb`.
 fn one_is_a_set(rt: &HostRuntime, mut one: Items) -> bool {
     has_just(&one, &["b"])
         && absorbs_copy_to(rt, &mut SortedSet::new(rt.alloc()), &one, &["b"])
@@ -178,7 +178,7 @@ fn keyed_pair(
     Ok((key, pair(rt, items.0, items.1)?))
 }
 
-// Returns a map with one key, at which there is a pair of sets with one item each.
+// Returns a map with one entry, whose value is a pair of sets with one item each.
 fn pair_at(rt: &HostRuntime, key: &str, items: (&str, &str)) -> Result<PairsAt, AllocError> {
     let mut entries = room(rt)?;
     entries.push_reserved(keyed_pair(rt, key, items)?);

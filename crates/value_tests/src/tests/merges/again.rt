@@ -1,4 +1,4 @@
-// Calls that are repeated if their request for memory is refused.
+// Repeats calls whose request for memory is refused.
 
 ghost use Rattle.std.specs.Prelude.{◌≡◌, ◌≤◌, [], vec_capacity, IfOk};
 
@@ -14,7 +14,7 @@ pub(super) type Pair = (Items, Items);
 
 // If a request for memory is refused, the call is repeated, and the next request succeeds. The test
 // fails if the refused call changed something. `tests/refused_memory` counts the lines on standard
-// error, and reads from them whether the request was the test's own.
+// error, which show whether the request was the test's own.
 
 pub(super) fn tell_refused(rt: &HostRuntime) {
     let _ = eprintln!(rt; "refused");
