@@ -8,7 +8,7 @@ use Rattle.oim_value.specs.declared.value.Value.{Value}
 use Rattle.oim_value.specs.declared.value.Value.TheVariants.{Nil, Number}
 use Rattle.merge_laws.specs.Union.{either_or_both}
 
--- whether one of the values is nil, and the ends of the intervals of their numbers, if there is a number
+-- whether one of the values is nil, and the ends of the numbers' intervals, if there is a number
 pub record Summarised : Type 0 where
   pub nil : Bool
   pub ends : Option Interval

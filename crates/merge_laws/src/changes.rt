@@ -145,7 +145,7 @@ impl<K: Key, V: Merge> Changes<K, V> {
     }
 }
 
-// Replaces the value at each index.
+// Replaces the values at these indices.
 fn set_values<K: Drop, V: Drop>(entries: &mut Vec<(K, V)>, values: Vec<(usize, V)>)
     requires { AllByRecursion (λ c. c.0 < vec_len entries.old) values.items }
     ensures items { entries.new.items ≡ with_values entries.old.items values.items }

@@ -23,7 +23,7 @@ pub fn map_has_both<K: Key, V: Merge>()
     ensures put { MapWithMerges K.cmp V.merged }
 {}
 
-/// If no interval is empty, each two intervals meet exactly if the greatest low end is at most the
+/// If no interval is empty, every two intervals meet exactly if the greatest low end is at most the
 /// least high end.
 pub fn all_meet_iff_ends_meet()
     ensures { AllMeetIffEndsMeet }

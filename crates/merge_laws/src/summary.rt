@@ -11,7 +11,7 @@ use std::marker::Model;
 
 /// A summary of several values. It records whether one is nil and, if some are numbers, the
 /// greatest low end and the least high end of their rounding intervals. The ends decide whether
-/// each two numbers meet. Texts and names are not recorded.
+/// every two of the numbers meet. Texts and names are not recorded.
 #[derive(Clone, Copy, Debug, PartialEq, Eq)]
 pub struct Summary {
     nil: bool,

@@ -159,7 +159,7 @@ fn read_second_of_day(text: &[u8]) -> Option<i64>
     }
 }
 
-// Returns the number whose digits lie between two indices.
+// Returns the number whose digits are between two indices.
 fn number(text: &[u8], from: usize, to: usize) -> u32
     requires picture { has_picture text.now ≡ true }
     requires places { IsTrue (nat_le from to && nat_le to 19 && nat_le (to - from) 4) }

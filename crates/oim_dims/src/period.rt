@@ -39,7 +39,7 @@ impl Period {
 /// Reads a period: one date-time, or two with `/` between them.
 ///
 /// Errors: `PeriodForm` exactly if the text does not have this form, `PeriodOrder` exactly if it
-/// has the form and the end lies before the start. It takes no memory, though callers pass an
+/// has the form and the end is before the start. It takes no memory, though callers pass an
 /// allocator.
 pub fn read_period(_alloc: Global, text: &str) -> Result<Period, Reason>
     ensures { result ≡ period_of text.now }

@@ -23,7 +23,7 @@ pub fn write_unit(alloc: Global, aliases: &Aliases, unit: &Unit) -> Result<Text,
     Text::new(alloc, text.as_str())
 }
 
-/// Returns whether the URI of each measure has a prefix, and its first prefix has none of `*`, `/`,
+/// Returns whether the URI of every measure has a prefix and its first prefix has none of `*`, `/`,
 /// `(` and `)`.
 pub fn can_write_unit(aliases: &Aliases, unit: &Unit) -> bool
     ensures { result ≡ can_write aliases.now unit.now }

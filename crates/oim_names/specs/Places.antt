@@ -1,4 +1,4 @@
--- For each class of texts, the index at which one was added last (own).
+-- The index of the last text that was added, stored for each class of texts (own).
 use Rattle.std.specs.Prelude.{ℕ, List, length, ◌+◌, ◌-◌, ◌*◌, ◌%◌}
 use Rattle.std.specs.List.{slice_index_or}
 

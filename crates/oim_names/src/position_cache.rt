@@ -6,9 +6,9 @@ use std::marker::Model;
 /// The number of classes of texts.
 const CLASSES: usize = 2048;
 
-/// Remembers, for each class of texts, the index at which one was added last. The index is a hint:
-/// it may belong to another text of the class, or to none, so the caller compares the text at the
-/// index. Contracts see one index for each class.
+/// Remembers for each class of texts the index of the text that was added last. The index is a
+/// hint: it may belong to another text of the class, or to none, so the caller compares the text at
+/// the index. Contracts see one index for each class.
 #[derive(Clone, Copy, Debug)]
 pub struct PositionCache {
     places: [u16; CLASSES],
@@ -32,7 +32,7 @@ impl PositionCache {
         }
     }
 
-    /// Returns the index at which a text of this class was added last.
+    /// Returns the index of the last text of this class that was added.
     pub fn place(&self, text: &str) -> usize
         ensures { result ≡ place_in self.now text.now }
     {

@@ -1,4 +1,4 @@
--- Whether each two of several different values meet, in terms of the ends of their intervals (own).
+-- When every two of several different values meet, in terms of the ends of their intervals (own).
 use Rattle.std.specs.Prelude.{◌≡◌, ◌≢◌, ◌↔◌, ◌⊎◌, ℕ, ◌≤◌, Bool, false, IsTrue, List, length, slice_get, Contains, Some, ℤ, ◌<ℤ◌}
 use Rattle.std.specs.List.{All, AllPairs, position_or_len}
 use Rattle.std.specs.Ordering.{int_eq}
@@ -37,7 +37,7 @@ pub record MeetBetween (vs : List Value) (e : Interval) : Type 0 where
 abbrev pub DifferentMeetAsNumbers : Type 0
 DifferentMeetAsNumbers = (x y : Value) → x ≢ y → Meets x y → IsTrue (has_interval x) × IsTrue (has_interval y)
 
--- each two of several different values, each nil or of one kind, meet exactly if none is nil and the interval between the ends is
+-- several different values, each nil or of one kind, meet each other exactly if none is nil and the interval between the ends is
 -- not empty
 abbrev pub DifferentMeetBetweenEnds : Type 0
 DifferentMeetBetweenEnds = (kind : ℕ) (vs : List Value) → 2 ≤ length vs → AreDifferent vs → AreNilOrOfKind kind vs → EachTwoValuesMeet vs ↔ ((e : Interval) × MeetBetween vs e)

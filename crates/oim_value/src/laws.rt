@@ -145,13 +145,13 @@ pub fn ends_are_common_interval()
     ensures common { EndsAreCommonInterval }
 {}
 
-/// If no interval is empty, each two intervals meet exactly if the greatest low end is at most the
+/// If no interval is empty, every two intervals meet exactly if the greatest low end is at most the
 /// least high end.
 pub fn all_meet_iff_ends_meet()
     ensures { AllMeetIffEndsMeet }
 {}
 
-/// Take several different values, each nil or of one kind. Each two of them meet exactly if all are
+/// Take several different values, each nil or of one kind. They meet each other exactly if all are
 /// numbers and the greatest low end of their intervals is at most the least high end. If the low
 /// end is above the high end, the first number with the least high end and the first with the
 /// greatest low end do not meet.

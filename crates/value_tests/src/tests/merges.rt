@@ -337,8 +337,8 @@ fn entries_that_are_there_already_change_nothing(rt: HostRuntime) -> Result<(), 
     Ok(())
 }
 
-// Returns whether sets of the same items are equal, whatever the order and repetition of the
-// insertions.
+// Returns whether sets with the same items are equal if the items were inserted in another order
+// and repeatedly.
 fn is_set_its_members(rt: &HostRuntime) -> Result<bool, AllocError> {
     let first = set(rt, &["a", "b", "c"])?;
     let second = set(rt, &["c", "a", "b", "a"])?;

@@ -25,7 +25,7 @@ fn has_value(map: &Many, at: usize, number: i64) -> bool {
     }
 }
 
-// Returns whether the map has the value at exactly each multiple of `step` below `end`.
+// Returns whether the map has the value at exactly the multiples of `step` below `end`.
 fn has_multiples(map: &Many, step: i64, end: i64) -> bool {
     let mut seen = 0usize;
     for number in 0..end {
