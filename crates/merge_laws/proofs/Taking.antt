@@ -38,7 +38,7 @@ there_first None b has = absurd (true≢false (sym has))
 there_first (Some x) b has = refl
 
 module _ {K E : Type 0} {R : K → K → Ordering} (key : E → K) (o : IsTotalOrder R) where
-  -- a key that is not in a list splits it into the items below it and those above it
+  -- a key that is not in a list splits the list into items below the key and items above the key
   pub record IsParted (k : K) (es : List E) : Type 0 where
     pub below : AllBelow key o k (take (place_of R key k es) es)
     pub above : Below key o k (drop (place_of R key k es) es)

@@ -96,7 +96,7 @@ module _ {K V : Type 0} {R : K → K → Ordering} (o : IsTotalOrder R) where
     none_above q [] h = refl
     none_above q (f ∷ fs) h = ap (λ r. cond (is_eq r) (Some f) (item_at R entry_key q fs)) (o.antisymm q f.0 ∙ ap ordering_reverse h.0) ∙ none_above q fs h.1
 
-    -- an entry whose key only the others have does not change any value
+    -- adding an entry whose key only the others have changes no value
     other_alone : (es fs out : List (K × V)) (f : K × V) → item_at R entry_key f.0 es ≡ None → IsRevalued es fs out → IsRevalued es (fs ++ f ∷ []) out
     other_alone es fs out f none before = record {
       rises = before.rises;
@@ -109,7 +109,7 @@ module _ {K V : Type 0} {R : K → K → Ordering} (o : IsTotalOrder R) where
       ] refl;
     }
 
-    -- an entry whose key both maps have replaces the value at the key
+    -- adding an entry whose key both maps have sets the merged value at the key
     other_shared : (es fs out : List (K × V)) (f e : K × V) → item_at R entry_key f.0 es ≡ Some e → AllBelow entry_key o f.0 fs → IsRevalued es fs out → IsRevalued es (fs ++ f ∷ []) (with_value (place_of R entry_key f.0 es) (merged e.1 f.1) out)
     other_shared es fs out f e here low before =
         let v = merged e.1 f.1 in

@@ -67,7 +67,7 @@ pub(crate) fn changes_of<K: Key, V: Merge>(
 }
 
 impl<K: Key, V: Merge> Changes<K, V> {
-    // Adds the changes that one more entry makes, and returns the index of its key. The key is
+    // Adds the changes that one more entry makes, and returns the index of its key. The key must be
     // above all keys before index `from`.
     fn add(
         &mut self,

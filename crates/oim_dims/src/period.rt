@@ -13,9 +13,9 @@ use std::cmp::Ordering;
 pub enum Period {
     /// The fact has no period: it always holds.
     Forever,
-    /// At one moment.
+    /// The fact holds at one moment.
     Instant(Moment),
-    /// From the first moment to the second.
+    /// The fact holds from the first moment to the second.
     Duration(Moment, Moment),
 }
 

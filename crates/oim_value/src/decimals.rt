@@ -44,7 +44,7 @@ impl Decimals {
         places: Places::Infinite,
     };
 
-    /// Returns finite decimals.
+    /// Returns finite decimals with this number of places.
     ///
     /// Errors: `DecimalsRange` if the number is less than `-MOST_DECIMALS` or more than
     /// `MOST_DECIMALS`.
