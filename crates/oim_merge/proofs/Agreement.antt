@@ -128,7 +128,7 @@ module _ (sheet : Sheet) (writers : List Writer) (reports : List (List ℕ)) whe
   agree_run [] sets bases agree = agree
   agree_run (event ∷ events) sets bases agree = agree_run events _ _ (agree_happens sets bases agree event)
 
-  -- the agreement holds for bad events too
+  -- the agreement also holds after bad events
   pub agree : (n : ℕ) (events : List Event) → Agreeing (world_after sets_machine n events) (world_after bytes_machine n events)
   agree n events = agree_run events (start sets_machine n) (start bytes_machine n) (record { replicas = map-replicate says n []; sent = tt })
 

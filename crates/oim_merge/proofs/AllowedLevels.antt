@@ -1,4 +1,4 @@
--- No dimension set is above a level if and only if the level of all facts is not above it.
+-- A body stays within a level if and only if the level of its facts is that level or a stricter one.
 use Rattle.std.proofs.Common.{◌≡◌, ◌≤◌, Bool, true, false, not, ◌&&◌, cond, List, [], ◌∷◌, map, refl, sym, ap, subst, ◌∙◌}
 use Rattle.std.specs.Prelude.{◌↔◌, All, IsTrue}
 use Rattle.std.specs.List.{AllByRecursion, list_all}
@@ -55,7 +55,7 @@ each P a b c d AllLevel = d
 abbrev Splits : Level → Level → Level → Type 0
 Splits x y l = is_le (level_cmp (ord_max level_cmp x y) l) ≡ (is_le (level_cmp x l) && is_le (level_cmp y l))
 
--- the maximum of two levels is within a level if and only if both are
+-- the maximum of two levels is within a level if and only if both levels are
 splits : (x y l : Level) → Splits x y l
 splits = each (λ x. (y l : Level) → Splits x y l)
     (each (λ y. (l : Level) → Splits Unique y l) (each (Splits Unique Unique) refl refl refl refl) (each (Splits Unique Complete) refl refl refl refl) (each (Splits Unique Consistent) refl refl refl refl) (each (Splits Unique AllLevel) refl refl refl refl))

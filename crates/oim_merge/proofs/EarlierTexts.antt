@@ -1,4 +1,4 @@
--- No text of the earlier form is the text of any body in the present form.
+-- No text in the earlier form is the canonical text of a body.
 use Rattle.std.proofs.Common.{◌≡◌, get_or, sym, ap, ◌∙◌, arith}
 use Rattle.oim_write.proofs.FirstKeys.{behind_type, earlier_letter, present_letter}
 use Rattle.oim_merge.specs.ReadBack.{EarlierIsNotCanonical}

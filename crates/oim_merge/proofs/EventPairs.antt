@@ -11,7 +11,7 @@ use Rattle.std.proofs.lemmas.List.Sums.{position_or_len_is}
 use Rattle.std.proofs.lemmas.Str.Parse.{digit_at}
 use Rattle.oim_merge.specs.code.EventParts.{AreNumbersText, IsNumberText, is_space}
 
--- no digit of a number is a space
+-- no digit is a space, so the first space follows the number
 first_space_is : (m : ℕ) (rest : List ℕ) → m < 2 ^ 64 → position_or_len is_space (decimal m ++ 32 ∷ rest) ≡ length (decimal m)
 first_space_is m rest small =
     let digits = (decimal_is_IsNumeral m small).0.1 in
@@ -26,7 +26,7 @@ space_behind m rest small =
     let within : position_or_len is_space text < length text = omega (arith, length-append (decimal m) (32 ∷ rest)) in
     ap (λ b. cond b (Some (position_or_len is_space text)) None) (lt-ltb _ _ within) ∙ ap Some first
 
--- so the first space of two numbers is after the first number
+-- the first space in the text of two numbers follows the first number
 space_of_numbers : (text : List ℕ) (m n : ℕ) → AreNumbersText text m n → position is_space text ≡ Some (length (decimal m))
 space_of_numbers text m n are = ap (position is_space) are.0 ∙ space_behind m (decimal n) (omega (arith, are.1.0.1))
 

@@ -1,4 +1,4 @@
--- Lemmas on a buffer that is filled from a source.
+-- Lemmas about a buffer that is filled from a source.
 use Rattle.std.proofs.Common.{◌≡◌, ℕ, ◌+◌, List, Option, Result, Ok, Err, ◌++◌, IfOk, length, take, drop, sym, ap, subst, ◌∙◌, drop_at}
 use Rattle.std.proofs.lemmas.List.{take-append-le}
 use Rattle.std.proofs.Math.Seq.{take-add}
@@ -13,7 +13,7 @@ Consumes-behind a b (Ok n) front part rest at long fits read =
     subst (Consumes a b) (sym (ap (take n) (drop_at front (part ++ rest) at long) ∙ take-append-le n part rest fits.0)) read
 Consumes-behind a b (Err e) front part rest at long fits read = tt
 
--- two reads, one after the other
+-- two reads in sequence consume the bytes of both
 pub Consumes-more : (a b c : Option (List ℕ)) (xs ys : List ℕ) (i n : ℕ) → take i ys ≡ take i xs
     → Consumes a b (take i xs) → Consumes b c (take n (drop i ys)) → Consumes a c (take (i + n) ys)
 Consumes-more a b c xs ys i n front before read =

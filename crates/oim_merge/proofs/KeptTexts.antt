@@ -22,7 +22,7 @@ use Rattle.oim_merge.proofs.Zips.{zip_at, zip_both, zip_long, zip_push, zip_same
 
 -- ---- cached readings
 
--- taking the cached reading has the effect of taking the outcome
+-- taking a cached reading has the same effect as taking the outcome
 pub with_read_is : (sheet : Sheet) (said : Result Document Refusal) (base : Contents) → with_read (read_as sheet said) base ≡ with_outcome said base
 with_read_is sheet (Ok d) base = refl
 with_read_is sheet (Err refusal) base = refl
@@ -90,14 +90,14 @@ current_at texts bases places each k base place within there known =
     subst (λ b. IsCurrent texts b place) (sym there)
     (subst (IsCurrent texts (get_or bases k base)) (sym known) (zip_at (IsCurrent texts) bases places each k base place within))
 
--- after a replica sent its text
+-- the current texts after a replica sent its text
 pub current_after_send : (texts more : List (List ℕ)) (bases : List Contents) (places : List (Option ℕ)) → AllZip (IsCurrent texts) bases places → Stay texts more →
     (k : ℕ) (base : Contents) (place : Option ℕ) → base ≡ get_or bases k base → IsCurrent more base place → AllZip (IsCurrent more) bases (set places k place)
 current_after_send texts more bases places each stay k base place there is =
     zip_set (IsCurrent more) bases places (zip_weaker (IsCurrent texts) (IsCurrent more) (still_current texts more stay) bases places each) k base place
     (subst (λ b. IsCurrent more b place) there is)
 
--- after the base of a replica changed
+-- the current texts after the base of a replica changed
 pub current_after_change : (texts : List (List ℕ)) (bases more : List Contents) (places left : List (Option ℕ)) → AllZip (IsCurrent texts) bases places →
     (k : ℕ) (base : Contents) → more ≡ set bases k base → left ≡ set places k None → AllZip (IsCurrent texts) more left
 current_after_change texts bases more places left each k base changed forgotten =

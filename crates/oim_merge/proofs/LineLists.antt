@@ -1,4 +1,4 @@
--- The verdict lines of dimension sets, one after another.
+-- The verdict lines of a list of dimension sets.
 use Rattle.std.proofs.Common.{◌≡◌, ℕ, suc, ◌+◌, ◌-◌, ◌<◌, ◌≤◌, List, [], ◌∷◌, ◌++◌, length, get_or, codes, inr, Option, refl, sym, ap, subst, ◌∙◌, append_assoc, append-nil, arith}
 use Rattle.std.specs.Prelude.{◌≢◌, Contains}
 use Rattle.std.specs.Fmt.{decimal}
@@ -28,7 +28,7 @@ use Rattle.oim_merge.proofs.Evidenced.{evidence_exists, one_evidence, slice_with
 
 -- ---- lists of lines
 
--- the lines of two lists of dimension sets
+-- the lines of two lists are the lines of the lists as one
 pub lines_both : (facts : List Fact) (n : ℕ) (done rest : List Row) (text more : List ℕ) → AreLinesFrom facts n done text → AreLinesFrom facts (n + length done) rest more → AreLinesFrom facts n (done ++ rest) (text ++ more)
 lines_both facts n [] rest text more none further =
     subst (λ t. AreLinesFrom facts n rest (t ++ more)) (sym none) (subst (λ k. AreLinesFrom facts k rest more) (omega arith) further)
@@ -38,7 +38,7 @@ lines_both facts n (x ∷ xs) rest text more h further =
 pub one_line : (facts : List Fact) (n : ℕ) (r : Row) (line : List ℕ) → IsLine facts n r line → AreLinesFrom facts n (r ∷ []) line
 one_line facts n r line is = (line, [], (sym (append-nil line), (is, refl)))
 
--- there are lines if each dimension set has evidence
+-- lines exist if each dimension set has evidence
 pub lines_exist : (facts : List Fact) (n : ℕ) (rows : List Row) → ((r : Row) → Contains rows r → (e : Evidence) × IsEvidence r.1 e) → (text : List ℕ) × AreLinesFrom facts n rows text
 lines_exist facts n [] shown = ([], refl)
 lines_exist facts n (r ∷ rs) shown =
@@ -121,13 +121,13 @@ module _ (b : Body) (rises : IsSet fact_cmp b.facts) (done rest : List Row) (r :
       filled [] some = absurd (some refl)
       filled (v ∷ vs) some = omega arith
 
-  -- the count of facts does not overflow
+  -- the row is part of all facts, so the count of facts does not overflow
   pub row_within : length (rows_facts done) + length r.1 ≤ length b.facts
   row_within =
       let long : length (row_facts r) ≡ length r.1 = length-map r.1 (λ v. record { dimensions = r.0; value = v }) in
       omega (arith, long, ap length facts_split, length-append (rows_facts done) (row_facts r ++ rows_facts rest), length-append (row_facts r) (rows_facts rest))
 
-  -- its line, as it is written
+  -- the written line is the row's line
   pub line_is : (number before count : ℕ) (line : List ℕ) → before ≡ length (rows_facts done) → count ≡ length b.facts → IsLineBy number before count r.1 line → IsLine b.facts number r line
   line_is number before count line before_is count_is is = record {
     evidence = is.evidence;
@@ -138,7 +138,7 @@ module _ (b : Body) (rises : IsSet fact_cmp b.facts) (done rest : List Row) (r :
         number is.evidence row_filled (places_within r.1 is.evidence is.shows);
   }
 
-  -- its facts are counted
+  -- the count of facts after the row includes its facts
   pub count_with_row : length (rows_facts done) + length r.1 ≡ length (rows_facts (done ++ r ∷ []))
   count_with_row =
       let long : length (row_facts r) ≡ length r.1 = length-map r.1 (λ v. record { dimensions = r.0; value = v }) in

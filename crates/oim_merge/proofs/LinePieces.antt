@@ -1,4 +1,4 @@
--- The pieces of a bundle, one after another.
+-- The pieces of a bundle between line ends.
 use Rattle.std.proofs.Common.{◌≡◌, ◌<◌, ◌≤◌, ◌+◌, ℕ, List, [], ◌∷◌, ◌++◌, length, drop, filter, true, false, cond, not, inl, inr, sym, ap, ◌∙◌, arith, length-drop}
 use Rattle.std.specs.Prelude.{◌==◌}
 use Rattle.std.specs.List.{before_first, after_first, position_or_len}
@@ -48,6 +48,6 @@ filled_pieces-filled bytes some = filled_pieces-first bytes ∙ ap (λ b. cond (
 pub filled_pieces-empty : (bytes : List ℕ) → (length (before_first is_line_end bytes) == 0) ≡ true → filled_pieces bytes ≡ filled_pieces (after_first is_line_end bytes)
 filled_pieces-empty bytes none = filled_pieces-first bytes ∙ ap (λ b. cond (not b) (before_first is_line_end bytes ∷ []) [] ++ filled_pieces (after_first is_line_end bytes)) none
 
--- fewer bytes are left after each piece
+-- each piece leaves fewer bytes
 pub fewer_left : (bytes : List ℕ) → 0 < length bytes → length (after_first is_line_end bytes) < length bytes
 fewer_left bytes some = omega (arith, length-drop (position_or_len is_line_end bytes + 1) bytes)

@@ -1,4 +1,4 @@
--- Mentions that are collected one after another.
+-- Lemmas about loops that collect mentions.
 use Rattle.std.proofs.Common.{◌≡◌, ℕ, suc, ◌+◌, List, [], ◌∷◌, ◌++◌, drop, refl, sym, ap, ◌∙◌, append_assoc, arith}
 use Rattle.std.proofs.lemmas.List.{map-append}
 use Rattle.oim_dims.specs.declared.fact.Fact.{Fact}
@@ -9,7 +9,7 @@ use Rattle.oim_merge.specs.Mentions.{all_placed, place, placed}
 use Rattle.oim_merge.specs.Sources.{mentions_from, mentions_in, mentions_of}
 use Rattle.oim_merge.specs.declared.placed_mention.PlacedMention.{PlacedMention}
 
--- the mentions of one report more
+-- one loop step adds the mentions in the next report
 pub mentions_more : (facts : List Fact) (n : ℕ) (sheet : Sheet) (report : List ℕ) (rest reports : List (List ℕ)) (i : ℕ) (before after : List PlacedMention) {whole : List PlacedMention}
     → drop i reports ≡ report ∷ rest
     → after ≡ before ++ all_placed facts (mentions_of n (identifiers report) (outcome sheet report))
@@ -24,7 +24,7 @@ mentions_more facts n sheet report rest reports i before after here added all =
     ∙ ap (λ rs. before ++ all_placed facts (mentions_from n sheet rs)) (sym here)
     ∙ all
 
--- the mention of one fact object more
+-- one loop step adds the mention in the next fact object
 pub mention_more : (facts : List Fact) (n : ℕ) (i : List ℕ) (f : Fact) (is left : List (List ℕ)) (fs said : List Fact) (before after : List PlacedMention) {whole : List PlacedMention}
     → left ≡ i ∷ is → said ≡ f ∷ fs
     → (p : ℕ) → (own : List ℕ) → p ≡ place facts f → own ≡ i

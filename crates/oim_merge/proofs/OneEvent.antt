@@ -4,7 +4,7 @@ use Rattle.oim_merge.specs.declared.event.Event.TheVariants.{Take, Join, Send, R
 use Rattle.oim_merge.specs.EventLines.{LinesSayOneEvent}
 use Rattle.oim_merge.proofs.EventPairs.{same_number, same_numbers}
 
--- words differ in their third letters; after the same word, equal texts have equal numbers
+-- the words of events differ in their third letters; after the same word, equal texts have equal numbers
 pub lines_say_one_event : LinesSayOneEvent
 lines_say_one_event line (Take i r) (Take j s) a b = let same = same_numbers (drop 5 line) i r j s (ap (drop 5) a.0, a.1) (ap (drop 5) b.0, b.1) in (λ k. Take (same.0 k) (same.1 k))
 lines_say_one_event line (Join i r) (Join j s) a b = let same = same_numbers (drop 5 line) i r j s (ap (drop 5) a.0, a.1) (ap (drop 5) b.0, b.1) in (λ k. Join (same.0 k) (same.1 k))

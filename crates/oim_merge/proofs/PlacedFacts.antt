@@ -1,4 +1,4 @@
--- Grouping mentions by the places of their facts is grouping them by fact.
+-- Grouping mentions by the places of their facts groups them by fact.
 use Rattle.std.proofs.Common.{◌≡◌, ℕ, suc, ◌+◌, ◌<◌, List, [], ◌∷◌, ◌++◌, length, get_or, Bool, true, false, cond, refl, sym, ap, ◌∙◌, arith, append_assoc}
 use Rattle.std.specs.Prelude.{filter, Contains}
 use Rattle.std.specs.List.{All, AllByRecursion}
@@ -85,7 +85,7 @@ module _ (facts : List Fact) (rise : IsSet fact_cmp facts) where
   pub placed_by_fact : (ms : List Mention) → AreOf facts ms → groups 0 (length facts) (all_placed facts ms) ≡ all_placed facts (by_fact facts ms)
   placed_by_fact ms h = groups_are [] facts refl 0 refl ms h
 
--- a stable sort by place gives the mentions fact by fact
+-- a stable sort by place gives the mentions grouped by fact
 pub sorted_are : (facts : List Fact) → IsSet fact_cmp facts → (ms : List Mention) → AreOf facts ms → (sorted : List PlacedMention) → IsNonDecreasingBy (λ (m : PlacedMention). m.place) sorted → IsStableByKey (λ (m : PlacedMention). m.place) nat_cmp (all_placed facts ms) sorted → IsPermutation (all_placed facts ms) sorted → sorted ≡ all_placed facts (by_fact facts ms)
 sorted_are facts rise ms of_facts sorted up stable moved =
     let placed_ms = all_placed facts ms in

@@ -1,4 +1,4 @@
--- The canonical text is read as the document for which it was written.
+-- The canonical text is read as the document with the body's facts and references.
 use Rattle.std.proofs.Common.{◌≡◌, ℕ, ◌+◌, List, [], ◌∷◌, ◌++◌, true, false, cond, Option, Some, None, Ok, Err, refl, sym, ap, subst, bytes_eq, ◌≢◌, ◌∙◌, codes, map, arith}
 use Rattle.std.specs.Prelude.{All, Bool, IsTrue, IsUtf8, ◌<◌, ◌↔◌, ⊤, nat_lt, not}
 use Rattle.std.specs.List.{list_all}

@@ -33,11 +33,11 @@ refused_more n sheet (b ∷ bs) bytes =
 pub same_added : {sheet : Sheet} {b c : Body} {r s : List (ℕ × Refusal)} {n m : ℕ} → b ≡ c → r ≡ s → n ≡ m → ◌≡◌ {A = Added} (record { sheet = sheet; body = b; refusals = r; reports = n }) (record { sheet = sheet; body = c; refusals = s; reports = m })
 same_added {sheet} p q e = λ i. record { sheet = sheet; body = p i; refusals = q i; reports = e i }
 
--- one report more
+-- the state after one more report
 pub added_more : (sheet : Sheet) (reports : List (List ℕ)) (bytes : List ℕ) → with_report (added sheet reports) bytes ≡ added sheet (reports ++ bytes ∷ [])
 added_more sheet reports bytes = same_added (merged_more sheet reports bytes) (refused_more 1 sheet reports bytes) (sym (length_push reports bytes))
 
--- several reports more
+-- the state after several more reports
 added_then : (sheet : Sheet) (reports others : List (List ℕ)) → with_reports (added sheet reports) others ≡ added sheet (reports ++ others)
 added_then sheet reports [] = sym (ap (added sheet) (append-nil reports))
 added_then sheet reports (bytes ∷ others) =
@@ -48,7 +48,7 @@ added_then sheet reports (bytes ∷ others) =
 pub steps_are_list : StepsAreList
 steps_are_list sheet reports = added_then sheet [] reports
 
--- the added reports and the reports that are left are all reports
+-- the added reports and the remaining reports are all reports
 pub record HasAdded (sheet : Sheet) (a : Added) (left all : List (List ℕ)) : Type 0 where
   pub done : List (List ℕ)
   pub is : a ≡ added sheet done
@@ -64,13 +64,13 @@ has_added_more sheet bytes later left all a new first is before = record {
 pub all_added : (sheet : Sheet) (all : List (List ℕ)) (a : Added) → HasAdded sheet a [] all → a ≡ added sheet all
 all_added sheet all a h = h.is ∙ ap (added sheet) (sym (append-nil h.done) ∙ h.whole)
 
--- one report more of a list
+-- one loop step adds the next report of a list
 pub list_step : (sheet : Sheet) (reports : List (List ℕ)) (i : ℕ) (r bytes : List ℕ) (a new : Added) → i < length reports → r ≡ get_or reports i r → bytes ≡ r → new ≡ with_report a bytes → a ≡ added sheet (take i reports) → new ≡ added sheet (take (i + 1) reports)
 list_step sheet reports i r bytes a new within at read stepped is =
     stepped ∙ (λ k. with_report (is k) (read k)) ∙ added_more sheet (take i reports) r
     ∙ ap (added sheet) (ap (λ b. take i reports ++ b ∷ []) at ∙ sym (take_more reports i r within))
 
--- an accepted report, and a refused one
+-- the step for an accepted report, and for a refused one
 pub accepted_step : (sheet : Sheet) (bytes : List ℕ) (d : Document) (old new : Body) (told : List (ℕ × Refusal)) (n : ℕ) → outcome sheet bytes ≡ Ok d → new ≡ union old (body (d ∷ [])) →
     ◌≡◌ {A = Added} (record { sheet = sheet; body = new; refusals = told; reports = n + 1 }) (with_report (record { sheet = sheet; body = old; refusals = told; reports = n }) bytes)
 accepted_step sheet bytes d old new told n o is = same_added

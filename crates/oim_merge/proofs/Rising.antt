@@ -1,4 +1,4 @@
--- Facts that strictly rise, and canonical reports.
+-- The facts of a canonical report rise.
 use Rattle.std.proofs.Common.{◌≡◌, ℕ, zero, suc, ◌+◌, ◌<◌, Bool, true, false, List, [], ◌∷◌, length, get_or, Ok, refl, sym, ap, subst, ◌∙◌, arith}
 use Rattle.std.specs.Prelude.{◌↔◌, IsTrue}
 use Rattle.std.specs.List.{All, IsAllAdjacentAnswer}

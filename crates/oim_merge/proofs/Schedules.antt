@@ -1,4 +1,4 @@
--- Schedules, one event after another.
+-- Schedules run one event after another.
 use Rattle.std.proofs.Common.{◌≡◌, ℕ, zero, suc, ◌+◌, ◌<◌, ◌≤◌, Bool, true, false, cond, List, [], ◌∷◌, ◌++◌, length, take, get_or, Option, Some, None, refl, sym, ap, subst, ◌∙◌, ◌⊎◌, inl, inr, ⊎_elim, length-append, add-one, arith}
 use mathlib.Core.Bool.{true≢false}
 use Rattle.std.specs.Prelude.{filter, flat_map, slice_get}
@@ -9,7 +9,7 @@ use Rattle.oim_merge.specs.declared.event.Event.{Event}
 use Rattle.oim_merge.specs.declared.event.Event.TheVariants.{Take, Join, Send, Receive, Restart}
 use Rattle.oim_merge.proofs.Evidenced.{slice_within}
 
--- after one event more
+-- the first k + 1 elements are the first k elements and the next one
 take_suc : {A : Type 0} (xs : List A) (k : ℕ) (d : A) → k < length xs → take (suc k) xs ≡ take k xs ++ get_or xs k d ∷ []
 take_suc [] k d h = absurd (omega (arith, h))
 take_suc (x ∷ xs) zero d h = refl

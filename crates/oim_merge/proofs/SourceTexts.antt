@@ -29,7 +29,7 @@ lines_are facts ms count is =
     ∙ flat_map-map (placed_line (length facts)) (placed facts) ms
     ∙ (λ i. flat_map (λ m. same_line facts m i) ms)
 
--- the state after a fault
+-- a fault in the lines is a fault of the listing
 pub stops_at : (sheet : Sheet) (reports : List (List ℕ)) (old new : Option (List ℕ)) (fault : WriteFault) → AppendsFront old new (sources sheet reports) (written_of fault) → SourcesStop sheet reports old new (fault_of fault)
 stops_at sheet reports old new (OutOfMemory n) front = front
 stops_at sheet reports old new (Device n) front = front

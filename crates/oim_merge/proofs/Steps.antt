@@ -45,7 +45,7 @@ joins_same base other same rises = joined_itself base rises ∙ (λ i. record { 
 pub read_default : {A : Type 0} (xs : List A) (i : ℕ) (x d : A) → i < length xs → x ≡ get_or xs i x → x ≡ get_or xs i d
 read_default xs i x d within is = is ∙ get_or_default xs i x d within
 
--- a base joins itself
+-- a base that joins itself does not change
 pub joins_itself : (bases : List Contents) (i j : ℕ) (base fresh : Contents) → i ≡ j → i < length bases → base ≡ get_or bases i base → IsBody base.body →
     bases ≡ set bases i (joined_with (get_or bases i fresh) (get_or bases j fresh))
 joins_itself bases i j base fresh is within read rises =
@@ -53,7 +53,7 @@ joins_itself bases i j base fresh is within read rises =
     sym (set-get_or bases i fresh)
     ∙ ap (set bases i) (sym there ∙ joined_itself base rises ∙ (λ t. joined_with (there t) ((there ∙ ap (λ k. get_or bases k fresh) is) t)))
 
--- a base is taken out of the list, joins another and is put back
+-- a base is removed from the list, joins another base and is put back
 pub joins_other : (bases : List Contents) (i j : ℕ) (left base other joined fresh : Contents) → i ≢ j → j < length bases →
     base ≡ get_or bases i fresh → other ≡ get_or (set bases i left) j other → joined ≡ joined_with base other →
     set (set bases i left) i joined ≡ set bases i (joined_with (get_or bases i fresh) (get_or bases j fresh))

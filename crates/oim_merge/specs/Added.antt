@@ -6,18 +6,18 @@ use Rattle.oim_report.specs.declared.refusal.Refusal.{Refusal}
 use Rattle.fact_base.specs.Body.{Body, body, union}
 use Rattle.oim_merge.specs.Reports.{document_in, merged, refusal_in, refused}
 
--- the body of the accepted reports, the refused ones, and the count of all, under a sheet
+-- the sheet, the body of the accepted reports, the refusals, and the count of all reports
 pub record Added : Type 0 where
   pub sheet : Sheet
   pub body : Body
   pub refusals : List (ℕ × Refusal)
   pub reports : ℕ
 
--- no report yet
+-- the state before the first report
 abbrev pub begun : Sheet → Added
 begun sheet = record { sheet = sheet; body = body []; refusals = []; reports = 0 }
 
--- one report more
+-- the state after one more report
 abbrev pub with_report : Added → List ℕ → Added
 with_report a bytes = record {
   sheet = a.sheet;
@@ -26,7 +26,7 @@ with_report a bytes = record {
   reports = a.reports + 1;
 }
 
--- several reports more
+-- the state after several more reports
 abbrev pub with_reports : Added → List (List ℕ) → Added
 with_reports a [] = a
 with_reports a (bytes ∷ reports) = with_reports (with_report a bytes) reports
@@ -35,6 +35,6 @@ with_reports a (bytes ∷ reports) = with_reports (with_report a bytes) reports
 abbrev pub added : Sheet → List (List ℕ) → Added
 added sheet reports = record { sheet = sheet; body = merged sheet reports; refusals = refused sheet reports; reports = length reports }
 
--- adding one at a time gives the body and the refusals of the list
+-- adding reports one at a time gives the same result as adding the list
 abbrev pub StepsAreList : Type 0
 StepsAreList = (sheet : Sheet) (reports : List (List ℕ)) → with_reports (begun sheet) reports ≡ added sheet reports

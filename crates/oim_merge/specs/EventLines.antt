@@ -12,7 +12,7 @@ use Rattle.oim_merge.specs.declared.replay_fault.ReplayFault.TheVariants.{OutOfM
 abbrev pub IsNumber : ℕ → Type 0
 IsNumber n = (1 ≤ n) × (n < 2 ^ 32)
 
--- a word with one number, or with two, with single spaces and without leading zeros
+-- a word followed by one or two numbers, with single spaces and without leading zeros
 abbrev pub word_and_one : List ℕ → ℕ → List ℕ
 word_and_one word n = word ++ 32 ∷ decimal n
 
@@ -47,7 +47,7 @@ without_empty_last (line ∷ next ∷ lines) = line ∷ without_empty_last (next
 abbrev pub lines_of : List ℕ → List (List ℕ)
 lines_of bytes = without_empty_last (line_pieces bytes)
 
--- each line spells the event with its index
+-- each line spells the event at the same index
 abbrev pub SaysEvents : List ℕ → List Event → Type 0
 SaysEvents bytes events = AllZip IsEventLine (lines_of bytes) events
 
@@ -62,7 +62,7 @@ pub record IsFirstBadLine (bytes : List ℕ) (number : ℕ) : Type 0 where
   pub events : List Event
   pub earlier : AllZip IsEventLine before events
 
--- a fault when a schedule is read: memory was refused, or a line is bad
+-- why a schedule was not read: memory was refused, or a line is bad
 abbrev pub ReadingEventsStops : List ℕ → ReplayFault → Type 0
 ReadingEventsStops bytes OutOfMemory = Unit {0}
 ReadingEventsStops bytes (BadEvent number) = IsFirstBadLine bytes number

@@ -1,4 +1,4 @@
--- Bases by what they took and joined, and how their texts are read (own).
+-- The documents that bases took, the bases that they joined, and how their texts are read (own).
 use Rattle.std.specs.Prelude.{◌≡◌, ℕ, List, [], ◌∷◌, ◌++◌, Contains, Ok}
 use Rattle.std.specs.List.{All}
 use Rattle.merge_laws.specs.Members.{SameMembers}
@@ -18,13 +18,13 @@ pub data History : Type 0 where
   took : History → Document → History
   joined : History → History → History
 
--- its body, by the contracts of `Base::new`, `take` and `join`
+-- the body of a base with this history, by the contracts of `Base::new`, `take` and `join`
 abbrev pub body_of : History → Body
 body_of fresh = body []
 body_of (took h d) = union (body_of h) (body (d ∷ []))
 body_of (joined h k) = union (body_of h) (body_of k)
 
--- the documents that reached it, directly or through a base that it joined
+-- the documents that reached a base, directly or through a base that it joined
 abbrev pub documents_of : History → List Document
 documents_of fresh = []
 documents_of (took h d) = documents_of h ++ d ∷ []
@@ -38,16 +38,16 @@ HistoriesGiveBodies = (h : History) → body_of h ≡ body (documents_of h)
 abbrev pub HistoriesAreForgotten : Type 0
 HistoriesAreForgotten = (h k : History) → SameMembers (documents_of h) (documents_of k) → canonical (body_of h) ≡ canonical (body_of k)
 
--- and have the same verdicts
+-- bases that the same documents reached have the same verdicts
 abbrev pub VerdictsAreForgotten : Type 0
 VerdictsAreForgotten =
     (h k : History) (s : DimensionSet) → SameMembers (documents_of h) (documents_of k) → verdict (body_of h).facts s ≡ verdict (body_of k).facts s
 
--- and the same level
+-- bases that the same documents reached have the same level
 abbrev pub LevelsAreForgotten : Type 0
 LevelsAreForgotten = (h k : History) → SameMembers (documents_of h) (documents_of k) → level_of (body_of h).facts ≡ level_of (body_of k).facts
 
--- and the same references
+-- bases that the same documents reached have the same references
 abbrev pub ReferencesAreForgotten : Type 0
 ReferencesAreForgotten = (h k : History) → SameMembers (documents_of h) (documents_of k) → (body_of h).references ≡ (body_of k).references
 
@@ -63,7 +63,7 @@ pub record IsReadAsBody (sheet : Sheet) (bytes : List ℕ) (b : Body) : Type 0 w
 abbrev pub TextsGiveBodies : Type 0
 TextsGiveBodies = (sheet : Sheet) (b : Body) → Fits sheet b → IsReadAsBody sheet (canonical b) b
 
--- its text in the earlier form is too
+-- the text in the earlier form is also read as that body
 abbrev pub EarlierTextsGiveBodies : Type 0
 EarlierTextsGiveBodies = (sheet : Sheet) (b : Body) → Fits sheet b → IsReadAsBody sheet (earlier b) b
 

@@ -52,7 +52,7 @@ pub record HasOneText (b : Body) : Type 0 where
 abbrev pub LinesAreOne : Type 0
 LinesAreOne = (sheet : Sheet) (b : Body) → Fits sheet b → HasOneText b
 
--- the verdict that evidence shows; its word is in the line
+-- the verdict that evidence shows
 abbrev pub verdict_shown : Evidence → Verdict
 verdict_shown Alike = Complete
 verdict_shown (Common c) = Consistent

@@ -6,7 +6,7 @@ use Rattle.oim_dims.specs.declared.fact.Fact.{Fact}
 use Rattle.oim_merge.specs.Sources.{Mention}
 use Rattle.oim_merge.specs.declared.placed_mention.PlacedMention.{PlacedMention}
 
--- the number of these facts that come before a fact
+-- the number of these facts that are less than a fact
 abbrev pub place : List Fact → Fact → ℕ
 place facts f = count_by (λ g. is_lt (fact_cmp g f)) facts
 

@@ -1,4 +1,4 @@
--- Reading a written text gives what was written (own; levels as in OIM Common 1.0, `xbrl:allowedDuplicates`).
+-- Reading a written text gives the facts and references that were written (own; levels: OIM Common 1.0, `xbrl:allowedDuplicates`).
 use Rattle.std.specs.Prelude.{◌≡◌, ◌≢◌, ◌↔◌, ℕ, List, [], ◌∷◌, IsTrue, Option, Some, None, Result, Ok, Err}
 use Rattle.std.specs.Ordering.{is_le, is_lt}
 use Rattle.serde_json.specs.Written.{compact_text}
@@ -17,15 +17,15 @@ use Rattle.fact_base.specs.Fits.{Fits}
 use Rattle.oim_write.specs.Bytes.{canonical, earlier}
 use Rattle.oim_write.specs.Tree.{tree_declaring}
 
--- the document with a body's facts and references, both in order
+-- the document with this level and a body's facts and references, in order
 abbrev pub document_at : Level → Body → Document
 document_at level b = record { facts = b.facts; references = b.references; level = level }
 
--- the text of a body that fits a sheet is read as that document, with the level of its facts
+-- the text of a body that fits a sheet is read as the document with the level of its facts
 abbrev pub CanonicalReadsBack : Type 0
 CanonicalReadsBack = (sheet : Sheet) (b : Body) → Fits sheet b → outcome sheet (canonical b) ≡ Ok (document_at (level_of b.facts) b)
 
--- its text in the earlier form declares no level, so all duplicates are allowed
+-- the text in the earlier form declares no level, so it is read with all duplicates allowed
 abbrev pub EarlierReadsBack : Type 0
 EarlierReadsBack = (sheet : Sheet) (b : Body) → Fits sheet b → outcome sheet (earlier b) ≡ Ok (document_at All b)
 
@@ -35,7 +35,7 @@ EarlierReadsBack = (sheet : Sheet) (b : Body) → Fits sheet b → outcome sheet
 abbrev pub declaring : Level → Body → List ℕ
 declaring level b = compact_text (tree_declaring (Some level) b)
 
--- the outcome is a refusal if and only if the declared level is stricter than the level of the facts, else the document
+-- if the declared level is stricter than the level of the facts, the outcome is a refusal; otherwise it is the document
 pub record IsHeldTo (declared found : Level) (d : Document) (said : Result Document Refusal) : Type 0 where
   pub refused : (said ≡ Err (at AtDocument DisallowedDuplicates)) ↔ IsTrue (is_lt (level_cmp declared found))
   pub read : (said ≡ Ok d) ↔ IsTrue (is_le (level_cmp found declared))

@@ -73,7 +73,7 @@ abbrev pub text_by : Writer → Body → List ℕ
 text_by present b = canonical b
 text_by earlier b = earlier_text b
 
--- each sent text is written by its chosen writer; after the last choice, by the present one
+-- the list chooses a writer for each sent text; texts after the end of the list are written by the present writer
 abbrev pub text_chosen : List Writer → ℕ → Body → List ℕ
 text_chosen writers sent b = text_by (slice_index_or writers sent present) b
 
@@ -98,7 +98,7 @@ pub record Agree (sheet : Sheet) (reports : List (List ℕ)) (sets : World Numbe
   pub replicas : bases.replicas ≡ map (base_named sheet reports) sets.replicas
   pub sent : AllZip (λ bytes numbers. IsReadAsBody sheet bytes (body (documents_named sheet reports numbers))) bases.sent sets.sent
 
--- this holds for every schedule and every choice of writers
+-- the agreement holds after every schedule without a bad event, for every choice of writers
 abbrev pub WireAgrees : Type 0
 WireAgrees =
     (sheet : Sheet) (writers : List Writer) (reports : List (List ℕ)) (n : ℕ) (events : List Event) → NoneIsBad n (length reports) events →

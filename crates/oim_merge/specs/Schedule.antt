@@ -49,17 +49,17 @@ pub record IsFirstBad (replicas reports : ℕ) (events : List Event) (line : ℕ
 
 -- ---- a machine that runs schedules
 
--- what replicas keep (S), and what they send (M)
+-- S is the type of a replica's state, and M the type of its messages
 pub record Machine (S M : Type 0) : Type 0 where
   -- the state of a new or restarted replica
   pub fresh : S
-  -- its state after it took the report with this number
+  -- the state after taking the report with this number
   pub taken : ℕ → S → S
-  -- its state after it joined another
+  -- the state after joining another replica
   pub joined : S → S → S
-  -- its message, given the number of messages sent before
+  -- the message that the replica sends, given the number of messages sent before
   pub message : ℕ → S → M
-  -- its state after it received this message
+  -- the state after receiving this message
   pub received : M → S → S
 
 pub record World (S M : Type 0) : Type 0 where
@@ -91,7 +91,7 @@ module _ {S M : Type 0} (machine : Machine S M) where
   run [] world = world
   run (event ∷ events) world = run events (happens world event)
 
-  -- n new replicas, and no message
+  -- n new replicas, and no messages
   abbrev pub start : ℕ → World S M
   start n = record { replicas = replicate n machine.fresh; sent = [] }
 

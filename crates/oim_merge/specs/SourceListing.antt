@@ -14,7 +14,7 @@ pub record ListsSources (sheet : Sheet) (reports : List (List ℕ)) (old new : O
   pub refusals_are : told ≡ refused sheet reports
   pub appended : Appends old new (sources sheet reports)
 
--- a fault: a first part of the lines was appended, and the fault carries the number of its bytes
+-- a fault: a first part of the lines was appended, and the fault contains the number of its bytes
 abbrev pub SourcesStop : Sheet → List (List ℕ) → Option (List ℕ) → Option (List ℕ) → Fault → Type 0
 SourcesStop sheet reports old new (OutOfMemory written) = AppendsFront old new (sources sheet reports) written
 SourcesStop sheet reports old new (Device written) = AppendsFront old new (sources sheet reports) written

@@ -91,7 +91,7 @@ EachObjectIsMentioned =
     (sheet : Sheet) (n : ℕ) (bytes : List ℕ) (d : Document) (tree : Data) → outcome sheet bytes ≡ Ok d → json bytes ≡ Some tree →
     AllZip (IsMentionOf sheet (bindings_of tree) n) (keyed (facts_of tree)) (mentions_of n (identifiers bytes) (outcome sheet bytes))
 
--- a mention with the bytes of its report in place of the number
+-- a mention with the bytes of its report instead of the number
 pub record Saying : Type 0 where
   pub bytes : List ℕ
   pub identifier : List ℕ
@@ -105,6 +105,6 @@ pub record TellTheSame (sheet : Sheet) (reports others : List (List ℕ)) : Type
   pub facts : (merged sheet reports).facts ≡ (merged sheet others).facts
   pub sayings : IsPermutation (map (saying reports) (mentions_by_fact sheet reports)) (map (saying others) (mentions_by_fact sheet others))
 
--- this holds for any two orders of the same reports
+-- reordering the reports changes only the report numbers
 abbrev pub SourcesIgnoreOrder : Type 0
 SourcesIgnoreOrder = (sheet : Sheet) (reports others : List (List ℕ)) → IsPermutation reports others → TellTheSame sheet reports others

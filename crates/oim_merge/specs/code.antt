@@ -1,4 +1,4 @@
--- What only private code cites: how values are kept, and the laws on the way. No public contract needs it.
+-- Definitions that only private code cites: parts of event lines, cached readings and buffered lines. No public contract uses them.
 pub mod EventParts
 pub mod Held
 pub mod Kept

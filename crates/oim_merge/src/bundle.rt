@@ -15,7 +15,7 @@ use std::alloc::{AllocError, Global};
 
 /// Merges a bundle: its first line is a concept sheet, and each later line that is not empty is a
 /// report. Writes the canonical text of the accepted reports to the sink and allows all duplicates.
-/// Returns the refusals of the other reports by their numbers from 1.
+/// Returns the refusals of the other reports with their numbers, from 1.
 ///
 /// Errors: `Sheet` if the sheet is refused, with nothing written; `Device` if the sink failed;
 /// `OutOfMemory`.
@@ -41,7 +41,7 @@ pub fn consolidate_bundle<S: Sink>(
     consolidation.finish(Level::All, out)
 }
 
-/// Adds each line that is not empty.
+/// Adds each line that is not empty as a report.
 fn merge_lines<'s>(
     alloc: Global,
     sheet: &'s Sheet,

@@ -16,7 +16,7 @@ use std::alloc::{AllocError, Global};
 /// The result for an accepted report.
 #[derive(Clone, Copy, Debug, PartialEq, Eq)]
 pub struct Checked {
-    /// The number of its facts, repeats counted.
+    /// The number of its facts. Repeated facts count each time.
     pub facts: u64,
     /// The strictest level of duplicates that its facts satisfy.
     pub level: Level,
@@ -25,8 +25,8 @@ pub struct Checked {
 }
 
 /// Reads a report under a sheet, counts its facts, and compares its bytes with its canonical text
-/// (xBRL-JSON 1.0; the levels are those of OIM Common 1.0; the canonical text is own). The
-/// canonical text may be held in memory beside the report.
+/// (xBRL-JSON 1.0; levels as in OIM Common 1.0; the canonical text is own). The report and its
+/// canonical text may be in memory at the same time.
 ///
 /// Errors: the report's first refusal, with its place; `OutOfMemory`, at the document.
 pub fn check_report(alloc: Global, sheet: &Sheet, bytes: &[u8]) -> Result<Checked, Refusal>
@@ -48,8 +48,8 @@ pub fn check_report(alloc: Global, sheet: &Sheet, bytes: &[u8]) -> Result<Checke
     })
 }
 
-/// True if the bytes are the canonical text of the report. The facts of a canonical text rise, so
-/// reports with other facts are not compared.
+/// True if the bytes are the canonical text of the report. The facts of a canonical text rise. If
+/// the report's facts do not, no text is written.
 fn is_canonical(
     alloc: Global,
     sheet: &Sheet,

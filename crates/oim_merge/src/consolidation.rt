@@ -13,7 +13,7 @@ use std::alloc::Global;
 
 /// Merges reports under a sheet: writes the canonical text of the accepted ones to the sink
 /// (xBRL-JSON 1.0; the choice of prefixes and identifiers is own), and returns the refusals of the
-/// others by their numbers from 1.
+/// others with their numbers, from 1.
 ///
 /// Errors: `TooLoose` if a dimension set has duplicates above `allow`, with nothing written;
 /// `Device` if the sink failed; `OutOfMemory`.
@@ -68,7 +68,7 @@ fn first_above(base: &Base<'_>, allow: Level) -> Option<u64>
     if allow == Level::All {
         return None;
     }
-    // a base has no more rows than this number can count
+    // the count of rows fits in a `u64`, so `number` does not overflow
     let _most = base.row_count();
     let mut number = 0;
     for row in base.rows() {

@@ -4,7 +4,8 @@ use crate::refusals::Refusals;
 use oim_names::Reason;
 use oim_write::WriteFault;
 
-/// Why reports were not merged. A length counts the bytes written so far, and saturates.
+/// Why reports were not merged. `OutOfMemory` and `Device` count the bytes written. The count
+/// saturates.
 #[derive(Debug, Drop)]
 pub enum Fault {
     /// Memory was refused.
@@ -13,7 +14,7 @@ pub enum Fault {
     Device(u64),
     /// A dimension set has duplicates above the allowed level, so nothing is written.
     TooLoose {
-        /// The number, from 1, of the first such dimension set in order.
+        /// The number of the first such dimension set, from 1.
         row: u64,
         /// The refused reports.
         refused: Refusals,

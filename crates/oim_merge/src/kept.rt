@@ -11,12 +11,12 @@ use oim_report::{Refusal, Sheet};
 use oim_write::Encoded;
 use std::alloc::{AllocError, Global};
 
-/// A text that may be read several times under a sheet. It is not read yet, or read into a base, or
-/// refused. It caches a base and not a report: taking a report copies all its facts, while joining
-/// a base copies only new ones.
+/// The cached result of reading a text under a sheet: none yet, a base, or a refusal. A base is
+/// cached instead of a report, since taking a report copies all its facts, while joining a base
+/// copies only new ones.
 pub(crate) type Kept<'s> = Option<Result<Base<'s>, Refusal>>;
 
-/// A list of texts that are not read yet.
+/// An empty cache entry for each text.
 pub(crate) fn none_kept<'s>(alloc: Global, texts: usize) -> Result<Vec<Kept<'s>>, AllocError>
     ensures { IfOk result (λ made. made.items ≡ replicate texts None) }
 {
@@ -75,7 +75,7 @@ fn read_base<'s>(
     }
 }
 
-/// Adds a reading to a base, or returns the refusal of the text.
+/// Adds the cached result to a base, or returns the refusal.
 fn take_read(
     base: &mut Base<'_>,
     read: &Result<Base<'_>, Refusal>,
@@ -93,7 +93,7 @@ fn take_read(
     }
 }
 
-/// Joins another base. If both are equal, this compares each row once and takes no memory.
+/// Joins another base. If both are equal, this compares each row once and requests no memory.
 pub(crate) fn join_new(base: &mut Base<'_>, other: &Base<'_>) -> Result<(), AllocError>
     requires { other.now.sheet ≡ base.old.sheet }
     ensures { OnOk result (base.new ≡ joined_with base.old other.now) }

@@ -18,8 +18,8 @@ pub fn reports_ignore_order()
     ensures { ReportsIgnoreOrder }
 {}
 
-/// Adding reports one at a time gives what `consolidate` gives for their list: the same body and
-/// the same refusals.
+/// Adding reports one at a time gives the same body and the same refusals as `consolidate` gives
+/// for their list.
 pub fn steps_are_list()
     ensures { StepsAreList }
 {}
@@ -30,24 +30,25 @@ pub fn canonical_reads_back()
     ensures { CanonicalReadsBack }
 {}
 
-/// Its text in the earlier form, without a level, is read with all duplicates allowed.
+/// The text in the earlier form declares no level. It is read as the same facts and references,
+/// with all duplicates allowed.
 pub fn earlier_reads_back()
     ensures { EarlierReadsBack }
 {}
 
-/// A text declares the strictest level. With a stricter one in its place the text is refused; with
-/// a looser one it is accepted.
+/// A text declares the strictest level that its facts satisfy. With a stricter level the text would
+/// be refused; with a looser level it would be accepted.
 pub fn least_level_is_declared()
     ensures { LeastLevelIsDeclared }
 {}
 
-/// No dimension set is above a level if and only if the declared level of the text is not above it.
+/// A body stays within a level if and only if its text declares that level or a stricter one.
 pub fn allowed_is_declared()
     ensures { AllowedIsDeclared }
 {}
 
-/// A new base that takes the report read from a text, in the present or the earlier form, has the
-/// same body.
+/// If a new base takes the report that is read from a body's text, in the present or the earlier
+/// form, the base has that body.
 pub fn texts_give_bodies()
     ensures present { TextsGiveBodies }
     ensures earlier { EarlierTextsGiveBodies }
@@ -114,19 +115,19 @@ pub fn sources_ignore_order()
 {}
 
 /// After every schedule without a bad event, a replica has the base of the documents that reached
-/// it. Replicas exchange only texts. Each text that they sent is accepted, whichever version wrote
-/// it.
+/// it. Replicas exchange only texts. Each sent text is accepted, whichever version wrote it.
 pub fn wire_agrees()
     ensures agrees { WireAgrees }
     ensures stay { ReplicasStay }
 {}
 
-/// Such a replica has the text, verdicts and level of a new merge of the reports that reached it.
+/// After every schedule without a bad event, a replica has the text, verdicts and level of a new
+/// merge of the reports that reached it.
 pub fn replicas_say_as_afresh()
     ensures { ReplicasSayAsAfresh }
 {}
 
-/// Two such replicas that the same reports reached write the same bytes.
+/// Two replicas that the same reports reached write the same bytes.
 pub fn equal_sets_write_the_same()
     ensures { EqualSetsWriteTheSame }
 {}

@@ -1,5 +1,5 @@
-//! Merges xBRL-JSON reports, from bytes to bytes. Reports are read under a sheet. The result is one
-//! canonical text, the verdicts on duplicates, or replicas that exchange texts.
+//! Merges xBRL-JSON reports, from bytes to bytes. Reports are read under a sheet. Functions write
+//! the canonical text, list verdicts or sources, or run replicas that exchange texts.
 #![tactic(auto)]
 
 mod bundle;

@@ -19,7 +19,7 @@ use std::alloc::{AllocError, Global};
 
 /// Merges reports under a sheet and appends one line for each dimension set to the sink, in order:
 /// its number from 1, the identifiers of its first and last fact, and the verdict with its evidence
-/// (own). Returns the refusals by the numbers of the reports, from 1.
+/// (own). Returns the refusals with the numbers of their reports, from 1.
 ///
 /// Errors: `Device` if the sink failed; `OutOfMemory`.
 pub fn verdict_lines<S: Sink>(
@@ -57,8 +57,8 @@ pub(crate) fn write_verdicts<S: Sink>(
     }
 }
 
-/// Appends the lines of a base. On a fault the sink has a first part of them; the fault carries its
-/// length.
+/// Appends the lines of a base. After a fault the sink has a first part of the lines; the fault
+/// contains its length.
 fn write_lines<S: Sink>(alloc: Global, base: &Base<'_>, out: &mut S) -> Result<(), WriteFault>
     requires { S.failures out.old < 2 ^ 64 - 1 }
     ensures ok { OnOk result (AppendsLines base.now.body (S.told out.old) (S.told out.new)) }
@@ -89,7 +89,7 @@ fn push_lines<S: Sink>(
         before: 0,
         count: base.fact_count(),
     };
-    // a base has no more rows than this number can count
+    // the count of rows fits in a `u64`, so `number` does not overflow
     let _most = base.row_count();
     let mut number = 0;
     for row in base.rows() {

@@ -18,8 +18,8 @@ use oim_report::Sheet;
 use oim_write::Encoded;
 use std::alloc::{AllocError, Global};
 
-/// Finds the mentions of a base's facts in the reports that it was merged from. They are in the
-/// order of facts, then reports, then identifiers.
+/// Finds the mentions of a base's facts in the reports that it was merged from. The mentions are
+/// sorted by fact, then report, then identifier.
 ///
 /// Errors: out of memory.
 pub fn mentions_by_fact(
@@ -38,7 +38,7 @@ pub fn mentions_by_fact(
     Ok(mentions)
 }
 
-/// The mentions of these facts in the reports, in the order of reports, then identifiers.
+/// The mentions of these facts in the reports, sorted by report, then identifier.
 fn mentions_of(
     alloc: Global,
     sheet: &Sheet,

@@ -14,7 +14,7 @@ use std::alloc::{AllocError, Global};
 pub struct Merged<'s> {
     /// The base of the accepted reports.
     pub base: Base<'s>,
-    /// The refusals of the others, by report numbers from 1.
+    /// The refusals of the others, with their report numbers, from 1.
     pub refusals: Refusals,
 }
 

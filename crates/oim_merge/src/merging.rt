@@ -17,8 +17,8 @@ use std::alloc::{AllocError, Global};
 use std::marker::Model;
 use std::mem;
 
-/// Reports that are merged one at a time: the accepted ones as one base, the refused ones, and the
-/// count of all. It keeps no bytes of a report. It borrows the sheet under which reports are read.
+/// Merges reports one at a time. It stores the facts of the accepted reports, the refusals, and the
+/// count of all reports, but no bytes of a report. It borrows the sheet under which it reads them.
 #[derive(Drop)]
 pub struct Consolidation<'s> {
     alloc: Global,
@@ -53,7 +53,7 @@ impl<'s> Consolidation<'s> {
         }
     }
 
-    /// Adds a list of reports.
+    /// Starts a merge and adds a list of reports.
     pub(crate) fn of(
         alloc: Global,
         sheet: &'s Sheet,
@@ -68,8 +68,8 @@ impl<'s> Consolidation<'s> {
         Ok(consolidation)
     }
 
-    /// Reads one more report under the sheet and takes its facts, or keeps its refusal with its
-    /// number from 1.
+    /// Reads one more report under the sheet and takes its facts, or keeps its refusal with the
+    /// number of the report, from 1.
     ///
     /// Errors: out of memory; nothing is changed then, so the report can be added again.
     pub fn add(&mut self, bytes: &[u8]) -> Result<(), AllocError>
@@ -105,8 +105,8 @@ impl<'s> Consolidation<'s> {
         write_within(alloc, &base, refusals, allow, out)
     }
 
-    /// The same for a program that exits afterwards: the facts are not freed, since freeing them
-    /// takes time and has no use then.
+    /// Does the same as `finish`, but does not free the facts. A program that exits afterwards
+    /// saves that time.
     ///
     /// Errors: the same as `finish`.
     pub fn finish_last<S: Sink>(self, allow: Level, out: &mut S) -> Result<Refusals, Fault>
@@ -141,7 +141,7 @@ impl<'s> Consolidation<'s> {
         write_verdicts(alloc, &base, refusals, out)
     }
 
-    /// The same for a program that exits afterwards, as in `finish_last`.
+    /// Does the same as `finish_lines`, but does not free the facts, as in `finish_last`.
     ///
     /// Errors: the same as `finish_lines`.
     pub fn finish_lines_last<S: Sink>(self, out: &mut S) -> Result<Refusals, Fault>

@@ -14,21 +14,21 @@ use std::alloc::{AllocError, Global};
 use std::cmp::Ordering;
 
 /// The sent texts in order. Equal texts are stored and read once. The contracts guarantee that a
-/// text found here is equal, not that each equal text is found: a miss only costs memory.
+/// text found here is equal. They allow `find` to miss an equal text, which only costs memory.
 #[derive(Drop)]
 pub(crate) struct Messages<'s> {
     /// The distinct texts, in the order of first sending.
     pub texts: Vec<Encoded>,
     /// The result of reading each text.
     pub kept: Vec<Kept<'s>>,
-    /// The indices of the texts, in byte order of the texts.
+    /// The indices of the texts, in the byte order of the texts.
     pub order: Vec<usize>,
     /// For each sent text, its index among the distinct texts.
     pub sent: Vec<usize>,
 }
 
 impl<'s> Messages<'s> {
-    /// No sent text yet. Takes no memory.
+    /// An empty list. It takes no memory.
     pub(crate) fn new(alloc: Global) -> Messages<'s>
         ensures sent { sent_texts result ≡ [] }
         ensures held { (sheet : SheetSeen) → AreHeld sheet result }
@@ -41,8 +41,8 @@ impl<'s> Messages<'s> {
         }
     }
 
-    /// Sends the text of a base, and stores its index as the current one. If there already is a
-    /// current one, the text is not written again.
+    /// Sends the text of a base and stores its index in `current`. If `current` already has an
+    /// index, the text is not written again.
     ///
     /// Errors: out of memory.
     pub(crate) fn send(
@@ -64,7 +64,7 @@ impl<'s> Messages<'s> {
         Ok(())
     }
 
-    /// The index of a base's text. The text is written unless there is a current one.
+    /// The index of a base's text. The text is written unless `current` has its index.
     fn place_of(
         &mut self,
         alloc: Global,
@@ -123,7 +123,7 @@ impl<'s> Messages<'s> {
         }
     }
 
-    /// Adds the sent text with a number, from 0, to a base. A text is read the first time.
+    /// Adds the sent text with a number, from 0, to a base. Each text is read only once.
     ///
     /// Errors: out of memory.
     pub(crate) fn give(

@@ -11,7 +11,7 @@ use std::alloc::{AllocError, Global};
 /// A mention: a report reports a fact of a base.
 #[derive(Debug, Drop)]
 pub struct PlacedMention {
-    /// The number of facts in the base that come before the fact.
+    /// The number of facts in the base that are less than the fact.
     pub place: usize,
     /// The number of the report, from 1.
     pub report: u64,

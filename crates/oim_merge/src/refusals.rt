@@ -20,7 +20,7 @@ impl Model for Refusals {
 }
 
 impl Refusals {
-    /// No refused report. Takes no memory.
+    /// An empty list. It takes no memory.
     pub fn new(alloc: Global) -> Refusals
         ensures { result ≡ [] }
     {

@@ -89,7 +89,7 @@ impl<'s> Replayed<'s> {
         &self.refused
     }
 
-    /// The refused takes; the replicas are dropped.
+    /// Returns the refused takes and drops the replicas.
     pub fn into_refused(self) -> Refusals
         ensures { result ≡ self.entry.refused }
     {
@@ -97,7 +97,7 @@ impl<'s> Replayed<'s> {
     }
 }
 
-/// The text of the message with this number, from 1; `places` has the index of each message's text.
+/// The sent text with this number, from 1. `places` has the index of each sent text in `texts`.
 fn text_numbered<'t>(texts: &'t [Encoded], places: &[usize], number: usize) -> Option<&'t Encoded>
     requires { AreWithin texts.now places.now }
     ensures { MatchOption result (numbered (texts_at texts.now places.now) number ≡ None)

@@ -21,7 +21,7 @@ use std::alloc::{AllocError, Global};
 pub(crate) struct Replicas<'s> {
     pub bases: Vec<Base<'s>>,
     /// For each replica, the index of its text among the messages. It is None if the replica sent
-    /// none, or if a later event may have changed its base.
+    /// no text, or if a later event may have changed its base.
     pub current: Vec<Option<usize>>,
     pub messages: Messages<'s>,
     pub refused: Refusals,
@@ -29,7 +29,7 @@ pub(crate) struct Replicas<'s> {
 }
 
 impl<'s> Replicas<'s> {
-    /// This many empty replicas. No text is sent, and no report is read.
+    /// Creates `n` empty replicas. No text is sent yet, and no report is read.
     pub(crate) fn new(
         alloc: Global,
         sheet: &'s Sheet,
@@ -160,7 +160,7 @@ fn forget(current: &mut Vec<Option<usize>>, place: usize)
     }
 }
 
-/// Joins the base at one index to the base at another.
+/// Joins the base at `other` into the base at `place`.
 fn join_at<'s>(
     alloc: Global,
     sheet: &'s Sheet,

@@ -18,10 +18,9 @@ use std::alloc::Global;
 /// Merges reports under a sheet and appends one line for each fact object in an accepted report to
 /// the sink: the identifier of its fact in the canonical text, the number of the report from 1, and
 /// the object's own identifier as a JSON string (own). The lines are sorted by these three. Returns
-/// the refusals by the numbers of the reports.
+/// the refusals with the numbers of their reports.
 ///
-/// Each report is read a second time once all are merged. So a plain merge need not keep
-/// identifiers.
+/// Each report is read a second time after the merge, so a plain merge need not store identifiers.
 ///
 /// Errors: `Device` if the sink failed; `OutOfMemory`.
 pub fn source_lines<S: Sink>(
@@ -47,8 +46,8 @@ pub fn source_lines<S: Sink>(
     }
 }
 
-/// Appends the lines of mentions, given the count of facts in the base. On a fault the sink has a
-/// first part of them; the fault carries its length.
+/// Appends the lines of mentions. `count` is the number of facts in the base. After a fault the
+/// sink has a first part of the lines; the fault contains its length.
 fn write_lines<S: Sink>(
     alloc: Global,
     count: u128,

@@ -7,8 +7,8 @@ use crate::source::{Source, SourceError};
 use oim_write::Encoded;
 use std::alloc::{AllocError, Global};
 
-/// The number of bytes requested from a source at once. It starts at the fewest and grows with the
-/// bytes read, up to the most, so a small file leaves little unused memory.
+/// The fewest and the most bytes that are requested from a source at once. The number grows with
+/// the bytes read, so a small file leaves little unused memory.
 const FEWEST: usize = 1 << 12;
 
 const MOST: usize = 1 << 16;
@@ -43,7 +43,7 @@ pub fn read_all<S: Source>(alloc: Global, source: &mut S, limit: u32) -> Result<
     Err(ReadFault::TooLong)
 }
 
-/// Extends the buffer by zeros and keeps the filled bytes.
+/// Extends the buffer by zeros if it is full. The filled bytes do not change.
 fn make_room(bytes: &mut Vec<u8>, filled: usize, most: usize) -> Result<(), AllocError>
     requires filled { filled ≤ vec_len bytes.old }
     requires room { filled < most }

@@ -9,7 +9,8 @@ use oim_value::{Interval, write_units};
 use oim_write::identifier;
 use std::alloc::{AllocError, Global};
 
-/// Identifies the facts in a dimension set by the number of facts before it and of all facts.
+/// Gives the identifiers of a dimension set's facts. They follow from the number of facts before
+/// the set and the number of all facts.
 #[derive(Clone, Copy, Debug)]
 pub(crate) struct Identifiers {
     pub before: u128,

@@ -1,4 +1,4 @@
--- The count of digits does not depend on its bound, and padded digits are written one by one.
+-- `digits_up_to` does not depend on a bound that is at least n, and padded digits are written one by one.
 use Rattle.std.proofs.Common.{◌≡◌, ℕ, zero, suc, ◌+◌, ◌-◌, ◌%◌, ◌^◌, [], ◌∷◌, ◌++◌, ◌/◌, ◌<◌, ◌≤◌, false, cond, nat_lt, refl, sym, ap, ◌∙◌, arith}
 use Rattle.std.proofs.Math.Nat.{pow-suc, pow-zero}
 use Rattle.std.proofs.lemmas.Bool.{cond-true, cond-false, cases_Bool, lt-ltb}
@@ -34,7 +34,7 @@ unfolding padded
 padded_more zero n h = absurd (h refl)
 padded_more (suc w) n h = let e : suc w - 1 ≡ w = omega arith in rw e refl
 
--- without its last digit, a number of two or more digits needs one digit less
+-- without its last digit, a number with two or more digits needs one digit fewer
 pub fewer_digits : (room n : ℕ) → 10 ≤ n → n < 10 ^ room → (2 ≤ room) × (n / 10 < 10 ^ (room - 1))
 fewer_digits zero n many fits = absurd (omega (arith, pow-zero 10))
 fewer_digits (suc zero) n many fits = absurd (omega (arith, pow-suc 10 0, pow-zero 10))

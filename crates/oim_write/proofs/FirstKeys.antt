@@ -1,10 +1,10 @@
--- The second key tells the two forms of text apart: `namespaces` in an earlier text, `features` in one that declares a level.
+-- The second key differs between the two forms of text: `namespaces` in an earlier text, `features` in one that declares a level.
 use Rattle.std.proofs.Common.{◌≡◌, ℕ, get_or, refl}
 use Rattle.json.specs.Print.{escape_byte}
 use Rattle.fact_base.specs.Body.{Body}
 use Rattle.oim_write.specs.Bytes.{canonical, earlier}
 
--- the index at which that key begins
+-- the index at which the second key begins
 abbrev pub behind_type : ℕ
 behind_type = 67
 

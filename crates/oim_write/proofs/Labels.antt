@@ -30,7 +30,7 @@ use Rattle.oim_write.proofs.Ranks.{rank_at}
 -- ---- order
 
 module _ {K : Type 0} {R : K → K → Ordering} (o : IsTotalOrder R) (letter : ℕ) (xs : List K) (rises : IsStrictlySortedBy R xs) where
-  -- labels have the order of the members that they number
+  -- labels are in the order of the members that they number
   pub numbered_rise : (i j : ℕ) (d : K) → i < j → j < length xs → slice_cmp nat_cmp (numbered letter R (get_or xs i d) xs) (numbered letter R (get_or xs j d) xs) ≡ Less
   numbered_rise i j d apart within =
       let low : rank R (get_or xs i d) xs ≡ i + 1 = rank_at o xs i d rises (omega arith) in

@@ -26,7 +26,7 @@ module _ (us : List (List ℕ)) (digits : ℕ) where
   abbrev pub fact_part : ℕ → Fact → List ℕ
   fact_part before f = part (nat_lt 0 before) (102 ∷ padded digits (before + 1)) (ordered_fact (name_text us) f)
 
-  -- the text of two lists of facts is the text of the first, then of the second numbered after it
+  -- the text of two lists is the text of the first list, followed by the text of the second list, which is numbered after it
   pub numbered-append : (before : ℕ) (fs gs : List Fact) → numbered_text us digits before (fs ++ gs) ≡ numbered_text us digits before fs ++ numbered_text us digits (before + length fs) gs
   numbered-append before [] gs = ap (λ n. numbered_text us digits n gs) (sym (add-zero before))
   numbered-append before (f ∷ fs) gs =
@@ -36,7 +36,7 @@ module _ (us : List (List ℕ)) (digits : ℕ) where
       ∙ (λ i. parts (later_next before i) (numbered_members us digits (before + 1) fs) ++ numbered_text us digits (one_less before (length fs) i) gs))
       ∙ sym (append_assoc (fact_part before f) (parts true (numbered_members us digits (before + 1) fs)) (numbered_text us digits (before + suc (length fs)) gs))
 
-  -- the text of the facts that are left
+  -- the text of the remaining facts
   abbrev pub rest_text : ℕ → List Fact → List ℕ
   rest_text before fs = parts true (numbered_members us digits (before + 1) fs)
 
@@ -53,7 +53,7 @@ module _ (us : List (List ℕ)) (digits : ℕ) where
     length-so_far within = omega (arith, length-map (take i vs) fact_of, length-take-le i vs (omega arith))
 
     module _ (v : Value) (written : List ℕ) (within : i < length vs) (is : v ≡ get_or vs i v) (this : written ≡ fact_part (before + i) (fact_of v)) where
-      -- after the next fact
+      -- the text after the next fact is written
       pub next_fact : so_far ++ written ≡ numbered_text us digits before (facts_with s (take (i + 1) vs))
       next_fact =
           ap (λ t. so_far ++ t) (this ∙ sym (append-nil (fact_part (before + i) (fact_of v))))
@@ -62,7 +62,7 @@ module _ (us : List (List ℕ)) (digits : ℕ) where
           ∙ ap (numbered_text us digits before) (sym (map-append fact_of (take i vs) (v ∷ [])))
           ∙ ap (λ ws. numbered_text us digits before (facts_with s ws)) (ap (λ w. take i vs ++ w ∷ []) is ∙ sym (take_more vs i v within))
 
-      -- after all facts that are left
+      -- the text after all remaining facts are written
       pub left_facts : so_far ++ (written ++ rest_text (before + i) (facts_with s (drop (i + 1) vs))) ≡ numbered_text us digits before (facts_with s vs)
       left_facts =
           let rest = drop (i + 1) vs in
@@ -88,7 +88,7 @@ by_entries entry same (r ∷ rs) = (λ i. same r i ++ by_entries entry same rs i
 pub rows_facts_are : (fs : List Fact) → rows_facts (rows_of fs) ≡ fs
 rows_facts_are fs = sym (by_entries _ (λ r. refl) (rows_of fs)) ∙ facts_are fs
 
--- rows that are written, the next row, and the others
+-- `done` are the rows written so far, r is the next row, and `rest` are the rows after it
 module _ (before : ℕ) (fs : List Fact) (done rows rest : List Row) (r : Row) (all : done ++ rows ≡ rows_of fs) (next : rows ≡ r ∷ rest) (count : before ≡ length (rows_facts done)) where
   facts_split : fs ≡ rows_facts done ++ (row_facts r ++ rows_facts rest)
   facts_split = sym (rows_facts_are fs) ∙ ap rows_facts (sym all ∙ ap (λ rs. done ++ rs) next) ∙ flat_map-append row_facts done (r ∷ rest)
@@ -96,7 +96,7 @@ module _ (before : ℕ) (fs : List Fact) (done rows rest : List Row) (r : Row) (
   length-row_facts : length (row_facts r) ≡ length r.1
   length-row_facts = length-map r.1 (λ v. record { dimensions = r.0; value = v })
 
-  -- the count of facts does not overflow
+  -- the row is part of all facts, so the count of facts does not overflow
   pub row_within : before + length r.1 ≤ length fs
   row_within = omega (arith, count, length-row_facts, ap length facts_split, length-append (rows_facts done) (row_facts r ++ rows_facts rest), length-append (row_facts r) (rows_facts rest))
 
@@ -107,14 +107,14 @@ module _ (before : ℕ) (fs : List Fact) (done rows rest : List Row) (r : Row) (
   count_with_row = omega (arith, count, length-row_facts, ap length facts_with_row, length-append (rows_facts done) (row_facts r))
 
   module _ (us : List (List ℕ)) (digits : ℕ) where
-    -- after the next row
+    -- the text after the next row is written
     pub next_row : numbered_text us digits 0 (rows_facts done) ++ numbered_text us digits before (row_facts r) ≡ numbered_text us digits 0 (rows_facts (done ++ r ∷ []))
     next_row =
         ap (λ n. numbered_text us digits 0 (rows_facts done) ++ numbered_text us digits n (row_facts r)) (count ∙ sym (zero-add (length (rows_facts done))))
         ∙ sym (numbered-append us digits 0 (rows_facts done) (row_facts r))
         ∙ ap (numbered_text us digits 0) (sym facts_with_row)
 
-    -- after all rows that are left
+    -- the text after all remaining rows are written
     pub left_rows : numbered_text us digits 0 (rows_facts done) ++ (numbered_text us digits before (row_facts r) ++ numbered_text us digits (before + length r.1) (rows_facts rest)) ≡ numbered_text us digits 0 fs
     left_rows =
         ap (λ n. numbered_text us digits 0 (rows_facts done) ++ (numbered_text us digits before (row_facts r) ++ numbered_text us digits (before + n) (rows_facts rest))) (sym length-row_facts)

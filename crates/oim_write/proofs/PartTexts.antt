@@ -1,4 +1,4 @@
--- The parts of a text are the text that a JSON writer produces.
+-- A JSON writer produces the parts of a text.
 use Rattle.std.proofs.Common.{◌≡◌, ℕ, List, [], ◌∷◌, ◌++◌, append_assoc, Bool, true, refl, sym, ap, ◌∙◌}
 use Rattle.json.specs.Print.{quoted, print, print_from}
 use Rattle.json.specs.Token.{Token, key}
@@ -19,14 +19,14 @@ print_member : (k : List ℕ) (d : Data) → print (([] ++ key k ∷ []) ++ json
 unfolding print_from
 print_member k d = append_assoc (quoted k) (58 ∷ []) (print (json_tokens (outline d))) ∙ ap (λ t. quoted k ++ 58 ∷ t) (print-outline d)
 
--- a key and a value
+-- a writer that writes a key and a value produces a part
 pub part_is : (old before : List ℕ) (later : Bool) (k : List ℕ) (d : Data) (ts : List Token) → before ≡ old ++ comma_if later → ts ≡ ([] ++ key k ∷ []) ++ json_tokens (outline d) → before ++ print ts ≡ old ++ part later k d
 part_is old before later k d ts front tokens =
     (λ i. front i ++ print (tokens i))
     ∙ append_assoc old (comma_if later) (print (([] ++ key k ∷ []) ++ json_tokens (outline d)))
     ∙ ap (λ t. old ++ (comma_if later ++ t)) (print_member k d)
 
--- a value alone
+-- a writer that writes only a value produces its text
 pub item_is : (old before : List ℕ) (later : Bool) (d : Data) (ts : List Token) → before ≡ old ++ comma_if later → ts ≡ [] ++ json_tokens (outline d) → before ++ print ts ≡ old ++ (comma_if later ++ compact_text d)
 item_is old before later d ts front tokens =
     (λ i. front i ++ print (tokens i))
@@ -37,7 +37,7 @@ item_is old before later d ts front tokens =
 pub next_part : (text new all part more : List ℕ) → new ≡ text ++ part → text ++ (part ++ more) ≡ all → new ++ more ≡ all
 next_part text new all part more step so_far = ap (λ t. t ++ more) step ∙ append_assoc text part more ∙ so_far
 
--- an empty text followed by a part is the part
+-- appending a part to an empty text gives the part
 pub behind_nothing : {old new part : List ℕ} → new ≡ old ++ part → old ≡ [] → new ≡ part
 behind_nothing {part = part} step none = step ∙ ap (λ t. t ++ part) none
 
@@ -46,7 +46,7 @@ behind_nothing {part = part} step none = step ∙ ap (λ t. t ++ part) none
 regroup : (c q t r : List ℕ) → c ++ (q ++ 58 ∷ (t ++ r)) ≡ (c ++ (q ++ 58 ∷ t)) ++ r
 regroup c q t r = simp append_assoc
 
--- the text of members is their parts and a closing brace
+-- the text of an object's members is their parts and a closing brace
 pub members_text-parts : (later : Bool) (ms : Members) → members_text later ms ≡ parts later ms ++ 125 ∷ []
 members_text-parts later no_members = refl
 members_text-parts later (member k d ms) =
@@ -57,7 +57,7 @@ members_text-parts later (member k d ms) =
 regroup_item : (c q t r : List ℕ) → c ++ (q ++ (t ++ r)) ≡ ((c ++ q) ++ t) ++ r
 regroup_item c q t r = simp append_assoc
 
--- the text of items is their parts and a closing bracket
+-- the text of an array's items is their parts and a closing bracket
 pub items_text-parts : (later : Bool) (ts : List (List ℕ)) → items_text later (text_items ts) ≡ text_parts later ts ++ 93 ∷ []
 items_text-parts later [] = refl
 items_text-parts later (t ∷ ts) =

@@ -24,7 +24,7 @@ no_more : (b : Bool) (n m : ℕ) → b ≡ false → n ≡ m → cond b 1 0 + n 
 no_more true n m e h = cc
 no_more false n m e h = omega arith
 
--- the elements before a partition point are those that pass the test
+-- the partition point is the number of elements that pass the test
 pub count_at : {K : Type 0} (p : K → Bool) (xs : List K) (i : ℕ) → i ≤ length xs → IsPartitionPoint (λ y. p y ≡ true) (λ y. p y ≡ false) xs i → count_by p xs ≡ i
 count_at p [] i h point = omega arith
 count_at p (x ∷ xs) zero h point =

@@ -53,7 +53,7 @@ module _ {A : Type 0} where
     by_part xs zs x (on_left xs ys x) (λ h. on_right xs ys x ((same x).1 h)),
   )
 
--- a row of one value has the names of its fact
+-- a row with one value has the names of its fact
 alone : (f : Fact) → row_names (f.dimensions, f.value ∷ []) ≡ fact_names f
 alone f = ap (λ ns. dimension_names f.dimensions ++ ns) (append-nil (value_names f.value))
 

@@ -27,7 +27,7 @@ gains_known us n there = record {
   members = λ u. (λ old. inl old, ⊎_elim (λ old. old) (λ one. ⊎_elim (λ is. subst (Contains us) is there) (none_there u) (first_or_later n.uri [] u one)));
 }
 
--- two additions, one after the other
+-- two additions together add the names of both
 pub gains_both : {a b c : List (List ℕ)} {ns ms : List QName} → Gains a ns b → Gains b ms c → Gains a (ns ++ ms) c
 gains_both {a} {b} {c} {ns} {ms} first second = record {
   members = λ u.
@@ -46,7 +46,7 @@ gains_both {a} {b} {c} {ns} {ms} first second = record {
       );
 }
 
--- a loop over a list adds one item more
+-- a loop over a list adds the names of the next item
 pub gains_more : {A : Type 0} (names : A → List QName) {a b c : List (List ℕ)} (xs : List A) (i : ℕ) (x : A) → i < length xs → x ≡ get_or xs i x
     → Gains a (flat_map names (take i xs)) b → Gains b (names x) c → Gains a (flat_map names (take (i + 1) xs)) c
 gains_more names {a} {b} {c} xs i x within is first second =

@@ -1,4 +1,4 @@
--- The URIs of facts rise, and each name of a fact has one of them.
+-- The URIs of facts rise, and they include the URI of each name in a fact.
 use Rattle.std.proofs.Common.{List, [], ◌∷◌}
 use Rattle.std.specs.Prelude.{Contains, flat_map}
 use Rattle.std.proofs.lemmas.Cmp.{nat_list_cmp_total}
@@ -30,7 +30,7 @@ own_name (n, Nil) = first_there n []
 own_name (n, Text t) = first_there n []
 own_name (n, Name m) = first_there n (m ∷ [])
 
--- the names of a fact include the names of its dimensions
+-- the names of a fact include the names of its taxonomy-defined dimensions
 pub defined_there : (f : Fact) (e : QName × Member) → Contains f.dimensions.members e → Contains (fact_names f) e.0
 defined_there f e at =
     let d = f.dimensions in

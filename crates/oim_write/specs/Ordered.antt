@@ -13,12 +13,12 @@ use Rattle.fact_base.specs.Passed.{fact_object, member_data, option_spelled, opt
 use Rattle.oim_write.specs.Tree.{name_text}
 use Rattle.oim_write.specs.Uris.{uris}
 
--- a member with a text, if there is one, before other members
+-- a member with a text, if the text is present, before other members
 abbrev pub text_member : List ℕ → Option (List ℕ) → Members → Members
 text_member key None ms = ms
 text_member key (Some t) ms = member key (string t) ms
 
--- the member `decimals` if they are finite, before other members
+-- the member `decimals`, if the decimals are finite, before other members
 abbrev pub decimals_member : Value → Members → Members
 decimals_member (Number units (Some d)) ms = member (codes "decimals") (number (of_integer d)) ms
 decimals_member (Number units None) ms = ms
@@ -48,6 +48,6 @@ module _ (spelled : QName → List ℕ) where
       (member (codes "dimensions") (object (ordered_dimensions f.dimensions))
       (member (codes "value") (value_data spelled f.value) no_members)))
 
--- if prefixes are the letter n and a rank, this is the object of each fact
+-- with the prefixes of a text, the object of each fact has its members in this order
 abbrev pub FactsAreWrittenInOrder : Type 0
 FactsAreWrittenInOrder = (facts : List Fact) (f : Fact) → Contains facts f → IsDimensionSet f.dimensions → fact_object (name_text (uris facts)) f ≡ ordered_fact (name_text (uris facts)) f

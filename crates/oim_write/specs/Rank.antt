@@ -16,7 +16,7 @@ unfoldable pub padded : ℕ → ℕ → List ℕ
 padded zero n = []
 padded (suc width) n = padded width (n / 10) ++ (48 + n % 10) ∷ []
 
--- the number of digits of n, counted up to `most`
+-- the number of digits of n, but at most `most` + 1
 unfoldable pub digits_up_to : ℕ → ℕ → ℕ
 digits_up_to zero n = 1
 digits_up_to (suc most) n = if nat_lt n 10 then 1 else suc (digits_up_to most (n / 10))
@@ -39,7 +39,7 @@ pub record IsNumeralOf (digits n : ℕ) (text : List ℕ) : Type 0 where
 abbrev pub PaddedWritesNumber : Type 0
 PaddedWritesNumber = (digits n : ℕ) → n < 10 ^ digits → IsNumeralOf digits n (padded digits n)
 
--- n has this many digits and no fewer, at least one
+-- `digits` is the smallest count of digits, at least 1, that can write n
 pub record IsFewestDigits (n digits : ℕ) : Type 0 where
   pub some : 1 ≤ digits
   pub enough : n < 10 ^ digits

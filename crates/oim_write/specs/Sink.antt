@@ -20,7 +20,7 @@ pub record AppendsFront (old new : Option (List ℕ)) (text : List ℕ) (written
   pub appended : Appends old new front
   pub count : written ≡ saturated (length front)
 
--- the length that a fault carries
+-- the length that a fault contains
 abbrev pub written_of : WriteFault → ℕ
 written_of (OutOfMemory n) = n
 written_of (Device n) = n

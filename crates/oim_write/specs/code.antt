@@ -1,3 +1,3 @@
--- What only private code cites: how values are kept, and the laws on the way. No public contract needs it.
+-- Definitions that only private code cites: the parts of a text and the table of prefixes. No public contract uses them.
 pub mod Parts
 pub mod Table

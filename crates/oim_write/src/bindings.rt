@@ -9,8 +9,8 @@ use fact_base::Base;
 use oim_names::Aliases;
 use std::alloc::{AllocError, Global};
 
-/// The prefixes of a base's text. The URIs of its names, in byte order, get `n1`, `n2` and so on,
-/// padded with zeros to the width of their count (own).
+/// The prefixes of a base's text. The URIs of its names, in byte order, get `n1`, `n2` and so on.
+/// All numbers are padded with zeros to the same width (own).
 ///
 /// Errors: out of memory.
 pub fn prefixes(alloc: Global, base: &Base<'_>) -> Result<Aliases, AllocError>
@@ -24,7 +24,7 @@ pub fn prefixes(alloc: Global, base: &Base<'_>) -> Result<Aliases, AllocError>
     Ok(aliases)
 }
 
-// Prefixes are well-formed and new, so only memory can be refused.
+// The prefix is well-formed and not bound yet, so `add` fails only if memory is refused.
 fn bind(
     alloc: Global,
     aliases: &mut Aliases,

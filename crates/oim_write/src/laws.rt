@@ -17,8 +17,8 @@ pub fn trees_are_plain()
     ensures { TreesArePlain }
 {}
 
-/// The members of a fact object are in byte order of their keys. The taxonomy-defined dimensions
-/// come between `language` and `period`, in the order of their names.
+/// The members of a fact object are in the byte order of their keys. The taxonomy-defined
+/// dimensions are between `language` and `period`, in the order of their names.
 pub fn facts_are_written_in_order()
     ensures { FactsAreWrittenInOrder }
 {}
@@ -28,7 +28,7 @@ pub fn facts_are_spelled()
     ensures { FactsAreSpelled }
 {}
 
-/// A number that fits in a width is padded to that width, and the digits read as the number.
+/// A number that fits in a width is padded to that width. Parsing the digits returns the number.
 pub fn padded_writes_number()
     ensures { PaddedWritesNumber }
 {}
@@ -44,7 +44,7 @@ pub fn ranks_are_within()
     ensures uris { RanksAreWithin text_cmp }
 {}
 
-/// Padded numbers of one width have the order of the numbers.
+/// The byte order of numbers padded to one width is their numeric order.
 pub fn padded_keeps_order()
     ensures { PaddedKeepsOrder }
 {}

@@ -1,4 +1,4 @@
-//! The canonical text of a base: one xBRL-JSON report of all its facts, written fact by fact.
+//! The canonical text of a base: one xBRL-JSON report with all its facts, written fact by fact.
 #![tactic(auto)]
 
 mod bindings;

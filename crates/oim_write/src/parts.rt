@@ -24,8 +24,7 @@ use std::mem;
 const TYPE_AND_FEATURE: &[u8] =
     b"{\"documentInfo\":{\"documentType\":\"https://xbrl.org/2021/xbrl-json\",\"features\":{\"xbrl:allowedDuplicates\":\"";
 
-/// How the facts of a text are labelled: the prefixes of their names, and the number of digits in
-/// an identifier.
+/// The prefixes of the names in a text, and the number of digits in an identifier.
 #[derive(Clone, Copy)]
 pub(crate) struct Labels<'t> {
     pub table: &'t PrefixTable,
@@ -71,7 +70,7 @@ fn append_namespaces(
     Ok(())
 }
 
-// One member of `namespaces`.
+// Appends one member of `namespaces`.
 fn append_namespace(
     alloc: Global,
     text: &mut Vec<u8>,
@@ -90,7 +89,7 @@ fn append_namespace(
     Ok(())
 }
 
-/// One item of `taxonomy`.
+/// Appends one item of `taxonomy`.
 pub(crate) fn append_reference(
     alloc: Global,
     text: &mut Vec<u8>,
@@ -107,7 +106,7 @@ pub(crate) fn append_reference(
     Ok(())
 }
 
-/// One member of `facts`, given the number of facts before it.
+/// Appends one member of `facts`. `before` is the number of facts before it.
 pub(crate) fn append_fact(
     alloc: Global,
     text: &mut Vec<u8>,

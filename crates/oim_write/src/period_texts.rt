@@ -8,7 +8,7 @@ use oim_names::Text;
 use std::alloc::{AllocError, Global};
 use std::marker::Model;
 
-/// The number of classes: a prime, so that days spread over them.
+/// The number of classes. It is a prime, so that days spread over all classes.
 const CLASSES: u64 = 251;
 
 /// A period with its text; `Period::Forever` has none.
@@ -79,7 +79,7 @@ impl PeriodTexts {
         }
     }
 
-    /// Spells a period unless its class has it cached, and returns its index.
+    /// Spells the period unless it is cached, and returns its index in the cache.
     pub(crate) fn spell(&mut self, alloc: Global, period: Period) -> Result<usize, AllocError>
         ensures there { IfOk result (λ place. place < length self.new) }
         ensures is { IfOk result (λ place. (d : APeriod) → get_or self.new place d ≡ period) }
@@ -99,7 +99,7 @@ impl PeriodTexts {
     }
 }
 
-// Extends the cache to the class.
+// Extends the cache until it has an entry for the class.
 fn reach(texts: &mut Vec<PeriodText>, class: usize) -> Result<(), AllocError>
     ensures { OnOk result (class < length texts.new.items) }
 {

@@ -11,7 +11,7 @@ use oim_names::{Name, PositionCache, Text};
 use std::alloc::{AllocError, Global};
 use std::marker::Model;
 
-/// The URIs of a base's names. Each gets one prefix. Contracts see them in order.
+/// The URIs of a base's names, in byte order. Each gets one prefix.
 #[derive(Drop)]
 pub(crate) struct PrefixTable {
     uris: Vec<Text>,
@@ -63,7 +63,7 @@ impl PrefixTable {
         label(alloc, "n", self.digits, self.rank(uri))
     }
 
-    // Most names have the URI that was found last for their class.
+    // Few classes have several URIs, so the cache usually has the index.
     fn rank(&self, uri: &str) -> u128
         ensures { result ≡ rank text_cmp uri.now self.now }
     {
@@ -98,7 +98,7 @@ impl PrefixTable {
     }
 }
 
-// The index of the last URI for each class of names.
+// Caches the index of each URI. If several URIs have one class, the last is cached.
 fn places_of(uris: &[Text]) -> PositionCache {
     let mut cache = PositionCache::new();
     for (place, uri) in uris.iter().enumerate() {

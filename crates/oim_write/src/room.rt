@@ -1,8 +1,8 @@
 use crate::period_texts::PeriodTexts;
 use std::alloc::Global;
 
-/// Buffers reused from fact to fact, which saves requests for memory: one for a name, a unit or a
-/// label, and the texts of periods.
+/// Buffers that are reused for each fact, so that less memory is requested: one for a name, a unit
+/// or a label, and a cache of period texts.
 #[derive(Drop)]
 pub(crate) struct Room {
     pub(crate) spelled: String,

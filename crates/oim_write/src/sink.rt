@@ -29,7 +29,7 @@ pub trait Sink {
         ensures { result ≡ failures self.now };
 }
 
-/// Writes all these bytes to the sink, or returns how many it took before it failed.
+/// Writes all these bytes to the sink, or returns how many the sink took before it failed.
 pub fn put_all<S: Sink>(sink: &mut S, bytes: &[u8]) -> Result<(), usize>
     requires { S.failures sink.old < 2 ^ 64 - 1 }
     ensures ok { OnOk result (Appends (S.told sink.old) (S.told sink.new) bytes.now) }

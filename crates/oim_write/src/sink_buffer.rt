@@ -30,7 +30,7 @@ impl Model for SinkBuffer {
 }
 
 impl SinkBuffer {
-    /// Starts an empty text, with the memory for a chunk.
+    /// Starts an empty text and requests the memory for one chunk.
     pub fn new(alloc: Global) -> Result<SinkBuffer, AllocError>
         ensures { IfOk result (λ made. made ≡ nothing_yet) }
     {

@@ -7,7 +7,7 @@ use oim_dims::Unit;
 use oim_names::Name;
 use std::alloc::AllocError;
 
-/// Replaces the text by a unit, with each side in the order of names (xBRL-JSON 1.0).
+/// Replaces the text by the text of a unit (xBRL-JSON 1.0). The names on each side are in order.
 pub(crate) fn spell_unit(
     text: &mut String,
     table: &PrefixTable,
@@ -31,7 +31,7 @@ fn push_unit(text: &mut String, table: &PrefixTable, unit: &Unit) -> Result<(), 
     push_side(text, table, unit.denominators())
 }
 
-// Writes one side of a unit that has two.
+// Appends one side of a unit that has two sides.
 fn push_side(text: &mut String, table: &PrefixTable, names: &[Name]) -> Result<(), AllocError>
     ensures { OnOk result (string_bytes text.new ≡ string_bytes text.old ++ side_text (name_text table.now) names.now) }
 {
@@ -43,7 +43,7 @@ fn push_side(text: &mut String, table: &PrefixTable, names: &[Name]) -> Result<(
     text.push_str(")")
 }
 
-// Writes measures with `*` between them.
+// Appends measures with `*` between them.
 fn push_product(text: &mut String, table: &PrefixTable, names: &[Name]) -> Result<(), AllocError>
     ensures { OnOk result (string_bytes text.new ≡ string_bytes text.old ++ product_text (name_text table.now) names.now) }
 {

@@ -142,8 +142,8 @@ impl UriSet {
         }
     }
 
-    // Requests memory only for a new URI. Most URIs are where the last one of their class was
-    // found.
+    // Requests memory only for a new URI. Most URIs are at the index that is cached for their
+    // class.
     fn add(&mut self, alloc: Global, name: &Name) -> Result<(), AllocError>
         ensures { OnOk result (Gains self.old (name.now ∷ []) self.new) }
     {
@@ -166,7 +166,7 @@ impl UriSet {
         }
     }
 
-    // Does what `add` does, and returns the index of the URI until the next sort.
+    // Adds the URI as `add` does, and returns its index. A sort can make the index invalid.
     fn put(&mut self, alloc: Global, name: &Name) -> Result<usize, AllocError>
         ensures { OnOk result (Gains self.old (name.now ∷ []) self.new) }
     {

@@ -1,6 +1,6 @@
 use thiserror::Error;
 
-/// Why a text was not written to its end, with the length that was written. The length saturates.
+/// Why a text was not written completely, and how many bytes were written. The count saturates.
 #[derive(Clone, Copy, Debug, PartialEq, Eq, Error)]
 pub enum WriteFault {
     /// Memory was refused.

@@ -35,9 +35,9 @@ pub fn text(alloc: Global, base: &Base<'_>) -> Result<Encoded, AllocError>
 }
 
 /// Appends the canonical text of the base to the sink, fact by fact. Each chunk but the last has at
-/// least 64 kB. On a fault the sink has a first part of the text; the fault carries its length.
+/// least 64 kB. After a fault the sink has a first part of the text; the fault contains its length.
 ///
-/// Errors: `Device` if the sink failed; `OutOfMemory`, which also counts the bytes written so far.
+/// Errors: `Device` if the sink failed; `OutOfMemory`.
 pub fn write_to<S: Sink>(alloc: Global, base: &Base<'_>, out: &mut S) -> Result<(), WriteFault>
     requires { S.failures out.old < 2 ^ 64 - 1 }
     ensures ok { OnOk result (Appends (S.told out.old) (S.told out.new) (canonical base.now.body)) }
@@ -137,7 +137,7 @@ fn write_facts<S: Sink>(
     Ok(())
 }
 
-/// Writes the facts of a row, numbered after the facts before. `part` is a reused buffer.
+/// Writes the facts of a row. `before` is the number of facts before it; `part` is a reused buffer.
 fn write_row<S: Sink>(
     alloc: Global,
     buffer: &mut SinkBuffer,

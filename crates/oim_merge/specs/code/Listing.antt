@@ -1,4 +1,4 @@
--- Lines on their way to a sink (own). In bytes, `f` is 102, a space 32, a line end 10.
+-- Lines that are buffered on their way to a sink (own). In bytes, `f` is 102, a space 32, a line end 10.
 use Rattle.std.specs.Prelude.{ℕ, Option, List, ◌+◌, [], ◌∷◌, ◌++◌}
 use Rattle.std.specs.Fmt.{decimal}
 use Rattle.fact_base.specs.Body.{Body}
@@ -11,7 +11,7 @@ use Rattle.oim_merge.specs.Lines.{AreLines}
 use Rattle.oim_merge.specs.declared.fact_list.LentFact.{LentFact}
 use Rattle.oim_merge.specs.declared.placed_mention.PlacedMention.{PlacedMention}
 
--- the lines of a body passed a buffer, or stopped in it
+-- the lines of a body were pushed through a buffer, completely or until a fault
 pub record PassesLines (b : Body) (old new : Option (List ℕ)) (before after : Pending) : Type 0 where
   pub text : List ℕ
   pub lines : AreLines b text
@@ -22,10 +22,10 @@ pub record BreaksLines (b : Body) (old new : Option (List ℕ)) (before : Pendin
   pub lines : AreLines b text
   pub broken : Breaks old new before text written
 
--- the fact that is lent
+-- the fact that is borrowed
 abbrev pub lent : LentFact → Fact
 lent f = record { dimensions = f.dimensions.now; value = f.value.now }
 
--- the line of a mention, where there are so many facts
+-- the line of a mention of one of this many facts
 abbrev pub placed_line : ℕ → PlacedMention → List ℕ
 placed_line count m = (102 ∷ padded (width count) (m.place + 1)) ++ 32 ∷ (decimal m.report ++ 32 ∷ (compact_text (string m.identifier) ++ 10 ∷ []))

@@ -7,11 +7,11 @@ use Rattle.fact_base.specs.declared.evidence.Evidence.TheVariants.{Alike, Common
 use Rattle.oim_write.specs.Rank.{padded, width}
 use Rattle.oim_merge.specs.Lines.{line_text}
 
--- the identifier of the fact at an index, from 0, given how many facts come before the set and how many there are
+-- the identifier of the fact at an index, from 0, given the number of facts before the set and the number of all facts
 abbrev pub named : ℕ → ℕ → ℕ → List ℕ
 named before count place = 102 ∷ padded (width count) (before + place + 1)
 
--- the evidence refers to facts within this count
+-- the indices in the evidence are less than this count
 abbrev pub HasPlaces : ℕ → Evidence → Type 0
 HasPlaces n Alike = ⊤
 HasPlaces n (Common c) = ⊤

@@ -64,7 +64,7 @@ head_text level us =
     ++ (comma_if (has_some us)
     ++ codes "\"xbrl\":\"https://xbrl.org/2021\"},\"taxonomy\":["))))
 
--- facts as members, with identifiers of this width, numbered after the facts before them
+-- facts as members. Their identifiers have this many digits and follow the identifiers of `before` facts
 abbrev pub numbered_members : List (List ℕ) → ℕ → ℕ → List Fact → Members
 numbered_members us digits before [] = no_members
 numbered_members us digits before (f ∷ fs) = member (102 ∷ padded digits (before + 1)) (ordered_fact (name_text us) f) (numbered_members us digits (before + 1) fs)
@@ -76,6 +76,6 @@ numbered_text us digits before fs = parts (nat_lt 0 before) (numbered_members us
 abbrev pub facts_text : List (List ℕ) → List Fact → List ℕ
 facts_text us facts = numbered_text us (width (length facts)) 0 facts
 
--- a head, and the rest of the text
+-- a head, followed by the rest of the text
 abbrev pub parts_text : List ℕ → List (List ℕ) → Body → List ℕ
 parts_text head us b = head ++ (text_parts false b.references ++ (codes "]},\"facts\":{" ++ (facts_text us b.facts ++ codes "}}")))

@@ -1,4 +1,4 @@
--- The table of prefixes, and how its URIs are gathered (own).
+-- The table of prefixes, and how its URIs are collected (own).
 use Rattle.std.specs.Prelude.{◌≡◌, ℕ, List, length, ◌↔◌, ◌⊎◌, Contains, ◌++◌, flat_map}
 use Rattle.fact_base.specs.Passed.{IsSet}
 use Rattle.fact_base.specs.Body.{text_cmp}
@@ -7,15 +7,15 @@ use Rattle.fact_base.specs.Rows.{Row}
 use Rattle.oim_write.specs.Rank.{width}
 use Rattle.oim_write.specs.Uris.{dimension_names, uris_of_names, value_names}
 
--- the invariant of a table of prefixes: the URIs rise, and so many digits number them
+-- the invariant of a table of prefixes: the URIs rise, and `digits` is the width of their count
 pub record IsTable (us : List (List ℕ)) (digits : ℕ) : Type 0 where
   pub rises : IsSet text_cmp us
   pub enough : digits ≡ width (length us)
 
--- the names of a row: of its dimensions, and of its values
+-- the names in a row's dimensions and values
 abbrev pub row_names : Row → List QName
 row_names r = dimension_names r.0 ++ flat_map value_names r.1
 
--- a set of URIs after the namespaces of further names are added
+-- `new` contains exactly the URIs of `old` and the URIs of the names
 pub record Gains (old : List (List ℕ)) (names : List QName) (new : List (List ℕ)) : Type 0 where
   pub members : (u : List ℕ) → Contains new u ↔ (Contains old u ⊎ Contains (uris_of_names names) u)

@@ -16,7 +16,7 @@ use Rattle.oim_merge.proofs.Evidenced.{evidence_exists}
 use Rattle.oim_merge.proofs.LineLists.{count_with_row, line_is, lines_both, lines_exist, one_line, row_filled, row_within}
 use Rattle.oim_merge.proofs.listing.push_lines.Goals as goal
 
--- the rows that are left have lines
+-- the remaining rows have lines
 lines_left : (sheet : Sheet) (b : Body) → Fits sheet b → (done left : List Row) → done ++ left ≡ rows_of b.facts → (n : ℕ) → (text : List ℕ) × AreLinesFrom b.facts n left text
 lines_left sheet b fits done left all n = lines_exist b.facts n left (λ q at. evidence_exists sheet b fits q (subst (λ rs. Contains rs q) all ((in_one_of_both done left q).1 (inr at))))
 
