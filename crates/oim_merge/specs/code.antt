@@ -1,4 +1,4 @@
--- Definitions that only private code cites: parts of event lines, cached readings and buffered lines. No public contract uses them.
+-- Definitions that only private code cites: event lines, cached readings and buffered lines. No public contract uses them.
 pub mod EventParts
 pub mod Held
 pub mod Kept

@@ -4,8 +4,7 @@ use crate::refusals::Refusals;
 use oim_names::Reason;
 use oim_write::WriteFault;
 
-/// Why reports were not merged. `OutOfMemory` and `Device` count the bytes written. The count
-/// saturates.
+/// Why reports were not merged. A count of written bytes saturates.
 #[derive(Debug, Drop)]
 pub enum Fault {
     /// Memory was refused.

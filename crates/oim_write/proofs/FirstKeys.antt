@@ -1,4 +1,4 @@
--- The second key differs between the two forms of text: `namespaces` in an earlier text, `features` in one that declares a level.
+-- The second key differs between the two forms of text: `namespaces` in the earlier form, `features` in the present one.
 use Rattle.std.proofs.Common.{◌≡◌, ℕ, get_or, refl}
 use Rattle.json.specs.Print.{escape_byte}
 use Rattle.fact_base.specs.Body.{Body}
