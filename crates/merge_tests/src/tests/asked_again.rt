@@ -2,8 +2,8 @@ use oim_names::Reason;
 use oim_report::Sheet;
 use std::alloc::{AllocError, Global};
 
-// Repeats a call after a refused request for memory. The line on standard error reports it to
-// `tests/refused_memory`, and says if the test itself made the request.
+// Repeats a call after a refused request for memory. A line on standard error reports the refusal
+// to `tests/refused_memory`: `refused here` if the test itself made the request, else `refused`.
 
 const ROOM: usize = 1 << 12;
 
@@ -14,7 +14,7 @@ pub(crate) const SHEET: &str =
 pub(crate) const INFO: &str =
     r#"{"documentInfo":{"documentType":"https://xbrl.org/2021/xbrl-json","namespaces":{"eg":"http://example.org/t","x":"http://example.org/u","xbrli":"http://www.xbrl.org/2003/instance","xbrl":"https://xbrl.org/2021"}},"facts":{"#;
 
-/// The beginning of a report, up to the further members of `documentInfo`.
+/// The beginning of a report, up to the other members of `documentInfo`.
 pub(crate) const OPEN_INFO: &str =
     r#"{"documentInfo":{"documentType":"https://xbrl.org/2021/xbrl-json""#;
 
@@ -26,7 +26,7 @@ pub(crate) fn tell_refused_here(rt: &HostRuntime) {
     let _ = eprintln!(rt; "refused here");
 }
 
-/// The sheet of that text.
+/// Reads `SHEET`.
 pub(crate) fn read_sheet(rt: &HostRuntime) -> Result<Sheet, Reason> {
     match Sheet::read(rt.alloc(), SHEET.as_bytes()) {
         Err(Reason::OutOfMemory) => {
@@ -37,7 +37,7 @@ pub(crate) fn read_sheet(rt: &HostRuntime) -> Result<Sheet, Reason> {
     }
 }
 
-/// True if a call returns true.
+/// Returns whether a call returns true. The call is repeated if memory is refused.
 pub(crate) fn holds<F: Fn(Global) -> Result<bool, AllocError>>(rt: &HostRuntime, call: F) -> bool
     requires { F.IsAlwaysCallable call }
 {

@@ -12,11 +12,11 @@ use fact_base::{Base, Evidence, Verdict};
 use oim_report::{Report, Sheet, read_report};
 use std::alloc::AllocError;
 
-// The text of a report of one fact, up to the value.
+// The text of a report with one fact, up to the value.
 const FACT: &str =
     r#"{"documentInfo":{"documentType":"https://xbrl.org/2021/xbrl-json","namespaces":{"eg":"http://example.org/t"}},"facts":{"a":{"#;
 
-// The text after the value: the dimensions of a number, of a text and of a name.
+// The text after the value: the dimensions of a number, a text and a name.
 const OF_A: &str = r#","dimensions":{"concept":"eg:A"}}}}"#;
 
 const OF_T: &str = r#","dimensions":{"concept":"eg:T"}}}}"#;
@@ -62,8 +62,8 @@ fn take_text(rt: &HostRuntime, base: &mut Base<'_>, text: &str) -> bool {
     }
 }
 
-// Adds a report whose text has three parts, of which only the second differs between reports. It
-// returns false if the report is refused.
+// Adds a report whose text has three parts. Only the second part differs between reports. Returns
+// false if the report is refused.
 fn add(rt: &HostRuntime, base: &mut Base<'_>, start: &str, text: &str, end: &str) -> bool {
     match joined(rt, start, text, end) {
         Ok(report) => take_text(rt, base, report.as_str()),
@@ -71,7 +71,7 @@ fn add(rt: &HostRuntime, base: &mut Base<'_>, start: &str, text: &str, end: &str
     }
 }
 
-// Returns a base of one report for each text. All reports have the same start and end.
+// Returns a base that took one report for each text. All reports have the same start and end.
 fn base_between<'s>(
     rt: &HostRuntime,
     sheet: &'s Sheet,
@@ -88,12 +88,12 @@ fn base_between<'s>(
     Some(base)
 }
 
-// Returns a base of one report for each value with its decimals.
+// Returns a base that took one report for each value with its decimals.
 fn base_of<'s>(rt: &HostRuntime, sheet: &'s Sheet, values: &[&str]) -> Option<Base<'s>> {
     base_between(rt, sheet, FACT, values, OF_A)
 }
 
-// Returns verdict and evidence on the first dimension set of a base.
+// Returns the verdict and the evidence on the first dimension set of a base.
 fn judged(base: &Base<'_>) -> Option<(Verdict, Evidence)> {
     let row = base.rows().next()?;
     match (base.verdict(row.dimensions), base.evidence(row.dimensions)) {

@@ -11,9 +11,9 @@ use oim_value::Level;
 use std::alloc::{AllocError, Global};
 use std::test::Fail;
 
-// The results of `check_report`. A call is repeated after a refused request for memory.
+// Tests the results of `check_report`. A call is repeated after a refused request for memory.
 
-/// A report in parts, the number of its facts, their level, and true if it is canonical.
+/// A report in parts, the number of its facts, their level, and whether the report is canonical.
 type Row = (&'static [&'static str], u64, Level, bool);
 
 /// Texts in both forms, and reports whose facts are spelled as in a canonical text.
@@ -116,7 +116,7 @@ const SPELLED: [&[&str]; 9] = [
         WRITTEN_HUNDRED,
         END,
     ],
-    // another writer's report, whose facts rise
+    // a report by another writer, with rising facts
     &[
         INFO,
         r#""a":{"value":"100","decimals":0,"dimensions":{"concept":"eg:A"}}"#,

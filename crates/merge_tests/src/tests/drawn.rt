@@ -1,6 +1,6 @@
 use std::alloc::{AllocError, Global};
 
-// Reports drawn from a seed, with every kind of part.
+// Draws reports from a seed. They have every kind of part.
 
 const OPEN: &str =
     r#"{"documentInfo":{"documentType":"https://xbrl.org/2021/xbrl-json","namespaces":{"eg":"http://example.org/t","x":"http://example.org/u","xbrli":"http://www.xbrl.org/2003/instance"},"taxonomy":["b.xsd","http://x.org/a.xsd"]},"facts":{"#;
@@ -75,7 +75,7 @@ const IDENTIFIERS: &[&str] = &[
     r#","f":{"value":"#,
 ];
 
-/// Pseudo-random numbers: a linear congruence modulo 2^32.
+/// A generator of pseudo-random numbers: linear congruential, modulo 2^32.
 #[derive(Clone, Copy)]
 struct Draw {
     state: u32,
@@ -116,7 +116,7 @@ fn push_fact(text: &mut String, draw: &mut Draw) -> Result<(), AllocError> {
     text.push_str("}}")
 }
 
-/// A report of six facts, drawn from the seed.
+/// A report with six facts, drawn from the seed.
 pub(crate) fn report_of(alloc: Global, seed: u32) -> Result<String, AllocError> {
     let mut draw = Draw { state: seed };
     let mut text = String::new(alloc);

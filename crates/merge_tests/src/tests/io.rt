@@ -7,10 +7,10 @@ use oim_write::Encoded;
 use std::io::{self, Read};
 use std::test::Fail;
 
-// A call is repeated after a refused request for memory, on a new device. A line on standard error
-// reports it.
+// After a refused request for memory, a call is repeated on a new device. A line on standard error
+// reports the refusal.
 
-/// The result of `read_all`, the number of its requests, and the failures of the source.
+/// The result of `read_all`, the number of its requests, and the number of the source's failures.
 fn read(
     rt: &HostRuntime,
     reader: TestReader<'_>,
@@ -27,7 +27,8 @@ fn read(
     (answer, source.into_inner().calls, failures)
 }
 
-/// True if `read_all` returns this after few calls, and a failing source failed once.
+/// True if `read_all` returns this result after at most `limit` + 2 calls, and a failing source
+/// failed exactly once.
 fn answers(
     rt: &HostRuntime,
     reader: TestReader<'_>,
@@ -44,8 +45,8 @@ fn answers(
     same && calls <= u64::from(limit) + 2 && failures == u64::from(is_device)
 }
 
-/// Tests sources that stop after these bytes, at each step. A failing one must give a fault with
-/// their number, and an ending one the bytes.
+/// Tests sources that stop after these bytes, with each step. If the source fails, the fault must
+/// contain their number. If it ends, `read_all` must return the bytes.
 fn stops_behind(rt: &HostRuntime, front: &[u8], limit: u32) -> bool {
     let fault = ReadFault::Device(front.len() as u64);
     for step in STEPS {
@@ -74,7 +75,7 @@ fn stops_behind(rt: &HostRuntime, front: &[u8], limit: u32) -> bool {
     true
 }
 
-/// True if endless sources are too long, at each step.
+/// True if endless sources are reported as too long, with each step.
 fn never_ends(rt: &HostRuntime, limit: u32) -> bool {
     for step in STEPS {
         let reader = TestReader::new(b"ab", step, Then::GoesOn);
@@ -149,7 +150,7 @@ fn sources_are_read_to_their_end(rt: HostRuntime) -> Result<(), Fail> {
 
 const LONG: u32 = 200_000;
 
-/// The number of requests to an endless source; None if the read succeeds.
+/// The number of requests to an endless source. None if the result is not `TooLong`.
 fn calls_of_endless(rt: &HostRuntime) -> Option<u64> {
     let reader = TestReader::new(b"", Step::Few(30_000), Then::GoesOn);
     let (answer, calls, _) = read(rt, reader, LONG);
@@ -160,7 +161,7 @@ fn calls_of_endless(rt: &HostRuntime) -> Option<u64> {
     }
 }
 
-/// Reads a source that gives one byte at a time; also returns the number of its failures.
+/// Reads a source that repeats one byte. Also returns the number of its failures.
 fn read_repeated(rt: &HostRuntime) -> (Result<Encoded, ReadFault>, u64) {
     let mut source = StdSource::new(io::repeat(7).take(u64::from(LONG)));
     let mut answer = read_all(rt.alloc(), &mut source, LONG);

@@ -13,8 +13,8 @@ use oim_write::{Encoded, Sink, StdSink, WriteFault, prefixes, text, write_to};
 use std::alloc::AllocError;
 use std::test::Fail;
 
-// Each call is repeated after a refused request for memory. Its sink holds as much of the text as
-// the fault says. Lines on standard error report both to `tests/refused_memory`.
+// Each call is repeated after a refused request for memory. The sink must have as many bytes of the
+// text as the fault reports. Lines on standard error report both to `tests/refused_memory`.
 
 fn is_want_of_memory(refusal: Refusal) -> bool {
     refusal
@@ -53,18 +53,18 @@ fn take_first<'s>(rt: &HostRuntime, report: &Report<'s>) -> Option<Base<'s>> {
     Some(base)
 }
 
-/// The base of one report.
+/// A base that took one report.
 fn base_of<'s>(rt: &HostRuntime, sheet: &'s Sheet, report: &[u8]) -> Option<Base<'s>> {
     let report = read(rt, sheet, report)?;
     take_first(rt, &report)
 }
 
-/// True if the sink holds exactly the first `written` bytes of the text.
+/// True if the sink took exactly `written` bytes without a failure, and the text has as many.
 fn holds(sink: &StdSink<Expecting<'_>>, text: &[u8], written: u64) -> bool {
     sink.taken() == written && sink.failures() == 0 && written <= text.len() as u64
 }
 
-/// The result of a call that was refused memory: None, if the sink holds what the fault says.
+/// Returns None if the sink took exactly the first `written` bytes of the text, otherwise false.
 fn wanted_memory(
     rt: &HostRuntime,
     sink: StdSink<Expecting<'_>>,
@@ -187,13 +187,13 @@ fn a_refused_base_comes_back(rt: HostRuntime) -> Result<(), Fail> {
 /// Fifty letters.
 const LETTERS: &str = "abcdefghijklmnopqrstuvwxyzabcdefghijklmnopqrstuvwx";
 
-// The last text is longer, so memory is requested for it after the sink took the others.
+// The last text is longer, so memory is requested for it after the sink took the other texts.
 
 const MANY: usize = 400;
 
 const MORE: usize = 1_200;
 
-/// The text before and after the digit in which long texts differ.
+/// The text before and after the value of a long text.
 const OPEN_TEXT: [&str; 2] = [r#"":{"value":""#, r#"","dimensions":{"concept":"eg:T"}}"#];
 
 const LONG_ROOM: usize = 1 << 18;
@@ -228,14 +228,14 @@ fn push_all_long(text: &mut String) -> Result<(), AllocError> {
     text.push_str(END)
 }
 
-/// A report of four texts of 20,001 bytes and one of 60,001.
+/// A report with four texts of 20,001 bytes and one text of 60,001 bytes.
 fn long_report(rt: &HostRuntime) -> Result<String, AllocError> {
     let mut text = long_room(rt)?;
     push_all_long(&mut text)?;
     Ok(text)
 }
 
-/// True if the base is written as its own text, which is longer than a chunk.
+/// True if `write_to` writes the same bytes as `text` returns, and they are more than a chunk.
 fn writes_long(rt: &HostRuntime, base: &Base<'_>) -> bool {
     match text_of(rt, base) {
         Ok(text) => text.as_bytes().len() > 100_000 && writes(rt, base, text.as_bytes()),

@@ -9,17 +9,16 @@ use oim_report::Sheet;
 use oim_write::text;
 use std::alloc::{AllocError, Global};
 
-// Replicas and the schedules that they run. After a refused request for memory the call is
-// repeated.
+// Tests schedules that replicas run. A call is repeated after a refused request for memory.
 
-/// One more fact besides those of `calls`.
+/// One more fact, in addition to the facts of `calls`.
 const HUNDRED_ONE: &str = r#""a":{"value":"101","decimals":0,"dimensions":{"concept":"eg:A"}}"#;
 
 /// Three replicas each take a report, exchange texts and join.
 const NINE_EVENTS: &str =
     "take 1 1\nsend 1\ntake 2 2\nreceive 2 1\nsend 2\ntake 3 3\nreceive 3 2\nreceive 3 1\njoin 1 2\n";
 
-/// Runs the events of these lines on replicas, with one report for each of these facts.
+/// Runs the events in these lines on `n` replicas. `each` has the facts of each report.
 fn played<'s>(
     alloc: Global,
     sheet: &'s Sheet,

@@ -9,7 +9,7 @@ use std::alloc::{AllocError, Global};
 
 // A call is repeated after a refused request for memory.
 
-/// True if the base read from the text equals the base and writes the same text.
+/// True if the base that is read back equals the base and writes the same text.
 fn comes_back(alloc: Global, base: &Base<'_>) -> Result<bool, AllocError> {
     let first = text(alloc, base)?;
     let back = read_back(alloc, base)?;

@@ -8,8 +8,8 @@ use row_formats::{RowFormat, finish_rows, finish_rows_last, source_rows, verdict
 use std::alloc::{AllocError, Global};
 use std::test::Fail;
 
-// Each call on rows of every kind, against outputs written by hand. A call is repeated after a
-// refused request for memory.
+// Compares the output of each call, for rows of every kind, with output written by hand. A call is
+// repeated after a refused request for memory.
 
 const FIRST: &[u8] =
     br#"{"documentInfo":{"documentType":"https://xbrl.org/2021/xbrl-json","namespaces":{"eg":"http://example.org/t","x":"http://example.org/u"}},"facts":{"p":{"value":"100","decimals":0,"dimensions":{"concept":"eg:A","entity":"x:E1","period":"2024-01-01T00:00:00/2025-01-01T00:00:00","unit":"eg:USD","eg:Reg":"eg:N"}},"-q":{"value":"=1, \"x\"","dimensions":{"concept":"eg:T","language":"en"}},"r":{"value":null,"dimensions":{"concept":"eg:B","eg:Sku":"s,1"}},"s":{"value":"eg:N","dimensions":{"concept":"eg:Q"}}}}"#;
@@ -92,7 +92,7 @@ fn asked<S: Sink>(
     }
 }
 
-/// True if a call writes exactly this and returns the refusal of the second report.
+/// True if a call writes exactly this and returns one refusal.
 fn writes(alloc: Global, call: Call, format: RowFormat, wanted: &[u8]) -> Result<bool, AllocError> {
     let mut sink = StdSink::new(Vec::new(alloc));
     match asked(alloc, call, format, &mut sink) {

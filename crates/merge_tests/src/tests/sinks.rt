@@ -13,11 +13,11 @@ use std::test::Fail;
 pub(crate) const TOUCHING: &str =
     r#"{"documentInfo":{"documentType":"https://xbrl.org/2021/xbrl-json","namespaces":{"eg":"http://example.org/t"}},"facts":{"a":{"value":"100","decimals":0,"dimensions":{"concept":"eg:A"}},"b":{"value":"101","decimals":0,"dimensions":{"concept":"eg:A"}}}}"#;
 
-/// A fact with names of two namespaces.
+/// A fact with names in two namespaces.
 pub(crate) const EVERY_DIMENSION: &str =
     r#"{"documentInfo":{"documentType":"https://xbrl.org/2021/xbrl-json","namespaces":{"eg":"http://example.org/t","x":"http://example.org/u"}},"facts":{"a":{"value":"Blue","dimensions":{"concept":"eg:T","entity":"x:529900:A1","period":"2020-01-01T00:00:00/2020-12-31T24:00:00","language":"en-GB","eg:Reg":"eg:North","eg:Sku":"a b"}}}}"#;
 
-/// Reads a sheet that is accepted.
+/// Reads a sheet, which must be accepted.
 pub(crate) fn sheet_of(alloc: Global, text: &str) -> Result<Sheet, AllocError> {
     match Sheet::read(alloc, text.as_bytes()) {
         Ok(sheet) => Ok(sheet),
@@ -29,7 +29,7 @@ pub(crate) fn sheet(alloc: Global) -> Result<Sheet, AllocError> {
     sheet_of(alloc, SHEET)
 }
 
-/// The base of one report that is accepted.
+/// A base that took one report, which must be accepted.
 pub(crate) fn base_of<'s>(
     alloc: Global,
     sheet: &'s Sheet,
@@ -43,8 +43,8 @@ pub(crate) fn base_of<'s>(
     Ok(base)
 }
 
-/// True if a sink that stops like this after seven bytes holds exactly those, and the fault says
-/// so.
+/// True if a sink that stops after seven bytes contains exactly the first seven, and the fault
+/// reports seven.
 fn takes_seven(alloc: Global, then: Then) -> Result<bool, AllocError> {
     let sheet = sheet(alloc)?;
     let base = Base::new(alloc, &sheet);

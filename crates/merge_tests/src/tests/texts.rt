@@ -18,7 +18,7 @@ const LINE: &str = "\n";
 
 const TWO_URIS: &str = r#""n1":"http://example.org/t","n2":"http://example.org/u""#;
 
-/// True if the bundle is merged to the text; None if memory was refused.
+/// True if merging the bundle gives the text; None if memory was refused.
 fn merges(rt: &HostRuntime, bundle: &[u8], text: &[u8]) -> Option<bool> {
     let mut sink = StdSink::new(Expecting::just(text));
     let accepted = match consolidate_bundle(rt.alloc(), bundle, &mut sink) {
@@ -34,7 +34,7 @@ fn merges(rt: &HostRuntime, bundle: &[u8], text: &[u8]) -> Option<bool> {
     Some(same)
 }
 
-/// True if a bundle of these parts is merged to a text of these parts.
+/// True if merging the bundle with these parts gives the text with these parts.
 fn gives(rt: &HostRuntime, bundle: &[&str], text: &[&str]) -> Result<bool, Fail> {
     let bundle = joined(rt, bundle)?;
     let text = joined(rt, text)?;
@@ -47,10 +47,10 @@ fn gives(rt: &HostRuntime, bundle: &[&str], text: &[&str]) -> Result<bool, Fail>
     }
 }
 
-/// Parts of a bundle, and of the text that it is merged to.
+/// The parts of a bundle, and the parts of its merged text.
 type Row = (&'static [&'static str], &'static [&'static str]);
 
-/// Whether each bundle is merged to its text.
+/// True if merging each bundle gives its text.
 fn all_give(rt: &HostRuntime, rows: &[Row]) -> Result<bool, Fail> {
     let mut all = true;
     for (bundle, text) in rows {
@@ -59,7 +59,7 @@ fn all_give(rt: &HostRuntime, rows: &[Row]) -> Result<bool, Fail> {
     Ok(all)
 }
 
-/// True if these facts of one report are written as this text, with these namespaces.
+/// True if one report with these facts is written with these namespaces and this text.
 fn writes(rt: &HostRuntime, facts: &str, namespaces: &str, text: &str) -> Result<bool, Fail> {
     let bundle = [SHEET, LINE, INFO, facts, END];
     gives(rt, &bundle, &[HEAD, namespaces, MIDDLE, text, END])

@@ -13,8 +13,8 @@ use oim_write::{Encoded, Sink, StdSink, write_to};
 use std::alloc::{AllocError, Global};
 use std::test::Fail;
 
-// Each call, over writers that stop at each byte of its text. After a refused request for memory
-// the table is tried again.
+// Tests each call with writers that stop at each byte of its text. After a refused request for
+// memory the row is repeated.
 
 /// The call that writes a text.
 #[derive(Clone, Copy)]
@@ -52,8 +52,8 @@ fn whole(refusals: &Refusals) -> Ended {
     }
 }
 
-/// Makes the call on a new sink over the writer. Returns its result, the failures of the sink, and
-/// true if the sink took the text.
+/// Makes the call on a new sink over the writer. Returns its result, the number of the sink's
+/// failures, and whether the sink took the text.
 fn called(
     alloc: Global,
     call: Call<'_, '_>,
@@ -76,8 +76,8 @@ fn called(
     Ok((ended, failures, sink.into_inner().is_met()))
 }
 
-/// True if a writer of this size, which then stops like this, holds exactly the first bytes of the
-/// text, and the call says so.
+/// True if a writer with room for this many bytes takes exactly the first bytes of the text, and
+/// the call reports their number.
 fn holds_the_front(
     alloc: Global,
     call: Call<'_, '_>,
@@ -107,7 +107,7 @@ fn holds_each_front(alloc: Global, call: Call<'_, '_>, text: &[u8]) -> Result<bo
     Ok(true)
 }
 
-// A short sheet and a short report, since they are read once for each cell.
+// The sheet and the report are short because most calls read them again for each writer.
 
 const SHORT_SHEET: &str =
     r#"{"namespaces":{"eg":"http://example.org/t"},"concepts":{"eg:A":"numeric"}}"#;
@@ -183,7 +183,7 @@ const APART: Row = (
     33,
 );
 
-/// True if a writer of each size holds the first bytes of the row's text after the call.
+/// True if a writer of each size takes exactly the first bytes of the row's text.
 fn holds(rt: &HostRuntime, kind: Kind, row: &Row) -> Result<bool, Fail> {
     let (facts, parts, length) = row;
     let text = joined(rt, parts)?;

@@ -41,7 +41,7 @@ fn join(rt: &HostRuntime, base: &mut Base<'_>, other: &Base<'_>) -> bool {
     base.join(other).is_ok()
 }
 
-// The values of a base, of a base that it joins, and of both.
+// The values of a base, the values of a base that it joins, and the values of both.
 struct Joined<'t> {
     values: &'t [&'t str],
     others: &'t [&'t str],
@@ -120,8 +120,8 @@ fn an_equal_or_empty_base_adds_nothing(rt: HostRuntime) {
     }
 }
 
-// Absorbs a base of two facts, and returns whether it did. If a request is refused, the other base
-// is lost.
+// Absorbs a base with two facts, and returns whether this succeeded. If a request is refused, the
+// other base is lost.
 fn absorb_two(rt: &HostRuntime, base: &mut Base<'_>) -> Option<bool> {
     let other = base_of(rt, base.sheet(), &[TWO, ONE])?;
     if !base.same_sheet(other.sheet()) {
@@ -130,7 +130,7 @@ fn absorb_two(rt: &HostRuntime, base: &mut Base<'_>) -> Option<bool> {
     Some(base.absorb(other).is_ok())
 }
 
-// Does the same again if a request was refused and the base is unchanged.
+// Absorbs it, and repeats this if a request was refused and the base is unchanged.
 fn absorbs(rt: &HostRuntime, base: &mut Base<'_>, before: &Base<'_>) -> bool {
     match absorb_two(rt, base) {
         Some(false) if base.same_as(before) => {
@@ -164,8 +164,8 @@ fn what_is_absorbed_is_counted_once(rt: HostRuntime) -> Result<(), Fail> {
     Ok(())
 }
 
-// Absorbs a report of one value, and returns whether the base did. If a request is refused, the
-// report is lost.
+// Absorbs a report with one value, and returns whether this succeeded. If a request is refused,
+// the report is lost.
 fn absorb_value(rt: &HostRuntime, base: &mut Base<'_>, value: &str) -> Option<bool> {
     let text = joined(rt, FACT, value, OF_A).ok()?;
     let report = read(rt, base.sheet(), text.as_str())?;
@@ -175,7 +175,7 @@ fn absorb_value(rt: &HostRuntime, base: &mut Base<'_>, value: &str) -> Option<bo
     Some(base.absorb_report(report).is_ok())
 }
 
-// Does the same again if a request was refused and the base is unchanged.
+// Absorbs it, and repeats this if a request was refused and the base is unchanged.
 fn absorbs_value(rt: &HostRuntime, base: &mut Base<'_>, value: &str, before: &Base<'_>) -> bool {
     match absorb_value(rt, base, value) {
         Some(false) if base.same_as(before) => {
@@ -186,8 +186,8 @@ fn absorbs_value(rt: &HostRuntime, base: &mut Base<'_>, value: &str, before: &Ba
     }
 }
 
-// Returns whether a base of two values has all values after it absorbs a third, and after it
-// absorbs the third again.
+// Returns whether a base with two values has all values after it absorbs a third value, and after
+// it absorbs that value again.
 fn has_what_is_given_up(rt: &HostRuntime, before: &Base<'_>, all: &Base<'_>) -> bool {
     match base_of(rt, all.sheet(), &[NINE, ONE]) {
         Some(mut base) => {
@@ -221,11 +221,11 @@ fn a_report_that_is_given_up_is_taken(rt: HostRuntime) -> Result<(), Fail> {
     Ok(())
 }
 
-// The text of a report of one reference and no fact, up to the reference.
+// The text of a report with one reference and no facts, up to the reference.
 const TAXONOMY: &str =
     r#"{"documentInfo":{"documentType":"https://xbrl.org/2021/xbrl-json","taxonomy":[""#;
 
-// Returns a base of one report for each reference.
+// Returns a base that took one report for each reference.
 fn base_of_references<'s>(
     rt: &HostRuntime,
     sheet: &'s Sheet,

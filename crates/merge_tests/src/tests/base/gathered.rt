@@ -11,8 +11,8 @@ const TWO: &str = r#""value":"2","decimals":0"#;
 
 const NINE: &str = r#""value":"9","decimals":0"#;
 
-// Adds a report of one value, and returns whether it was added. If a request is refused, the report
-// is lost.
+// Adds a report with one value, and returns whether it was added. If a request is refused, the
+// report is lost.
 fn add(rt: &HostRuntime, gathered: &mut Gathering<'_>, value: &str) -> Option<bool> {
     let text = joined(rt, FACT, value, OF_A).ok()?;
     let report = read(rt, gathered.sheet(), text.as_str())?;
@@ -22,7 +22,7 @@ fn add(rt: &HostRuntime, gathered: &mut Gathering<'_>, value: &str) -> Option<bo
     Some(gathered.add(report).is_ok())
 }
 
-// Adds the report again if a request was refused.
+// Adds a report with one value, and repeats this if a request was refused.
 fn adds(rt: &HostRuntime, gathered: &mut Gathering<'_>, value: &str) -> bool {
     match add(rt, gathered, value) {
         Some(false) => {
@@ -33,7 +33,7 @@ fn adds(rt: &HostRuntime, gathered: &mut Gathering<'_>, value: &str) -> bool {
     }
 }
 
-// Returns the base of one report for each value, added one after another.
+// Adds one report for each value in order, and returns the base.
 fn gather<'s>(
     rt: &HostRuntime,
     sheet: &'s Sheet,
@@ -49,7 +49,7 @@ fn gather<'s>(
     Some(gathered.into_base())
 }
 
-// Starts again from the first value if a request for the base is refused.
+// Does the same, and starts again if a request for the base is refused.
 fn gathered_of<'s>(rt: &HostRuntime, sheet: &'s Sheet, values: &[&str]) -> Option<Base<'s>> {
     match gather(rt, sheet, values)? {
         Ok(base) => Some(base),

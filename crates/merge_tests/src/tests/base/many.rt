@@ -6,8 +6,8 @@ use oim_report::{Report, Sheet, read_report};
 use std::alloc::AllocError;
 use std::test::Fail;
 
-// These bases make many requests for memory, so single calls are not repeated. If one is refused,
-// the whole test is repeated.
+// These bases make many requests for memory, so single calls are not repeated. If a request is
+// refused, the whole test is repeated.
 
 // The text of a report up to its facts.
 const FACTS: &str =
@@ -30,7 +30,7 @@ fn take_text(rt: &HostRuntime, base: &mut Base<'_>, text: &str) -> Result<(), Re
     }
 }
 
-// Adds the fact of a number, with a comma before it unless it is the first.
+// Appends the fact with this number, with a comma before it unless it is the first.
 fn push_fact(rt: &HostRuntime, text: &mut String, number: u32) -> Result<(), AllocError> {
     let mark = if number > 1 { "," } else { "" };
     let fact = format!(in rt.alloc();
@@ -54,13 +54,13 @@ fn take_all(rt: &HostRuntime, base: &mut Base<'_>) -> Result<(), Reason> {
     take_text(rt, base, text.as_str())
 }
 
-// Takes a report with a fact of one number.
+// Takes a report with one fact, which has this number.
 fn take_one(rt: &HostRuntime, base: &mut Base<'_>, number: u32) -> Result<(), Reason> {
     let text = format!(in rt.alloc(); "{FACT}\"value\":\"{number}\",\"decimals\":0{OF_A}")?;
     take_text(rt, base, text.as_str())
 }
 
-// Takes one report for each number, the last number first.
+// Takes one report for each number, in descending order.
 fn take_each(rt: &HostRuntime, base: &mut Base<'_>) -> Result<(), Reason> {
     for taken in 0..COUNT {
         take_one(rt, base, COUNT - taken)?;
@@ -68,7 +68,7 @@ fn take_each(rt: &HostRuntime, base: &mut Base<'_>) -> Result<(), Reason> {
     Ok(())
 }
 
-// Adds the base of one number.
+// Adds a base with one fact, which has this number.
 fn push_base<'s>(
     rt: &HostRuntime,
     sheet: &'s Sheet,
@@ -98,7 +98,7 @@ fn join(base: &mut Base<'_>, other: &Base<'_>) -> Result<(), AllocError> {
     Ok(())
 }
 
-// Joins the last base to the base at an index.
+// Removes the last base and joins it into the base at an index.
 fn join_last(bases: &mut Vec<Base<'_>>, place: usize) -> Result<(), AllocError> {
     let Some(last) = bases.pop() else {
         return Ok(());
@@ -109,7 +109,7 @@ fn join_last(bases: &mut Vec<Base<'_>>, place: usize) -> Result<(), AllocError> 
     }
 }
 
-// Joins the bases in pairs, the last to the first.
+// Joins the bases in pairs: the last into the first, the next to last into the second, and so on.
 fn join_halves(bases: &mut Vec<Base<'_>>) -> Result<(), AllocError> {
     for place in 0..bases.len() / 2 {
         join_last(bases, place)?;
@@ -127,7 +127,7 @@ fn join_all(bases: &mut Vec<Base<'_>>) -> Result<(), AllocError> {
 
 type Said = (Verdict, Evidence);
 
-// Returns verdict and evidence on the only row of a base with `COUNT` facts.
+// Returns the verdict and the evidence on the only row of a base with `COUNT` facts.
 fn said_of(base: &Base<'_>) -> Option<Said> {
     if base.row_count() != 1 || base.fact_count() != u128::from(COUNT) {
         return None;
@@ -135,7 +135,7 @@ fn said_of(base: &Base<'_>) -> Option<Said> {
     judged(base)
 }
 
-// Returns verdict and evidence on three bases, if these are equal.
+// Returns the verdict and the evidence on three bases, if the bases are equal.
 fn said_of_each(one: &Base<'_>, other: &Base<'_>, third: &Base<'_>) -> Option<Said> {
     if !one.same_as(other) || !other.same_as(third) || !third.same_as(one) {
         return None;
@@ -163,8 +163,8 @@ fn said_with_each(rt: &HostRuntime, one: &Base<'_>) -> Result<Option<Said>, Reas
     said_with_joined(rt, one, &other)
 }
 
-// Returns verdict and evidence on three equal bases: of one report, of one report for each number,
-// and of joined bases.
+// Returns the verdict and the evidence on three bases, if these are equal. The first took one
+// report, the second took one report for each number, and the third joined bases.
 fn said_of_all(rt: &HostRuntime, sheet: &Sheet) -> Result<Option<Said>, Reason> {
     let mut base = Base::new(rt.alloc(), sheet);
     take_all(rt, &mut base)?;

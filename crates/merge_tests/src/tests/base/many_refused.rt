@@ -1,5 +1,5 @@
-// A report of many facts is added to a base of two of them, and each request for memory is refused
-// in turn.
+// Adds a report with many facts to a base with two of them, while each request for memory is
+// refused in turn.
 
 use super::read;
 use super::refused::{base_of, join, take};
@@ -12,11 +12,11 @@ use std::alloc::AllocError;
 const FACTS: &str =
     r#"{"documentInfo":{"documentType":"https://xbrl.org/2021/xbrl-json","namespaces":{"eg":"http://example.org/t"}},"facts":{"#;
 
-// A report of the first two facts.
+// A report with the first two facts.
 const TWO: &str =
     r#"{"documentInfo":{"documentType":"https://xbrl.org/2021/xbrl-json","namespaces":{"eg":"http://example.org/t"}},"facts":{"a":{"value":"100","decimals":0,"dimensions":{"concept":"eg:A"}},"b":{"value":"101","decimals":0,"dimensions":{"concept":"eg:A"}}}}"#;
 
-// The facts have the numbers from 100 to 499, and these are the first digits.
+// The first digits of the facts' numbers, which are 100 to 499.
 const HUNDREDS: [&str; 4] = ["1", "2", "3", "4"];
 
 const DIGITS: [&str; 10] = ["0", "1", "2", "3", "4", "5", "6", "7", "8", "9"];
@@ -34,7 +34,7 @@ fn room(rt: &HostRuntime) -> Result<String, AllocError> {
     }
 }
 
-// Adds the fact of a number with three digits.
+// Appends the fact whose number has these three digits.
 fn push_fact(text: &mut String, digits: [&str; 3]) -> Result<(), AllocError> {
     let [hundreds, tens, ones] = digits;
     for part in [
@@ -53,7 +53,7 @@ fn push_fact(text: &mut String, digits: [&str; 3]) -> Result<(), AllocError> {
     Ok(())
 }
 
-// Adds the facts of ten numbers. The first follows the given mark.
+// Appends ten facts, with `mark` before the first.
 fn push_ten(text: &mut String, mark: &str, hundreds: &str, tens: &str) -> Result<(), AllocError> {
     for (place, ones) in DIGITS.iter().enumerate() {
         text.push_str(if place == 0 { mark } else { "," })?;
@@ -74,14 +74,14 @@ fn push_facts(text: &mut String) -> Result<(), AllocError> {
     text.push_str("}}")
 }
 
-// Returns the text of a report of 400 facts.
+// Returns the text of a report with 400 facts.
 fn many(rt: &HostRuntime) -> Result<String, AllocError> {
     let mut text = room(rt)?;
     push_facts(&mut text)?;
     Ok(text)
 }
 
-// Returns whether a base has 400 facts of one dimension set.
+// Returns whether a base has 400 facts in one dimension set.
 fn has_many(base: &Base<'_>) -> bool {
     base.row_count() == 1 && base.fact_count() == 400
 }
@@ -107,8 +107,8 @@ fn joins(rt: &HostRuntime, before: &Base<'_>, two: &Report<'_>, many: &Report<'_
     }
 }
 
-// Returns whether a base of two facts gets the others from the report, or from the base of the
-// report.
+// Returns whether a base with two facts gets the others: from the report if `takes_it`, otherwise
+// from the base of the report.
 fn gets_report(rt: &HostRuntime, takes_it: bool, two: &Report<'_>, many: &Report<'_>) -> bool {
     match base_of(rt, two) {
         Some(before) if takes_it => takes(rt, &before, two, many),

@@ -5,7 +5,7 @@ use oim_report::Sheet;
 use oim_value::{Interval, Value, interval_of, value_meets};
 use std::test::Fail;
 
-// Verdict and evidence, computed from their definitions by a loop over all pairs.
+// Computes verdict and evidence from their definitions, by a loop over all pairs.
 
 fn each_two_meet(values: &[Value]) -> bool {
     for first in values {
@@ -143,14 +143,15 @@ fn is_judged_by_pairs(base: &Base<'_>) -> bool {
     }
 }
 
-// Returns whether the values in this order make the same base, and whether its verdict is the one
-// from comparing pairs.
+// Returns whether the values in this order make the same base, and whether comparing pairs gives
+// its verdict.
 fn is_same_in(rt: &HostRuntime, all: &Base<'_>, values: &[&str], order: &[usize]) -> bool {
     let mut base = Base::new(rt.alloc(), all.sheet());
     add_in_order(rt, &mut base, values, order) && base.same_as(all) && is_judged_by_pairs(&base)
 }
 
-// Returns the first order in which the values make another base, or a base with another verdict.
+// Returns the index of the first order in which the values make another base, or in which comparing
+// pairs gives another verdict.
 fn first_other(rt: &HostRuntime, all: &Base<'_>, values: &[&str]) -> Option<usize> {
     for (place, order) in ORDERS.iter().enumerate() {
         if !is_same_in(rt, all, values, order) {

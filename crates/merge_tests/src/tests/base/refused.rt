@@ -3,11 +3,11 @@ use crate::tests::asked_again::{read_sheet, tell_refused};
 use fact_base::{Base, Gathering};
 use oim_report::{Report, Sheet};
 
-// A report of a number and a reference.
+// A report with a number and a reference.
 const BEFORE: &str =
     r#"{"documentInfo":{"documentType":"https://xbrl.org/2021/xbrl-json","namespaces":{"eg":"http://example.org/t"},"taxonomy":["b.xsd"]},"facts":{"a":{"value":"100","decimals":0,"dimensions":{"concept":"eg:A"}}}}"#;
 
-// A report of another number with the same dimensions, a text and another reference.
+// A report with another number for the same dimensions, a text and another reference.
 const ADDED: &str =
     r#"{"documentInfo":{"documentType":"https://xbrl.org/2021/xbrl-json","namespaces":{"eg":"http://example.org/t"},"taxonomy":["a.xsd"]},"facts":{"a":{"value":"101","decimals":0,"dimensions":{"concept":"eg:A"}},"b":{"value":"x","dimensions":{"concept":"eg:T"}}}}"#;
 
@@ -45,7 +45,7 @@ pub(super) fn join(
     base.same_as(before) && base.join(other).is_ok()
 }
 
-// Absorbs the other base. If a request is refused, the other is lost and `again` is absorbed.
+// Absorbs the other base. If a request is refused, that base is lost and `again` is absorbed.
 fn absorb(
     rt: &HostRuntime,
     base: &mut Base<'_>,
@@ -69,7 +69,7 @@ fn take_first(rt: &HostRuntime, base: &mut Base<'_>, report: &Report<'_>) -> boo
     take(rt, base, &empty, report)
 }
 
-// Returns a base of one report.
+// Returns a base that took one report.
 pub(super) fn base_of<'s>(rt: &HostRuntime, report: &Report<'s>) -> Option<Base<'s>> {
     let mut base = Base::new(rt.alloc(), report.sheet());
     if !take_first(rt, &mut base, report) {
@@ -78,7 +78,7 @@ pub(super) fn base_of<'s>(rt: &HostRuntime, report: &Report<'s>) -> Option<Base<
     Some(base)
 }
 
-// A way in which a base gets the facts of a report.
+// How a base gets the facts of a report.
 #[derive(Clone, Copy)]
 enum Way {
     Take,
@@ -86,7 +86,7 @@ enum Way {
     Absorb,
 }
 
-// Absorbs the base of a report. `again` is a second base of that report.
+// Absorbs the base of a report. `again` is a second base of the same report.
 fn absorb_report(
     rt: &HostRuntime,
     base: &mut Base<'_>,
@@ -222,7 +222,8 @@ fn is_as_before(gathered: Gathering<'_>, before: &Base<'_>) -> bool {
     }
 }
 
-// Returns whether a gathering with the first report gains the other, or is unchanged.
+// Returns whether a gathering with the first report gains the second, or is unchanged if a request
+// is refused.
 fn gains(rt: &HostRuntime, mut gathered: Gathering<'_>, before: &Base<'_>) -> bool {
     match gather(rt, &mut gathered, ADDED) {
         Some(true) => becomes_both(rt, gathered),
@@ -234,7 +235,7 @@ fn gains(rt: &HostRuntime, mut gathered: Gathering<'_>, before: &Base<'_>) -> bo
     }
 }
 
-// Starts again if the first report is refused memory.
+// Gathers both reports. If memory is refused for the first, only the first is gathered again.
 fn gathers_both(rt: &HostRuntime, before: &Base<'_>) -> bool {
     let mut gathered = Gathering::new(rt.alloc(), before.sheet());
     match gather(rt, &mut gathered, BEFORE) {

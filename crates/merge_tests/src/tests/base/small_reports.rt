@@ -1,5 +1,5 @@
-// Small reports after a large one: their facts are collected in lists, which are sorted whenever
-// they have doubled.
+// Adds small reports after a large one. Their facts are collected in lists, which are sorted
+// each time their length has doubled.
 
 use super::refused::gather;
 use super::{joined, take_text};
@@ -8,7 +8,7 @@ use fact_base::{Base, Gathering};
 use oim_report::Sheet;
 use std::test::Fail;
 
-// A report of ten numbers and no reference.
+// A report with ten numbers and no references.
 const LARGE: &str =
     r#"{"documentInfo":{"documentType":"https://xbrl.org/2021/xbrl-json","namespaces":{"eg":"http://example.org/t"}},"facts":{"a":{"value":"0","decimals":0,"dimensions":{"concept":"eg:A"}},"b":{"value":"1","decimals":0,"dimensions":{"concept":"eg:A"}},"c":{"value":"2","decimals":0,"dimensions":{"concept":"eg:A"}},"d":{"value":"3","decimals":0,"dimensions":{"concept":"eg:A"}},"e":{"value":"4","decimals":0,"dimensions":{"concept":"eg:A"}},"f":{"value":"5","decimals":0,"dimensions":{"concept":"eg:A"}},"g":{"value":"6","decimals":0,"dimensions":{"concept":"eg:A"}},"h":{"value":"7","decimals":0,"dimensions":{"concept":"eg:A"}},"i":{"value":"8","decimals":0,"dimensions":{"concept":"eg:A"}},"j":{"value":"9","decimals":0,"dimensions":{"concept":"eg:A"}}}}"#;
 
@@ -25,9 +25,9 @@ const ONE_FACT: &str = r#"","decimals":0,"dimensions":{"concept":"eg:A"}}}}"#;
 const TWO_FACTS: &str =
     r#"","decimals":0,"dimensions":{"concept":"eg:A"}},"b":{"value":"1","decimals":0,"dimensions":{"concept":"eg:B"}}}}"#;
 
-// There is a report for each number. The numbers rise and fall, the large report has one of them,
-// and two are repeated. The list of references is sorted before the third report and before the
-// seventh.
+// There is one small report for each number. The numbers rise and fall, the large report has one of
+// them, and two are repeated. The list of references is sorted before the third report and before
+// the seventh report.
 const NUMBERS: [&str; 8] = ["16", "12", "14", "12", "9", "11", "16", "10"];
 
 fn small(rt: &HostRuntime, number: &str, facts: &str) -> Option<String> {
@@ -80,7 +80,7 @@ fn take_small(rt: &HostRuntime, base: &mut Base<'_>, number: &str, facts: &str) 
     }
 }
 
-// Returns the base that takes the large report and a small one for each number.
+// Returns the base that takes the large report and a small report for each number.
 fn taken<'s>(
     rt: &HostRuntime,
     sheet: &'s Sheet,
@@ -120,8 +120,8 @@ fn becomes_taken(
     }
 }
 
-// Gathers the large report and a small one for each number, and returns whether all were added. It
-// returns None if the base does not have exactly what was added, even after a refused request.
+// Gathers the large report and a small report for each number, and returns whether all were added.
+// Returns None if the base does not have exactly the added reports, even after a refused request.
 fn gather_all(rt: &HostRuntime, sheet: &Sheet, facts: &str) -> Option<bool> {
     let mut gathered = Gathering::new(rt.alloc(), sheet);
     if !gather_large(rt, &mut gathered) {
@@ -135,7 +135,7 @@ fn gather_all(rt: &HostRuntime, sheet: &Sheet, facts: &str) -> Option<bool> {
     }
 }
 
-// Starts again if a request is refused.
+// Gathers all reports, and starts again if a request is refused.
 fn are_gathered(rt: &HostRuntime, sheet: &Sheet, facts: &str) -> bool {
     match gather_all(rt, sheet, facts) {
         Some(false) => {

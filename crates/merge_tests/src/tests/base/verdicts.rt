@@ -32,8 +32,8 @@ fn first_other_under(
     None
 }
 
-// Returns the first row of the table whose values, with these dimensions, have another verdict or
-// evidence.
+// Returns the index of the first row whose values, with these dimensions, have another verdict or
+// other evidence.
 fn first_other(rt: &HostRuntime, end: &str, rows: &[Row<'_>]) -> Option<usize> {
     match read_sheet(rt) {
         Ok(sheet) => first_other_under(rt, &sheet, end, rows),
@@ -44,7 +44,7 @@ fn first_other(rt: &HostRuntime, end: &str, rows: &[Row<'_>]) -> Option<usize> {
 const ALIKE: Said = (Verdict::Complete, Evidence::Alike);
 
 const MEETING: [Row<'static>; 6] = [
-    // half of the eighteenth decimal place is five units
+    // half a unit in the eighteenth decimal place is five steps of 10^-19
     (
         &[
             r#""value":"0.000000000000000001","decimals":18"#,
@@ -295,7 +295,7 @@ fn add_several(rt: &HostRuntime, base: &mut Base<'_>) -> bool {
     true
 }
 
-// Returns whether there are two rows of two values, and their level is `All`.
+// Returns whether there are two rows with two facts each, and the level is `All`.
 fn has_several(base: &Base<'_>) -> bool {
     base.row_count() == 2
         && base.fact_count() == 4

@@ -13,7 +13,7 @@ use oim_write::{Encoded, StdSink};
 use std::alloc::AllocError;
 use std::test::Fail;
 
-// The calls that take reports. Each is repeated after a refused request for memory.
+// Tests the calls that take reports. Each call is repeated after a refused request for memory.
 
 fn encoded(rt: &HostRuntime, bytes: &[u8]) -> Result<Encoded, AllocError> {
     match Encoded::new(rt.alloc(), bytes) {
@@ -128,7 +128,7 @@ fn refused_lines_have_their_front_in_the_sink(rt: HostRuntime) -> Result<(), Fai
     Ok(())
 }
 
-/// The fact objects of the two reports of `THREE_SETS`.
+/// The source lines if `THREE_SETS` is the second and the third report.
 const TEN_SOURCES: &[u8] =
     b"f1 2 \"a\"\nf1 3 \"a\"\nf2 2 \"b\"\nf2 3 \"b\"\nf3 2 \"c\"\nf3 3 \"c\"\nf4 2 \"d\"\nf4 3 \"d\"\nf5 2 \"e\"\nf5 3 \"e\"\n";
 

@@ -12,14 +12,14 @@ use oim_write::{Encoded, text};
 use std::alloc::{AllocError, Global};
 use std::test::Fail;
 
-// The nine events, run by the calls that read reports, take, join and write.
+// Compares the nine events with calls that read, take, join and write.
 
 const THREE: &[&str] = &[HUNDRED, HUNDRED_ONE, ABOVE];
 
-/// One replica takes two reports, the second one first.
+/// One replica takes the second report, then the first.
 const NEWER_FIRST: &str = "take 1 2\ntake 1 1\n";
 
-/// Takes a report that is accepted.
+/// Takes a report, which must be accepted.
 fn take(alloc: Global, base: &mut Base<'_>, report: &[u8]) -> Result<(), AllocError> {
     let Ok(report) = read_report(alloc, base.sheet(), report) else {
         return Err(AllocError);
@@ -64,8 +64,8 @@ fn took(
     is_alike(alloc, replayed, number, &base)
 }
 
-/// True if the replica with this number equals a base that took a report and joined a base of
-/// others.
+/// True if the replica with this number equals a base that took `report` and joined a base that
+/// took `others`.
 fn joined(
     alloc: Global,
     replayed: &Replayed<'_>,
@@ -96,7 +96,7 @@ fn was_sent(
     Ok(text(alloc, &base)?.as_bytes() == sent)
 }
 
-/// True if the nine events have the results of the calls.
+/// True if the nine events give the same results as the calls.
 fn are_driven(
     alloc: Global,
     sheet: &Sheet,
@@ -120,7 +120,7 @@ fn are_driven(
     )
 }
 
-/// The two sent texts as the earlier form spells them.
+/// The two sent texts in the earlier form.
 const EARLIER_ONE: &[&str] = &[EARLIER_HEAD, ONE_URI, EARLIER_MIDDLE, WRITTEN_HUNDRED, END];
 
 const EARLIER_BOTH: &[&str] = &[EARLIER_HEAD, ONE_URI, EARLIER_MIDDLE, WRITTEN_BOTH, END];
@@ -164,7 +164,8 @@ fn earlier_texts_serve(alloc: Global, one: &[u8], two: &[u8]) -> Result<bool, Al
     serve(alloc, &sheet, &reports, one, two)
 }
 
-/// True if texts in the earlier form give the same. The call is repeated after a refused request.
+/// True if texts in the earlier form give the same facts. The call is repeated after a refused
+/// request.
 fn do_serve(rt: &HostRuntime, one: &[u8], two: &[u8]) -> bool {
     let mut answer = earlier_texts_serve(rt.alloc(), one, two);
     if answer.is_err() {
@@ -195,7 +196,7 @@ fn encoded(alloc: Global, texts: &[&[u8]]) -> Result<Vec<Encoded>, AllocError> {
     Ok(all)
 }
 
-/// A replica that takes reports by these lines.
+/// Runs these lines on one replica.
 fn taken_by<'s>(
     alloc: Global,
     sheet: &'s Sheet,
@@ -206,7 +207,7 @@ fn taken_by<'s>(
     replay(alloc, sheet, 1, reports, &events)
 }
 
-/// True if a replica that takes the two sent texts as reports writes the second one.
+/// True if a replica that takes the two sent texts as reports writes the second text.
 fn are_taken(alloc: Global, sheet: &Sheet, replayed: &Replayed<'_>) -> Result<bool, AllocError> {
     let (Some(one), Some(two)) = (replayed.sent(1), replayed.sent(2)) else {
         return Ok(false);

@@ -5,7 +5,7 @@ use std::test::Fail;
 
 // Whole texts.
 
-/// `INFO` with `zz` in place of `eg`.
+/// `INFO` with `zz` instead of `eg`.
 const OTHER_INFO: &str =
     r#"{"documentInfo":{"documentType":"https://xbrl.org/2021/xbrl-json","namespaces":{"zz":"http://example.org/t","x":"http://example.org/u","xbrli":"http://www.xbrl.org/2003/instance","xbrl":"https://xbrl.org/2021"}},"facts":{"#;
 
@@ -45,7 +45,7 @@ const NO_URI: &str = r#""xbrl":"https://xbrl.org/2021"},"taxonomy":["#;
 const NO_FACTS: &str = r#"},"facts":{}}"#;
 
 const ROWS: &[Row] = &[
-    // no report has a text
+    // bundles without facts
     (&[SHEET], &[NONE_TEXT]),
     (&[SHEET, LINE, LINE], &[NONE_TEXT]),
     (&[SHEET, LINE, INFO, END], &[NONE_TEXT]),
@@ -64,7 +64,7 @@ const ROWS: &[Row] = &[
         &[SHEET, LINE, INFO, ONE, LINE, INFO, ONE, LINE, INFO, ONE],
         &[ONE_TEXT],
     ),
-    // consistent facts stay two
+    // consistent facts are both written
     (
         &[
             SHEET,
@@ -95,7 +95,7 @@ const ROWS: &[Row] = &[
         &[SHEET, LINE, HEAD, TWO_URIS, MIDDLE, BLUE, END],
         &[HEAD, TWO_URIS, MIDDLE, BLUE, END],
     ),
-    // references are kept, and a written one is kept again
+    // references are resolved, sorted and written; a written reference does not change
     (
         &[
             SHEET,
@@ -151,7 +151,7 @@ const ROWS: &[Row] = &[
         &[HEAD, NO_URI, r#""a.xsd","b.xsd","urn:x:Y""#, "]", NO_FACTS],
     ),
     (&[SHEET, LINE, REFERENCE], &[REFERENCE]),
-    // a body has every kind of part
+    // a text with every kind of part
     (
         &[
             SHEET,

@@ -9,7 +9,7 @@ use oim_report::{Place, Refusal, read_report};
 use std::alloc::{AllocError, Global};
 use std::test::Fail;
 
-// The level that a text declares, and texts in the earlier form, which declare none.
+// Tests the level that a text declares, and texts in the earlier form, which declare none.
 
 /// The text before and after the declared level.
 const BEFORE_LEVEL: &str =
@@ -25,7 +25,7 @@ const WITH_NIL: &str =
 const WIDE: &str =
     r#""f1":{"decimals":0,"dimensions":{"concept":"n1:A"},"value":"100"},"f2":{"decimals":0,"dimensions":{"concept":"n1:A"},"value":"102"}"#;
 
-/// The refusal of the text of these facts with another level declared; None if it is accepted.
+/// The refusal of a text with these facts that declares this level; None if the text is accepted.
 fn refusal(
     alloc: Global,
     rt: &HostRuntime,
@@ -56,7 +56,7 @@ const NO_MEMORY: Option<Refusal> = Some(Refusal {
     place: Place::Document,
 });
 
-/// True if the text is refused, at the document, exactly when `refused` is set.
+/// True if the text is refused at the document if `refused` is set, and accepted otherwise.
 fn is_held(rt: &HostRuntime, level: &str, facts: &str, refused: bool) -> Result<bool, Fail> {
     let expected = if refused { TOO_LOW } else { None };
     let mut found = refusal(rt.alloc(), rt, level, facts)?;
@@ -85,13 +85,13 @@ fn a_text_is_held_to_its_level(rt: HostRuntime) -> Result<(), Fail> {
     Ok(())
 }
 
-/// The text of one fact before and after its value.
+/// The text of one fact, before and after its value.
 const ONE_VALUE: &str = r#""f1":{"decimals":0,"dimensions":{"concept":"n1:A"},"value":""#;
 
 const VALUE_END: &str = r#""}}}"#;
 
 const ROWS: &[Row] = &[
-    // nil beside a number is declared
+    // nil and a number in one dimension set contradict each other
     (
         &[
             SHEET,
@@ -102,7 +102,7 @@ const ROWS: &[Row] = &[
         ],
         &[CONTRADICTING_HEAD, ONE_URI, MIDDLE, WITH_NIL, END],
     ),
-    // a raised level is written again as the least
+    // a level that is too loose is replaced by the strictest
     (
         &[
             SHEET,
@@ -115,7 +115,7 @@ const ROWS: &[Row] = &[
         ],
         &[CONSISTENT_HEAD, ONE_URI, MIDDLE, WRITTEN_BOTH, END],
     ),
-    // levels are forgotten when texts merge
+    // merged texts may declare stricter levels than the result
     (
         &[
             SHEET, LINE, HEAD, ONE_URI, MIDDLE, ONE_VALUE, "101", VALUE_END, LINE, HEAD, ONE_URI,
@@ -130,7 +130,7 @@ const ROWS: &[Row] = &[
         ],
         &[CONTRADICTING_HEAD, ONE_URI, MIDDLE, WIDE, END],
     ),
-    // another URI of the prefix is no fault
+    // if `xbrl` is bound to another URI, the feature is ignored
     (
         &[
             SHEET,
@@ -150,7 +150,7 @@ fn the_least_level_is_declared(rt: HostRuntime) -> Result<(), Fail> {
     Ok(())
 }
 
-/// A text in the earlier form with its length, and the same in the present form with its length.
+/// A text in the earlier form and its length, and the same text in the present form and its length.
 type Earlier = (
     &'static [&'static str],
     usize,

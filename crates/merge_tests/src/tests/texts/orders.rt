@@ -3,7 +3,7 @@ use crate::tests::asked_again::INFO;
 use crate::tests::canonical_parts::{CONTRADICTING_HEAD, END, HEAD, MIDDLE, ONE_URI};
 use std::test::Fail;
 
-// The order of facts and the identifiers that follow from it. Reports list the facts in reverse.
+// Tests the order of facts and their identifiers. Reports list the facts in reverse order.
 
 /// The facts 1 to 9.
 const NINE: &str =
@@ -107,7 +107,7 @@ const ROWS: &[Row] = &[
             END,
         ],
     ),
-    // texts are in order of bytes
+    // texts are in byte order
     (
         &[
             SHEET,
@@ -124,7 +124,7 @@ const ROWS: &[Row] = &[
             END,
         ],
     ),
-    // nine facts have one digit
+    // the identifiers of nine facts have one digit
     (
         &[SHEET, LINE, INFO, NINE, END],
         &[
@@ -143,7 +143,7 @@ const ROWS: &[Row] = &[
             END,
         ],
     ),
-    // a tenth fact renumbers the nine
+    // a tenth fact renumbers the other nine
     (
         &[
             SHEET,

@@ -3,7 +3,7 @@ use crate::tests::asked_again::INFO;
 use crate::tests::canonical_parts::{END, HEAD, MIDDLE, ONE_URI};
 use std::test::Fail;
 
-// Parts of a fact, each in all its spellings.
+// Tests the parts of a fact in all their spellings.
 
 const THREE_URIS: &str =
     r#""n1":"http://example.org/t","n2":"http://example.org/u","n3":"http://www.xbrl.org/2003/instance""#;
@@ -28,10 +28,10 @@ fn writes_value<'a>(
     gives(rt, &bundle, &whole)
 }
 
-/// A concept, and a value that is written so.
+/// A concept, a value in a report, and the value that is written for it.
 const VALUES: &[(&str, &str, &str)] = &[
     ("Q", r#""eg:North""#, r#""n1:North""#),
-    // numbers have one text
+    // all spellings of a number give one text
     ("A", r#""1.""#, r#""1""#),
     ("A", r#""0.10000000000000000000""#, r#""0.1""#),
     (
@@ -76,7 +76,7 @@ const FACTS: &[(&str, &str, &str)] = &[
         TWO_URIS,
         r#""f1":{"dimensions":{"concept":"n1:Q"},"value":"n2:North"}"#,
     ),
-    // spellings of zero are one fact
+    // all spellings of zero are one fact
     (
         r#""a":{"value":"-0","dimensions":{"concept":"eg:A"}},"b":{"value":"+0.00","dimensions":{"concept":"eg:A"}},"c":{"value":".0","dimensions":{"concept":"eg:A"}},"d":{"value":"0","dimensions":{"concept":"eg:A"}}"#,
         ONE_URI,
@@ -88,7 +88,7 @@ const FACTS: &[(&str, &str, &str)] = &[
         ONE_URI,
         r#""f1":{"dimensions":{"concept":"n1:A"},"value":null}"#,
     ),
-    // facts of equal units are one
+    // facts with equal units are one fact
     (
         r#""a":{"value":"1","dimensions":{"concept":"eg:A","unit":"x:b*x:a"}},"b":{"value":"1","dimensions":{"concept":"eg:A","unit":"(x:a*x:b)"}},"c":{"value":"1","dimensions":{"concept":"eg:A","unit":"x:a*x:b"}}"#,
         TWO_URIS,
@@ -104,7 +104,7 @@ fn spellings_of_one_fact_are_one(rt: HostRuntime) -> Result<(), Fail> {
     Ok(())
 }
 
-/// True if a fact with this unit ends with these dimensions, with these namespaces.
+/// True if a fact with this unit is written with this text and these namespaces.
 fn writes_unit(rt: &HostRuntime, unit: &str, namespaces: &str, text: &str) -> Result<bool, Fail> {
     let said = r#""a":{"value":"1","dimensions":{"concept":"eg:A","unit":""#;
     let written = r#""f1":{"dimensions":{"concept":"n1:A""#;
@@ -124,7 +124,7 @@ const UNITS: &[(&str, &str, &str)] = &[
     ("x:b*x:b/(x:a)", TWO_URIS, r#","unit":"(n2:b*n2:b)/n2:a""#),
     ("x:b*eg:c*x:a", TWO_URIS, r#","unit":"n1:c*n2:a*n2:b""#),
     ("(x:a)", TWO_URIS, r#","unit":"n2:a""#),
-    // pure alone is no unit
+    // the unit `pure` is not written
     ("xbrli:pure", ONE_URI, ""),
     ("(xbrli:pure)", ONE_URI, ""),
     ("xbrli:pure/x:c", THREE_URIS, r#","unit":"n3:pure/n2:c""#),
@@ -138,7 +138,7 @@ fn units_have_one_text(rt: HostRuntime) -> Result<(), Fail> {
     Ok(())
 }
 
-/// Whether a fact of this period is written so.
+/// True if a fact with this period is written with this text.
 fn writes_period(rt: &HostRuntime, period: &str, text: &str) -> Result<bool, Fail> {
     let said = r#""a":{"value":"1","dimensions":{"concept":"eg:A","period":""#;
     let written = r#""f1":{"dimensions":{"concept":"n1:A","period":""#;

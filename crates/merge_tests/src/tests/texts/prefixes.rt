@@ -3,9 +3,9 @@ use crate::tests::asked_again::OPEN_INFO;
 use crate::tests::canonical_parts::{END, HEAD, MIDDLE};
 use std::test::Fail;
 
-// Prefixes are numbered by the bytes of their URIs, not by first use.
+// Prefixes are numbered in the byte order of their URIs, not in the order of first use.
 
-// One fact uses all URIs: in its concept and in its measures.
+// One fact uses all URIs, in its concept and its measures.
 
 const BOUND: &str = r#","namespaces":{"eg":"http://example.org/t","#;
 
@@ -88,7 +88,7 @@ const NINETY_NINE_WRITTEN: &[&str] = &[
 ];
 
 const ROWS: &[Row] = &[
-    // prefixes follow the bytes of uris
+    // prefixes are in the byte order of their URIs
     (
         &[
             r#"{"namespaces":{"p":"http://b.org","q":"http://a.org"},"concepts":{"p:A":"numeric","q:A":"numeric"}}"#,

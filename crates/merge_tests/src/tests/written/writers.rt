@@ -7,7 +7,7 @@ use std::alloc::{AllocError, Global};
 use std::io::{self, ErrorKind, Write};
 use std::test::Fail;
 
-// Writers that stop at each byte of a text, with and without a buffer.
+// Tests writers that stop at each byte of a text, with and without a buffer.
 
 /// The result of a run: the length that the fault reported, the bytes taken, the failures of the
 /// sink, and whether the whole text was taken.
@@ -60,7 +60,8 @@ fn push(
     }
 }
 
-/// True if a writer of this size takes exactly its first bytes of the text, and the fault says so.
+/// True if a writer of this size takes exactly the first bytes of the text, and the fault reports
+/// their number.
 fn stops_at(
     alloc: Global,
     text: &[u8],
@@ -112,7 +113,7 @@ const LONG_ROOMS: [usize; 9] = [0, 1, 65_535, 65_536, 65_537, 65_989, 65_990, 65
 fn stops_about_a_chunk(alloc: Global) -> Result<bool, AllocError> {
     let text = LINE.repeat(alloc, 2000)?;
     for room in LONG_ROOMS {
-        // the second piece fills a chunk exactly, or with bytes left over
+        // the second piece ends a chunk exactly, or exceeds it
         if !stops(alloc, text.as_bytes(), (60_000, 65_536), room)?
             || !stops(alloc, text.as_bytes(), (65_535, 65_990), room)?
         {
