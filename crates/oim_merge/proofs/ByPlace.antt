@@ -57,7 +57,7 @@ rise_lower k n (m ∷ ms) le h = (omega (arith, le, h.0), h.1)
 
 -- ---- groups by place
 
--- the mentions of n places from k on, grouped by place
+-- the mentions with one of the n places from k on, grouped by place
 abbrev pub groups : ℕ → ℕ → List PlacedMention → List PlacedMention
 groups k zero ms = []
 groups k (suc n) ms = filter (has_place k) ms ++ groups (suc k) n ms

@@ -28,7 +28,7 @@ use Rattle.oim_merge.proofs.Evidenced.{evidence_exists, one_evidence, slice_with
 
 -- ---- lists of lines
 
--- the lines of two lists are the lines of the lists as one
+-- the lines of two concatenated lists are the lines of the first, then the lines of the second
 pub lines_both : (facts : List Fact) (n : ℕ) (done rest : List Row) (text more : List ℕ) → AreLinesFrom facts n done text → AreLinesFrom facts (n + length done) rest more → AreLinesFrom facts n (done ++ rest) (text ++ more)
 lines_both facts n [] rest text more none further =
     subst (λ t. AreLinesFrom facts n rest (t ++ more)) (sym none) (subst (λ k. AreLinesFrom facts k rest more) (omega arith) further)

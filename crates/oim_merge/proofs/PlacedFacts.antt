@@ -54,7 +54,7 @@ module _ (facts : List Fact) (rise : IsSet fact_cmp facts) where
     place_here : place facts f ≡ length done
     place_here = ap (place facts) (sym there) ∙ place_at (length done) f within
 
-    -- the fact at its place is the fact itself
+    -- only f has the place `length done`
     is_here : (g : Fact) → Contains facts g → length done ≡ place facts g → g ≡ f
     is_here g at same =
         let at_place : place facts g ≡ at.0 = ap (place facts) (sym at.2) ∙ place_at at.0 g at.1 in

@@ -45,7 +45,6 @@ module _ (sheet : Sheet) (bytes : List ℕ) (d : Document) (read : outcome sheet
   accepted : All (IsAccepted sheet) (d ∷ [])
   accepted = All-cons (IsAccepted sheet) d [] (bytes, read) (All-nil (IsAccepted sheet))
 
-  -- the facts of a canonical report rise
   pub canonical_rises : IsCanonicalOf d bytes → IsSet fact_cmp d.facts
   canonical_rises is =
       let b : Body = body (d ∷ []) in

@@ -11,7 +11,7 @@ numbered xs (suc place) = slice_get xs place
 
 -- ---- bad events
 
--- the number is not between 1 and the greatest
+-- the number is not from 1 to `greatest`
 abbrev pub is_outside : ℕ → ℕ → Bool
 is_outside greatest number = number == 0 || nat_lt greatest number
 

@@ -4,7 +4,7 @@ use crate::refusals::Refusals;
 use oim_names::Reason;
 use oim_write::WriteFault;
 
-/// Why reports were not merged. A count of written bytes saturates.
+/// Why reports were not merged. Counts of written bytes saturate.
 #[derive(Debug, Drop)]
 pub enum Fault {
     /// Memory was refused.

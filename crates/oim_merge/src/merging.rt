@@ -105,8 +105,8 @@ impl<'s> Consolidation<'s> {
         write_within(alloc, &base, refusals, allow, out)
     }
 
-    /// Does the same as `finish`, but does not free the facts. A program that exits afterwards
-    /// saves that time.
+    /// Does the same as `finish`, but does not free the facts. This saves time if the program exits
+    /// afterwards.
     ///
     /// Errors: the same as `finish`.
     pub fn finish_last<S: Sink>(self, allow: Level, out: &mut S) -> Result<Refusals, Fault>
@@ -141,7 +141,7 @@ impl<'s> Consolidation<'s> {
         write_verdicts(alloc, &base, refusals, out)
     }
 
-    /// Does the same as `finish_lines`, but does not free the facts, as in `finish_last`.
+    /// Does the same as `finish_lines`, but does not free the facts (see `finish_last`).
     ///
     /// Errors: the same as `finish_lines`.
     pub fn finish_lines_last<S: Sink>(self, out: &mut S) -> Result<Refusals, Fault>

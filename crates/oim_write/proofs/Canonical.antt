@@ -27,7 +27,7 @@ use Rattle.oim_write.proofs.WrittenOrder.{facts_are_written_in_order}
 -- ---- the members of facts
 
 module _ (facts : List Fact) (rises : IsSet fact_cmp facts) where
-  -- the fact at index i has the identifier f and i + 1, padded
+  -- the identifier of the fact at index i is the letter f and the padded number i + 1
   identifier_at : (i : ℕ) (f : Fact) → i < length facts → get_or facts i f ≡ f → identifier facts f ≡ 102 ∷ padded (width (length facts)) (i + 1)
   identifier_at i f within is = ap (λ n. 102 ∷ padded (width (length facts)) n) (ap (λ g. rank fact_cmp g facts) (sym is) ∙ rank_at fact_cmp_total facts i f rises within)
 
@@ -51,7 +51,7 @@ module _ (facts : List Fact) (rises : IsSet fact_cmp facts) where
 abbrev bound_text : List ℕ
 bound_text = codes "\"xbrl\":\"https://xbrl.org/2021\""
 
--- it follows the other prefixes, with a comma before it if there are any
+-- this member follows the other prefixes, with a comma before it if there are any
 names-parts : (later : Bool) (level : Level) (us vs : List (List ℕ)) → parts later (members_before (prefix us) string vs (xbrl_member (Some level))) ≡ parts later (namespace_members us vs) ++ (comma_if (later || has_some vs) ++ bound_text)
 unfolding escape_byte
 names-parts true level us [] = refl
@@ -92,7 +92,7 @@ canonical_is sheet b fits =
     ++ (codes ",\"facts\":{" ++ ((ap (members_text false) numbered ∙ members_text-parts false facts) i ++ 125 ∷ [])))
     ∙ rejoin (level_entry level).text (parts false (namespace_members us us)) (comma_if (has_some us)) bound_text (text_parts false b.references) (parts false facts))
 
--- the same, for a given head, level and list of URIs
+-- the same text, for a given head, level and list of URIs
 pub canonical_of : (sheet : Sheet) (b : Body) (level : Level) (us : List (List ℕ)) (head : List ℕ) → Fits sheet b → head ≡ head_text level us → level ≡ level_of b.facts → us ≡ uris b.facts → parts_text head us b ≡ canonical b
 canonical_of sheet b level us head fits first declared table =
     ap (λ t. parts_text t us b) first

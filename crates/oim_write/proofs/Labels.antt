@@ -39,7 +39,7 @@ module _ {K : Type 0} {R : K → K → Ordering} (o : IsTotalOrder R) (letter : 
       after_front nat_cmp_total (letter ∷ []) (padded (width (length xs)) (rank R (get_or xs i d) xs)) (padded (width (length xs)) (rank R (get_or xs j d) xs))
       ∙ padded_keeps_order (width (length xs)) (rank R (get_or xs i d) xs) (rank R (get_or xs j d) xs) (omega (arith, low, high)) (omega (arith, high, fits))
 
-  -- so two members have different labels
+  -- two members have different labels
   pub apart : (i j : ℕ) (x y : K) → i < j → j < length xs → get_or xs i x ≡ x → get_or xs j y ≡ y → numbered letter R x xs ≢ numbered letter R y xs
   apart i j x y under within here there same =
       let less : slice_cmp nat_cmp (numbered letter R x xs) (numbered letter R y xs) ≡ Less =

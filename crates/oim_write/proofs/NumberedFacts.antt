@@ -22,11 +22,11 @@ one_less : (n k : ℕ) → n + 1 + k ≡ n + suc k
 one_less n k = omega arith
 
 module _ (us : List (List ℕ)) (digits : ℕ) where
-  -- the text of one fact, given how many come before it
+  -- the text of one fact, given the number of facts before it
   abbrev pub fact_part : ℕ → Fact → List ℕ
   fact_part before f = part (nat_lt 0 before) (102 ∷ padded digits (before + 1)) (ordered_fact (name_text us) f)
 
-  -- the text of two lists is the text of the first list, followed by the text of the second list, which is numbered after it
+  -- the text of two lists is the text of the first, followed by the text of the second, which is numbered after it
   pub numbered-append : (before : ℕ) (fs gs : List Fact) → numbered_text us digits before (fs ++ gs) ≡ numbered_text us digits before fs ++ numbered_text us digits (before + length fs) gs
   numbered-append before [] gs = ap (λ n. numbered_text us digits n gs) (sym (add-zero before))
   numbered-append before (f ∷ fs) gs =
@@ -84,7 +84,7 @@ by_entries : (entry : Row → Entry) → ((r : Row) → facts_of_entry (entry r)
 by_entries entry same [] = refl
 by_entries entry same (r ∷ rs) = (λ i. same r i ++ by_entries entry same rs i)
 
--- the facts of the rows are all facts
+-- the rows contain all facts, in order
 pub rows_facts_are : (fs : List Fact) → rows_facts (rows_of fs) ≡ fs
 rows_facts_are fs = sym (by_entries _ (λ r. refl) (rows_of fs)) ∙ facts_are fs
 

@@ -57,7 +57,7 @@ Breaks-trans {a} {b} {c} {p} {q} {xs} {ys} passed broken = record {
   count = omega (arith, passed.count, broken.count, length-append passed.front broken.front);
 }
 
--- if the text was pushed first, a fault in it leaves the sink with a first part of it
+-- if nothing was pushed before the text, the sink has a first part of it after a fault
 pub AppendsFront-broken : {a b : Option (List ℕ)} {p : Pending} {text : List ℕ} {written : ℕ} → p ≡ nothing_yet → Breaks a b p text written → AppendsFront a b text written
 AppendsFront-broken {text = text} new broken = record {
   front = broken.front;
@@ -67,14 +67,14 @@ AppendsFront-broken {text = text} new broken = record {
   count = broken.count ∙ ap (λ (p : Pending). saturated (p.written + length broken.front)) new ∙ ap saturated (zero-add (length broken.front));
 }
 
--- the same, if the fault is in the flush after the text
+-- the same, if the fault occurs in the flush after the text
 pub AppendsFront-flushed : {a b : Option (List ℕ)} {p q : Pending} {text : List ℕ} (c : Option (List ℕ)) (r : Result (Unit {0}) WriteFault) → p ≡ nothing_yet → Passes a b p q text
     → IfErr r (λ fault. Breaks b c q [] (written_of fault)) → IfErr r (λ fault. AppendsFront a c text (written_of fault))
 AppendsFront-flushed c (Ok x) new passed broken = tt
 AppendsFront-flushed c (Err fault) new passed broken =
     let both = AppendsFront-broken new (Breaks-trans passed broken) in rw append-nil at both
 
--- a text may wait completely
+-- a pushed text may wait completely
 pub Passes-waiting : (a : Option (List ℕ)) (p : Pending) (text : List ℕ) → Passes a a p (record { written = p.written; bytes = p.bytes ++ text }) text
 Passes-waiting a p text = record {
   front = [];

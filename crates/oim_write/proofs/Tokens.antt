@@ -40,7 +40,7 @@ module _ (spelled : QName → List ℕ) where
       ap (λ ts. key (spelled e.0) ∷ (tree.json_tokens (outline (member_data spelled e.1)) ++ ts)) (defined_tokens es ms)
       ∙ ap (λ ts. key (spelled e.0) ∷ ts) (sym (append_assoc (tree.json_tokens (outline (member_data spelled e.1))) (members_tokens (defined_members spelled es no_members)) (members_tokens ms)))
 
-  -- the tokens of a dimension at the end come last
+  -- appending a dimension appends its tokens
   pub defined_next : (es : List (QName × Member)) (e : QName × Member) →
       members_tokens (defined_members spelled (es ++ e ∷ []) no_members)
       ≡ members_tokens (defined_members spelled es no_members) ++ key (spelled e.0) ∷ tree.json_tokens (outline (member_data spelled e.1))

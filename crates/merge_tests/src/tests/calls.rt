@@ -77,8 +77,8 @@ fn is_too_loose(alloc: Global) -> Result<bool, AllocError> {
     are_too_loose(alloc, &sheet, &reports)
 }
 
-/// True if the reports have exactly this verdict line, and the second report or none is refused,
-/// as `is_second_refused` says.
+/// True if the reports have exactly this verdict line. If `is_second_refused`, only the second
+/// report must be refused, otherwise none.
 fn have_line(
     alloc: Global,
     sheet: &Sheet,

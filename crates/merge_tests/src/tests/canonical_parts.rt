@@ -4,18 +4,18 @@
 pub(crate) const HEAD: &str =
     r#"{"documentInfo":{"documentType":"https://xbrl.org/2021/xbrl-json","features":{"xbrl:allowedDuplicates":"none"},"namespaces":{"#;
 
-/// The same, if some facts have the same dimensions and all of those are consistent.
+/// The same text, if some facts are duplicates and all duplicates are consistent.
 pub(crate) const CONSISTENT_HEAD: &str =
     r#"{"documentInfo":{"documentType":"https://xbrl.org/2021/xbrl-json","features":{"xbrl:allowedDuplicates":"consistent"},"namespaces":{"#;
 
-/// The same, if some facts contradict each other.
+/// The same text, if some facts contradict each other.
 pub(crate) const CONTRADICTING_HEAD: &str =
     r#"{"documentInfo":{"documentType":"https://xbrl.org/2021/xbrl-json","features":{"xbrl:allowedDuplicates":"all"},"namespaces":{"#;
 
 /// The text between the namespaces and the facts.
 pub(crate) const MIDDLE: &str = r#","xbrl":"https://xbrl.org/2021"},"taxonomy":[]},"facts":{"#;
 
-/// The same, if no other namespace precedes it.
+/// The same text, if `xbrl` is the only namespace.
 pub(crate) const MIDDLE_ALONE: &str = r#""xbrl":"https://xbrl.org/2021"},"taxonomy":[]},"facts":{"#;
 
 /// The text after the facts. It also ends a report.

@@ -1,4 +1,4 @@
--- Replicas that store each distinct sent text once, and cache what was read from it and from the reports (own).
+-- Replicas that store each distinct sent text once, and cache the results of reading texts and reports (own).
 use Rattle.std.specs.Prelude.{◌≡◌, ℕ, ◌<◌, List, [], length, Option, None, Some}
 use Rattle.std.specs.List.{All, AllZip, slice_index_or}
 use Rattle.oim_report.specs.Sheet.{Sheet}

@@ -26,6 +26,6 @@ pub record BreaksLines (b : Body) (old new : Option (List ℕ)) (before : Pendin
 abbrev pub lent : LentFact → Fact
 lent f = record { dimensions = f.dimensions.now; value = f.value.now }
 
--- the line of a mention of one of this many facts
+-- the line of a mention, for a base with this many facts
 abbrev pub placed_line : ℕ → PlacedMention → List ℕ
 placed_line count m = (102 ∷ padded (width count) (m.place + 1)) ++ 32 ∷ (decimal m.report ++ 32 ∷ (compact_text (string m.identifier) ++ 10 ∷ []))

@@ -130,7 +130,7 @@ fn absorb_two(rt: &HostRuntime, base: &mut Base<'_>) -> Option<bool> {
     Some(base.absorb(other).is_ok())
 }
 
-// Absorbs it, and repeats this if a request was refused and the base is unchanged.
+// Absorbs a base with two facts, and repeats this if a request was refused and `base` is unchanged.
 fn absorbs(rt: &HostRuntime, base: &mut Base<'_>, before: &Base<'_>) -> bool {
     match absorb_two(rt, base) {
         Some(false) if base.same_as(before) => {
@@ -175,7 +175,8 @@ fn absorb_value(rt: &HostRuntime, base: &mut Base<'_>, value: &str) -> Option<bo
     Some(base.absorb_report(report).is_ok())
 }
 
-// Absorbs it, and repeats this if a request was refused and the base is unchanged.
+// Absorbs a report with one value, and repeats this if a request was refused and `base` is
+// unchanged.
 fn absorbs_value(rt: &HostRuntime, base: &mut Base<'_>, value: &str, before: &Base<'_>) -> bool {
     match absorb_value(rt, base, value) {
         Some(false) if base.same_as(before) => {

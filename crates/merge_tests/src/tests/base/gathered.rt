@@ -49,7 +49,7 @@ fn gather<'s>(
     Some(gathered.into_base())
 }
 
-// Does the same, and starts again if a request for the base is refused.
+// Adds the reports and returns the base. If a request for the base is refused, it starts again.
 fn gathered_of<'s>(rt: &HostRuntime, sheet: &'s Sheet, values: &[&str]) -> Option<Base<'s>> {
     match gather(rt, sheet, values)? {
         Ok(base) => Some(base),

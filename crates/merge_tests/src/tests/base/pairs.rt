@@ -35,7 +35,7 @@ fn interval(value: &Value) -> Option<Interval> {
     }
 }
 
-// Returns whether no value's interval ends before this one.
+// Returns whether this interval ends first, or together with the first.
 fn ends_first(here: Interval, values: &[Value]) -> bool {
     for value in values {
         if let Some(other) = interval(value)
@@ -47,7 +47,7 @@ fn ends_first(here: Interval, values: &[Value]) -> bool {
     true
 }
 
-// Returns whether no value's interval begins after this one.
+// Returns whether this interval begins last, or together with the last.
 fn begins_last(here: Interval, values: &[Value]) -> bool {
     for value in values {
         if let Some(other) = interval(value)

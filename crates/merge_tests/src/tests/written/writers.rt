@@ -24,7 +24,7 @@ fn put(writer: ComparingWriter<'_>, text: &[u8]) -> Left {
     left(told.map(|taken| taken as u64), sink)
 }
 
-/// Pushes the text in three pieces. The last two begin at these indices.
+/// Pushes the text in three pieces. The last two pieces begin at these indices.
 fn push_pieces<S: Sink>(
     buffer: &mut SinkBuffer,
     sink: &mut S,

@@ -3,7 +3,7 @@ use Rattle.oim_write.specs.code.Parts.{text_parts}
 use Rattle.oim_write.specs.SinkBuffer.{Passes}
 use Rattle.oim_write.proofs.writer.write_references.Given as goal
 
--- the references so far are written, and the text of the remaining references completes the text of all
+-- the references so far are written, and the text of the remaining references completes the text of all references
 abbrev pub invariant-loop-reference : goal.invariant-loop-reference
 invariant-loop-reference g l = record {
   passed : (done : List ℕ) × Passes (g.S.Sink.told l.initial.out) (g.S.Sink.told l.out) l.initial.buffer l.buffer done
