@@ -17,12 +17,12 @@ outlined : (ds : Items) → tree.items_tokens (items_outline ds) ≡ item_tokens
 outlined no_items = refl
 outlined (item d ds) = ap (λ ts. tree.json_tokens (outline d) ++ ts) (outlined ds) ∙ sym (append_assoc (tree.json_tokens (outline d)) (item_tokens ds) (end_array ∷ []))
 
--- an array whose bracket is closed last
+-- the tokens of an array: the opening bracket, the items, the closing bracket
 pub closed_array : {E : Type 0} {a b c d : Written} (r : Result (Unit {0}) E) (ds : Items) → Adds a b (begin_array ∷ []) → Adds b c (item_tokens ds) → Writes r c d end_array → OnOk r (AddsValue a d (array ds))
 closed_array (Ok done) ds begun items closed = Adds-is (ap (λ ts. begin_array ∷ ts) (sym (outlined ds))) (Adds-trans begun (Adds-trans items (Adds-one closed)))
 closed_array (Err e) ds begun items closed = tt
 
--- one fact more
+-- the items with one more fact
 pub next_fact : (name : ℕ → List ℕ) (k : ℕ) (vs : List Value) (v : Value) (place : ℕ) → k + length vs ≡ place →
     item_tokens (fact_items name k (vs ++ v ∷ [])) ≡ item_tokens (fact_items name k vs) ++ tree.json_tokens (outline (fact_data (name place) v))
 next_fact name k [] v place is = append-nil _ ∙ ap (λ i. tree.json_tokens (outline (fact_data (name i) v))) (omega (arith, is))
@@ -31,7 +31,7 @@ next_fact name k (w ∷ vs) v place is =
     ap (λ ts. this ++ ts) (next_fact name (suc k) vs v place (omega (arith, is)))
     ∙ sym (append_assoc this (item_tokens (fact_items name (suc k) vs)) (tree.json_tokens (outline (fact_data (name place) v))))
 
--- evidence whose brace is closed last
+-- the tokens of an evidence member: its key, then an object with one member
 pub closed_evidence : {E : Type 0} {a b c e f g : Written} (r : Result (Unit {0}) E) (k : List ℕ) (d : Data) → Adds a b (key (codes "evidence") ∷ []) → Adds b c (begin_object ∷ []) → Adds c e (key k ∷ []) → AddsValue e f d → Writes r f g end_object → OnOk r (AddsMembers a g (evidence_member k d))
 closed_evidence r k d name begun inner value closed =
     on_ok_weaker r (λ all. then_member (codes "evidence") (object (member k d no_members)) no_members name all Adds-none)

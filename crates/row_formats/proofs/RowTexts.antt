@@ -1,4 +1,4 @@
--- The rows of a body in a format, one after another.
+-- The text of a body's rows in a format.
 use Rattle.std.proofs.Common.{◌≡◌, ℕ, suc, ◌+◌, ◌<◌, Bool, true, false, List, [], ◌∷◌, ◌++◌, length, codes, inr, Option, refl, sym, ap, subst, ◌∙◌, append_assoc, append-nil, arith}
 use Rattle.std.specs.Prelude.{Contains}
 use Rattle.std.proofs.lemmas.Grind.{flat_map-append}
@@ -34,7 +34,7 @@ use Rattle.row_formats.specs.declared.row_format.RowFormat.TheVariants.{Json, Cs
 pub no_rows : (format : RowFormat) (facts : List Fact) (n : ℕ) → HasRows format facts n [] []
 no_rows format facts n = record { evidence = []; shown = tt; text_is = refl }
 
--- one row before others
+-- the text of one row, followed by the text of the rest
 pub row_before : (format : RowFormat) (facts : List Fact) (n : ℕ) (r : Row) (rs : List Row) (this more : List ℕ) →
     IsRow format (identifier_at facts r) n r this → HasRows format facts (suc n) rs more → HasRows format facts n (r ∷ rs) (this ++ more)
 row_before format facts n r rs this more is rest = record {
@@ -63,7 +63,7 @@ text_both format facts n (r ∷ done) rest (e ∷ es) fs h =
     ∙ sym (append_assoc this (rows_text format facts (suc n) done es) (rows_text format facts (suc n + length done) rest fs))
     ∙ ap (λ k. (this ++ rows_text format facts (suc n) done es) ++ rows_text format facts k rest fs) (omega arith)
 
--- the rows of two lists
+-- the texts of two lists of rows, joined
 pub rows_both : (format : RowFormat) (facts : List Fact) (n : ℕ) (done rest : List Row) (text more : List ℕ) →
     HasRows format facts n done text → HasRows format facts (n + length done) rest more → HasRows format facts n (done ++ rest) (text ++ more)
 rows_both format facts n done rest text more h further = record {
@@ -72,7 +72,7 @@ rows_both format facts n done rest text more h further = record {
   text_is = (λ i. h.text_is i ++ further.text_is i) ∙ sym (text_both format facts n done rest h.evidence further.evidence h.shown);
 }
 
--- there are rows if each dimension set has evidence
+-- rows have a text if each dimension set has evidence
 pub rows_exist : (format : RowFormat) (facts : List Fact) (n : ℕ) (rows : List Row) → ((r : Row) → Contains rows r → (e : Evidence) × IsEvidence r.1 e) → (text : List ℕ) × HasRows format facts n rows text
 rows_exist format facts n [] shows = ([], no_rows format facts n)
 rows_exist format facts n (r ∷ rs) shows =
@@ -84,14 +84,14 @@ rows_exist format facts n (r ∷ rs) shows =
 pub body_has_rows : (format : RowFormat) (sheet : Sheet) (b : Body) → Fits sheet b → (text : List ℕ) × HasRowsOf format b.facts text
 body_has_rows format sheet b fits = rows_exist format b.facts 1 (rows_of b.facts) (evidence_exists sheet b fits)
 
--- the rows that are left have a text too
+-- the rows that are not written yet have a text
 pub left_have_rows : (format : RowFormat) (sheet : Sheet) (b : Body) → Fits sheet b → (done left : List Row) → done ++ left ≡ rows_of b.facts → (n : ℕ) → (text : List ℕ) × HasRows format b.facts n left text
 left_have_rows format sheet b fits done left all n = rows_exist format b.facts n left (λ q at. evidence_exists sheet b fits q (subst (λ rs. Contains rs q) all ((in_one_of_both done left q).1 (inr at))))
 
 pub with_header : (format : RowFormat) (b : Body) (text : List ℕ) → HasRowsOf format b.facts text → AreRows format b (header format ++ text)
 with_header format b text has = record { rows = text; has = has; whole = refl }
 
--- ---- the rows are unique
+-- ---- a body has one text
 
 same_list : (rows : List Row) (es fs : List Evidence) → AreShown rows es → AreShown rows fs → es ≡ fs
 same_list [] [] [] h g = refl
@@ -134,7 +134,7 @@ module _ (name other : ℕ → List ℕ) (n : ℕ) (same : (i : ℕ) → i < n �
   same_shown (Common c) within = refl
   same_shown (Apart i j) within = λ k. [] ∷ [] ∷ same i within.0 k ∷ same j within.1 k ∷ []
 
-  -- a row does not change if the identifiers do not
+  -- equal identifiers give equal records
   same_records : (spreadsheet : Bool) (number : ℕ) (d : DimensionSet) (e : Evidence) (k : ℕ) (vs : List Value) → k + length vs ≡ n → HasPlaces n e → csv_facts spreadsheet name number d e k vs ≡ csv_facts spreadsheet other number d e k vs
   same_records spreadsheet number d e k [] all within = refl
   same_records spreadsheet number d e k (v ∷ vs) all within =
@@ -148,7 +148,7 @@ module _ (name other : ℕ → List ℕ) (n : ℕ) (same : (i : ℕ) → i < n �
 -- ---- the text of the next row
 
 module _ (b : Body) (rises : IsSet fact_cmp b.facts) (done rest : List Row) (r : Row) (all : done ++ (r ∷ rest) ≡ rows_of b.facts) where
-  -- its text, as it is written
+  -- identifiers computed from the two counts are the identifiers of the body's facts
   pub row_is : (format : RowFormat) (number before count : ℕ) (text : List ℕ) → before ≡ length (rows_facts done) → count ≡ length b.facts → IsRow format (named before count) number r text → IsRow format (identifier_at b.facts r) number r text
   row_is format number before count text before_is count_is is =
       let split : b.facts ≡ rows_facts done ++ (row_facts r ++ rows_facts rest) = sym (rows_facts_are b.facts) ∙ ap rows_facts (sym all) ∙ flat_map-append row_facts done (r ∷ rest) in record {
@@ -162,7 +162,7 @@ module _ (b : Body) (rises : IsSet fact_cmp b.facts) (done rest : List Row) (r :
 
 -- ---- buffered rows
 
--- the rows so far were pushed
+-- the text of the rows so far passed the buffer
 pub record HasPassed (format : RowFormat) (facts : List Fact) (rows : List Row) (old new : Option (List ℕ)) (before after : Pending) : Type 0 where
   pub text : List ℕ
   pub rows_are : HasRows format facts 1 rows text

@@ -1,4 +1,4 @@
--- A placed mention has the row of its mention.
+-- The row of a mention is the same if its fact is given by an index.
 use Rattle.std.proofs.Common.{◌≡◌, ℕ, suc, ◌+◌, List, ◌∷◌, ◌++◌, length, Option, ap, ◌∙◌, arith}
 use Rattle.std.specs.Prelude.{flat_map}
 use Rattle.std.proofs.lemmas.List.Folds.{flat_map-map}
@@ -27,7 +27,7 @@ rows_are format facts ms count is = ap (λ t. source_header format ++ t)
     ∙ flat_map-map (placed_row format (length facts)) (placed facts) ms
     ∙ (λ i. flat_map (λ m. same_row format facts m i) ms))
 
--- the state after a fault
+-- after a fault, a first part of the rows was appended
 pub stops_at : (format : RowFormat) (sheet : Sheet) (reports : List (List ℕ)) (old new : Option (List ℕ)) (fault : WriteFault) → AppendsFront old new (sources_in format sheet reports) (written_of fault) → SourceRowsStop format sheet reports old new (fault_of fault)
 stops_at format sheet reports old new (OutOfMemory n) front = front
 stops_at format sheet reports old new (Device n) front = front

@@ -68,32 +68,32 @@ dimension_fields d =
     braced d.concept ∷ or_empty (option_spelled braced d.entity) ∷ or_empty (period_text d.period)
     ∷ or_empty (option_unit_text braced d.unit) ∷ or_empty d.language ∷ defined_text d.members ∷ []
 
--- the decimals if they are finite
+-- finite decimals; empty if they are infinite
 abbrev pub decimals_text : Option ℤ → List ℕ
 decimals_text None = []
 decimals_text (Some d) = signed_decimal d
 
--- the value, `true` or `false` for nil, and the decimals
+-- the value, `true` for nil, and the decimals
 abbrev pub value_fields : Bool → Value → List (List ℕ)
 value_fields spreadsheet Nil = [] ∷ codes "true" ∷ [] ∷ []
 value_fields spreadsheet (Number units places) = plain units ∷ [] ∷ decimals_text places ∷ []
 value_fields spreadsheet (AText t) = guarded spreadsheet t ∷ [] ∷ [] ∷ []
 value_fields spreadsheet (AName n) = braced n ∷ [] ∷ [] ∷ []
 
--- the evidence, for facts with these identifiers
+-- the fields of the evidence, given the identifiers of the facts
 abbrev pub evidence_fields : (ℕ → List ℕ) → Evidence → List (List ℕ)
 evidence_fields name Alike = [] ∷ [] ∷ [] ∷ [] ∷ []
 evidence_fields name (Common c) = plain c.low ∷ plain c.high ∷ [] ∷ [] ∷ []
 evidence_fields name (Apart i j) = [] ∷ [] ∷ name i ∷ name j ∷ []
 
--- the record of a fact with this identifier, in the row with this number
+-- the fields of a fact with this identifier, in the row with this number
 abbrev pub fact_fields : Bool → ℕ → DimensionSet → Evidence → List (List ℕ) → List ℕ → Value → List (List ℕ)
 fact_fields spreadsheet n d e shown identifier v =
     (decimal n ∷ verdict_word (verdict_shown e) ∷ identifier ∷ []) ++ (dimension_fields d ++ (value_fields spreadsheet v ++ shown))
 
 -- ---- rows
 
--- the records of a row's facts, counted from index i
+-- the records of facts in a row; the first fact has index i
 abbrev pub csv_facts : Bool → (ℕ → List ℕ) → ℕ → DimensionSet → Evidence → ℕ → List Value → List ℕ
 csv_facts spreadsheet name n d e i [] = []
 csv_facts spreadsheet name n d e i (v ∷ vs) =

@@ -20,23 +20,23 @@ fact_data identifier v =
     member (codes "value") (value_data braced v) (
     decimals_member v no_members)))
 
--- the facts of a row, counted from index i
+-- the facts of a row; the first has index i
 abbrev pub fact_items : (ℕ → List ℕ) → ℕ → List Value → Items
 fact_items name i [] = no_items
 fact_items name i (v ∷ vs) = item (fact_data (name i) v) (fact_items name (suc i) vs)
 
--- what all facts of a row have in common
+-- the interval that all facts of a row have in common
 abbrev pub common_data : Interval → Data
 common_data c = object (member (codes "low") (string (plain c.low)) (member (codes "high") (string (plain c.high)) no_members))
 
--- two facts that do not meet
+-- the identifiers of two facts that contradict each other
 abbrev pub apart_data : List ℕ → List ℕ → Data
 apart_data first second = array (item (string first) (item (string second) no_items))
 
 abbrev pub evidence_member : List ℕ → Data → Members
 evidence_member key d = member (codes "evidence") (object (member key d no_members)) no_members
 
--- the evidence, for facts with these identifiers; a single fact has none
+-- the evidence, given the identifiers of the facts; a single fact has none
 abbrev pub evidence_members : (ℕ → List ℕ) → Evidence → Members
 evidence_members name Alike = no_members
 evidence_members name (Common c) = evidence_member (codes "common") (common_data c)

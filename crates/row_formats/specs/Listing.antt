@@ -24,7 +24,7 @@ pub record AppendsFrontOfRows (format : RowFormat) (b : Body) (old new : Option 
   pub rows : AreRows format b text
   pub front : AppendsFront old new text written
 
--- its rows were appended, and these refusals were told
+-- the rows of a body were appended, and these refusals were returned
 pub record ListsRows (format : RowFormat) (b : Body) (refusals : List (ℕ × Refusal)) (old new : Option (List ℕ)) (told : List (ℕ × Refusal)) : Type 0 where
   pub refusals_are : told ≡ refusals
   pub rows : AppendsRows format b old new

@@ -51,7 +51,7 @@ pub record AreRows (format : RowFormat) (b : Body) (text : List ℕ) : Type 0 wh
   pub has : HasRowsOf format b.facts rows
   pub whole : text ≡ header format ++ rows
 
--- ---- what these come to
+-- ---- laws
 
 -- a body that fits a sheet has exactly one list of rows in each format
 pub record HasOneText (format : RowFormat) (b : Body) : Type 0 where

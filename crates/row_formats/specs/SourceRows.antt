@@ -44,7 +44,7 @@ source_header Json = []
 source_header Csv = record_text source_columns
 source_header SpreadsheetCsv = record_text source_columns
 
--- the row of a mention, with the canonical identifier of its fact among these facts
+-- the row of a mention, with the canonical identifier that its fact has among these facts
 abbrev pub source_row : RowFormat → List Fact → Mention → List ℕ
 source_row format facts m = source_text format (identifier facts m.fact) m.report m.identifier
 
@@ -52,7 +52,7 @@ source_row format facts m = source_text format (identifier facts m.fact) m.repor
 abbrev pub sources_in : RowFormat → Sheet → List (List ℕ) → List ℕ
 sources_in format sheet reports = source_header format ++ flat_map (source_row format (merged sheet reports).facts) (mentions_by_fact sheet reports)
 
--- ---- what listing them leaves behind
+-- ---- the state after a call
 
 -- the rows were appended, and the refusals of the other reports were returned
 pub record ListsSourceRows (format : RowFormat) (sheet : Sheet) (reports : List (List ℕ)) (old new : Option (List ℕ)) (told : List (ℕ × Refusal)) : Type 0 where

@@ -5,7 +5,7 @@ ghost use Rattle.row_formats.specs.CsvRows.{record_text};
 use csv::{Error, StringRecord, Terminator, WriterBuilder};
 use std::alloc::{AllocError, Global};
 
-/// The text of a record (RFC 4180).
+/// Returns the text of a record (RFC 4180).
 pub(crate) fn text_of_record(alloc: Global, fields: &StringRecord) -> Result<Vec<u8>, AllocError>
     ensures { IfOk result (λ text. text.items ≡ record_text (fields_of fields.now)) }
 {
@@ -29,7 +29,6 @@ fn bytes_of_record(alloc: Global, fields: &StringRecord) -> Result<Vec<u8>, Erro
     }
 }
 
-/// Appends three fields.
 pub(crate) fn push_three(
     fields: &mut StringRecord,
     first: &str,

@@ -14,8 +14,8 @@ use oim_names::{Name, Text};
 use oim_value::{Value, write_fixed};
 use std::alloc::{AllocError, Global};
 
-// Dimensions and values are written as in the canonical text, except that names need no prefix. A
-// name or a unit is spelled in the buffer `room`.
+// Dimensions and values are written as in the canonical text, except that names need no prefix.
+// Names and units are written to the buffer `room` first.
 
 /// Writes dimensions as an object.
 pub(crate) fn write_dimensions(
@@ -137,7 +137,7 @@ pub(crate) fn write_value(
     }
 }
 
-/// Writes finite decimals of a number as a member.
+/// Writes the decimals of a number as a member if they are finite.
 pub(crate) fn write_decimals(json: &mut Writer, value: &Value) -> Result<(), AllocError>
     ensures { OnOk result (AddsMembers json.old json.new (decimals_member value.now no_members)) }
 {

@@ -5,7 +5,8 @@ use oim_names::Text;
 use oim_write::identifier;
 use std::alloc::{AllocError, Global};
 
-/// Identifies the facts in a row by the number of facts before it and of all facts.
+/// Gives the identifiers of a row's facts. They follow from the number of facts before the row and
+/// the number of all facts.
 #[derive(Clone, Copy, Debug)]
 pub(crate) struct FactNames {
     pub before: u128,
@@ -13,7 +14,7 @@ pub(crate) struct FactNames {
 }
 
 impl FactNames {
-    /// The identifier of the fact at an index, from 0.
+    /// Returns the identifier of the fact at an index, from 0.
     pub(crate) fn at(&self, alloc: Global, place: usize) -> Result<Text, AllocError>
         requires { self.now.before + place < self.now.count }
         ensures { IfOk result (λ text. text ≡ named self.now.before self.now.count place) }

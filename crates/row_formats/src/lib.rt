@@ -1,4 +1,4 @@
-//! Verdicts and sources in formats that other programs read: one JSON object a line, and CSV.
+//! Verdicts and sources in formats that other programs read: one JSON object per line, and CSV.
 #![tactic(auto)]
 
 mod csv_record;

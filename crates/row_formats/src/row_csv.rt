@@ -30,7 +30,7 @@ use oim_value::{Decimals, Fixed, Interval, Value, write_fixed};
 use std::alloc::{AllocError, Global};
 use std::str;
 
-/// The first capacity of a record; few records are longer.
+/// The initial capacity of a record; few records are longer.
 const RECORD: usize = 1 << 9;
 
 /// The number of fields in a record.
@@ -113,7 +113,8 @@ fn push_record(
     Ok(())
 }
 
-/// The number of the row, the word for its verdict, and the identifier of the fact at an index.
+/// Appends the number of the row, the word for its verdict, and the identifier of the fact at an
+/// index.
 fn push_front(
     alloc: Global,
     fields: &mut StringRecord,
@@ -137,7 +138,7 @@ fn push_front(
     )
 }
 
-/// The dimensions and the value of the fact.
+/// Appends the dimensions and the value of the fact.
 fn push_fact(
     alloc: Global,
     fields: &mut StringRecord,
@@ -210,7 +211,7 @@ fn push_unit(
     fields.push_field(room.as_str())
 }
 
-/// The taxonomy-defined dimensions as a JSON object.
+/// Appends the taxonomy-defined dimensions as a JSON object.
 fn push_defined(
     alloc: Global,
     fields: &mut StringRecord,
@@ -265,7 +266,7 @@ fn push_number(
     push_three(fields, number.as_str(), "", decimals.as_str())
 }
 
-/// The text of finite decimals; infinite ones have no text.
+/// Returns finite decimals as text; infinite ones have no text.
 fn decimals_text(alloc: Global, decimals: Decimals) -> Result<String, AllocError>
     ensures { IfOk result (λ text. string_bytes text ≡ decimals_text decimals) }
 {
@@ -275,7 +276,7 @@ fn decimals_text(alloc: Global, decimals: Decimals) -> Result<String, AllocError
     }
 }
 
-/// The evidence for the verdict on the row.
+/// Appends the evidence for the verdict on the row.
 fn push_evidence(
     alloc: Global,
     fields: &mut StringRecord,
@@ -339,7 +340,7 @@ fn push_four(
     fields.push_field(fourth)
 }
 
-/// The taxonomy-defined dimensions as a JSON object.
+/// Returns the taxonomy-defined dimensions as a JSON object.
 fn members_json(
     alloc: Global,
     room: &mut String,

@@ -1,10 +1,10 @@
-/// The format of rows for other programs.
+/// A format of rows for other programs.
 #[derive(Clone, Copy, Debug, PartialEq, Eq)]
 pub enum RowFormat {
     /// One JSON object a line.
     Json,
     /// A header and one record for each fact (RFC 4180).
     Csv,
-    /// The same for a spreadsheet: a `'` is put before a text that would be read as a formula.
+    /// CSV for a spreadsheet: a `'` is put before a text that would be read as a formula.
     SpreadsheetCsv,
 }

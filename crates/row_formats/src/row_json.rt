@@ -16,10 +16,10 @@ use oim_names::Text;
 use oim_value::{Interval, Value, write_units};
 use std::alloc::{AllocError, Global};
 
-/// The first capacity of a line; few lines are longer.
+/// The initial capacity of a line; few lines are longer.
 const LINE: usize = 1 << 9;
 
-/// The line of a row with this number and this evidence.
+/// Returns the line of a row with this number and this evidence.
 pub(crate) fn json_row(
     alloc: Global,
     number: u64,

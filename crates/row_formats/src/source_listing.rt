@@ -14,8 +14,8 @@ use oim_write::{Encoded, Sink, SinkBuffer, WriteFault};
 use std::alloc::Global;
 
 /// Merges reports under a sheet and appends one row for each fact object in an accepted report to
-/// the sink, in a format. The rows are those of `source_lines` (own). Returns the refusals by the
-/// numbers of the reports, from 1.
+/// the sink, in a format. The rows list the same sources as `source_lines` (own). Returns the
+/// refusals with the numbers of their reports, from 1.
 ///
 /// Errors: `Device` if the sink failed; `OutOfMemory`.
 pub fn source_rows<S: Sink>(
@@ -42,8 +42,8 @@ pub fn source_rows<S: Sink>(
     }
 }
 
-/// Appends the rows of mentions, given the count of facts in the base. On a fault the sink has a
-/// first part of them; the fault carries its length.
+/// Appends the rows of mentions, given the count of facts in the base. After a fault the sink
+/// contains a first part of them; the fault carries its length.
 fn write_rows<S: Sink>(
     alloc: Global,
     count: u128,

@@ -43,7 +43,7 @@ fn push_unit(text: &mut String, unit: &Unit) -> Result<(), AllocError>
     push_side(text, unit.denominators())
 }
 
-// Writes one side of a unit that has two.
+// Writes one side of a unit that has two sides.
 fn push_side(text: &mut String, names: &[Name]) -> Result<(), AllocError>
     ensures { OnOk result (string_bytes text.new ≡ string_bytes text.old ++ side_text braced names.now) }
 {

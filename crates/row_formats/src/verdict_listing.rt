@@ -20,9 +20,10 @@ use oim_write::{Encoded, Sink, SinkBuffer, WriteFault};
 use std::alloc::{AllocError, Global};
 use std::mem;
 
-/// Merges reports under a sheet and appends one row for each dimension set to the sink, in a format:
-/// its number from 1, the verdict, its dimensions, its facts and the evidence. The verdicts are those
-/// of `verdict_lines` (own). Returns the refusals by the numbers of the reports, from 1.
+/// Merges reports under a sheet and appends one row for each dimension set to the sink, in a
+/// format: its number from 1, the verdict, its dimensions, its facts and the evidence. The verdicts
+/// are the same as in `verdict_lines` (own). Returns the refusals with the numbers of their
+/// reports, from 1.
 ///
 /// Errors: `Device` if the sink failed; `OutOfMemory`.
 pub fn verdict_rows<S: Sink>(
@@ -43,7 +44,7 @@ pub fn verdict_rows<S: Sink>(
     write_verdicts(alloc, &base, refusals, format, out)
 }
 
-/// The same for reports that were added one at a time.
+/// Does the same for reports that were added one at a time.
 ///
 /// Errors: the same as `verdict_rows`.
 pub fn finish_rows<S: Sink>(
@@ -63,7 +64,7 @@ pub fn finish_rows<S: Sink>(
     write_verdicts(alloc, &base, refusals, format, out)
 }
 
-/// The same for a program that exits afterwards, as in `Consolidation::finish_last`.
+/// Does the same for a program that exits afterwards, as in `Consolidation::finish_last`.
 ///
 /// Errors: the same as `verdict_rows`.
 pub fn finish_rows_last<S: Sink>(
@@ -104,8 +105,8 @@ fn write_verdicts<S: Sink>(
     }
 }
 
-/// Appends the rows of a base. On a fault the sink has a first part of them; the fault carries its
-/// length.
+/// Appends the rows of a base. After a fault the sink contains a first part of them; the fault
+/// carries its length.
 fn write_rows<S: Sink>(
     alloc: Global,
     base: &Base<'_>,
@@ -164,7 +165,7 @@ fn push_rows<S: Sink>(
         before: 0,
         count: base.fact_count(),
     };
-    // a base has no more rows than this number can count
+    // so `number` cannot overflow, since it never exceeds the count of rows
     let _most = base.row_count();
     let mut number = 0;
     for row in base.rows() {

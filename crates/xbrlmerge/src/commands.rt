@@ -1,4 +1,4 @@
-//! The commands. Each file has the arguments, the help and the work of one command.
+//! The commands. Each file contains one command: its arguments, its help and its code.
 
 ghost use Rattle.std.specs.Prelude.{◌-◌, ◌^◌, ◌<◌};
 
@@ -39,7 +39,7 @@ pub(crate) fn execute<'n, F: Files, E: Write, S: Sink>(
     }
 }
 
-/// Runs a command under the sheet, once it is read.
+/// Runs a command under the sheet.
 fn execute_under<'n, F: Files, E: Write, S: Sink>(
     sheet: &Sheet,
     subcommand: Subcommand<'n>,
@@ -57,7 +57,7 @@ fn execute_under<'n, F: Files, E: Write, S: Sink>(
     }
 }
 
-/// Writes help or the version to `out`. No report is refused.
+/// Writes help or the version to `out`. Returns no refusals.
 ///
 /// Errors: out of memory, and `Device`.
 fn show<'n, S: Sink>(alloc: Global, text: &clap::Error, out: &mut S) -> Result<Success, Error<'n>>

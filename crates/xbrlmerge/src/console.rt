@@ -42,7 +42,7 @@ impl<E: Write> Console<E> {
         }
     }
 
-    /// On a terminal, says that a bundle is expected.
+    /// Prints that a bundle is expected.
     pub(crate) fn tell_awaited(&mut self) {
         print_awaited(&mut self.err);
     }

@@ -13,7 +13,7 @@ pub(crate) enum Success {
     Faults(u64),
 }
 
-/// The result of a command whose last call returned this.
+/// Returns the result of a command from the result of its last call.
 pub(crate) fn ended<'n>(answer: Result<Refusals, Fault>) -> Result<Success, Error<'n>> {
     match answer {
         Ok(refusals) => Ok(Success::Refusals(refusals)),
@@ -21,7 +21,7 @@ pub(crate) fn ended<'n>(answer: Result<Refusals, Fault>) -> Result<Success, Erro
     }
 }
 
-/// Why the program stopped early.
+/// The reasons for which the program stops early.
 #[derive(Drop)]
 pub(crate) enum Error<'n> {
     /// The arguments are not valid. The error has clap's message.

@@ -70,7 +70,7 @@ impl<'n, F: Files, E: Write> Inputs<'n, F, E> {
     }
 
     /// Reads all reports under a sheet in order, up to the first that cannot be read. The bytes of
-    /// each are dropped once it is added.
+    /// a report are dropped once it is added.
     ///
     /// Errors: `Unread`, and out of memory.
     pub(crate) fn consolidate<'s>(

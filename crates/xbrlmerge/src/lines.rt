@@ -7,8 +7,8 @@ use oim_report::{Place, Refusal};
 use oim_write::{Sink, WriteFault, put_all};
 use std::io::Write;
 
-// Printed lines. On standard error a failed write is ignored. The name of a file is escaped, since a
-// line end in it could imitate a line.
+// Printed lines. On standard error a failed write is ignored. The name of a file is escaped,
+// because a line end in a name could fake a line.
 
 /// Prints a text on standard output.
 ///

@@ -1,5 +1,5 @@
-//! The command line of `oim_merge`: arguments, files, printed lines and exit statuses. Merging
-//! itself is in the libraries.
+//! The command line of `oim_merge`: arguments, files, printed lines and exit statuses. The
+//! libraries do the merging.
 #![tactic(auto)]
 
 mod arguments;

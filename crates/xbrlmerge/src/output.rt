@@ -78,8 +78,8 @@ fn settle<'n, F: Files>(
 /// A new file, with its name.
 type Named<F> = (String, F);
 
-/// Creates a new file beside the file with this name, which it will replace. It gets the mode of
-/// that file, if there is one.
+/// Creates a new file in the folder of the file with this name, to replace it later. The new file
+/// gets the mode of the old one, if there is an old one.
 ///
 /// Errors: `Unwritten` if it cannot be created, or if the name belongs to a symbolic link or to
 /// anything but a regular file; out of memory.
@@ -132,8 +132,8 @@ fn old_mode<'w, F: Files>(files: &F, name: &'w str) -> Result<Option<Permissions
     }
 }
 
-/// Creates the first file beside this one whose numbered name is free. Earlier numbers belong to
-/// running programs, and to programs that a signal ended.
+/// Creates a file beside this one, under the first numbered name that is free. Earlier numbers
+/// belong to running programs, and to programs that a signal ended.
 fn first_new<F: Files>(
     alloc: Global,
     files: &F,

@@ -12,7 +12,7 @@ pub(crate) struct ReportNames<'w> {
     words: Vec<&'w str>,
     /// The file that lists more names; it may be standard input.
     pub list: Option<&'w str>,
-    /// The end of each name in the file. It may be missing after the last one.
+    /// The character after each name in the file. It may be missing after the last name.
     end: char,
 }
 
@@ -63,7 +63,7 @@ impl<'w> ReportNames<'w> {
     }
 }
 
-/// Adds the names in a text, each of which ends with `end`.
+/// Adds the names in a text. Each name ends with `end`.
 fn push_names<'n>(all: &mut Vec<&'n str>, text: &'n str, end: char) -> Result<(), AllocError> {
     for name in text.split(end) {
         if !name.is_empty() {

@@ -21,7 +21,7 @@ pub(crate) struct Args<'w> {
 }
 
 impl<'w> Args<'w> {
-    /// The bytes of the bundle, or of the file of names; empty if neither is read.
+    /// Returns the bytes of the bundle or of the file of names; empty if neither is read.
     ///
     /// Errors: `Unread`.
     pub(crate) fn read_input<F: Files, R: Read + Drop>(
@@ -47,7 +47,7 @@ impl<'w> Args<'w> {
 pub(crate) enum Request<'w> {
     /// Merge the bundle on standard input.
     Bundle,
-    /// Print help or the version, which is the text of the error.
+    /// Print help or the version. clap returns both as errors.
     Help(clap::Error),
     /// Explain the sheet in this file and the reports.
     Explain(&'w str, Format),

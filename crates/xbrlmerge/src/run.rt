@@ -9,8 +9,9 @@ use std::convert::AsStr;
 use std::io::{Read, Write};
 use std::rt::Files;
 
-// `run` is split into four functions, each of which owns few values and borrows the rest, so they have
-// many parameters. One function that owns all values is slow to prove: each may be alive at each exit.
+// `run` is split into four functions, each of which owns few values and borrows the rest, so they
+// have many parameters. One function that owns all values would be slow to prove, because each
+// value may be alive at each exit.
 
 /// Runs the program with the arguments after its name. Without arguments it merges the bundle on
 /// standard input. Standard error gets a line for each refused report, or one that says why the program

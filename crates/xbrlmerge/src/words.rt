@@ -62,7 +62,8 @@ pub(crate) fn read_words<W: AsStr>(alloc: Global, words: &[W]) -> Result<Args<'_
     }
 }
 
-/// The error for these arguments with their texts escaped, since clap prints them unescaped.
+/// Returns the error for these arguments with their texts escaped, since clap prints them
+/// unescaped.
 fn error_shown<W: AsStr>(
     alloc: Global,
     words: &[W],

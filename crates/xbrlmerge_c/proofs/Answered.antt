@@ -1,4 +1,4 @@
--- The meaning of a status.
+-- The meaning of the statuses.
 use Rattle.std.proofs.Common.{◌≡◌, ◌≤◌, ◌<◌, ◌⊎◌, inl, inr, ℕ, List, [], length, Result, Ok, Err, refl, sym, ap, ◌∙◌, subst, arith}
 use Rattle.std.specs.Prelude.{IfOk, IfErr}
 use Rattle.oim_names.specs.declared.reason.Reason.{Reason}
@@ -98,7 +98,7 @@ module _ (IsRow : ℕ → List (ℕ × Refusal) → Type 0) (IsSheet : Reason �
   asks Says (Err (OutOfMemory written)) old new status says stops s is = absurd (omega (arith, s.0, is))
   asks Says (Err (Device written)) old new status says stops s is = absurd (omega (arith, s.0, is))
 
--- ---- no row is above a level
+-- ---- calls without a level
 
 pub never_loose : (IsSheet : Reason → Type 0) (made : Result Made Fault) (old new : Room) (status : ℕ) →
     IfErr made (StopsBy NoRow IsSheet) → Answers made old new status → status ≡ too_loose → ⊥
@@ -114,7 +114,7 @@ asks_text IsSheet Says made old new status says stops s is =
     let a = asks NoRow IsSheet Says made old new status says stops s is in
     record { text = a.text; told = a.told; says = text_alone a.told a.text a.says; short = a.short }
 
--- a refused sheet stops both kinds of call
+-- a condition without rows above a level implies the condition with them
 pub stops_anyhow : (IsRow : ℕ → List (ℕ × Refusal) → Type 0) (IsSheet : Reason → Type 0) (fault : Fault) → StopsBy NoRow IsSheet fault → StopsBy IsRow IsSheet fault
 stops_anyhow IsRow IsSheet (TooLoose number told) s = absurd s
 stops_anyhow IsRow IsSheet (SheetFault reason) s = s

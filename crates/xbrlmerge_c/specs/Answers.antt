@@ -1,4 +1,4 @@
--- How a call answers what was made, or why it was not (own).
+-- The memory and the status after a call that succeeded or failed (own).
 use Rattle.std.specs.Prelude.{ℕ, List}
 use Rattle.oim_names.specs.declared.reason.Reason.{Reason}
 use Rattle.oim_report.specs.declared.refusal.Refusal.{Refusal}

@@ -17,7 +17,7 @@ use Rattle.row_formats.specs.declared.row_format.RowFormat.TheVariants.{Json}
 abbrev pub IsSheetRefused : List ℕ → Reason → Type 0
 IsSheetRefused sheet reason = sheet_outcome sheet ≡ Err reason
 
--- the canonical text of the accepted reports, no row of which is above the level, and the refusals of the others
+-- no row is above the level: the canonical text of the accepted reports, and the refusals of the others
 pub record Merges (sheet : List ℕ) (reports : List (List ℕ)) (level : Level) (text : List ℕ) (told : List (ℕ × Refusal)) : Type 0 where
   pub listed : Sheet
   pub read : sheet_outcome sheet ≡ Ok listed

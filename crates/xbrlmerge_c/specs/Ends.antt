@@ -1,7 +1,7 @@
 -- Concatenated reports, split at the position where each one ends (own).
 use Rattle.std.specs.Prelude.{◌≤◌, ◌-◌, ℕ, List, [], ◌∷◌, length, take, drop}
 
--- the ends never fall, the first is at least `from`, and none is greater than `count`
+-- the ends never decrease, the first is at least `from`, and none is greater than `count`
 abbrev pub AreEndsFrom : ℕ → ℕ → List ℕ → Type 0
 AreEndsFrom from count [] = Unit {0}
 AreEndsFrom from count (end ∷ ends) = (from ≤ end) × ((end ≤ count) × AreEndsFrom end count ends)
@@ -13,7 +13,7 @@ AreEnds bytes ends = AreEndsFrom 0 (length bytes) ends
 abbrev pub between : ℕ → ℕ → List ℕ → List ℕ
 between from end bytes = take (end - from) (drop from bytes)
 
--- the reports: each begins at the end of the one before, and the first at `from`
+-- the reports: the first begins at `from`, and each other one where the report before it ends
 abbrev pub reports_from : ℕ → List ℕ → List ℕ → List (List ℕ)
 reports_from from bytes [] = []
 reports_from from bytes (end ∷ ends) = between from end bytes ∷ reports_from end bytes ends

@@ -23,7 +23,7 @@ pub record IsHanded (text : List ℕ) (told : List (ℕ × Refusal)) (old new : 
   pub rows : new.rows ≡ rows_of told ++ drop (length told) old.rows
   pub refused : new.refused ≡ length told
 
--- one of them is longer than its buffer: both lengths are returned, and the buffers are unchanged
+-- the text or the records are longer than their buffer: both lengths are returned, and the buffers are unchanged
 pub record IsTooShort (text : List ℕ) (told : List (ℕ × Refusal)) (old new : Room) : Type 0 where
   pub short : (length old.out < length text) ⊎ (length old.rows < length told)
   pub out : new.out ≡ old.out
@@ -31,7 +31,7 @@ pub record IsTooShort (text : List ℕ) (told : List (ℕ × Refusal)) (old new 
   pub rows : new.rows ≡ old.rows
   pub refused : new.refused ≡ length told
 
--- the number of a row is returned, with the refused reports
+-- the number of a row and the refused reports are returned
 pub record TellsRow (number : ℕ) (told : List (ℕ × Refusal)) (old new : Room) : Type 0 where
   pub out : new.out ≡ old.out
   pub needed : new.needed ≡ number
@@ -53,7 +53,7 @@ pub record Hands (Says : List ℕ → List (ℕ × Refusal) → Type 0) (old new
   pub says : Says text told
   pub handed : IsHanded text told old new
 
--- the lengths are those of a text and refusals with the property
+-- the returned lengths belong to a text and refusals with the property
 pub record Asks (Says : List ℕ → List (ℕ × Refusal) → Type 0) (old new : Room) : Type 0 where
   pub text : List ℕ
   pub told : List (ℕ × Refusal)

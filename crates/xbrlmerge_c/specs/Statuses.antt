@@ -25,7 +25,7 @@ sheet_refused = 4
 abbrev pub no_memory : ℕ
 no_memory = 5
 
--- the ends fall, or one is beyond the bytes
+-- an end is less than the one before it, or beyond the bytes
 abbrev pub bad_ends : ℕ
 bad_ends = 6
 

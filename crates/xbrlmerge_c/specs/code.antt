@@ -1,2 +1,2 @@
--- What only private code cites: how values are kept, and the laws on the way. No public contract needs it.
+-- Definitions that only private code cites: how values are stored, and intermediate laws. No public contract uses them.
 pub mod Answers

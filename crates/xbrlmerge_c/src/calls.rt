@@ -17,7 +17,7 @@ use oim_value::Level;
 use oim_write::{Encoded, StdSink};
 use std::alloc::Global;
 
-/// The level with this number, from 0 for the strictest.
+/// Returns the level with this number, from 0 for the strictest.
 pub(crate) fn level_numbered(number: u32) -> Option<Level>
     ensures { result ≡ slice_get levels number }
 {
@@ -30,10 +30,10 @@ pub(crate) fn level_numbered(number: u32) -> Option<Level>
     }
 }
 
-/// Merges reports, as `oim_merge::consolidate` does. They are concatenated in `reports` and end at
-/// `ends`. `allow` is the number of a level, from 0 for the strictest to 3. The canonical text is
-/// written to the start of `out` and the refused reports to the start of `refusals`; `needed` and
-/// `refused` get their lengths.
+/// Merges reports, as `oim_merge::consolidate` does. The reports are concatenated in `reports` and
+/// end at `ends`. `allow` is the number of a level, from 0 for the strictest to 3. The canonical
+/// text is written to the start of `out` and the refused reports to the start of `refusals`;
+/// `needed` and `refused` get their lengths.
 ///
 /// Errors, by the status: `TOO_LOOSE`, with the number of the first row above the level in `needed`;
 /// `TOO_SHORT`; `SHEET_REFUSED`, with the number of the refusal in `needed`; `NO_MEMORY`, `BAD_ENDS`
@@ -81,7 +81,7 @@ pub extern "C" fn xbrlmerge_merge(
     answer(made, out, needed, refusals, refused)
 }
 
-/// The canonical text of the accepted reports, and the refusals of the others.
+/// Returns the canonical text of the accepted reports, and the refusals of the others.
 ///
 /// Errors: `Sheet` and `TooLoose`; `OutOfMemory` and `Device` both mean that memory was refused.
 fn merged(
@@ -148,7 +148,7 @@ pub extern "C" fn xbrlmerge_verdicts(
     answer(made, out, needed, refusals, refused)
 }
 
-/// The verdict lines of the accepted reports, and the refusals of the others.
+/// Returns the verdict lines of the accepted reports, and the refusals of the others.
 ///
 /// Errors: `Sheet`; `OutOfMemory` and `Device` both mean that memory was refused.
 fn judged(alloc: Global, sheet: &[u8], reports: &[u8], ends: &[usize]) -> Result<Made, Fault>
@@ -169,7 +169,7 @@ fn judged(alloc: Global, sheet: &[u8], reports: &[u8], ends: &[usize]) -> Result
     })
 }
 
-/// Lists who reported what, as `oim_merge::source_lines` does. The reports are concatenated in
+/// Lists the sources of facts, as `oim_merge::source_lines` does. The reports are concatenated in
 /// `reports` and end at `ends`. The lines are written to the start of `out` and the refused reports to
 /// the start of `refusals`; `needed` and `refused` get their lengths.
 ///
@@ -208,7 +208,7 @@ pub extern "C" fn xbrlmerge_sources(
     answer(made, out, needed, refusals, refused)
 }
 
-/// The source lines of the accepted reports, and the refusals of the others.
+/// Returns the source lines of the accepted reports, and the refusals of the others.
 ///
 /// Errors: `Sheet`; `OutOfMemory` and `Device` both mean that memory was refused.
 fn told(alloc: Global, sheet: &[u8], reports: &[u8], ends: &[usize]) -> Result<Made, Fault>
@@ -224,7 +224,7 @@ fn told(alloc: Global, sheet: &[u8], reports: &[u8], ends: &[usize]) -> Result<M
     lines_of(alloc, &sheet, reports.as_slice())
 }
 
-/// The same under a parsed sheet, for reports that are not concatenated.
+/// Returns the same under a parsed sheet, for reports that are not concatenated.
 fn lines_of(alloc: Global, sheet: &Sheet, reports: &[Encoded]) -> Result<Made, Fault>
     ensures text { IfOk result (λ made. made.text.items ≡ sources sheet.now reports.now) }
     ensures refusals { IfOk result (λ made. made.refusals ≡ refused sheet.now reports.now) }

@@ -17,7 +17,7 @@ use std::alloc::{AllocError, Global};
 pub struct CheckedReport {
     /// The number of its facts, repeats counted.
     pub facts: u64,
-    /// The strictest level that its facts satisfy, from 0 for none to 3 for all.
+    /// The strictest level that its facts satisfy, from 0 for `none` to 3 for `all`.
     pub level: u32,
     /// 1 if its bytes are the canonical text of its facts, otherwise 0.
     pub canonical: u32,
@@ -77,9 +77,9 @@ pub extern "C" fn xbrlmerge_check(
     }
 }
 
-/// The result for the report, or its refusal.
+/// Returns the result for the report, or its refusal.
 ///
-/// Errors: out of memory, which is not a refusal here.
+/// Errors: out of memory, which does not count as a refusal here.
 fn checked_or_refused(
     alloc: Global,
     sheet: &Sheet,

@@ -17,8 +17,9 @@ use row_formats::{RowFormat, finish_rows, source_rows};
 use std::alloc::Global;
 
 /// Judges the duplicates of reports, as `row_formats::verdict_rows` does in JSON. The reports are
-/// concatenated in `reports` and end at `ends`. The objects, one a line, are written to the start of
-/// `out` and the refused reports to the start of `refusals`; `needed` and `refused` get their lengths.
+/// concatenated in `reports` and end at `ends`. The objects, one per line, are written to the start
+/// of `out` and the refused reports to the start of `refusals`; `needed` and `refused` get their
+/// lengths.
 ///
 /// Errors, by the status: `TOO_SHORT`; `SHEET_REFUSED`, with the number of the refusal in `needed`;
 /// `NO_MEMORY` and `BAD_ENDS`, with nothing changed.
@@ -55,7 +56,7 @@ pub extern "C" fn xbrlmerge_verdicts_json(
     answer(made, out, needed, refusals, refused)
 }
 
-/// The verdicts on the accepted reports as JSON objects, and the refusals of the others.
+/// Returns the verdicts on the accepted reports as JSON objects, and the refusals of the others.
 ///
 /// Errors: `Sheet`; `OutOfMemory` and `Device` both mean that memory was refused.
 fn judged(alloc: Global, sheet: &[u8], reports: &[u8], ends: &[usize]) -> Result<Made, Fault>
@@ -76,9 +77,10 @@ fn judged(alloc: Global, sheet: &[u8], reports: &[u8], ends: &[usize]) -> Result
     })
 }
 
-/// Lists who reported what, as `row_formats::source_rows` does in JSON. The reports are concatenated
-/// in `reports` and end at `ends`. The objects, one a line, are written to the start of `out` and the
-/// refused reports to the start of `refusals`; `needed` and `refused` get their lengths.
+/// Lists the sources of facts, as `row_formats::source_rows` does in JSON. The reports are
+/// concatenated in `reports` and end at `ends`. The objects, one per line, are written to the start
+/// of `out` and the refused reports to the start of `refusals`; `needed` and `refused` get their
+/// lengths.
 ///
 /// Errors, by the status: `TOO_SHORT`; `SHEET_REFUSED`, with the number of the refusal in `needed`;
 /// `NO_MEMORY` and `BAD_ENDS`, with nothing changed.
@@ -115,7 +117,7 @@ pub extern "C" fn xbrlmerge_sources_json(
     answer(made, out, needed, refusals, refused)
 }
 
-/// The sources in the accepted reports as JSON objects, and the refusals of the others.
+/// Returns the sources in the accepted reports as JSON objects, and the refusals of the others.
 ///
 /// Errors: `Sheet`; `OutOfMemory` and `Device` both mean that memory was refused.
 fn told(alloc: Global, sheet: &[u8], reports: &[u8], ends: &[usize]) -> Result<Made, Fault>
@@ -131,7 +133,7 @@ fn told(alloc: Global, sheet: &[u8], reports: &[u8], ends: &[usize]) -> Result<M
     rows_of(alloc, &sheet, reports.as_slice())
 }
 
-/// The same under a parsed sheet, for reports that are not concatenated.
+/// Returns the same under a parsed sheet, for reports that are not concatenated.
 fn rows_of(alloc: Global, sheet: &Sheet, reports: &[Encoded]) -> Result<Made, Fault>
     ensures text { IfOk result (λ made. made.text.items ≡ sources_in Json sheet.now reports.now) }
     ensures refusals { IfOk result (λ made. made.refusals ≡ refused sheet.now reports.now) }

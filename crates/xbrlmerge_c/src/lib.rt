@@ -1,5 +1,5 @@
-//! The calls of `oim_merge` for C. Bytes go in; bytes and records of numbers come out, in memory of
-//! the caller. `include/xbrlmerge.h` says what a caller must do.
+//! The calls of `oim_merge` for C. A call takes bytes, and writes bytes and records of numbers to
+//! the caller's memory. `include/xbrlmerge.h` says what a caller must do.
 #![tactic(auto)]
 
 mod calls;

@@ -26,7 +26,7 @@ pub(crate) const SHEET_REFUSED: u32 = 4;
 /// Memory was refused.
 pub(crate) const NO_MEMORY: u32 = 5;
 
-/// The ends fall, or one is beyond the bytes.
+/// An end is less than the one before it, or beyond the bytes.
 pub(crate) const BAD_ENDS: u32 = 6;
 
 /// There is no level with this number.
@@ -76,7 +76,7 @@ pub(crate) fn put_rows(told: &[(u64, Refusal)], rows: &mut [RefusedReport])
     }
 }
 
-/// A text made from reports, and the refusals.
+/// A text made from reports, and the refusals of the other reports.
 #[derive(Drop)]
 pub(crate) struct Made {
     pub text: Vec<u8>,

@@ -4,7 +4,7 @@ ghost use Rattle.xbrlmerge_c.specs.Names.{name_numbered};
 
 use oim_names::Reason;
 
-/// Every refusal, at the index of its number.
+/// All refusals, each at the index of its number.
 const REASONS: [Reason; 33] = [
     Reason::OutOfMemory,
     Reason::NotJson,
@@ -41,8 +41,8 @@ const REASONS: [Reason; 33] = [
     Reason::SheetKind,
 ];
 
-/// Writes the name of the refusal with this number to the start of `out`, if it fits, and returns its
-/// length; 0 if no refusal has the number.
+/// Writes the name of the refusal with this number to the start of `out` if it fits, and returns
+/// its length. Returns 0 if no refusal has the number.
 #[unsafe(no_mangle)]
 pub extern "C" fn xbrlmerge_refusal_name(number: u32, out: &mut [u8]) -> usize
     ensures length { result ≡ length (name_numbered number) }

@@ -11,7 +11,7 @@ use oim_report::Sheet;
 use oim_write::Encoded;
 use std::alloc::{AllocError, Global};
 
-/// True if the ends never fall and none is beyond the bytes.
+/// Returns whether the ends never decrease and none is beyond the bytes.
 pub(crate) fn are_ends(bytes: &[u8], ends: &[usize]) -> bool
     ensures { IsTrue result ↔ AreEnds bytes.now ends.now }
 {
@@ -25,7 +25,7 @@ pub(crate) fn are_ends(bytes: &[u8], ends: &[usize]) -> bool
     true
 }
 
-/// Copies each report; they are concatenated and end at these positions.
+/// Copies the reports, which are concatenated and end at these positions.
 ///
 /// Errors: out of memory.
 pub(crate) fn reports_of(

@@ -9,8 +9,8 @@ use crate::refusal_name::xbrlmerge_refusal_name;
 use std::alloc::Global;
 use std::test::Fail;
 
-// Each call with enough room and memory, and each status. A call is repeated after a refused
-// request for memory.
+// The tests make each call with enough room and memory, and cause each status. A call is repeated
+// after a refused request for memory.
 
 const SHEET: &str = r#"{"namespaces":{"eg":"http://example.org/t"},"concepts":{"eg:A":"numeric"}}"#;
 
@@ -45,7 +45,7 @@ const BEFORE: RefusedReport = RefusedReport {
     number: 7,
 };
 
-/// The refusal of the second report, whose first fact has a prefix that is not bound.
+/// The refusal of the second report: its first fact has a prefix that is not bound.
 const UNBOUND: RefusedReport = RefusedReport {
     report: 2,
     fact: 1,
@@ -71,7 +71,7 @@ struct Left {
     refused: usize,
 }
 
-/// Makes a call with a buffer of this many bytes.
+/// Makes a call with an output buffer of this many bytes.
 fn called_once(alloc: Global, call: Call, sheet: &str, ends: &[usize], room: usize) -> Left {
     let (mut out, mut rows) = ([7; 400], [BEFORE; 2]);
     let (mut needed, mut refused) = (7, 7);
@@ -147,7 +147,7 @@ fn called_once(alloc: Global, call: Call, sheet: &str, ends: &[usize], room: usi
     }
 }
 
-/// The same, repeated if memory was refused.
+/// Makes the same call, and repeats it if memory was refused.
 fn called(rt: &HostRuntime, call: Call, sheet: &str, ends: &[usize], room: usize) -> Left {
     let left = called_once(rt.alloc(), call, sheet, ends, room);
     if left.status != NO_MEMORY {
@@ -157,7 +157,7 @@ fn called(rt: &HostRuntime, call: Call, sheet: &str, ends: &[usize], room: usize
     called_once(rt.alloc(), call, sheet, ends, room)
 }
 
-/// True if the text and the record of the refused report are at the start.
+/// Returns whether the text and the record of the refused report are at the start of the buffers.
 fn has_all(left: &Left, text: &[u8]) -> bool {
     left.status == REFUSED
         && left.needed == text.len()
@@ -241,7 +241,7 @@ fn no_report_is_done(rt: HostRuntime) -> Result<(), Fail> {
     Ok(())
 }
 
-/// Checks a report, repeated if memory was refused.
+/// Checks a report, and repeats the call if memory was refused.
 fn checked(rt: &HostRuntime, report: &[u8]) -> (u32, CheckedReport, RefusedReport) {
     let mut checked = CheckedReport {
         facts: 7,

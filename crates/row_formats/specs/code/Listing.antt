@@ -15,7 +15,7 @@ use Rattle.row_formats.specs.Rows.{AreRows, HasRowsOf, row_text}
 use Rattle.row_formats.specs.declared.row_format.RowFormat.{RowFormat}
 use Rattle.row_formats.specs.SourceRows.{source_text}
 
--- the rows of a body passed a buffer or stopped in it, without their header
+-- the rows of a body, without the header, passed the buffer; or a fault stopped them
 pub record PassesRows (format : RowFormat) (b : Body) (old new : Option (List ℕ)) (before after : Pending) : Type 0 where
   pub text : List ℕ
   pub rows : HasRowsOf format b.facts text
@@ -26,7 +26,7 @@ pub record BreaksRows (format : RowFormat) (b : Body) (old new : Option (List �
   pub rows : HasRowsOf format b.facts text
   pub broken : Breaks old new before text written
 
--- and with it
+-- the header and the rows of a body passed the buffer; or a fault stopped them
 pub record PassesAll (format : RowFormat) (b : Body) (old new : Option (List ℕ)) (before after : Pending) : Type 0 where
   pub text : List ℕ
   pub rows : AreRows format b text
@@ -37,13 +37,13 @@ pub record BreaksAll (format : RowFormat) (b : Body) (old new : Option (List ℕ
   pub rows : AreRows format b text
   pub broken : Breaks old new before text written
 
--- the row of a number, whose facts have these identifiers
+-- the text of the row with this number, whose facts have these identifiers
 pub record IsRow (format : RowFormat) (name : ℕ → List ℕ) (n : ℕ) (r : Row) (text : List ℕ) : Type 0 where
   pub evidence : Evidence
   pub shows : IsEvidence r.1 evidence
   pub text_is : text ≡ row_text format name n r evidence
 
--- the row of a mention whose fact has a place among so many
+-- the row of a mention, given the number of all facts
 abbrev pub placed_row : RowFormat → ℕ → PlacedMention → List ℕ
 placed_row format count m = source_text format (102 ∷ padded (width count) (m.place + 1)) m.report m.identifier
 

@@ -62,7 +62,7 @@ pub(crate) fn words<'w>(alloc: Global) -> Result<Command<'w>, AllocError> {
 
 /// Reads the sheet and the reports, one after another, and writes the lines for each file to `out`.
 ///
-/// Errors: those of the files and of the sheet, out of memory, and `Device`.
+/// Errors: `Unread`, `Sheet`, out of memory, and `Device`.
 pub(crate) fn run<'n, F: Files, E: Write, S: Sink>(
     name: &'n str,
     format: Format,
@@ -99,7 +99,7 @@ fn put_counts<S: Sink>(
 
 /// Prints the lines for the sheet with this name and these bytes, and for the reports.
 ///
-/// Errors: those of the reports and of the sheet, out of memory, and `Device`.
+/// Errors: `Unread`, `Sheet`, out of memory, and `Device`.
 fn put_under<'n, F: Files, E: Write, S: Sink>(
     name: &str,
     format: Format,
@@ -133,7 +133,7 @@ fn read_sheet<'n>(alloc: Global, name: &str, bytes: &[u8]) -> Result<Sheet, Erro
     }
 }
 
-/// The number of reports with faults, and the number of faults.
+/// The number of reports with faults, and the number of all faults.
 #[derive(Clone, Copy)]
 struct Counts {
     faulty: u64,
@@ -169,10 +169,10 @@ fn put_explained<S: Sink>(
     }
 }
 
-/// Reads the reports, one after another, and prints the lines for each. `faults` counts those printed
-/// before.
+/// Reads the reports, one after another, and prints the lines for each. `faults` is the number of
+/// faults printed before.
 ///
-/// Errors: those of the reports, out of memory, and `Device`.
+/// Errors: `Unread`, out of memory, and `Device`.
 fn put_each<'n, F: Files, E: Write, S: Sink>(
     sheet: &Sheet,
     format: Format,

@@ -59,10 +59,10 @@ pub(crate) fn of<'w>(matches: &ArgMatches<'w>) -> Option<Subcommand<'w>> {
     Some(Subcommand::Merge(allow))
 }
 
-/// Reads and adds the reports, and writes the merged text to `out`. Returns the refused reports by
-/// their numbers, from 1.
+/// Reads and adds the reports, and writes the merged text to `out`. Returns the refused reports
+/// with their numbers, from 1.
 ///
-/// Errors: those of the reports and of `Consolidation::finish_last`.
+/// Errors: `Unread`, and the errors of `Consolidation::finish_last`.
 pub(crate) fn run<'n, F: Files, E: Write, S: Sink>(
     allow: Level,
     sheet: &Sheet,

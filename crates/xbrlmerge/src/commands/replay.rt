@@ -69,10 +69,10 @@ pub(crate) fn of<'w>(matches: &ArgMatches<'w>) -> Option<Subcommand<'w>> {
 }
 
 /// Reads the schedule and the reports, runs the schedule on the replicas and writes the text of
-/// each replica to `out`. Returns the refused takes by the numbers of their reports, from 1.
+/// each replica to `out`. Returns the refused takes with the numbers of their reports, from 1.
 ///
-/// Errors: those of the files; `Event` if a line is not an event, before any report is read, or if it
-/// names something that does not exist; out of memory; `Device`.
+/// Errors: `Unread`; `Event` if a line is not an event, before any report is read, or if it names
+/// something that does not exist; out of memory; `Device`.
 pub(crate) fn run<'n, F: Files, E: Write, S: Sink>(
     replicas: usize,
     schedule: &'n str,
@@ -109,7 +109,7 @@ fn replay_reports<'n, 's, F: Files, E: Write>(
 
 /// Prints the text of each replica and returns the refused takes.
 ///
-/// Errors: those of `put_replicas`.
+/// Errors: the same as for `put_replicas`.
 fn put_replayed<S: Sink>(
     alloc: Global,
     out: &mut S,

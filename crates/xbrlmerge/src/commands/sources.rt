@@ -51,9 +51,9 @@ pub(crate) fn words<'w>(alloc: Global) -> Result<Command<'w>, AllocError> {
 }
 
 /// Reads the reports and writes the line of each fact object to `out`. Returns the refused reports
-/// by their numbers, from 1.
+/// with their numbers, from 1.
 ///
-/// Errors: those of the reports, of `source_lines` and of `source_rows`.
+/// Errors: `Unread`, and the errors of `source_lines` and `source_rows`.
 pub(crate) fn run<'n, F: Files, E: Write, S: Sink>(
     format: PrintFormat,
     sheet: &Sheet,

@@ -53,9 +53,9 @@ pub(crate) fn words<'w>(alloc: Global) -> Result<Command<'w>, AllocError> {
 }
 
 /// Reads and adds the reports, and writes the line of each row to `out`. Returns the refused
-/// reports by their numbers, from 1.
+/// reports with their numbers, from 1.
 ///
-/// Errors: those of the reports, of `Consolidation::finish_lines_last` and of `finish_rows_last`.
+/// Errors: `Unread`, and the errors of `Consolidation::finish_lines_last` and `finish_rows_last`.
 pub(crate) fn run<'n, F: Files, E: Write, S: Sink>(
     format: PrintFormat,
     sheet: &Sheet,

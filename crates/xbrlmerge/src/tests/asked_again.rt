@@ -1,7 +1,7 @@
 use std::alloc::AllocError;
 
-// Repeats a call after a refused request for memory. The line on standard error reports it, and
-// says if the test itself made the request.
+// The tests repeat a call after a refused request for memory. They print a line on standard error,
+// which says if the request was made by the test itself.
 
 const ROOM: usize = 1 << 12;
 

@@ -1,14 +1,14 @@
-// Parts of canonical texts with which tests compare.
+// Parts of the canonical texts that the tests expect.
 
 /// The text before the namespaces if no two facts have the same dimensions.
 pub(crate) const HEAD: &str =
     r#"{"documentInfo":{"documentType":"https://xbrl.org/2021/xbrl-json","features":{"xbrl:allowedDuplicates":"none"},"namespaces":{"#;
 
-/// The same if some facts have the same dimensions, and all such facts meet.
+/// The same if some facts have the same dimensions, and none of them contradict each other.
 pub(crate) const CONSISTENT_HEAD: &str =
     r#"{"documentInfo":{"documentType":"https://xbrl.org/2021/xbrl-json","features":{"xbrl:allowedDuplicates":"consistent"},"namespaces":{"#;
 
-/// The same if some such facts do not meet.
+/// The same if two facts contradict each other.
 pub(crate) const CONTRADICTING_HEAD: &str =
     r#"{"documentInfo":{"documentType":"https://xbrl.org/2021/xbrl-json","features":{"xbrl:allowedDuplicates":"all"},"namespaces":{"#;
 

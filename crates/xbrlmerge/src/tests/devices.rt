@@ -31,7 +31,7 @@ impl Step {
     }
 }
 
-/// The steps that tables use.
+/// The steps that the tests try.
 pub const STEPS: [Step; 2] = [Step::All, Step::Few(1)];
 
 fn fault(then: Then) -> io::Error {

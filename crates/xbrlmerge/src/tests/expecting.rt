@@ -18,7 +18,7 @@ impl<'a> Expecting<'a> {
         }
     }
 
-    /// Expects this text and then any other.
+    /// Expects this text, followed by any text.
     pub(crate) fn front(text: &'a [u8]) -> Expecting<'a> {
         Expecting {
             left: text,
@@ -54,7 +54,7 @@ impl Write for Expecting<'_> {
     }
 }
 
-/// Compares written bytes with two texts.
+/// Compares written bytes with two texts at once.
 #[derive(Clone, Copy)]
 pub(crate) struct Either<'a>(pub Expecting<'a>, pub Expecting<'a>);
 

@@ -5,7 +5,7 @@ use oim_report::Sheet;
 use std::alloc::AllocError;
 use std::test::Fail;
 
-// The sentence for each fault. The program is run again after a refused request for memory.
+// Tests the sentence for each fault. The program is run again after a refused request for memory.
 
 const SHEET: &str =
     r#"{"namespaces":{"eg":"http://example.org/t"},"concepts":{"eg:A":"numeric","eg:T":"text","eg:Q":"name"},"dimensions":{"eg:Reg":"explicit","eg:Sku":"typed"}}"#;
@@ -112,7 +112,8 @@ const DOCUMENTS: [Table<'static>; 2] = [
                 r#","namespaces":{"xbrl":"https://xbrl.org/2021"},"features":{"xbrl:allowedDuplicates":"some"}}}"#,
                 "r: 8 Feature: \"allowedDuplicates\" must stand once in \"features\", as \"none\", \"complete\", \"consistent\" or \"all\": not as \"xbrl:allowedDuplicates\": \"some\"\n",
             ),
-            // the refused one of many members is shown; if two contradict each other, all are shown
+            // of several members, the refused one is shown; if two contradict each other, both are
+            // shown
             (
                 r#","baseURL":"http://example.org/","taxonomy":["a.xsd","mailto:x","//["]}}"#,
                 "r: 7 TaxonomyUrl: the reference \"//[\" of \"taxonomy\" is no text, has more than 65,536 bytes itself or as a URL, or is no http or https URL against \"baseURL\"\n",

@@ -20,7 +20,7 @@ use std::{env, fs};
 
 // The program is run again after a refused request for memory.
 
-/// True if the program has the results in each row.
+/// Returns whether the program has the results that each row lists.
 fn are_met(rt: &HostRuntime, rows: &[Row]) -> Result<bool, Fail> {
     let mut all = true;
     for (line, status, out, err) in rows {
@@ -50,7 +50,7 @@ fn stop_unflushed(rt: &HostRuntime, rows: &[(&str, &str)]) -> Result<bool, Fail>
     Ok(all)
 }
 
-/// True if the program ends like this when standard error takes only three bytes.
+/// Returns whether the program ends like this when standard error takes only three bytes.
 fn ends_unheard(rt: &HostRuntime, words: &[&str], status: u8, out: &[u8]) -> bool {
     let input = TestReader::new(b"", Step::All, Then::Fails);
     let mut out = Expecting::just(out);
@@ -76,7 +76,7 @@ fn are_unheard(rt: &HostRuntime, rows: &[Row]) -> Result<bool, Fail> {
     Ok(all)
 }
 
-/// The bytes of a file. The test's own request for memory may be refused once.
+/// Returns the bytes of a file. The test's own request for memory may be refused once.
 fn content(rt: &HostRuntime, name: &str) -> Result<Vec<u8>, Fail> {
     if let Ok(held) = fs::read(rt, name) {
         return Ok(held);
@@ -91,7 +91,7 @@ fn holds(rt: &HostRuntime, name: &str, parts: &[&str]) -> Result<bool, Fail> {
     Ok(held.as_slice() == text.as_slice())
 }
 
-/// True if the program ends with status 0 and prints this on a terminal.
+/// Returns whether the program ends with status 0 and prints this on a terminal.
 fn shows_once(rt: &HostRuntime, words: &[&str], shown: &str) -> bool {
     let mut err = Expecting::just(shown.as_bytes());
     let mut streams = piped(

@@ -4,7 +4,7 @@ use std::test::Fail;
 
 const LINES: &str = "\r0 of 3 reports, 0 MB\r1 of 3 reports, 0 MB\r2 of 3 reports, 120 MB\r\x1b[K";
 
-/// True if this is printed for three reports. An erased line is not erased again.
+/// Returns whether this is printed for three reports. An erased line is not erased again.
 fn writes(is_terminal: bool, lines: &str) -> bool {
     let mut err = Expecting::just(lines.as_bytes());
     let mut console = Console::new(&mut err, is_terminal);

@@ -6,8 +6,8 @@ use crate::tests::expecting::{Either, Expecting};
 use std::alloc::AllocError;
 use std::io::Write;
 
-// Runs the program on arguments. After a refused request for memory the program says so and is run
-// again. The line on standard error reports it.
+// Runs the program on arguments. If memory is refused, the program must report it; the test then
+// prints a line on standard error and runs the program again.
 
 /// No arguments, for a bundle on standard input.
 pub(crate) const NO_WORDS: &[&str] = &[];
@@ -15,7 +15,7 @@ pub(crate) const NO_WORDS: &[&str] = &[];
 /// The most arguments in a line.
 const MOST_WORDS: usize = 16;
 
-/// Streams none of which is a terminal.
+/// Returns streams that are not terminals.
 pub(crate) fn piped<R, O, E>(input: R, out: O, err: E) -> Streams<R, O, E> {
     Streams {
         input,
@@ -26,7 +26,7 @@ pub(crate) fn piped<R, O, E>(input: R, out: O, err: E) -> Streams<R, O, E> {
     }
 }
 
-/// The arguments in a line, separated by single spaces.
+/// Returns the arguments in a line, separated by single spaces.
 pub(crate) fn words_of<'t>(rt: &HostRuntime, line: &'t str) -> Result<Vec<&'t str>, AllocError> {
     let mut words = match Vec::with_capacity(rt.alloc(), MOST_WORDS) {
         Ok(made) => made,
@@ -41,8 +41,8 @@ pub(crate) fn words_of<'t>(rt: &HostRuntime, line: &'t str) -> Result<Vec<&'t st
     Ok(words)
 }
 
-/// True if the program ends with this status and writes this, without reading standard input. If
-/// not, the actual results are printed.
+/// Returns whether the program ends with this status and writes this, without reading standard
+/// input. If not, the actual results are printed.
 pub(crate) fn ends(
     rt: &HostRuntime,
     words: &[&str],
@@ -59,7 +59,7 @@ pub(crate) fn ends(
     }
 }
 
-/// The same, or None if memory was refused.
+/// Returns the same, or None if memory was refused.
 fn ends_once(
     rt: &HostRuntime,
     words: &[&str],
@@ -81,7 +81,7 @@ fn ends_once(
     Some(same)
 }
 
-/// True if the program, with this standard output, stops with this line.
+/// Returns whether the program, with this standard output, stops with this line.
 pub(crate) fn stops<O: Write + Copy + Drop>(
     rt: &HostRuntime,
     words: &[&str],
@@ -97,7 +97,7 @@ pub(crate) fn stops<O: Write + Copy + Drop>(
     }
 }
 
-/// The same, or None if memory was refused.
+/// Returns the same, or None if memory was refused.
 fn stops_once<O: Write + Drop>(
     rt: &HostRuntime,
     words: &[&str],
@@ -116,8 +116,8 @@ fn stops_once<O: Write + Drop>(
     Some(same)
 }
 
-/// The status, and standard error compared with the expected text and with the line for refused
-/// memory.
+/// Returns the status, and standard error compared both with the expected text and with the line
+/// for refused memory.
 fn heard<'a, O: Write + Drop>(
     rt: &HostRuntime,
     words: &[&str],

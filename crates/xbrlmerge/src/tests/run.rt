@@ -9,8 +9,8 @@ use oim_merge::ReadFault;
 use std::alloc::AllocError;
 use std::test::Fail;
 
-// After a refused request for memory the program says so and is run again. The line on standard
-// error reports it.
+// If memory is refused, the program must report it; the test then prints a line on standard error
+// and runs the program again.
 
 const ROOM: usize = 1 << 16;
 
@@ -51,7 +51,7 @@ fn run_in(rt: &HostRuntime, input: TestReader<'_>, room: usize) -> Result<Ran, A
     Ok(ran)
 }
 
-/// True if the program has these results. If not, the actual ones are printed.
+/// Returns whether the program has these results. If not, the actual ones are printed.
 fn gives(
     rt: &HostRuntime,
     parts: &[&str],
@@ -127,7 +127,7 @@ const REFUSED_SHEETS: [(&str, &str); 5] = [
     ),
 ];
 
-/// True if each bundle ends the run with its line.
+/// Returns whether the run stops with its line for each bundle.
 fn all_end(rt: &HostRuntime, rows: &[(&str, &str)]) -> Result<bool, Fail> {
     let mut all = true;
     for (bundle, line) in rows {
@@ -143,8 +143,8 @@ fn a_refused_sheet_ends_the_run(rt: HostRuntime) -> Result<(), Fail> {
     Ok(())
 }
 
-/// True if the run stops with this line when standard output has this much room, and standard
-/// output then holds the first part of the text.
+/// Returns whether the run stops with this line when standard output has this much room, and
+/// whether standard output then contains the first part of the text.
 fn stops(
     rt: &HostRuntime,
     input: TestReader<'_>,
@@ -167,8 +167,8 @@ fn a_full_device_ends_the_run(rt: HostRuntime) -> Result<(), Fail> {
     Ok(())
 }
 
-/// True if the run stops, says that its input cannot be read, and writes nothing else; None if memory
-/// was refused.
+/// Returns whether the run stops, reports that its input cannot be read, and writes nothing else;
+/// None if memory was refused.
 fn is_unread(rt: &HostRuntime, input: TestReader<'_>) -> Option<bool> {
     let mut out = Expecting::just(b"");
     let mut err = Either(
@@ -182,7 +182,7 @@ fn is_unread(rt: &HostRuntime, input: TestReader<'_>) -> Option<bool> {
     Some(status == 3 && out.is_met() && err.0.is_met())
 }
 
-/// True if inputs that fail after these bytes are reported as unread, at each step.
+/// Returns whether inputs that fail after these bytes are reported as unread, at each step.
 fn are_unread(rt: &HostRuntime, front: &[u8]) -> bool {
     for step in STEPS {
         for then in [Then::Fails, Then::IsInterrupted] {
@@ -237,8 +237,8 @@ fn a_text_that_is_not_flushed_is_a_fault(rt: HostRuntime) -> Result<(), Fail> {
     Ok(())
 }
 
-/// The status and the number of flushes when standard output has this much room; None if memory was
-/// refused.
+/// Returns the status and the number of flushes when standard output has this much room; None if
+/// memory was refused.
 fn flushed(rt: &HostRuntime, bundle: &[u8], room: usize) -> Option<(u8, u64)> {
     let mut out = FullAfter::new(room);
     let mut err = Expecting::just(b"out of memory\n");
@@ -264,7 +264,7 @@ fn an_output_that_failed_is_not_flushed(rt: HostRuntime) -> Result<(), Fail> {
     Ok(())
 }
 
-/// The exit status for a bundle.
+/// Returns the exit status for a bundle.
 fn status_of(rt: &HostRuntime, bundle: &[u8], out: &mut TestWriter, err: &mut TestWriter) -> u8 {
     let input = TestReader::new(bundle, Step::All, Then::Ends);
     run(rt.alloc(), rt, NO_WORDS, piped(input, out, err))

@@ -6,7 +6,8 @@ use crate::tests::expecting::Expecting;
 use crate::tests::ran::NO_WORDS;
 use std::test::Fail;
 
-/// True if the program stops with these lines when its input and standard error are terminals.
+/// Returns whether the program stops with these lines when its input and standard error are
+/// terminals.
 fn shows_once(rt: &HostRuntime, words: &[&str], input: &str, lines: &str) -> bool {
     let mut err = Expecting::just(lines.as_bytes());
     let streams = Streams {

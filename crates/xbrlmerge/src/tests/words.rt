@@ -5,13 +5,13 @@ use std::test::Fail;
 
 // Help and usage are printed by clap.
 
-/// True if the arguments are refused, with clap's text on standard error only.
+/// Returns whether the arguments are refused, with clap's text on standard error only.
 fn is_usage(rt: &HostRuntime, words: &[&str]) -> bool {
     let out = Expecting::just(b"");
     ends(rt, words, 3, out, Expecting::front(b"error: "))
 }
 
-/// True if a text that begins like this is printed on standard output only.
+/// Returns whether a text that begins like this is printed on standard output only.
 fn is_answered(rt: &HostRuntime, words: &[&str], front: &str) -> bool {
     let out = Expecting::front(front.as_bytes());
     ends(rt, words, 0, out, Expecting::just(b""))

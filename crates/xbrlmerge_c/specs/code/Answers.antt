@@ -1,4 +1,4 @@
--- What a call's answer puts into the caller's memory (own).
+-- The caller's memory after a call (own).
 use Rattle.std.specs.Prelude.{◌≡◌, ◌<◌, ◌⊎◌, ℕ, List, [], length, Result, Ok, Err}
 use Rattle.oim_report.specs.declared.refusal.Refusal.{Refusal}
 use Rattle.oim_merge.specs.declared.fault.Fault.{Fault}
@@ -7,14 +7,14 @@ use Rattle.xbrlmerge_c.specs.Room.{IsHanded, IsTooShort, Room, TellsReason, Tell
 use Rattle.xbrlmerge_c.specs.Statuses.{done, no_memory, refused_some, sheet_refused, too_loose, too_short}
 use Rattle.xbrlmerge_c.specs.declared.output.Made.{Made}
 
--- the text was handed over, and the status says whether reports were refused
+-- the text was written and the status says whether reports were refused, unless a buffer is too short
 abbrev pub AnswersText : List ℕ → List (ℕ × Refusal) → Room → Room → ℕ → Type 0
 AnswersText text told old new status =
     ((status ≡ too_short) × IsTooShort text told old new)
     ⊎ (((status ≡ done) × ((told ≡ []) × IsHanded text told old new))
     ⊎ ((status ≡ refused_some) × ((0 < length told) × IsHanded text told old new)))
 
--- the row is told with the refused reports, unless these are too many
+-- the row and the refused reports were returned, unless the buffer for the reports is too short
 abbrev pub AnswersRow : ℕ → List (ℕ × Refusal) → Room → Room → ℕ → Type 0
 AnswersRow number told old new status =
     ((status ≡ too_short) × IsTooShort [] told old new) ⊎ ((status ≡ too_loose) × TellsRow number told old new)

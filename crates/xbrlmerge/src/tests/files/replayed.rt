@@ -86,7 +86,7 @@ pub(super) const REPLAYED: [Row; 10] = [
         &[HEAD, MIDDLE_ALONE, END, LINE_END],
         "",
     ),
-    // a report that no event takes is only read as a file
+    // a report that no event takes is only opened and read
     (
         "replay --sheet sheet --replicas 2 --events empty unbound empty",
         0,

@@ -99,7 +99,7 @@ pub(super) const MERGED: [Row; 17] = [
     ),
 ];
 
-/// The line for row 1 if it has 100 and 101.
+/// The line for row 1 if it contains 100 and 101.
 const TOUCHING: &[&str] = &["1 f1 f2 consistent common 100.5 100.5\n"];
 
 const APART: &[&str] = &["1 f1 f2 inconsistent apart f1 f2\n"];
