@@ -62,7 +62,8 @@ class Failure(Exception):
 
 
 def in_child(work, *words):
-    """Runs it in its own process. A child begins with the memory of this process at its peak, so this one must stay small."""
+    """Runs a function in its own process. A child begins with the memory of this process at its peak, so this one must stay
+    small."""
     sys.stdout.flush()
     child = os.fork()
     if child == 0:
@@ -115,7 +116,7 @@ def report(number, facts, rng):
 
 
 def reports_of(workload, size, rng):
-    """The facts in each report of a workload."""
+    """Returns the facts of each report in a workload."""
     def drawn(count, entity):
         # one fact in twenty has decimals from the whole range, -18 to 18
         return [(n, entity, rng.randrange(10**9), n // 20 % 37 - 18 if n % 20 == 7 else 0) for n in range(count)]
@@ -148,7 +149,7 @@ def write_bundle(workload, size, path):
 
 
 def said_by(line):
-    """The facts of a report with expanded names."""
+    """Returns the facts of a report, with expanded names."""
     said = json.loads(line)
     uris = said["documentInfo"]["namespaces"]
 
@@ -175,7 +176,7 @@ def check_text(bundle, text):
 def build(crate):
     """Proves and builds a program, and returns its path."""
     made = subprocess.run(["rt", "run"], cwd=crate, stdin=subprocess.DEVNULL, stdout=subprocess.PIPE, stderr=subprocess.STDOUT)
-    # this also runs the program on no input; its status says nothing here
+    # this also runs the program on empty input, and its status is ignored
     if b"rt: running" not in made.stdout:
         raise Failure(f"{crate} is not built:\n{made.stdout.decode(errors='replace')}")
     return os.path.join(crate, "out", os.path.basename(crate))

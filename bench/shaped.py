@@ -74,7 +74,7 @@ def replaying(replicas, events, *reports):
     return words, {**files, "events.txt": "".join(f"{event}\n" for event in events)}
 
 
-# ---- the shapes, each with the smaller number of its repeated part
+# ---- the shapes; each has the smaller number of the part that it repeats
 
 def namespaces_of_a_report(n):
     return merging(sheet(), report(numbered([fact()]), {"eg": URI, **prefixes(n)}))
@@ -306,7 +306,7 @@ def texts_sent_and_received(n):
 
 
 def sends_without_a_change(n):
-    """n texts of one replica of 1,000 facts, whose base does not change."""
+    """n texts that one replica of 1,000 facts sends while its base does not change."""
     facts = report(numbered(numeric(str(place), period=period(place)) for place in range(FACTS)))
     return replaying(1, ["take 1 1", *["send 1"] * n], facts)
 

@@ -49,7 +49,7 @@ def write_files(files, folder):
 
 
 def run(command, folder):
-    """Runs it, and returns its standard error and its cost."""
+    """Runs a command, and returns its standard error and its cost."""
     with tempfile.TemporaryFile() as told:
         child = subprocess.Popen(command, cwd=folder, stdin=subprocess.DEVNULL, stdout=subprocess.DEVNULL, stderr=told)
         _, status, used = os.wait4(child.pid, 0)
@@ -78,7 +78,7 @@ def kilobytes(command, folder):
     return run(command, folder)[1].ru_maxrss
 
 
-# the text of a cost
+# the spelling of a cost
 UNITS = {instructions: lambda it: f"{it / 1e6:,.1f} M", seconds: lambda it: f"{it:.3f} s", kilobytes: lambda it: f"{it / 1e3:,.1f} MB"}
 
 
@@ -90,7 +90,7 @@ def cost_of(shape, size, measure, program, folder):
 
 
 def measure_all(shapes, given, measure, folder):
-    """Prints a line for each shape, and returns those that exceed the bound."""
+    """Prints a line for each shape, and returns the shapes that exceed the bound."""
     print(f"| Shape | n | n of them | {TIMES}n of them | Times |\n|---|--:|--:|--:|--:|", flush=True)
     broken, told = [], UNITS[measure]
     for shape in shapes:
@@ -105,7 +105,8 @@ def measure_all(shapes, given, measure, folder):
 
 
 def chosen(words):
-    """The shapes with these names, whose words may be separated by `_` or spaces; all shapes if there are none."""
+    """Returns the shapes with these names, or all shapes if there are none. Words in a name may be separated by `_` or
+    spaces."""
     named = {shape.__name__: shape for shape in SHAPES}
     names = [word.replace(" ", "_") for word in words]
     unknown = [name for name in names if name not in named]

@@ -4,9 +4,9 @@
     [XBRLMERGE=PROGRAM] tests/c_abi
 
 It checks the files that ./build --library wrote to lib/: that libxbrlmerge.so and libxbrlmerge.a export the calls of
-include/xbrlmerge.h and no other names, and that the types in the header are those of crates/xbrlmerge_c. Then it builds
+include/xbrlmerge.h and no other names, and that the types in the header agree with crates/xbrlmerge_c. Then it builds
 tests/c_abi.c with both libraries and makes each call on the examples: with buffers that are too short, bad ends, an unknown
-level, lengths of 0, and each request for memory refused in turn. Texts, lines and statuses must be those of the program. The
+level, lengths of 0, and each request for memory refused in turn. The texts, lines and statuses must equal the program's. The
 header is compiled as C and as C++.
 
 Status 0: all is as expected. 1: it is not; each difference is printed. 2: the library or the program is not built, or gcc is
@@ -28,7 +28,7 @@ WARNINGS = ("-Wall", "-Wextra", "-Werror", "-pedantic", f"-I{TOP}/include")
 SANITIZED = ("-std=c99", "-g", "-O1", "-fsanitize=address,undefined", "-fno-sanitize-recover=all", *WARNINGS)
 WRAPS = ("-Wl,--wrap=malloc", "-Wl,--wrap=realloc", "-Wl,--wrap=calloc")
 LEVELS = ("none", "complete", "consistent", "all")
-# the C type for each type of an export
+# the C types for each type in an export
 CROSSES = {"&[u8]": "const uint8_t *, size_t", "&[usize]": "const size_t *, size_t", "&mut [u8]": "uint8_t *, size_t", "u32": "uint32_t",
            "usize": "size_t", "&mut usize": "size_t *", "&mut [RefusedReport]": "xbrlmerge_refusal *, size_t",
            "&mut RefusedReport": "xbrlmerge_refusal *", "&mut CheckedReport": "xbrlmerge_checked *"}

@@ -44,7 +44,7 @@ WORDS = {
     "verdicts --sheet sheet": (GOOD, GOOD),
     "--help": (GOOD, NOTHING_TAKEN),
 }
-# these print more than a pipe can hold
+# these command lines print more than a pipe can hold
 LONG = tuple(words for words in WORDS if "long" in words or "rows" in words or not words)
 STOPS_OUTPUT = {"standard output full": ">/dev/full", "standard output closed": ">&-"}
 STOPS_ERRORS = {"standard error full": "2>/dev/full", "standard error closed": "2>&-"}
@@ -259,7 +259,7 @@ def remove(room, writer):
 
 
 def run_strange(room, kind, words):
-    """Runs the program on the file, or without arguments on such a standard input."""
+    """Runs the program on the file, or, without arguments, on an endless standard input."""
     given = "" if words else "</dev/zero"
     if kind == "endless, little memory":
         return room.run(words, given, ("sh", "-c", f'ulimit -v {LITTLE}; exec "$@"', "sh"), ENDLESS_LIMIT)
@@ -271,7 +271,8 @@ def run_strange(room, kind, words):
 
 
 def compare_file(room, kind, name, words, ends):
-    """Runs the program on such a file. The output is that of a regular file; a refused report counts as an empty one."""
+    """Runs the program on such a file. The output must be the same as for a regular file; a refused report counts as an empty
+    one."""
     writer = make(room, kind, name)
     try:
         ran = run_strange(room, kind, words)

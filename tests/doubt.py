@@ -5,10 +5,10 @@
 
 An entry, `- [FILE](../crates/..): `name`, ..`, lists contracts, types, limits and lines of code (`src/`), or definitions
 (`specs/`). A row `| [`word`](../crates/..) | [`law`](../crates/..) |` names a definition that needs no reading, and laws
-that say enough about it. FORMAT uses what DOUBT lists, and may list a word of DOUBT. The status is 1 if
+that say enough about it. FORMAT may use all that DOUBT lists, and may list a word of DOUBT. The status is 1 if
 
 - a name is not in its file, or is listed twice;
-- a listed definition or contract names one of this repository that is neither listed nor a word;
+- a listed definition or contract uses a definition of this repository that is neither listed nor a word;
 - no contract of the page needs an entry or a word;
 - a law of a word does not exist, is on neither page, or does not mention the word;
 - the table of conditions differs from `Reason`, its numbers, and the definitions of the conditions;
@@ -193,8 +193,8 @@ def needs(specs, path, name):
 
 
 def closure(specs, root, stops=()):
-    """Returns everything that a contract or a definition depends on, each after its own dependencies. Those of `stops` are not
-    followed."""
+    """Returns everything that a contract or a definition depends on, each after its own dependencies. The dependencies of
+    `stops` are not followed."""
     order, seen = [], {root}
 
     def follow(item):
@@ -234,7 +234,7 @@ class Page:
         self.stops = {*self.words, *self.tabled, *({*before.there, *before.words}.difference(self.there) if before else ())}
 
     def needed(self):
-        """Returns the names that its contracts need, in order. Words and names of the page before are not followed."""
+        """Returns the names that the page's contracts need, in order. Words and names of the page before are not followed."""
         found = (it for root in self.contracts for it in closure(self.specs, root, self.stops))
         return [it for it in dict.fromkeys(found) if it not in self.contracts]
 
@@ -264,7 +264,7 @@ class Page:
 
 
 def entry_problems(page, others):
-    """Returns what is wrong with the entries and the words of a page, given the entries of the others."""
+    """Returns what is wrong with the entries and the words of a page, given the entries of the other pages."""
     found, specs = [], page.specs
     for path, name in [*page.there, *page.words]:
         if specs.text(path, name) is None:

@@ -1,5 +1,5 @@
 #!/usr/bin/env python3
-"""Runs what the pages show, and compares the output:
+"""Runs the commands that the pages show, and compares the output:
 
     tests/examples [PROGRAM [EMBEDDED]]
 
@@ -8,14 +8,14 @@ If only PROGRAM is named, nothing that embeds the library is built. It compares
 
 - the output for the reports in examples/ with the files beside them; earlier.json is the merged report as it was
   written before levels were declared;
-- each page in PAGES with what its commands do. The blocks of a page run in order, as a reader types them, by `sh`
+- each page in PAGES with the results of its commands. The blocks of a page run in order, as a reader types them, by `sh`
   and then by `bash`, in a folder with the repository's files, which must not change. The last command of a block
   must return the status that the paragraph before it names, or 0; each other command must return 0. If a block of
-  output follows, it is exactly what is printed, where `..` at the end of a line stands for its rest. Otherwise
+  output follows, the command must print exactly that; `..` at the end of a line stands for the rest of it. Otherwise
   standard error may only contain the lines of statuses 1 to 3. A block that proves (`rt`, the gate) is skipped;
 - the JSON that docs/GUIDE.md shows with the examples;
-- what tools/contradictions writes for a taxonomy package and for reports like those of other tools, in
-  tests/normalise/vendors, if it makes the sheet and normalises;
+- the output of tools/contradictions for a taxonomy package and for reports as other tools write them, in
+  tests/normalise/vendors, when it makes the sheet and normalises the reports;
 - the commands in the man pages and in the program's help, in the same way;
 - each example in docs/REFUSALS.md with the line by which it is refused.
 
@@ -37,7 +37,7 @@ import zipfile
 from support import TOP, content
 
 CRATE = os.path.join(TOP, "crates", "xbrlmerge")
-# the crates made from the example of embedding and from the pieces in docs/LIBRARY.md
+# the crates made from the embedding example and from the pieces in docs/LIBRARY.md
 EMBED, SHOWN = "embed", "shown"
 NOT_MERGED = "not merged, or not to the end\n"
 PAGES = ("README", "docs/GUIDE", "docs/REFUSALS", "docs/COSTS")
@@ -55,7 +55,7 @@ BAD = "oldharbour.json"
 MERGED, EARLIER = "merged.json", "earlier.json"
 # the member that declares the level; rows 12, 34 and 37 are contradictions, so the level is `all`
 DECLARED = ('"features":{"xbrl:allowedDuplicates":"all"},', ',"xbrl":"https://xbrl.org/2021"')
-# why a vendor's report is refused without the lossy option that it needs
+# the reasons for which a vendor's report is refused without the lossy option that it needs
 ODD_UNITS = ('fact "TS1": 12 NameForm', 'fact "TS2": 26 NumberForm', 'fact "TS3": 19 PeriodForm')
 # the text without facts
 EMPTY = ('{"documentInfo":{"documentType":"https://xbrl.org/2021/xbrl-json","features":{"xbrl:allowedDuplicates":"none"},'
@@ -316,7 +316,7 @@ def page_of_vendors(program):
 
 
 def by_hand(program, merged):
-    """Lets the two offices exchange files, and returns those that are not the merged text."""
+    """Lets the two offices exchange files, and returns the files that differ from the merged text."""
     with tempfile.TemporaryDirectory() as room:
         ran = subprocess.run([os.path.join(TOP, "examples", "offices", "by_hand"), room], capture_output=True, text=True,
                              env={**os.environ, "XBRLMERGE": program})

@@ -4,7 +4,7 @@
     [XBRLMERGE=PROGRAM] [REPORTS=200] [JOBS=2] [SEED=1] tests/fold
 
 It draws a sheet and reports that overlap, agree, contradict each other, or are refused. It compares the bytes of one run
-with those of examples/fold/Makefile and examples/fold/fold_dask.py, each at three widths, and checks which branches a late
+with the results of examples/fold/Makefile and examples/fold/fold_dask.py, each at three widths, and checks which branches a late
 report rebuilds. If Dask is not installed, a module of two lines runs the nodes in turn. Nodes that call the library are
 skipped if there is no lib/libxbrlmerge.so, which ./build --library makes.
 
@@ -43,7 +43,7 @@ def sheet():
 
 
 def fact(chance, prefix):
-    """Draws a fact. There are few dimension sets and few values, so reports meet."""
+    """Draws a fact. There are few dimension sets and few values, so facts of different reports meet."""
     concept = chance.choice(sorted(KINDS))
     dimensions = {"concept": f"{prefix}:{concept}", "entity": f"e:{chance.choice('PQ')}"}
     dimensions["period"] = f"{chance.randint(2020, 2024)}-12-31T24:00:00"
@@ -56,7 +56,7 @@ def fact(chance, prefix):
         return {"dimensions": dimensions, "value": f"{prefix}:B" if concept[0] == "N" else text}
     dimensions["unit"] = chance.choice(["c:EUR", "c:EUR/x:shares"])
     made = {"dimensions": dimensions, "value": f"{chance.randint(980, 1020)}.{chance.randint(0, 9)}0"}
-    # mostly near the last digit of the values, where some facts agree and some do not; else from the whole range
+    # mostly near the last digit of the values, where some facts agree and others do not; otherwise from the whole range
     places = chance.randint(-2, 1) if chance.random() < 0.8 else chance.randint(-18, 18)
     return {**made, "decimals": places} if chance.random() < 0.8 else made
 
@@ -138,7 +138,7 @@ def late_reports(width):
 
 
 def nodes():
-    """Checks a node whose program fails, and that no fold takes a broken text."""
+    """Checks a node whose program fails, and that no fold uses a broken text."""
     node, out = os.path.join(FOLD, "merge_files"), "node.json"
     check(run(node, "sheet.json", out, *paths()[:9]).returncode in (0, 1) and os.path.exists(out), "a node makes its text")
     wrong = {"sheet": (paths()[0], out, paths()[0]), "file": ("sheet.json", out, "in/none.json"), "usage": ("sheet.json",)}

@@ -133,7 +133,7 @@ def sources_of(lines):
 
 
 def is_guarded(plain, guarded):
-    """Returns whether cells differ only by a ' before texts, which is there wherever a formula would begin."""
+    """Returns whether the cells differ only by a ' before texts, and every text that would be a formula has one."""
     one, two = (list(csv.reader(io.StringIO(text, newline=""))) for text in (plain, guarded))
     numeric = {"decimals", "common_low", "common_high"}
     for cells, others in zip(one, two):

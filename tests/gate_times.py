@@ -1,8 +1,8 @@
 #!/usr/bin/env python3
 """Prints the time of each part of a gate run. At the top of the repository:
 
-    bash .ci/run 2>&1 | tests/gate_times | tee FILE     stamps each line with its second; then the table
-    tests/gate_times FILE                               the table of such a file again
+    bash .ci/run 2>&1 | tests/gate_times | tee FILE     stamps each line with its second, and prints the table
+    tests/gate_times FILE                               prints the table of such a file again
 
 A part is the proof of a crate, the proof of its tests, its must-fail edits or its runs. The processes are sampled twice a
 second to find when a part begins and ends; 'processor' is their time on all processors. The status is 0 if the last line of
@@ -17,7 +17,7 @@ import time
 PARTS = ("proof", "tests", "edits", "runs")
 HEAD = f"{'crate':<14}{'part':<7}{'from':>8}{'to':>8}{'seconds':>9}{'processor':>11}"
 TICKS = os.sysconf("SC_CLK_TCK")
-# lines that the gate prints about the runs, which come last, one at a time
+# lines that the gate prints about the runs, which it makes last, one at a time
 RUN = re.compile(r"(?:rt: )?(\w+) ran[ ,(]|(?:rt: )?(\w+): its tests (?:passed|FAILED)")
 ENDED = re.compile(r"\d+ passed, (\d+) failed")
 
@@ -32,7 +32,7 @@ def contents(path):
 
 
 def processes():
-    """Returns the parent and the processor seconds of each process, with those of its ended children."""
+    """Returns the parent of each process, and its processor seconds with its ended children."""
     found = {}
     for pid in filter(str.isdigit, os.listdir("/proc")):
         fields = contents(f"/proc/{pid}/stat").rpartition(b")")[2].split()

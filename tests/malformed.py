@@ -33,7 +33,7 @@ JOBS = int(os.environ.get("JOBS", len(os.sched_getaffinity(0))))
 BATCH, LIMIT = 25, 10
 # reports of this many bytes are read in pieces
 IN_PIECES = 131_072
-# facts, or spaces after each comma, that make a report as long as that
+# the number of facts, or of spaces after each comma, that make a report so long
 MANY, SPREAD = 1_300, 3_000
 
 REASONS = """NotJson MemberForm UnknownMember DocumentType Namespace BaseUrl TaxonomyUrl Feature Links Notes DimensionsMissing
@@ -229,7 +229,7 @@ class Batch:
         return done.returncode, done.stdout, done.stderr.decode(errors="replace"), told
 
     def written(self, *names, sheet="sheet"):
-        """Returns the text of reports none of which may be refused."""
+        """Returns the merged text of reports. None of them may be refused."""
         status, text, lines, told = self.run("merge", "--sheet", sheet, *names)
         expect((status, lines) == (0, ""), told)
         return text
@@ -243,7 +243,7 @@ class Batch:
         expect(self.written("text", sheet=sheet) == text, "merging the written text changes it")
 
     def expect_reports(self, status, lines, told, most):
-        """Status 0 has no line; status 1 has one for each refused report, by its number."""
+        """Checks that status 0 has no line, and that status 1 has a line for each refused report, with its number."""
         found = list(REPORT_LINE.finditer(lines))
         numbers = [int(it[1]) for it in found]
         expect("".join(it[0] for it in found) == lines and bool(numbers) == (status == 1), told)
@@ -255,7 +255,7 @@ class Batch:
         write("broken", self.content)
 
     def of_report(self, chance, drawn=drawn_report):
-        """A broken report between two good ones. `check` must return the same, also when it is read in pieces."""
+        """Tests a broken report between two good ones. `check` must return the same, also if the report is read in pieces."""
         self.write_broken(chance, drawn(chance), self.one)
         status, text, lines, told = self.run("merge", "--sheet", "sheet", "one", "broken", "two")
         self.expect_reports(status, lines, told, 3)
@@ -272,11 +272,11 @@ class Batch:
         return status
 
     def of_long(self, chance):
-        """The same for a broken report that was long before it was broken."""
+        """Does the same for a broken report that was long before it was broken."""
         return self.of_report(chance, drawn_long)
 
     def of_sheet(self, chance):
-        """A broken sheet with two good reports."""
+        """Tests a broken sheet with two good reports."""
         self.write_broken(chance, self.sheet, self.one)
         status, text, lines, told = self.run("merge", "--sheet", "broken", "one", "two")
         if status == 3:
@@ -287,7 +287,7 @@ class Batch:
         return status
 
     def of_events(self, chance):
-        """A broken schedule of two replicas, which take two good reports."""
+        """Tests a broken schedule of two replicas, which take two good reports."""
         self.write_broken(chance, drawn_events(chance), drawn_events(chance))
         status, text, lines, told = self.run("replay", "--sheet", "sheet", "--replicas", "2", "--events", "broken", "one", "two")
         found = EVENT_LINE.fullmatch(lines)
@@ -301,7 +301,7 @@ class Batch:
         return status
 
     def of_bundle(self, chance):
-        """A broken bundle of a sheet and two good reports."""
+        """Tests a broken bundle of a sheet and two good reports."""
         self.write_broken(chance, b"\n".join((self.sheet, self.one, self.two)), drawn_report(chance))
         status, text, lines, told = self.run(given=self.content)
         if status == 3:

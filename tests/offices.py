@@ -1,5 +1,5 @@
 #!/usr/bin/env python3
-"""Compares offices that exchange merged texts with one merge of the reports that reached each. Not part of the gate.
+"""Compares offices that exchange merged texts with one merge of the reports that reached each office. Not part of the gate.
 
     [SCHEDULES=200] [SEED=1] tests/offices [PROGRAM]
 
@@ -56,7 +56,7 @@ def number(chance):
 
 
 def fact(chance, prefix):
-    """Draws a fact. There are few dimension sets and few values, so reports meet."""
+    """Draws a fact. There are few dimension sets and few values, so facts of different reports meet."""
     concept = chance.choice(sorted(KINDS))
     dimensions = {"concept": f"{prefix}:{concept}"}
     if chance.random() < 0.5:
@@ -79,7 +79,7 @@ def report(chance, is_refused):
 
 
 def level_of(texts):
-    """Returns the strictest level that the facts of reports satisfy, by its definition, each fact once."""
+    """Returns the strictest level that the facts of reports satisfy, by its definition. Each fact counts once."""
     rows = {}
     for text in texts:
         for made in json.loads(text)["facts"].values():
@@ -95,7 +95,7 @@ def level_of(texts):
 
 
 def do_meet(row):
-    """Returns whether each two facts of a row meet: their rounding intervals have a common number."""
+    """Returns whether all pairs of facts in a row meet: their rounding intervals have a common number."""
     if any(isinstance(it, str) for it in row):
         return False
     ends = [(number, fractions.Fraction(10) ** -places / 2) for number, places in row]

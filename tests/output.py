@@ -1,5 +1,5 @@
 #!/usr/bin/env python3
-"""Runs the program with `--output`, makes each call that writes the file fail, and kills the run at each. Not in the gate.
+"""Runs the program with `--output`, makes each call that writes the file fail, and kills the run there. Not in the gate.
 
     tests/output [PROGRAM]
 
@@ -82,7 +82,7 @@ class Tests:
         self.is_(f"{what}: {left} remains", len(left) <= others)
 
     def each_call(self, name, old):
-        """Makes each call of a command fail, and kills the command at each."""
+        """Makes each call of a command fail, and kills the command at each call."""
         words = COMMANDS[name]
         self.empty(False)
         text = self.run(words).stdout

@@ -1,17 +1,19 @@
 #!/usr/bin/env python3
-"""Looks at the pages of tools/contradictions in headless Chromium. Not part of the gate.
+"""Checks the pages of tools/contradictions in headless Chromium. Not part of the gate.
 
     [XBRLMERGE=PROGRAM] tests/page [PICTURE.png]
 
-On examples/ it runs the tool with the built program, and checks what the browser has of the page: each row that
-contradicts itself, and in light and in dark the ground, the values and the gaps of the number lines. PICTURE is the page in
-light, and is written if all is as it should be: docs/contradictions.png is made so.
-On 11,000 contradictions that it makes itself, the tool has to take at most 10 seconds of a processor and 300 MB. The browser
-has to show the first paint within 2 seconds, draw the page within 30 and hand out all of it within 60. An entry of the index
-has to open the rows of its concept, the filter has to find the rows with the words and no others, and nothing may be wider
-than the window, whether that is narrow or wide.
-Status 0: all is as it should be, or no Chromium is installed, and a line says so. 1: it is not, and a line says what.
-2: the program is not built, or could not be run.
+It runs the tool on examples/ with the built program. The page that the browser shows must contain each contradiction. In the
+light and the dark theme, the background, the values and the gaps of the number lines must have their colours. If all is as
+expected, the light page is written to PICTURE; docs/contradictions.png is made this way.
+
+On 11,000 contradictions that the script makes itself, the tool may take at most 10 seconds of a processor and 300 MB. The
+browser must show something within 2 seconds, draw the page within 30 and return its whole text within 60. An entry of the
+index must open the rows of its concept, the filter must find exactly the rows with the words, and nothing may be wider than
+the window, at any of three widths.
+
+Status 0: all is as expected, or no Chromium is installed, which a line reports. 1: it is not; each fault is printed. 2: the
+program is not built, or could not be run.
 """
 import argparse
 import collections
@@ -33,14 +35,13 @@ sys.path.insert(0, os.path.join(TOP, "tests", "tools"))  # has the script that m
 import workload  # noqa: E402
 BROWSERS = ("chromium", "chromium-browser", "google-chrome", "chrome")
 SHEET, *REPORTS = (os.path.join(TOP, "examples", f"{name}.json") for name in ("sheet", "issuer", "ledgerline", "statfeed"))
-# in each theme: the background, a value of the pair, and the gap
 SECONDS, MEGABYTES, CONTRADICTIONS = 10, 300, 11_000
 PAINT = 2_000  # milliseconds until something is shown
-# how the browser reports when it first showed something
+# the script by which the browser reports when it first showed something
 PAINTED = """<body><script>new PerformanceObserver(list => list.getEntries().forEach(entry => console.log("painted", entry.startTime)))
 .observe({type: "paint", buffered: true})</script>"""
 WIDTHS = 500, 1_100, 1_900  # of the window, in pixels; Chromium takes none below 500
-# what the browser is asked for: an entry of the index is followed and a word is put into the filter, and widths are measured
+# the script that follows an entry of the index, puts a word into the filter, and measures widths
 ASKED = """<script>
 const root = document.documentElement, answers = [];
 function measure() {
@@ -62,6 +63,7 @@ setTimeout(() => {
 </script></body>"""
 # the providers of the two values of a contradiction, and their identifiers
 OWN_NAMES = ("issuer f56", "statfeed TS08780")
+# in each theme: the background, a value of the pair, and the gap
 LOOKS = {"light": ("ffffff", "b3201f", "f3c9c5"), "dark": ("16181c", "ff8a80", "5c2b2b")}
 
 
@@ -73,7 +75,7 @@ def run(words, seconds=120, wanted=0):
 
 
 def build(room):
-    """Makes the page. Returns its place with the numbers and the pairs of the contradictions."""
+    """Makes the page. Returns its path, and the numbers and the pairs of the contradictions."""
     page, lines, program = os.path.join(room, "example", "page.html"), os.path.join(room, "lines"), built_program()
     run([sys.executable, TOOL, "--program", program, "--sheet", SHEET, "-o", os.path.dirname(page), *REPORTS], wanted=1)
     with open(lines, "wb") as file:
@@ -84,7 +86,7 @@ def build(room):
 
 
 def colours(picture):
-    """Returns how often each colour is in a PNG of 8 bits a channel, as Chromium writes it."""
+    """Returns how many pixels each colour has in a PNG of 8 bits per channel, as Chromium writes it."""
     at, data, seen = 8, b"", collections.Counter()
     width, height, depth, kind = struct.unpack(">IIBB", picture[16:26])
     channels = {2: 3, 6: 4}[kind if depth == 8 else None]
@@ -155,7 +157,7 @@ def look_at_large(words, room):
 
 
 def changed(page, name, before, after):
-    """Writes the page with another part and without its policy. Returns the place of that page, and its text."""
+    """Writes the page with another part and without its policy. Returns the path of that page, and its text."""
     with open(page, encoding="utf-8") as file:
         text = re.sub("<meta http-equiv=[^>]*>", "", file.read())
     place = os.path.join(os.path.dirname(page), name)

@@ -3,11 +3,11 @@
 
     tests/promises [--write]
 
-A function is public if `lib.rt` exports it, its type, its trait or its module, or if it is `extern "C"`; so is a law of a
-public trait. The page has a generated table for each library. It lists each public function with the names of its clauses
+A function is public if `lib.rt` exports it, its type, its trait or its module, or if it is `extern "C"`. A law of a public
+trait is public too. The page has a generated table for each library. It lists each public function with the names of its clauses
 and the first paragraph of its doc comment. --write writes these tables. The status is 1 if
 
-- the tables are not those of the code;
+- the tables differ from the code;
 - a public function has no doc comment;
 - the page names a function of a library, its type or its laws (`laws::x`, `Type::x`) that does not exist.
 """
@@ -43,7 +43,7 @@ class Promise:
 
 
 class Library:
-    """The public functions of a crate, and the names of all others of its types."""
+    """The public functions of a crate, and the names of all other functions of its types."""
 
     def __init__(self, crate):
         found = EXPORT.findall(content(f"crates/{crate}/src/lib.rt"))

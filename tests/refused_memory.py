@@ -1,5 +1,5 @@
 #!/usr/bin/env python3
-"""Refuses each request for memory of the tests, and of the program, in turn. Not part of the gate.
+"""Refuses each request for memory that the tests and the program make, in turn. Not part of the gate.
 
     [JOBS=N] tests/refused_memory [CRATE | program ..]
 
@@ -8,9 +8,9 @@ crates/xbrlmerge/out/xbrlmerge if that does not exist. Without arguments it test
 requests; each later run refuses one of them, and a last one refuses none. A test must pass and print on standard error that
 a call was refused (`refused`) or that its own setup was (`refused here`); if it prints neither, the request counts as passed
 over. The program runs on command lines of every command. It must print the line `out of memory`, end with status 3 and have
-written a first part of its text. It may also print its whole text: then the request was one of its runtime, which asks again
-for less. JOBS runs are parallel, as many as there are processors by default. If a test makes more than 5,000 requests, each
-7th is refused from 2,001 on; fewer if it makes more than 50,000, or if its runs are long. A line says which were refused.
+written a first part of its text. It may also print its whole text: then its runtime made the request, and asked again for
+less. JOBS runs are parallel, as many as there are processors by default. If a test makes more than 5,000 requests, only each
+7th is refused from 2,001 on. Fewer are refused if it makes more than 50,000, or if its runs are long. A line names these.
 
 Status 0: nothing failed and nothing was passed over. 1: something was. 2: tests are not built, or are older than the
 sources.
@@ -45,8 +45,8 @@ SHOWN = 20
 CALL, HERE, WHOLE, DEVICE, PASSED, FAILED = "refused calls", "refused here", "whole answers", "device first", "passed over", "failed"
 CLOCK, PROCESSOR = "seconds", "of a processor"
 COLUMNS = ("tests", "requests", "refused in turn", CALL, HERE, WHOLE, DEVICE, PASSED, FAILED, CLOCK, PROCESSOR)
-# in these tests a device fails too, and the run may end in that fault. A buffer without memory first writes the waiting
-# bytes; or standard error is full, and the line about memory is lost
+# in these tests a device fails too, and the run may end with that fault: a buffer that gets no memory first writes the waiting
+# bytes, or standard error is full and the line about memory is lost
 DEVICE_FAILS_TOO = {
     "merge_tests tests::written::writers::a_writer_may_stop_about_a_chunk",
     "merge_tests tests::sources::sources_are_written_up_to_a_place",
@@ -60,7 +60,7 @@ DEVICE_FAILS_TOO = {
     "xbrlmerge tests::run::a_full_device_ends_the_run",
     "xbrlmerge tests::run::an_output_that_failed_is_not_flushed",
 }
-# here the user's word is compared with similar ones; if that is refused memory, only the suggestion is missing
+# here the program looks for words similar to the user's; if it gets no memory for that, only the suggestion is missing
 SIMILAR_WORDS = {"xbrlmerge tests::words::other_words_are_usage", "xbrlmerge tests::words::usage_tells_what_is_wrong"}
 
 # a test, or the program on a command line; the program also has its whole output, and whether its runtime asks for less
@@ -89,7 +89,7 @@ def has_tests(crate):
 
 
 def is_older(built, crates):
-    """Returns whether it was built before the last change in the sources of these crates."""
+    """Returns whether a file was built before the last change in the sources of these crates."""
     sources = (it for crate in crates for it in sources_of(crate))
     return os.path.getmtime(built) < max(map(os.path.getmtime, sources))
 
@@ -114,7 +114,7 @@ def build_library(room):
 
 
 def run(library, subject, number):
-    """Runs it in a new folder with this request refused; 0 refuses none. Requests are None if they were not counted."""
+    """Runs a subject in a new folder with this request refused; 0 refuses none. Requests are None if they were not counted."""
     with tempfile.TemporaryDirectory(prefix="refused-") as room:
         os.makedirs(f"{room}/here/out")
         around = {**os.environ, "LD_PRELOAD": library, "REFUSE": str(number), "REFUSE_TOLD": f"{room}/told"}
@@ -196,7 +196,7 @@ def refuse(task):
 
 
 def count_requests(task):
-    """Runs it with nothing refused, and again with the request after its last one refused."""
+    """Runs a subject with nothing refused, and again with the request after its last one refused."""
     library, subject = task
     started = time.monotonic()
     ran = run(library, subject, 0)
@@ -290,7 +290,7 @@ def write_inputs(room):
     long_report(room)
 
 
-# command lines: @ begins a file of the examples, % a file that is made, and < the standard input. In those with ~ clap looks
+# command lines: @ begins a file of the examples, % a file that is made, and < the standard input. In lines with ~ clap looks
 # for a similar word: it lists the letters of both words, and asks for less memory if that list is refused
 LINES = """
  < %bundle

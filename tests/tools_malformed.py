@@ -180,7 +180,7 @@ class Room:
         return name
 
     def run(self, tool, words, outputs):
-        """Runs a tool, and checks what holds for every run. Returns its status and its standard output."""
+        """Runs a tool, and checks the conditions of every run. Returns its status and its standard output."""
         for name in outputs[self.case % 3 :]:
             self.write(name, BEFORE)
         before = self.files()
@@ -266,13 +266,13 @@ def write_taxonomy(room, chance, kinds):
 
 
 def of_taxonomy(room, chance):
-    """make_sheet on a taxonomy with a broken schema or catalog."""
+    """Runs make_sheet on a taxonomy with a broken schema or catalog."""
     status, out = room.run("make_sheet", [write_taxonomy(room, chance, (".xsd", "catalog.xml"))], [])
     expect_sheet(status, out)
 
 
 def of_union(room, chance):
-    """make_sheet --union on a broken sheet and a good one."""
+    """Runs make_sheet --union on a broken sheet and a good one."""
     sheet = json.dumps({**SHEET, "xbrlmerge:sets": ["n1:T"]}).encode()
     words = [room.write("broken", broken(chance, sheet, sheet, JSON_BREAKS)), room.write("good", sheet)]
     status, out = room.run("make_sheet", ["--union", *chance.sample(words, 2)], [])
@@ -285,7 +285,7 @@ def expect_sheet(status, out):
 
 
 def of_report(room, chance):
-    """normalise on a broken report, or with a broken sheet, and then on its own output."""
+    """Runs normalise on a broken report, or with a broken sheet, and then on its own output."""
     drawn = drawn_reports.untidy(chance).encode() if chance.random() < 0.7 else malformed.drawn_report(chance)
     sheet = json.dumps(drawn_reports.SHEET).encode()
     if chance.random() < 0.8:
@@ -306,7 +306,7 @@ def of_report(room, chance):
 
 
 def of_text(room, chance):
-    """contradictions on a merged text, a sheet or lines, one of which is broken."""
+    """Runs contradictions on a merged text, a sheet and lines, one of which is broken."""
     text, verdicts, sources = drawn_text(chance)
     files = {"merged": text, "sheet": json.dumps(SHEET).encode(), "verdicts": verdicts, "sources": sources}
     name = chance.choice(sorted(files) + ["merged"])
@@ -316,7 +316,7 @@ def of_text(room, chance):
 
 
 def of_labels(room, chance):
-    """contradictions with a taxonomy whose linkbase or schema is broken."""
+    """Runs contradictions with a taxonomy whose linkbase or schema is broken."""
     text, verdicts, sources = drawn_text(chance)
     files = {"merged": text, "sheet": json.dumps(SHEET).encode(), "verdicts": verdicts, "sources": sources}
     run_on_text(room, chance, files, ["--labels", write_taxonomy(room, chance, (".xml", "core.xsd"))])
@@ -351,7 +351,7 @@ KINDS = {of_taxonomy: 3, of_union: 2, of_report: 6, of_text: 6, of_labels: 2}
 
 
 def play(case):
-    """Plays a case. Returns its result, counted, and what is not as expected, if anything."""
+    """Plays a case. Returns the count of its result, and any fault that it found."""
     chance, room = random.Random(f"{SEED} {case}"), Room(case)
     kind = chance.choices([*KINDS], [*KINDS.values()])[0]
     with tempfile.TemporaryDirectory(prefix="tools-malformed-") as folder:

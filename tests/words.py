@@ -61,7 +61,7 @@ def forms(text):
     """Returns the forms of lines (verdicts, sources, check, events) that a help text or the man page shows."""
     begins = r"^(?:  |\.\w+ )((?:ROW|FACT|accepted|take|join|send|receive|restart) +[A-Z].*)"
     found = re.findall(begins, re.sub(r'\\f.|"', "", text), re.MULTILINE)
-    # the meaning of a form may follow it, three spaces off
+    # the meaning of a form may follow it after three spaces
     return {" ".join(it.partition("   ")[0].split()) for it in found}
 
 
@@ -85,7 +85,7 @@ def told_by_man():
     told = {}
     for title, text in zip(pieces[1::2], pieces[2::2]):
         tags = "\n".join(re.findall(r"^\.TP\n\.\w+ (.*)", text, re.MULTILINE))
-        # options in a paragraph count too, so that none is named that does not exist
+        # options in a paragraph count too, so a paragraph may not name options that do not exist
         told["" if " " in title else title] = {
             "options": set(OPTION.findall(text)),
             "values": set(re.findall(r"(?<![\w-])[a-z]+", tags)),

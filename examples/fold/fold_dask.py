@@ -37,7 +37,7 @@ def fold(sheet, out, width, files):
 
 @dask.delayed
 def merge_here(sheet, files):
-    """Merges files by a call, and returns the merged report, with a line for each refused file."""
+    """Merges files with a call, and returns the merged report, with a line for each refused file."""
     import xbrlmerge
 
     merged = xbrlmerge.merge(sheet, files)
@@ -46,7 +46,7 @@ def merge_here(sheet, files):
 
 @dask.delayed
 def join_here(sheet, lower):
-    """Merges the results of steps by a call. None of them is refused."""
+    """Merges the results of steps with a call. None of them is refused."""
     import xbrlmerge
 
     merged = xbrlmerge.merge(sheet, [text for text, _ in lower])

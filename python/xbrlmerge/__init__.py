@@ -1,4 +1,4 @@
-"""Merges xBRL-JSON reports about one entity, judges their duplicates, and lists who reported what.
+"""Merges xBRL-JSON reports about one entity, judges their duplicates, and lists the sources of each fact.
 
     import xbrlmerge
 
@@ -118,7 +118,7 @@ class Rows(List[Row]):
 
 
 class Sources(List[Source]):
-    """Who reported what, in order; `text` contains the program's lines, and `refusals` the refused reports."""
+    """The sources of the facts, in order; `text` contains the program's lines, and `refusals` the refused reports."""
 
     def __init__(self, found: Iterable[Source], text: bytes, refusals: List[Refusal]) -> None:
         super().__init__(found)
@@ -126,8 +126,8 @@ class Sources(List[Source]):
 
 
 class Columns(Dict[str, List[Any]]):
-    """Columns by their names, as pandas.DataFrame takes them; `text` has the JSON objects, one a line, that the program
-    prints, and `refusals` the reports that were refused."""
+    """Columns by their names, as pandas.DataFrame takes them; `text` contains the JSON objects that the program prints, one
+    per line, and `refusals` the refused reports."""
 
     def __init__(self, names: Iterable[str], rows: Iterable[Tuple[Any, ...]], text: bytes, refusals: List[Refusal]) -> None:
         found = [*rows]

@@ -68,13 +68,14 @@ def _row(fields: Tuple[Any, ...]) -> Row:
 
 
 def _room(size: int) -> Tuple[bytearray, ctypes.c_char]:
-    """Returns a buffer of at least one byte, since no pointer may be null, and its first byte, which keeps it in place."""
+    """Returns a buffer of at least one byte, since no pointer may be null, and its first byte, which keeps the buffer in
+    place."""
     held = bytearray(max(size, 1))
     return held, ctypes.c_char.from_buffer(held)
 
 
 def _answered(call: Callable[..., int], sheet: bytes, reports: Sequence[bytes], *more: int) -> Answer:
-    """Makes a call with buffers that are mostly large enough, and again if they are not."""
+    """Makes a call with buffers that are usually large enough, and repeats it with larger ones if they are not."""
     together, ends, end = b"".join(reports), array.array("Q"), 0
     for report in reports:
         end += len(report)

@@ -17,7 +17,7 @@ from support import content  # noqa: E402
 
 
 class RoomTest(unittest.TestCase):
-    """Tests each of which has its own folder, `room`."""
+    """Tests that have their own folder each, `room`."""
 
     def setUp(self):
         room = tempfile.TemporaryDirectory()

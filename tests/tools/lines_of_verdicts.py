@@ -17,7 +17,7 @@ def interval(fact):
 
 
 def is_number(fact):
-    """In the fixtures a value that reads as a number is a number."""
+    """Returns whether the value is a number. In the fixtures, every value that can be read as a number is one."""
     try:
         return fact["value"] is not None and bool(fractions.Fraction(fact["value"]) + 1 or 1)
     except ValueError:

@@ -1,6 +1,7 @@
-"""A program in place of `xbrlmerge`: each command prints the prepared output in its folder, and records its arguments.
+"""A program in place of `xbrlmerge`: each command prints the output prepared in the program's folder, and records its
+arguments.
 
-The folder is that of the program. COMMAND.out and COMMAND.err are printed, and COMMAND.status is the status, if they exist.
+COMMAND.out and COMMAND.err are printed, and COMMAND.status is the status, if they exist.
 A file COMMAND.waits makes it wait. For a report named `normalised`, `explain` prints only the faults of facts in the report.
 """
 import json

@@ -62,7 +62,7 @@ class ToolTest(in_process.RoomTest):
         return page, cells
 
     def check_refused(self, told, *inputs):
-        """A line says why, and nothing is written, not even in part."""
+        """Checks that a line gives the reason, and that nothing is written, not even in part."""
         before = set(os.listdir(self.room))
         done = self.run_tool(*inputs)
         self.assertEqual((done.returncode, done.stdout), (3, b""), done.stderr)

@@ -34,7 +34,7 @@ def typed(size):
     return {f"e:d{each}": "" for each in range(size)}
 
 
-# facts of this size, in the order of a merged text; rows alternate between two providers
+# facts for a given size, in the order of a merged text; rows alternate between two providers
 LONG = {
     "a row of numbers": (lambda size: [number(each) for each in range(size)], False),
     "a row of texts": (lambda size: [text(f"t{each:07}") for each in range(size)], False),

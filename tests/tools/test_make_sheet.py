@@ -55,7 +55,7 @@ def pack(package, folder):
 
 class ToolTest(in_process.RoomTest):
     def check_refused(self, status, told, *words):
-        """Nothing is written, and a line says why."""
+        """Checks that nothing is written, and that a line gives the reason."""
         done = run(*words)
         self.assertEqual((done.returncode, done.stdout), (status, b""), done.stderr)
         self.assertIn(told, done.stderr.decode())

@@ -57,7 +57,7 @@ def rewrites_of_each_length(size):
     }
 
 
-# packages of this size
+# packages for a given size
 LONG = {
     "chains of heads": lambda size: {"a.xsd": SCHEMA % each(HEAD, size, "C{0}", "this:C{1}")},
     "a ring of heads": lambda size: {"a.xsd": SCHEMA % (each(HEAD, size, "C{0}", "this:C{1}") + HEAD.format(f"C{size}", "this:C0"))},
@@ -100,7 +100,7 @@ class HostileTest(ToolTest):
         return place
 
     def refused(self, told, *words):
-        """The tool ends with status 3 and a line, in this process."""
+        """Checks that the tool ends with status 3 and one line. It runs in this process."""
         status, lines = in_process.run(make_sheet, *words)
         self.assertEqual((status, len(lines.splitlines())), (3, 1), lines)
         self.assertIn(told, lines)

@@ -1,4 +1,4 @@
-"""Which edits tests/mutants tries, in a small repository, with a prover that refuses each."""
+"""Tests which edits tests/mutants tries, in a small repository, with a prover that refuses each edit."""
 import os
 import shutil
 import subprocess
@@ -34,7 +34,7 @@ class Mutants(unittest.TestCase):
         subprocess.run(["git", "-C", self.tree.folder, *words], check=True)
 
     def tried(self, *words):
-        """Returns the status of tests/mutants, and its lines but for those of the prover."""
+        """Returns the status of tests/mutants, and its lines without the prover's."""
         status, lines, _ = self.tree.run(*words, env={**os.environ, "PATH": self.path})
         return status, [it for it in lines if not it.startswith("must-fail ")]
 

@@ -55,7 +55,7 @@ class ToolTest(in_process.RoomTest):
         return ["--drop-unreadable", "--program", in_process.stub_program(self.place("bin"))]
 
     def normalised(self, report, *options):
-        """Returns the status, standard error, the output and the changes, after checking what holds for every run."""
+        """Returns the status, standard error, the output and the changes, after the checks that apply to every run."""
         with mock.patch.object(process, "MOST_CHARACTERS", sys.maxsize):
             self.run_tool(report, self.out, self.changes, *options)
         tree = read_json(self.out)
@@ -302,7 +302,7 @@ class Unreadable(ToolTest):
 
 class BadInputs(ToolTest):
     def check_refused(self, told, *words):
-        """A line says why, and nothing is written, not even in part."""
+        """Checks that a line gives the reason, and that nothing is written, not even in part."""
         before = set(os.listdir(self.room))
         status, lines = self.run_tool(*words)
         self.assertEqual((status, len(lines.splitlines())), (3, 1), lines)

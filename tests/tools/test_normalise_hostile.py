@@ -34,7 +34,7 @@ def twins(size):
     return '{"facts":{%s,"k":1,"k":2}}' % ",".join(f'"f{number}":1' for number in range(size))
 
 
-# reports of this size, each with options
+# reports for a given size, each with options
 LONG = {
     "zeros before digits": (lambda size: report({"f": fact("0" * size + "x")}), ALL),
     "digits in whole": (lambda size: report({"f": fact("1" * size)}), ALL),
@@ -112,7 +112,7 @@ class Long(ToolTest):
 
 
 class Exact(ToolTest):
-    """Cases that were once wrong without a message."""
+    """Cases that once gave a wrong result without a message."""
 
     def setUp(self):
         super().setUp()
