@@ -11,7 +11,7 @@ from types import FrameType
 from typing import Callable, Iterable, Iterator, NoReturn, Optional
 
 STOPPING = (signal.SIGHUP, signal.SIGINT, signal.SIGTERM)
-MOST_CHARACTERS = 80  # characters that a line shows of a text, as in `xbrlmerge explain`
+MOST_CHARACTERS = 80  # the most characters of a text in a line, as in `xbrlmerge explain`
 
 
 class Status(enum.IntEnum):
@@ -24,11 +24,11 @@ class Status(enum.IntEnum):
 
 
 class NotDone(Exception):
-    """Why a tool failed. Each argument is a line for standard error."""
+    """The reasons for which a tool failed. Each argument is a line for standard error."""
 
 
 class Stopped(BaseException):
-    """A signal that ends the tool once it has cleaned up. `except Exception` lets it pass."""
+    """A signal that ends the tool once it has cleaned up. `except Exception` does not catch it."""
 
     def __init__(self, number: int) -> None:
         super().__init__(number)
@@ -58,7 +58,7 @@ def run(main: Callable[[], Status]) -> NoReturn:
 
 
 def finished(main: Callable[[], Status]) -> Status:
-    """Prints why a tool failed, if it did, and returns its status."""
+    """Prints the reason why a tool failed, if it did, and returns its status."""
     try:
         status, lines = outcome(main)
         print_lines(lines)
@@ -68,7 +68,7 @@ def finished(main: Callable[[], Status]) -> Status:
 
 
 def outcome(main: Callable[[], Status]) -> tuple[Status, tuple[str, ...]]:
-    """Returns the status of a tool, and the lines that say why it failed. The memory that it used is free by then."""
+    """Returns the status of a tool, and the lines that say why it failed. By then, the memory that the tool used is free."""
     try:
         status = status_of(main)
         sys.stdout.flush()
@@ -119,8 +119,8 @@ def fill_standard_files() -> None:
     """Opens the null device in place of each closed standard stream, in the wrong direction, so each use of it fails.
 
     Otherwise the next file that is opened would get its number, and lines for standard error would go into that file.
-    Both streams are buffered, whatever PYTHONUNBUFFERED says: an unbuffered stream may take a part of the bytes and
-    raise nothing.
+    Both streams are buffered, even if PYTHONUNBUFFERED is set: an unbuffered stream may take a part of the bytes and raise no
+    exception.
     """
     for number, mode in enumerate((os.O_WRONLY, os.O_RDONLY, os.O_RDONLY)):
         try:
@@ -132,7 +132,7 @@ def fill_standard_files() -> None:
 
 
 def are_flushed() -> bool:
-    """Returns whether standard output and standard error took all bytes. A stream that did not is closed."""
+    """Returns whether standard output and standard error took all bytes. A stream that failed is closed."""
     taken = True
     for file in (sys.stdout, sys.stderr):
         try:

@@ -23,7 +23,7 @@ def add_program(parser: argparse.ArgumentParser) -> None:
 
 
 def program_at(given: Optional[str]) -> str:
-    """Returns the path of the program: the given one, or one beside the tool, or the one on the PATH."""
+    """Returns the path of the program: the given one, or else the one beside the tool, or else the one on the PATH."""
     places = [place for place in BESIDE if os.path.isfile(place) and os.access(place, os.X_OK)]
     found = given or next(iter(places), None) or shutil.which(NAME)
     if not found:
@@ -48,7 +48,8 @@ class Program:
         return done.returncode, done.stderr.decode(errors="replace").splitlines()
 
     def read_reports(self, command: str, paths: Iterable[str]) -> dict[int, str]:
-        """Runs a command on reports. Returns the refusals by the numbers of the reports, from 1. Errors: NotDone, OSError."""
+        """Runs a command on reports. Returns the refusals with the numbers of the reports, from 1. Errors: NotDone,
+        OSError."""
         with open(self.place("reports"), "wb") as file:
             file.writelines(os.fsencode(os.path.abspath(path)) + b"\0" for path in paths)
         status, lines = self.run(command, ["--reports-from", "reports", "--null"])

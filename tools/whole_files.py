@@ -1,4 +1,4 @@
-"""Writes files whole or not at all."""
+"""Writes each file completely or not at all."""
 from __future__ import annotations
 
 import contextlib
@@ -46,7 +46,7 @@ class Output:
 def write_files(texts: Iterable[tuple[str, Iterable[str]]]) -> None:
     """Writes all files or none. `texts` has their paths and pieces.
 
-    Each is written in a new folder beside its place, then moved there. It keeps the permissions of the file that it
+    Each file is written in a new folder beside its place, then moved there. It keeps the permissions of the file that it
     replaces, and its owner and group if that is permitted. A signal that `process.run` handles removes the new files.
     Errors: OSError, and exceptions of the pieces. Every place is then unchanged.
     """
@@ -76,7 +76,7 @@ def write_beside(path: str, pieces: Iterable[str], folders: contextlib.ExitStack
         with open(output.new, "x", encoding="utf-8", newline="") as file:
             file.writelines(pieces)
             copy_permissions(place, file.fileno())
-    except OSError as fault:  # the message names no file, or the new folder
+    except OSError as fault:  # its own message names no file, or the new folder
         raise OSError(f"{path}: {fault.strerror or fault}") from None
     return output
 

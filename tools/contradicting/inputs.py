@@ -28,7 +28,7 @@ ADVICE = "--taxonomy PACKAGE, in place of --sheet, makes a sheet that lists all 
 
 @dataclass
 class Inputs:
-    """The inputs of a page, the files to write beside it, and what the user should look at."""
+    """The inputs of a page, the files to write beside it, and the messages for the user."""
 
     text: Text
     sheet: Sheet
@@ -114,7 +114,7 @@ class Run:
 
 
 def counted(count: int, word: str, words: Optional[str] = None) -> str:
-    """Returns a number and a word, which is plural unless the number is 1."""
+    """Returns a number and a word. The word is plural unless the number is 1."""
     return f"{count} {word if count == 1 else words or word + 's'}"
 
 

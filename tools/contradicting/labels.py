@@ -15,7 +15,7 @@ STANDARD = "http://www.xbrl.org/2003/role/label"
 
 
 class Label(NamedTuple):
-    """A label. One in the wanted language comes before one in a dialect."""
+    """A label. A label in the wanted language is preferred to one in a dialect."""
 
     is_of_dialect: bool
     text: str
@@ -115,6 +115,6 @@ class Linkbase(Visitor):
 
 
 def read_labels(words: Sequence[str], language: str) -> dict[Name, str]:
-    """Returns the standard labels by name. A label in the exact language comes before those in its dialects."""
+    """Returns the standard labels by name. A label in the exact language is preferred to labels in its dialects."""
     labels = Labelled(Files(words, Limits()), language).labels if words else {}
     return {name: label.text for name, label in labels.items() if label.text}

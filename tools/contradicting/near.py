@@ -79,7 +79,7 @@ class Near:
         yield from alike.values()
 
     def compared(self, numbers: list[int]) -> Iterator[tuple[tuple[int, int], Axis]]:
-        """Yields the pairs of a group that are listed, up to the limits."""
+        """Yields the pairs of a group for the table, up to the limits."""
         count, facts = len(numbers) * (len(numbers) - 1) // 2, 0
         pairs = itertools.chain.from_iterable(zip(numbers, numbers[step:]) for step in range(1, len(numbers)))
         for done, (one, other) in enumerate(pairs):
@@ -92,7 +92,7 @@ class Near:
                 yield (one, other), axis
 
     def difference(self, first: int, second: int) -> Optional[Axis]:
-        """Returns the only dimension in which two rows differ. None if there are several, or if a mistake is unlikely."""
+        """Returns the only dimension in which two rows differ, or None if there are several or a mistake is unlikely."""
         one, other = self.items[first], self.items[second]
         axes = [axis for axis in {**one, **other} if one.get(axis) != other.get(axis)]
         if len(axes) != 1:

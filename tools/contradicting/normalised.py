@@ -46,7 +46,7 @@ class Normalised:
         self.losses += self.write_changes(report, log)
 
     def write_changes(self, report: Report, log: Log) -> int:
-        """Adds the changes of a report to the table. Returns the number of those that lose something."""
+        """Adds the changes of a report to the table. Returns how many of them lose something."""
         changes = [json.loads(line, parse_int=Number, parse_float=Number) for line in log.lines]
         source = [cell(report.provider), cell(written(report.path))]
         with open(self.table, "a", encoding="utf-8", newline="") as file:

@@ -68,7 +68,7 @@ def counts(reader: Reader, refusals: Refusals) -> Iterator[tuple[int, str]]:
 
 
 def refused(refusals: Refusals) -> Iterator[str]:
-    """Yields the pieces that list the refused reports, with what `explain` prints for each."""
+    """Yields the pieces that list the refused reports, each with the lines that `explain` prints."""
     if refusals.reports:
         yield '<section class="refused"><h2>Refused reports</h2><p>The page has no figures from these reports.</p>'
         yield "".join(f"<p>{html.escape(printable(line))}</p>" for line in refusals.lacking_lines())
@@ -79,7 +79,7 @@ def refused(refusals: Refusals) -> Iterator[str]:
 
 
 def order(row: Row) -> tuple[int, Decimal, int]:
-    """Sorts rows with a text or nil first, then by the difference as a share of the larger value."""
+    """Returns the sort key: rows with a text or nil come first, then the difference as a share of the larger value decides."""
     share = row.share()
     return (0, Decimal(0), row.number) if share is None else (1, -share, row.number)
 

@@ -50,7 +50,7 @@ def written(name: str) -> str:
 
 
 def check_files(paths: Iterable[str]) -> None:
-    """Raises an error for files that the program could not read several times. Errors: NotDone, OSError."""
+    """Raises an error for files that the program could not read more than once. Errors: NotDone, OSError."""
     for path in paths:
         if not stat.S_ISREG(os.stat(path).st_mode):
             raise NotDone(f"{path} is not a regular file")

@@ -37,7 +37,7 @@ class Dimensions(NamedTuple):
 
 
 class Fact(NamedTuple):
-    """A fact. Its row has its dimensions."""
+    """A fact without its dimensions, which its row contains."""
 
     value: Value
     decimals: Optional[int]
@@ -91,7 +91,7 @@ class RowObserver(Protocol):
 
 
 class FactSources(Protocol):
-    """Knows the providers of a fact. Ask for each fact once, in order."""
+    """Gives the providers of a fact. Ask for each fact once, in order."""
 
     names: list[str]
 
@@ -149,7 +149,7 @@ class Reader:
         self.listed.append((row.number, verdict, names[0], names[-1], self.said_by(len(who)), ", ".join(sorted(who))))
 
     def said_by(self, count: int) -> str:
-        """Returns in words how many of the providers report a row. The text is empty if there are no providers."""
+        """Returns in words how many providers report a row. The text is empty if there are no providers."""
         return f"{count} of {self.providers}" if self.providers else ""
 
     def row(self, number: int, facts: dict[str, Tree], line: str) -> Optional[Row]:
@@ -213,7 +213,7 @@ def check_texts(*values: Any) -> None:
 
 
 def checked_period(period: str) -> str:
-    """Returns a period, which is empty, or has one moment or two."""
+    """Returns the period if it is empty or has one or two moments. Errors: ValueError."""
     moments = period.split("/") if period else []
     if len(moments) > 2 or not all(map(MOMENT.fullmatch, moments)):
         raise ValueError(f"it has a period in another form: {shortened(period)}")

@@ -1,4 +1,4 @@
-"""Who reported the facts of a merged report, according to the lines of `sources`."""
+"""Finds the providers of each fact of a merged report."""
 from __future__ import annotations
 
 import json

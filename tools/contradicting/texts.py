@@ -139,7 +139,7 @@ class Text:
         return self.piece[self.at : self.at + 1]
 
     def fill(self) -> bool:
-        """Reads more, twice as much each time, and returns whether there was anything."""
+        """Reads more, twice as much each time, and returns whether anything was left."""
         self.piece = self.piece[self.at :]
         self.at = 0
         more = self.file.read(max(PIECE, len(self.piece)))
@@ -178,7 +178,7 @@ class Provider:
         return is_said
 
     def finish(self) -> None:
-        """Raises an error if there is a fact that was not asked for."""
+        """Raises an error if `said` was not called for a fact."""
         with using(self.fault()):
             if self.head is not None:
                 raise ValueError("it is not one of its facts, or it is in the wrong place")

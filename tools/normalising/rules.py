@@ -30,7 +30,8 @@ GROWTH, SMALL = 16, 1_000_000  # the names of sets may add this many times the r
 
 
 class Normaliser:
-    """Brings reports into the profile, by a sheet and options. The program says what it still refuses."""
+    """Brings reports into the profile, by a sheet and options. With --drop-unreadable it drops the facts that the program
+    refuses."""
 
     def __init__(self, sheet: Sheet, options: argparse.Namespace, program: Optional[Program] = None) -> None:
         self.sheet, self.options, self.program = sheet, options, program

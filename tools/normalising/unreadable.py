@@ -11,7 +11,7 @@ class Refused(NamedTuple):
     """The refusals of a report by the program."""
 
     facts: dict[str, str]  # the number and the name of the first refusal of each fact, by identifier
-    lines: list[str]  # why it refuses the document
+    lines: list[str]  # the reasons for which it refuses the document
 
 
 def refused_in(tree: Tree, program: Program) -> Refused:

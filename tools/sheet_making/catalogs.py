@@ -47,13 +47,14 @@ class Rewrites(Visitor):
             raise ValueError(f"the uriStartStrings have more than {MOST_LENGTHS} different lengths")
 
     def rule_of(self, location: str) -> Optional[Rewrite]:
-        """Returns the rule with the longest matching start. If there are several, the first one counts."""
+        """Returns the rule with the longest matching start. If several rules have this start, the first one counts."""
         lengths = self.lengths[: bisect.bisect_right(self.lengths, len(location))]
         starts = (location[:length] for length in reversed(lengths))
         return next((self.rules[start] for start in starts if start in self.rules), None)
 
     def place_of(self, location: str, base: str) -> tuple[str, str]:
-        """Returns the place to which a location in the document at `base` leads, and the document that it is relative to."""
+        """Returns the place to which a location in the document at `base` leads, and the document to which the place is
+        relative."""
         rule = self.rule_of(location)
         if rule:
             location, base = rule.prefix + location[len(rule.start) :], rule.catalog

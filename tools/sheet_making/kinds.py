@@ -15,7 +15,7 @@ XBRLI = "http://www.xbrl.org/2003/instance"
 ENUMERATIONS_1, ENUMERATIONS_2 = "http://xbrl.org/2014/extensible-enumerations", "http://xbrl.org/2020/extensible-enumerations-2.0"
 REGISTRY = "registry"  # replaces each namespace of the data type registry
 HEADS = {Name(XBRLI, "item"): "concepts", Name(XBRLDT, "dimensionItem"): "dimensions"}
-# No other head in a specification leads to a concept. Taxonomies at xbrl.org have other paths.
+# No other head in a specification leads to a concept. Schemas at xbrl.org with other paths are taxonomies.
 SPECIFICATION = re.compile(r"https?://(www\.w3\.org/|(www\.)?xbrl\.org/(\d{4}|dtr|lrr)/)")
 REGISTERED = re.compile(r"http://www\.xbrl\.org/dtr/type/(numeric|non-numeric|\d{4}-\d\d-\d\d)")
 # From memory: the item types of XBRL 2.1 (section 5.1.1.3) and of extensible enumerations 1.0 and 2.0, and some of the data
@@ -101,7 +101,7 @@ class Judge:
 
 
 def is_followed(name: Name) -> bool:
-    """Returns whether the kind of a type is that of its base type."""
+    """Returns whether a type has the kind of its base type."""
     return listed(name) not in KINDS and not is_of_enumerations(name.uri)
 
 

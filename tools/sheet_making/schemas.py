@@ -51,7 +51,7 @@ class SchemaVisitor(Visitor):
     def __init__(self, wanted: Optional[str]) -> None:
         self.wanted = wanted
         self.target: Optional[str] = None  # the namespace that the schema itself names
-        self.namespace: Optional[str] = None  # the namespace of its declarations; without one nothing is declared
+        self.namespace: Optional[str] = None  # the namespace of its declarations; if it is None, nothing is declared
         self.part: Optional[Part] = None
 
     def declare(self, part: Part) -> None:
@@ -116,7 +116,8 @@ class SchemaVisitor(Visitor):
                 part.type, part.base_level = base, level
 
     def expanded(self, element: Element, key: str) -> Optional[Name]:
-        """Returns the name in an attribute. Without a prefix, in a schema without a namespace, it is in the wanted one."""
+        """Returns the name in an attribute. A name without a prefix, in a schema without a namespace, is in the wanted
+        namespace."""
         text = element.get(key)
         if text is None:
             return None

@@ -16,7 +16,8 @@ MOST_LINES = 100
 
 
 class Taxonomy:
-    """The elements and types in the named schemas and in those they refer to. Each type is kept with its base type."""
+    """The elements and types in the named schemas and the schemas to which they refer. Each type is kept with its base
+    type."""
 
     def __init__(self, files: Files) -> None:
         self.files, self.rewrites = files, Rewrites()

@@ -1,6 +1,6 @@
 """Reads XML tag by tag, and keeps only the open tags.
 
-Prefixes are resolved here. With expat each name would contain its whole namespace, and a long one would take quadratic
+Prefixes are resolved here. expat would put the whole namespace into each name, and a long namespace would take quadratic
 memory.
 """
 from __future__ import annotations
@@ -22,7 +22,7 @@ class Bindings:
     """The bindings of the prefixes at one place in a document."""
 
     def __init__(self) -> None:
-        self.uris: dict[str, list[str]] = {"": [""], "xml": [XML]}  # for each prefix, its namespaces with the innermost last
+        self.uris: dict[str, list[str]] = {"": [""], "xml": [XML]}  # the namespaces bound to each prefix, the innermost one last
 
     def bind(self, attributes: dict[str, str]) -> Sequence[str]:
         """Binds the prefixes that a tag declares, and returns them."""
