@@ -128,7 +128,7 @@ class Room:
         return Ran(done.returncode, done.stdout, done.stderr.decode(errors="replace"))
 
     def expect(self, holds, case, words, ran):
-        """Counts a case and records what is wrong with it."""
+        """Counts a case and records its faults."""
         self.count += 1
         changed = [it for it, content in self.contents.items() if content != bytes_of(f"{self.folder}/{it}")]
         told = f"{case}: xbrlmerge {words}: status {ran.status}, {ran.err[:200] or 'no line'}, {len(ran.out):,} bytes"

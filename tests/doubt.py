@@ -1,5 +1,5 @@
 #!/usr/bin/env python3
-"""Checks docs/DOUBT.md and docs/FORMAT.md, and prints what they list as one text:
+"""Checks docs/DOUBT.md and docs/FORMAT.md, and prints the listed definitions as one text:
 
     tests/doubt [--format] [--quiet] [--write]
 

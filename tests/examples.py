@@ -185,14 +185,14 @@ def run_lines(shell, lines, room):
 
 
 def is_as_shown(shown, printed):
-    """Returns whether lines match the shown ones, some of which are cut."""
+    """Returns whether lines match the shown lines, some of which are cut."""
     return len(shown) == len(printed) and all(
         there.startswith(line[: -len(CUT)]) if line.endswith(CUT) else there == line for line, there in zip(shown, printed)
     )
 
 
 def wrong_with(blocks, shell, room):
-    """Runs the blocks of a page, and returns the differences from what is shown."""
+    """Runs the blocks of a page, and returns the differences from the shown output."""
     ran, wrong = run_lines(shell, [line for lines, _, _ in blocks for line in lines], room), []
     for lines, status, shown in blocks:
         printed, told = [], []
@@ -208,7 +208,7 @@ def wrong_with(blocks, shell, room):
 
 
 def refusals(program, room):
-    """Returns what is wrong with the examples in docs/REFUSALS.md, and their number."""
+    """Returns the faults in the examples of docs/REFUSALS.md, and the number of examples."""
     text, seen, wrong = content("docs/REFUSALS.md"), [], []
     sheet, prefixes = re.findall(r"^```json\n(.*?)^```$", text, re.MULTILINE | re.DOTALL)
     head = '"documentType":"https://xbrl.org/2021/xbrl-json"'
@@ -231,7 +231,7 @@ def refusals(program, room):
 
 
 def fragments(program):
-    """Returns what is wrong with the JSON in docs/GUIDE.md: a refused sheet, or a fact that is in no example."""
+    """Returns the faults in the JSON of docs/GUIDE.md: a refused sheet, or a fact that no example contains."""
     files, wrong = [content(f"examples/{it}") for it in (*GOOD, MERGED)], []
     for shown in re.findall(r"^```json\n(.*?)\n```$", content("docs/GUIDE.md"), re.MULTILINE | re.DOTALL):
         if shown.startswith("{"):
@@ -275,7 +275,7 @@ def compared(program):
 
 
 def declares(program, merged):
-    """Returns what is wrong with the merged text: it must declare the strictest level, and otherwise equal the earlier
+    """Returns the faults of the merged text: it must declare the strictest level, and otherwise equal the earlier
     text."""
     rest = merged
     for part in DECLARED:
@@ -296,7 +296,7 @@ def embedded(program):
 
 
 def page_of_vendors(program):
-    """Runs tools/contradictions on a taxonomy package and on reports of other tools. Returns what is wrong."""
+    """Runs tools/contradictions on a taxonomy package and on reports of other tools. Returns the faults."""
     vendors, names = os.path.join(TOP, "tests", "normalise", "vendors"), ("envelope", "untidy_tokens", "odd_units")
     options = ["--program", program, "--normalise", *(f"{name} & Co={vendors}/{name}.json" for name in names)]
     with tempfile.TemporaryDirectory() as room:
@@ -341,7 +341,7 @@ def make_top(program, room):
 
 
 def told(program, embed):
-    """Returns the differences from what is shown, and the number of commands."""
+    """Returns the differences from the shown output, and the number of commands."""
     wrong, ran = compared(program) + (embedded(embed) if embed else []) + fragments(program) + page_of_vendors(program), 0
     places = {**{it: list(of_page(it)) for it in PAGES}, "the man pages": list(of_man_pages()), "the help": of_help(program)}
     with tempfile.TemporaryDirectory() as room:

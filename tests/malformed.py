@@ -314,7 +314,7 @@ class Batch:
         return status
 
     def play(self, case):
-        """Plays a case. Returns what is not as expected, if anything."""
+        """Plays a case. Returns the fault, if there is one."""
         chance = random.Random(f"{SEED} {case}")
         kind = chance.choices((self.of_report, self.of_long, self.of_sheet, self.of_events, self.of_bundle), (5, 1, 2, 2, 2))[0]
         try:
@@ -339,7 +339,7 @@ def keep(case, content):
 
 
 def play(task):
-    """Plays the cases of a batch. Returns the counts of their results, and what is not as expected."""
+    """Plays the cases of a batch. Returns the counts of their results, and the faults."""
     program, cases = task
     with tempfile.TemporaryDirectory(prefix="malformed-") as room:
         os.chdir(room)

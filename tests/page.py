@@ -109,7 +109,7 @@ def colours(picture):
 
 
 def look_at_example(words, room, kept):
-    """Returns what is wrong with the page of examples/. If nothing is, it keeps the picture."""
+    """Returns the faults of the page of examples/. If there are none, it keeps the picture."""
     page, rows = build(room)
     content = run([*words, "--window-size=1100,1200", "--dump-dom", f"file://{page}"]).decode()
     sections = {part.split('"')[0]: part for part in content.split(' id="row')[1:]}
@@ -136,7 +136,7 @@ def timed(words, seconds):
 
 
 def look_at_large(words, room):
-    """Returns what is wrong with the page of many contradictions, and a line with the measurements."""
+    """Returns the faults of the page of many contradictions, and a line with the measurements."""
     workload.make(room, CONTRADICTIONS)
     inputs = [os.path.join(room, name) for name in ("merged.json", "sheet.json", "verdicts.txt")]
     page = os.path.join(room, "large", "page.html")
@@ -175,7 +175,7 @@ def first_paint(words, page):
 
 
 def ask(words, page, width):
-    """Returns what is wrong in a window of this width, with the index, and with what the filter finds."""
+    """Returns the faults in a window of this width, of the index, and of the filter."""
     place, text = changed(page, "asked.html", "</body>", ASKED)
     options = [f"--window-size={width},900", "--virtual-time-budget=20000", "--dump-dom"]
     content, _ = timed([*words, *options, f"file://{place}"], 120)

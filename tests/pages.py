@@ -5,7 +5,7 @@
 
 It prints the words of each page in BOUNDS beside its bound, or only for the named pages. Code blocks, comments and generated
 tables (from a comment that begins with `generated` to one that begins with `end`) do not count. In docs/DOUBT.md and
-docs/FORMAT.md only the prose counts: no tables, and no entry lines, which name what to read in a file of `crates/`.
+docs/FORMAT.md only the prose counts: no tables, and no entry lines, which name the definitions to read in `crates/`.
 
 The status is 1 if a page is missing or too long, or if a relative link of any page has no file or no such heading.
 """
@@ -63,7 +63,7 @@ def anchors(path):
 
 
 def broken_links(path):
-    """Returns the relative links of a page that lead nowhere."""
+    """Returns the relative links of a page whose file or heading does not exist."""
     text, broken = CODE.sub("", CODE_BLOCK.sub("", content(path))), []
     for link in (it for it in LINK.findall(text) if not ELSEWHERE.match(it)):
         name, _, anchor = link.partition("#")
@@ -76,7 +76,7 @@ def broken_links(path):
 
 
 def too_long(pages, bound):
-    """Prints the words of pages that share a bound, and returns what is wrong with them."""
+    """Prints the words of pages that share a bound, and returns their faults."""
     missing = [it for it in pages if not os.path.isfile(os.path.join(TOP, it))]
     count = sum(words(it) for it in pages if it not in missing)
     names = " and ".join(pages)

@@ -66,7 +66,7 @@ SIMILAR_WORDS = {"xbrlmerge tests::words::other_words_are_usage", "xbrlmerge tes
 # a test, or the program on a command line; the program also has its whole output, and whether its runtime asks for less
 Subject = collections.namedtuple("Subject", "label command given whole asks_again")
 Ran = collections.namedtuple("Ran", "status out err came requests")
-# a subject with nothing refused: its requests, the seconds of a run, and what is wrong with it
+# a subject with nothing refused: its requests, the seconds of a run, and its faults
 Counted = collections.namedtuple("Counted", "requests seconds wrong")
 
 
@@ -235,7 +235,7 @@ def shared_out(library, subject, numbers):
 
 
 def sweep(pool, library, subjects):
-    """Refuses the requests of each subject. Returns the row of the table, and what is wrong or worth printing."""
+    """Refuses the requests of each subject. Returns the row of the table, and the faults or other lines to print."""
     started = time.monotonic()
     all_counted = pool.map(count_requests, [(library, subject) for subject in subjects], 1)
     wrong = [line for counted in all_counted for line in counted.wrong]

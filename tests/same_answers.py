@@ -42,7 +42,7 @@ def answer(program, names):
 
 
 def play(task):
-    """Plays a batch. Returns the counts of its results, and the differences."""
+    """Plays a batch. Returns the counts of its results, and the differences between the programs."""
     programs, number, count = task
     chance = random.Random(f"{malformed.SEED} of {number}")
     room = tempfile.mkdtemp(prefix="same-answers-")

@@ -13,7 +13,7 @@ The first form runs `xbrlmerge` on the reports and writes these files into the f
     merged.json         the merged report
 
 Providers are named after their files: issuer.json is by "issuer". NAME=REPORT gives another name. If a provider made several
-reports, repeat its NAME. A refused report is listed, with what `xbrlmerge explain` prints for it, and the other reports are
+reports, repeat its NAME. A refused report is listed with the lines of `xbrlmerge explain`, and the other reports are
 used. --taxonomy makes the sheet first and writes it as sheet.json; it may be repeated.
 
 --normalise applies the rules of tools/normalise to each report first, with the same options, and lists the changes in
@@ -24,12 +24,12 @@ identifier in another namespace or scheme, other letter case or white space, mom
 language, or a dimension that one row lacks. Pairs are left out if one provider reports both rows. For each set of rows that
 differ in the same dimension, at most 1,000 pairs are compared.
 
---from uses what `xbrlmerge merge` and `xbrlmerge verdicts` printed earlier. --sources uses what `xbrlmerge sources` printed,
+--from uses the earlier output of `xbrlmerge merge` and `xbrlmerge verdicts`. --sources uses the output of `xbrlmerge sources`,
 and --names lists the providers in the order of the reports. Instead of both, each PROVIDER=TEXT names the merged report of
 that provider's own reports.
 
 The page shows at most 80 characters of an identifier, a URI or a text; the tables contain all. In the tables, a ' precedes
-what a spreadsheet would read as a formula.
+each text that a spreadsheet would read as a formula.
 
 Status 0: all reports were read without loss, and there is no contradiction. 1: the files are written, and there is something
 to look at: a contradiction, a refused report, a loss of --normalise or --taxonomy, or pairs that --near did not compare

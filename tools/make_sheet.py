@@ -9,7 +9,7 @@ Nothing is fetched: a schema that is imported by URL must be in a named folder o
 the URL to it. The schemas of the specifications, at xbrl.org and w3.org, are not needed: their item types are built in.
 
 Enumeration sets are listed as text, and in the member xbrlmerge:sets, which tools/normalise reads. Standard error lists
-what is left out: fractions, other texts that contain prefixes (which would not be expanded), and elements with an unknown
+the parts that are left out: fractions, other texts that contain prefixes (which would not be expanded), and elements with an unknown
 type or substitution group.
 
 Files may come from untrusted sources. Only regular files are read, and only those in a named folder, in the folder of a

@@ -1,4 +1,4 @@
-"""Tests of tests/pages on small pages (which words count, which links lead nowhere) and on the pages of this repository."""
+"""Tests of tests/pages on small pages (which words count, which links are broken) and on the pages of this repository."""
 import os
 import subprocess
 import unittest
@@ -14,7 +14,7 @@ class Pages(unittest.TestCase):
         self.tree = SmallTree(self, "pages.py")
 
     def ran(self, page, text):
-        """Returns the status for one page, the counted words, and what is wrong."""
+        """Returns the status for one page, the counted words, and the faults."""
         self.tree.put(page, text)
         status, counted, wrong = self.tree.run(page)
         return status, int(counted[0].split()[0]), [it.removeprefix("pages: ") for it in wrong]
