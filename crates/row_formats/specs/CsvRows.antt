@@ -36,7 +36,7 @@ columns =
     ∷ codes "value" ∷ codes "nil" ∷ codes "decimals"
     ∷ codes "common_low" ∷ codes "common_high" ∷ codes "apart_first" ∷ codes "apart_second" ∷ []
 
--- ---- texts that a spreadsheet takes for a formula
+-- ---- texts that a spreadsheet reads as a formula
 
 -- bytes that a spreadsheet may skip before a formula: blanks, quotes, and the bytes of space characters such as U+00A0 and U+3000
 abbrev pub is_skipped : ℕ → Bool

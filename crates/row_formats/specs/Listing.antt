@@ -29,7 +29,7 @@ pub record ListsRows (format : RowFormat) (b : Body) (refusals : List (ℕ × Re
   pub refusals_are : told ≡ refusals
   pub rows : AppendsRows format b old new
 
--- a fault: memory was refused or the device failed, with a first part of the rows appended
+-- after a fault (memory was refused or the device failed), a first part of the rows was appended
 abbrev pub RowsStop : RowFormat → Body → Option (List ℕ) → Option (List ℕ) → Fault → Type 0
 RowsStop format b old new (OutOfMemory written) = StopsBefore old new written ⊎ AppendsFrontOfRows format b old new written
 RowsStop format b old new (Device written) = AppendsFrontOfRows format b old new written

@@ -59,7 +59,7 @@ pub record ListsSourceRows (format : RowFormat) (sheet : Sheet) (reports : List 
   pub refusals_are : told ≡ refused sheet reports
   pub appended : Appends old new (sources_in format sheet reports)
 
--- a fault: a first part of the rows was appended, and the fault carries the number of its bytes
+-- after a fault, a first part of the rows was appended, and the fault carries the number of its bytes
 abbrev pub SourceRowsStop : RowFormat → Sheet → List (List ℕ) → Option (List ℕ) → Option (List ℕ) → Fault → Type 0
 SourceRowsStop format sheet reports old new (OutOfMemory written) = AppendsFront old new (sources_in format sheet reports) written
 SourceRowsStop format sheet reports old new (Device written) = AppendsFront old new (sources_in format sheet reports) written

@@ -36,7 +36,7 @@ const RECORD: usize = 1 << 9;
 /// The number of fields in a record.
 const FIELDS: usize = 16;
 
-/// The header with the names of the columns.
+/// Returns the header with the names of the columns.
 pub(crate) fn csv_header(alloc: Global) -> Result<Vec<u8>, AllocError>
     ensures { IfOk result (λ text. text.items ≡ record_text columns) }
 {
@@ -54,7 +54,7 @@ pub(crate) fn csv_header(alloc: Global) -> Result<Vec<u8>, AllocError>
     text_of_record(alloc, &record)
 }
 
-/// The records of a row with this number and this evidence.
+/// Returns the records of a row with this number and this evidence.
 pub(crate) fn csv_row(
     alloc: Global,
     spreadsheet: bool,

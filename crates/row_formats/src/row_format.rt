@@ -1,7 +1,7 @@
 /// A format of rows for other programs.
 #[derive(Clone, Copy, Debug, PartialEq, Eq)]
 pub enum RowFormat {
-    /// One JSON object a line.
+    /// One JSON object per line.
     Json,
     /// A header and one record for each fact (RFC 4180).
     Csv,

@@ -66,7 +66,7 @@ fn write_row(
     json.end_object()
 }
 
-/// The word for the verdict that the evidence shows.
+/// Returns the word for the verdict that the evidence shows.
 pub(crate) fn word_of(evidence: &Evidence) -> &'static str
     ensures { result.now ≡ verdict_word (verdict_shown evidence.now) }
 {
@@ -197,14 +197,14 @@ fn write_interval(alloc: Global, json: &mut Writer, common: &Interval) -> Result
     json.end_object()
 }
 
-/// The low end of an interval.
+/// Returns the low end of an interval.
 pub(crate) fn low_text(alloc: Global, interval: &Interval) -> Result<Text, AllocError>
     ensures { IfOk result (λ text. text ≡ plain interval.now.low) }
 {
     write_units(alloc, interval.low)
 }
 
-/// The high end of an interval.
+/// Returns the high end of an interval.
 pub(crate) fn high_text(alloc: Global, interval: &Interval) -> Result<Text, AllocError>
     ensures { IfOk result (λ text. text ≡ plain interval.now.high) }
 {

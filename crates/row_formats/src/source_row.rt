@@ -13,7 +13,7 @@ use oim_merge::PlacedMention;
 use oim_write::identifier;
 use std::alloc::{AllocError, Global};
 
-/// The text before the first row.
+/// Returns the text before the first row.
 pub(crate) fn header_of(alloc: Global, format: RowFormat) -> Result<Vec<u8>, AllocError>
     ensures { IfOk result (λ text. text.items ≡ source_header format) }
 {
@@ -23,7 +23,7 @@ pub(crate) fn header_of(alloc: Global, format: RowFormat) -> Result<Vec<u8>, All
     }
 }
 
-/// The row of a mention, given the count of facts in the base.
+/// Returns the row of a mention, given the count of facts in the base.
 pub(crate) fn text_of(
     alloc: Global,
     format: RowFormat,
@@ -53,7 +53,7 @@ fn source_text(
     }
 }
 
-/// The header with the names of the columns.
+/// Returns the header with the names of the columns.
 fn csv_header(alloc: Global) -> Result<Vec<u8>, AllocError>
     ensures { IfOk result (λ text. text.items ≡ record_text source_columns) }
 {

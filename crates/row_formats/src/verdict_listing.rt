@@ -188,7 +188,7 @@ fn header_of(alloc: Global, format: RowFormat) -> Result<Vec<u8>, AllocError>
     }
 }
 
-/// The text of a row of the base.
+/// Returns the text of a row of the base.
 fn text_of(
     alloc: Global,
     base: &Base<'_>,
@@ -225,7 +225,7 @@ fn row_text(
     }
 }
 
-/// The evidence for the verdict on a row of the base.
+/// Returns the evidence for the verdict on a row of the base.
 fn evidence_of(base: &Base<'_>, row: Row<'_>) -> Evidence
     requires { Contains (rows_of base.now.body.facts) (shown row) }
     ensures { IsEvidence row.entry.values.now result }

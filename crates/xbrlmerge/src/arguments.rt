@@ -29,7 +29,7 @@ pub(crate) fn output_argument<'w>(alloc: Global) -> Arg<'w> {
         .help("Write to FILE, whole or not at all")
 }
 
-/// A command with this name and help, and the option for a sheet.
+/// Returns a command with this name and help, and the option for a sheet.
 pub(crate) fn command<'w>(
     alloc: Global,
     name: &'w str,
@@ -42,7 +42,7 @@ pub(crate) fn command<'w>(
         .arg(sheet_argument(alloc))
 }
 
-/// The required option for the sheet.
+/// Returns the required option for the sheet.
 fn sheet_argument<'w>(alloc: Global) -> Arg<'w> {
     Arg::new(alloc, SHEET)
         .long(SHEET)
@@ -51,7 +51,7 @@ fn sheet_argument<'w>(alloc: Global) -> Arg<'w> {
         .help("The sheet: a file that lists the concepts and dimensions of the reports")
 }
 
-/// A command that reads any number of reports and writes a text.
+/// Returns a command that reads any number of reports and writes a text.
 pub(crate) fn with_reports<'w>(
     alloc: Global,
     command: Command<'w>,
@@ -89,14 +89,14 @@ fn quiet_argument<'w>(alloc: Global) -> Arg<'w> {
         .help("Do not show on a terminal how many reports were read")
 }
 
-/// The arguments for any number of reports.
+/// Returns the arguments for any number of reports.
 fn reports_argument<'w>(alloc: Global) -> Arg<'w> {
     Arg::new(alloc, REPORT)
         .num_args(0..)
         .help("The report files, in this order")
 }
 
-/// The required argument for one report.
+/// Returns the required argument for one report.
 pub(crate) fn report_argument<'w>(alloc: Global) -> Arg<'w> {
     Arg::new(alloc, REPORT)
         .required(true)

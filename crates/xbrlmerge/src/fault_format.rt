@@ -20,7 +20,7 @@ pub(crate) fn format_argument<'w>(alloc: Global) -> Arg<'w> {
         .help("How faults are printed")
 }
 
-/// The format given by the arguments.
+/// Returns the format given by the arguments.
 pub(crate) fn format_of(found: &ArgMatches<'_>) -> Format {
     match found.get_str(FORMAT) {
         Some(JSON) => Format::Json,

@@ -150,7 +150,7 @@ fn read_bytes<R: Read + Drop>(alloc: Global, reader: R) -> Result<Encoded, ReadF
     read_all(alloc, &mut source, MOST_BYTES)
 }
 
-/// Why the file with this name cannot be read, if the cause is known.
+/// Returns why the file with this name cannot be read, if the cause is known.
 fn why_unread<F: Files>(files: &F, name: &str) -> Option<&'static str> {
     match fs::metadata(files, name) {
         Ok(found) if found.is_dir() => return Some("It is a folder."),

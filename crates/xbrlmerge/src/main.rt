@@ -25,7 +25,7 @@ use std::process::ExitCode;
 use std::{env, io};
 use streams::Streams;
 
-/// The arguments after the program's name.
+/// Returns the arguments after the program's name.
 fn given(rt: &HostRuntime) -> io::Result<Vec<String>> {
     let mut words = Vec::new(rt.alloc());
     for word in env::args(rt)?.skip(1) {

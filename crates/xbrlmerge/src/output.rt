@@ -118,7 +118,8 @@ fn remove<F: Files>(files: &F, name: &str) {
     let _ = fs::remove_file(files, name);
 }
 
-/// The mode of the regular file with this name, if there is one, without setuid, setgid and sticky.
+/// Returns the mode of the regular file with this name, if there is one, without the bits for
+/// setuid, setgid and sticky.
 ///
 /// Errors: `Unwritten` if the name is invalid or belongs to anything else.
 fn old_mode<'w, F: Files>(files: &F, name: &'w str) -> Result<Option<Permissions>, Error<'w>> {

@@ -25,7 +25,7 @@ impl<'w> ReportNames<'w> {
         }
     }
 
-    /// The names in a command's arguments.
+    /// Returns the names in a command's arguments.
     pub(crate) fn of(
         alloc: Global,
         matches: &ArgMatches<'w>,
@@ -39,7 +39,8 @@ impl<'w> ReportNames<'w> {
         Ok(ReportNames { words, list, end })
     }
 
-    /// The names of all reports, given the bytes of the file of names. Empty names are skipped.
+    /// Returns the names of all reports, given the bytes of the file of names. Empty names are
+    /// skipped.
     ///
     /// Errors: `Unread` if the names are not UTF-8; `NoNames` if there is such a file and no report is
     /// named; out of memory.

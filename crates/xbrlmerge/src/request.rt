@@ -42,7 +42,7 @@ impl<'w> Args<'w> {
     }
 }
 
-/// What the program should do.
+/// The work that the arguments ask for.
 #[derive(Drop)]
 pub(crate) enum Request<'w> {
     /// Merge the bundle on standard input.

@@ -38,7 +38,7 @@ pub(crate) fn with_format<'w>(
     command.arg(format)?.arg(spreadsheet)
 }
 
-/// The format given by the arguments.
+/// Returns the format given by the arguments.
 pub(crate) fn print_format_of(found: &ArgMatches<'_>) -> Option<PrintFormat> {
     match (found.get_str(FORMAT)?, found.get_flag(SPREADSHEET)) {
         ("lines", _) => Some(PrintFormat::Lines),

@@ -85,7 +85,7 @@ fn escape_each<W: AsStr>(alloc: Global, words: &[W]) -> Result<Vec<String>, Allo
     Ok(escaped)
 }
 
-/// A request without reports and files.
+/// Returns a request without reports and files.
 fn alone(alloc: Global, request: Request<'_>) -> Args<'_> {
     Args {
         request,
@@ -112,7 +112,7 @@ fn match_words<'w, W: AsStr>(
     Ok(args_of(alloc, &matches)?)
 }
 
-/// The parsed arguments, or None if they name no command.
+/// Returns the parsed arguments, or None if they name no command.
 fn args_of<'w>(alloc: Global, matches: &ArgMatches<'w>) -> Result<Option<Args<'w>>, AllocError> {
     let Some((name, matches)) = matches.subcommand() else {
         return Ok(None);
@@ -128,7 +128,7 @@ fn args_of<'w>(alloc: Global, matches: &ArgMatches<'w>) -> Result<Option<Args<'w
     }))
 }
 
-/// The request for a command, or None if there is no such command.
+/// Returns the request for a command, or None if there is no such command.
 fn request_of<'w>(name: &str, matches: &ArgMatches<'w>) -> Option<Request<'w>> {
     let sheet = matches.get_str(SHEET)?;
     let subcommand = match name {
@@ -143,7 +143,7 @@ fn request_of<'w>(name: &str, matches: &ArgMatches<'w>) -> Option<Request<'w>> {
     Some(Request::Under(sheet, subcommand))
 }
 
-/// The program with its help, without commands.
+/// Returns the program with its help, without commands.
 fn described<'w>(alloc: Global) -> Result<Command<'w>, AllocError> {
     let program = Command::new(alloc, PROGRAM)
         .no_binary_name(true)
@@ -153,7 +153,7 @@ fn described<'w>(alloc: Global) -> Result<Command<'w>, AllocError> {
     program.bin_name(PROGRAM)
 }
 
-/// The program with its commands and their help.
+/// Returns the program with its commands and their help.
 fn program<'w>(alloc: Global) -> Result<Command<'w>, AllocError> {
     let mut program = described(alloc)?;
     for name in COMMANDS {
@@ -162,7 +162,7 @@ fn program<'w>(alloc: Global) -> Result<Command<'w>, AllocError> {
     Ok(program)
 }
 
-/// The arguments of the command with this name.
+/// Returns the arguments of the command with this name.
 fn words_of<'w>(alloc: Global, name: &str) -> Result<Command<'w>, AllocError> {
     match name {
         merge::NAME => merge::words(alloc),

@@ -46,14 +46,14 @@ pub record TellsSources (sheet : List ℕ) (reports : List (List ℕ)) (text : L
   pub text_is : text ≡ sources listed reports
   pub refusals_are : told ≡ refused listed reports
 
--- the verdicts as JSON, one object a line
+-- the verdicts as JSON, one object per line
 pub record JudgesJson (sheet : List ℕ) (reports : List (List ℕ)) (text : List ℕ) (told : List (ℕ × Refusal)) : Type 0 where
   pub listed : Sheet
   pub read : sheet_outcome sheet ≡ Ok listed
   pub rows : AreRows Json (merged listed reports) text
   pub refusals_are : told ≡ refused listed reports
 
--- the sources as JSON, one object a line
+-- the sources as JSON, one object per line
 pub record TellsSourcesJson (sheet : List ℕ) (reports : List (List ℕ)) (text : List ℕ) (told : List (ℕ × Refusal)) : Type 0 where
   pub listed : Sheet
   pub read : sheet_outcome sheet ≡ Ok listed

@@ -45,7 +45,7 @@ pub struct RefusedReport {
 }
 
 impl RefusedReport {
-    /// The record for a refusal of the report with this number.
+    /// Returns the record for a refusal of the report with this number.
     pub(crate) fn new(report: u64, refusal: &Refusal) -> RefusedReport
         ensures { result ≡ row report refusal.now }
     {

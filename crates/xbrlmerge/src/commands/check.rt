@@ -43,14 +43,14 @@ Status:
   3  not checked: invalid arguments, a refused sheet, a file or device that failed, or out of
      memory";
 
-/// The arguments of this command, with its help.
+/// Returns the arguments of this command, with its help.
 pub(crate) fn words<'w>(alloc: Global) -> Result<Command<'w>, AllocError> {
     command(alloc, NAME, ABOUT, MORE)?
         .arg(output_argument(alloc))?
         .arg(report_argument(alloc))
 }
 
-/// The command, or None if a required argument is missing.
+/// Returns the command, or None if a required argument is missing.
 pub(crate) fn of<'w>(matches: &ArgMatches<'w>) -> Option<Subcommand<'w>> {
     matches.get_str(REPORT).map(Subcommand::Check)
 }

@@ -54,7 +54,7 @@ Status:
   3  not every report was read: invalid arguments, a refused sheet, a file or device that failed,
      or out of memory";
 
-/// The arguments of this command, with its help.
+/// Returns the arguments of this command, with its help.
 pub(crate) fn words<'w>(alloc: Global) -> Result<Command<'w>, AllocError> {
     let command = command(alloc, NAME, ABOUT, MORE)?;
     with_reports(alloc, command.arg(format_argument(alloc))?)

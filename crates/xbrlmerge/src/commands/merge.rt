@@ -42,7 +42,7 @@ Status:
   3  not done, or not to the end: invalid arguments, a refused sheet, a file or device that
      failed, or out of memory";
 
-/// The arguments of this command, with its help.
+/// Returns the arguments of this command, with its help.
 pub(crate) fn words<'w>(alloc: Global) -> Result<Command<'w>, AllocError> {
     let allow = Arg::new(alloc, ALLOW)
         .long(ALLOW)
@@ -53,7 +53,7 @@ pub(crate) fn words<'w>(alloc: Global) -> Result<Command<'w>, AllocError> {
     with_reports(alloc, command(alloc, NAME, ABOUT, MORE)?.arg(allow)?)
 }
 
-/// The command, or None if a required argument is missing.
+/// Returns the command, or None if a required argument is missing.
 pub(crate) fn of<'w>(matches: &ArgMatches<'w>) -> Option<Subcommand<'w>> {
     let allow = matches.get_str(ALLOW).and_then(Level::read)?;
     Some(Subcommand::Merge(allow))

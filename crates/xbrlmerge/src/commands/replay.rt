@@ -53,7 +53,7 @@ Status:
      an event or names something that does not exist, a file or device that failed, or out of
      memory";
 
-/// The arguments of this command, with its help.
+/// Returns the arguments of this command, with its help.
 pub(crate) fn words<'w>(alloc: Global) -> Result<Command<'w>, AllocError> {
     let command = command(alloc, NAME, ABOUT, MORE)?
         .arg(replicas_argument(alloc))?
@@ -61,7 +61,7 @@ pub(crate) fn words<'w>(alloc: Global) -> Result<Command<'w>, AllocError> {
     with_reports(alloc, command)
 }
 
-/// The command, or None if a required argument is missing.
+/// Returns the command, or None if a required argument is missing.
 pub(crate) fn of<'w>(matches: &ArgMatches<'w>) -> Option<Subcommand<'w>> {
     let replicas = matches.get_one(REPLICAS)?;
     let events = matches.get_str(EVENTS)?;
@@ -87,7 +87,7 @@ pub(crate) fn run<'n, F: Files, E: Write, S: Sink>(
     ended(put_replayed(inputs.alloc, out, replayed))
 }
 
-/// The events in the schedule file with this name.
+/// Reads the events from the schedule file with this name.
 fn read_schedule<'n, F: Files, E: Write>(
     name: &'n str,
     inputs: &Inputs<'n, F, E>,
@@ -96,7 +96,7 @@ fn read_schedule<'n, F: Files, E: Write>(
     Ok(read_events(inputs.alloc, lines.as_bytes())?)
 }
 
-/// The replicas after the events.
+/// Returns the replicas after the events.
 fn replay_reports<'n, 's, F: Files, E: Write>(
     replicas: usize,
     events: &Events,
@@ -123,7 +123,7 @@ fn put_replayed<S: Sink>(
     Ok(refused)
 }
 
-/// The required option for the number of replicas.
+/// Returns the required option for the number of replicas.
 fn replicas_argument<'w>(alloc: Global) -> Arg<'w> {
     Arg::new(alloc, REPLICAS)
         .long(REPLICAS)
@@ -133,7 +133,7 @@ fn replicas_argument<'w>(alloc: Global) -> Arg<'w> {
         .help("The number of replicas, from 1 to 64")
 }
 
-/// The required option for the schedule.
+/// Returns the required option for the schedule.
 fn events_argument<'w>(alloc: Global) -> Arg<'w> {
     Arg::new(alloc, EVENTS)
         .long(EVENTS)

@@ -46,7 +46,7 @@ Status:
   3  not done, or not to the end: invalid arguments, a refused sheet, a file or device that
      failed, or out of memory";
 
-/// The arguments of this command, with its help.
+/// Returns the arguments of this command, with its help.
 pub(crate) fn words<'w>(alloc: Global) -> Result<Command<'w>, AllocError> {
     let command = command(alloc, NAME, ABOUT, MORE)?;
     with_reports(alloc, with_format(alloc, command)?)

@@ -24,6 +24,6 @@ pub(crate) const END: &str = "}}";
 /// The namespace of one concept.
 pub(crate) const ONE_URI: &str = r#""n1":"http://example.org/t""#;
 
-/// Its fact, 100 with `decimals` 0.
+/// The fact of this concept: 100 with `decimals` 0.
 pub(crate) const WRITTEN_HUNDRED: &str =
     r#""f1":{"decimals":0,"dimensions":{"concept":"n1:A"},"value":"100"}"#;

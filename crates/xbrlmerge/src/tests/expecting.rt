@@ -27,12 +27,12 @@ impl<'a> Expecting<'a> {
         }
     }
 
-    /// True if all written bytes are as expected, and none is missing.
+    /// Returns whether all written bytes are as expected, and none is missing.
     pub(crate) fn is_met(&self) -> bool {
         self.left.is_empty() && !self.differs
     }
 
-    /// The number of bytes still expected.
+    /// Returns the number of bytes still expected.
     pub(crate) fn left(&self) -> usize {
         self.left.len()
     }

@@ -190,7 +190,7 @@ pub(super) const STOPPED: [Row; 15] = [
         &[],
         "event 1: refused\n",
     ),
-    // the sheet is read before the events, and these before the reports
+    // the sheet is read before the events, and the events before the reports
     (
         "replay --sheet sheet --replicas 2 --events missing none",
         3,

@@ -214,7 +214,7 @@ pub(super) const SHOWN: [(&str, &str); 2] = [
     ("merge --sheet sheet 100 --quiet", ""),
 ];
 
-/// A file lists reports, which come after those in the arguments.
+/// A file lists reports, which follow the reports in the arguments.
 pub(super) const LISTED: [Row; 8] = [
     ("merge --sheet sheet --reports-from names", 0, BOTH, ""),
     ("merge --sheet sheet -0 --reports-from ended", 0, BOTH, ""),
