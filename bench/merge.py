@@ -78,13 +78,13 @@ def in_child(work, *words):
 
 
 def concept(n):
-    """The URI and the local part of a concept. One in ten is the issuer's own and is a text."""
+    """Returns the URI and the local part of a concept. One concept in ten is the issuer's own, and is a text."""
     n %= CONCEPTS
     return (ISSUER if n % 10 == 9 else TAXONOMY), f"{SUBJECTS[n % len(SUBJECTS)]}Item{n}"
 
 
 def fact(n, entity, prefixes, value, decimals):
-    """Fact n of an entity. No two facts have the same concept, year and segment."""
+    """Returns fact n of an entity. No two facts have the same concept, year and segment."""
     year, segment = 2018 + n // CONCEPTS % YEARS, n // CONCEPTS // YEARS
     uri, local = concept(n)
     dimensions = {
@@ -102,7 +102,7 @@ def fact(n, entity, prefixes, value, decimals):
 
 
 def report(number, facts, rng):
-    """A report with its own prefixes. A fact has a number, an entity, a value and decimals."""
+    """Returns a report with its own prefixes. Each fact is given as a number, an entity, a value and decimals."""
     uris = TAXONOMY, ISSUER, SCHEME, CURRENCIES
     prefixes = {uri: f"{name}{number}" for uri, name in zip(uris, ("ifrs", "own", "lei", "iso"))}
     return {
@@ -193,7 +193,7 @@ def build_peer(folder):
 
 
 def run(program, bundle, text):
-    """The processor seconds and the peak kilobytes of one run."""
+    """Returns the processor seconds and the peak kilobytes of one run."""
     with open(bundle, "rb") as given, open(text, "wb") as taken:
         child = subprocess.Popen([program], stdin=given, stdout=taken)
         _, status, used = os.wait4(child.pid, 0)
@@ -204,7 +204,7 @@ def run(program, bundle, text):
 
 
 def instructions(program, bundle):
-    """The number of instructions of a run, or None if valgrind is not installed."""
+    """Returns the number of instructions of a run, or None if valgrind is not installed."""
     if shutil.which("valgrind") is None:
         return None
     command = ["valgrind", "--tool=cachegrind", "--cache-sim=no", "--cachegrind-out-file=/dev/null", program]
@@ -217,7 +217,7 @@ def instructions(program, bundle):
 
 
 def measure(workload, size, programs, folder):
-    """The seconds, kilobytes and instructions of each program."""
+    """Returns the seconds, kilobytes and instructions of each program."""
     stem = os.path.join(folder, f"{workload.replace(' ', '_')}_{size}")
     bundle = f"{stem}.bundle"
     in_child(write_bundle, workload, size, bundle)

@@ -3,7 +3,7 @@
 
     tests/devices [PROGRAM]
 
-PROGRAM is $XBRLMERGE or the built one by default. The tables below have the expected status and line for each case. If the
+PROGRAM is $XBRLMERGE or the built one by default. The tables below list the expected status and line for each case. If the
 line has a length, standard output must contain exactly that many bytes, the first part of the full text; otherwise it must
 contain all of the text or nothing. No file may change.
 

@@ -230,11 +230,12 @@ class Page:
         self.there = [(path, name) for _, path, name in self.entries]
         self.contracts = [it for it in self.there if is_contract(specs, *it)]
         self.tabled = IN_THE_TABLE if CONDITION.search(self.text) else []
-        # names that need no entry: words, names in the table, and entries of the page before that this page does not repeat
+        # names that need no entry: words, names in the table, and entries of the previous page that this page does not repeat
         self.stops = {*self.words, *self.tabled, *({*before.there, *before.words}.difference(self.there) if before else ())}
 
     def needed(self):
-        """Returns the names that the page's contracts need, in order. Words and names of the page before are not followed."""
+        """Returns the names that the page's contracts need, in order. Words and names of the previous page are not
+        followed."""
         found = (it for root in self.contracts for it in closure(self.specs, root, self.stops))
         return [it for it in dict.fromkeys(found) if it not in self.contracts]
 
@@ -264,7 +265,7 @@ class Page:
 
 
 def entry_problems(page, others):
-    """Returns what is wrong with the entries and the words of a page, given the entries of the other pages."""
+    """Returns the faults in the entries and the words of a page, given the entries of the other pages."""
     found, specs = [], page.specs
     for path, name in [*page.there, *page.words]:
         if specs.text(path, name) is None:
@@ -282,7 +283,7 @@ def entry_problems(page, others):
 
 
 def word_problems(page, entries):
-    """Returns what is wrong with the laws of the words of a page, given the entries of all pages."""
+    """Returns the faults in the laws of a page's words, given the entries of all pages."""
     found = []
     for word, laws in page.words.items():
         if not laws:
@@ -298,7 +299,7 @@ def word_problems(page, entries):
 
 
 def tested_on(page):
-    """Returns the parts of a document or fact on which the definitions test each reason."""
+    """Returns, for each reason, the parts of a document or fact on which the definitions test it."""
     found = {}
     for path, name in (it for it in page.there if "holds" in it[1] and it[0].endswith(".antt")):
         thing = next((it for it in ("sheet", "document") if it in name), "fact")
@@ -308,7 +309,7 @@ def tested_on(page):
 
 
 def table_rows(page):
-    """Yields the rows by the code. Sections, and reasons without a definition, are taken from the page."""
+    """Yields the rows that the code requires. Sections, and reasons without a definition, are taken from the page."""
     there = {it[1]: it[3:] for it in CONDITION.findall(page.text)}
     comments = {name: text for text, name in re.findall(r"((?: *///.*\n)+) +(\w+),", content(REASONS[0]))}
     for name, number in re.findall(r"^entry_of (\w+) = record \{ number = (\d+);", content(REASONS[1]), re.MULTILINE):

@@ -115,7 +115,7 @@ def compare(told, done, out, wanted):
 
 
 def made_again(width, told, branches):
-    """Runs make again, and checks that exactly this many branches are rebuilt, with the bytes of one run."""
+    """Runs make again, and checks that exactly this many branches are rebuilt and that the text equals the text of one run."""
     done = make(width)
     compare(told, done, f"out{width}.json", one_run())
     check(done.stdout.count("merging branch") == branches, f"{told}: made {done.stdout.split()}")

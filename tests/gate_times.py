@@ -6,7 +6,7 @@
 
 A part is the proof of a crate, the proof of its tests, its must-fail edits or its runs. The processes are sampled twice a
 second to find when a part begins and ends; 'processor' is their time on all processors. The status is 0 if the last line of
-the run says that none failed, otherwise 1.
+the run says that nothing failed, otherwise 1.
 """
 import os
 import re

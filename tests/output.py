@@ -1,5 +1,5 @@
 #!/usr/bin/env python3
-"""Runs the program with `--output`, makes each call that writes the file fail, and kills the run there. Not in the gate.
+"""Runs the program with `--output` while each call that writes the file fails, or kills the run. Not in the gate.
 
     tests/output [PROGRAM]
 

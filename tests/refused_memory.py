@@ -10,7 +10,7 @@ a call was refused (`refused`) or that its own setup was (`refused here`); if it
 over. The program runs on command lines of every command. It must print the line `out of memory`, end with status 3 and have
 written a first part of its text. It may also print its whole text: then its runtime made the request, and asked again for
 less. JOBS runs are parallel, as many as there are processors by default. If a test makes more than 5,000 requests, only each
-7th is refused from 2,001 on. Fewer are refused if it makes more than 50,000, or if its runs are long. A line names these.
+7th is refused from 2,001 on. Fewer are refused if it makes more than 50,000, or if its runs are long. A line describes them.
 
 Status 0: nothing failed and nothing was passed over. 1: something was. 2: tests are not built, or are older than the
 sources.
@@ -75,7 +75,7 @@ class NotBuilt(Exception):
 
 
 def crate_names():
-    """Returns the crates, each after those on which it depends."""
+    """Returns the crates, each after its dependencies."""
     return re.findall(r"^(\w+)[^:#\n]*:", content("crates.txt"), re.MULTILINE)
 
 
@@ -167,8 +167,8 @@ def told_of(subject, ran):
 
 
 def fronts_of(subject, ran):
-    """Returns whether a part of the text was written before the refusal, and whether a whole chunk was. The tests print the
-    length that their sink had.
+    """Returns `fronts` if a part of the text was written before the refusal, and `long fronts` if a whole chunk was. The tests
+    print the length of the text in their sink.
     """
     told = [len(ran.out)] if subject.whole else [int(it) for it in re.findall(rb"^ *written (\d+)$", ran.err, re.MULTILINE)]
     longest = max(told, default=0)

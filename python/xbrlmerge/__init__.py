@@ -179,7 +179,7 @@ def verdict_columns(sheet: Given, reports: Iterable[Given]) -> Columns:
     """Returns the verdicts as columns with an item for each fact.
 
     The columns are: the number and the verdict of the row, the canonical identifier of the fact, its dimensions with names
-    as {URI}local, its value and decimals, and the evidence of the row. `dimensions` has the taxonomy-defined ones, as a JSON
+    as {URI}local, its value and decimals, and the evidence of the row. `dimensions` contains the taxonomy-defined ones, as a JSON
     object. Absent values are None. Values, `common_low` and `common_high` are texts, so that no digit is lost. Raises
     SheetRefused and MemoryError.
     """
@@ -189,8 +189,8 @@ def verdict_columns(sheet: Given, reports: Iterable[Given]) -> Columns:
 
 
 def source_columns(sheet: Given, reports: Iterable[Given]) -> Columns:
-    """Returns columns with an item for each fact in an accepted report, and its identifier there. Raises SheetRefused and
-    MemoryError.
+    """Returns the sources as columns with an item for each fact object in an accepted report: the canonical identifier of the
+    fact, the number of the report, and the identifier in that report. Raises SheetRefused and MemoryError.
     """
     answer = _library.sources_json(_bytes(sheet), _each(reports))
     text = _text(answer)

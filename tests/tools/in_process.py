@@ -17,7 +17,7 @@ from support import content  # noqa: E402
 
 
 class RoomTest(unittest.TestCase):
-    """Tests that have their own folder each, `room`."""
+    """Tests with a new folder, `room`, for each one."""
 
     def setUp(self):
         room = tempfile.TemporaryDirectory()
