@@ -10,7 +10,7 @@ from process import shortened
 SPACE = " \t\r\n"  # the white space of XML and xBRL-JSON; other Unicode spaces are part of a name
 PART = re.compile(rf"[^{SPACE}:]+")
 NAME = re.compile(f"({PART.pattern}):({PART.pattern})")
-XBRL = "https://xbrl.org/2021"  # the reserved namespace, which has no concept and no dimension of a report
+XBRL = "https://xbrl.org/2021"  # the reserved namespace; no concept or dimension of a report belongs to it
 
 Uris = Mapping[str, str]  # by prefix
 

@@ -76,7 +76,7 @@ def write_beside(path: str, pieces: Iterable[str], folders: contextlib.ExitStack
         with open(output.new, "x", encoding="utf-8", newline="") as file:
             file.writelines(pieces)
             copy_permissions(place, file.fileno())
-    except OSError as fault:  # its own message names no file, or the new folder
+    except OSError as fault:  # its own message names the new folder, or no file
         raise OSError(f"{path}: {fault.strerror or fault}") from None
     return output
 

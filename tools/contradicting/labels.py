@@ -21,7 +21,7 @@ class Label(NamedTuple):
     text: str
 
     def counts_before(self, other: Optional[Label]) -> bool:
-        """Returns whether it replaces an earlier label. Texts are not compared, because they may be long."""
+        """Returns whether this label replaces an earlier one. Texts are not compared, because they may be long."""
         return other is None or self.is_of_dialect < other.is_of_dialect
 
 

@@ -29,7 +29,7 @@ class Kept(NamedTuple):
 
 
 class Near:
-    """Pairs of rows that differ in one dimension only, perhaps by mistake, and that no provider reports both.
+    """Pairs of rows that differ in one dimension only, perhaps by mistake. No provider reports both rows of a pair.
 
     The difference may be: an entity, a concept or an explicit member with the same local part in another namespace; letter
     case or white space; moments at most a day apart; another unit or language; a dimension that one of the two lacks.

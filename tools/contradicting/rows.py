@@ -49,7 +49,7 @@ class Fact(NamedTuple):
         return interval_of(self.value, self.decimals)
 
     def precision(self) -> tuple[Union[int, str], Union[Decimal, str], Union[Decimal, str]]:
-        """Returns the decimals and the interval of a number; nothing for other values."""
+        """Returns the decimals and the interval of a number, or empty texts for other values."""
         if not isinstance(self.value, Decimal):
             return "", "", ""
         low, high = self.interval()

@@ -23,9 +23,9 @@ Holders = tuple[Holder, ...]  # of one fact
 
 
 class Sources:
-    """The lines of `sources`, in the order of the facts. `reports` has the provider of each report.
+    """The lines of `sources`, in the order of the facts. `reports` contains the provider of each report.
 
-    `names` has the providers of the reports that are not refused.
+    `names` contains the providers of the reports that are not refused.
     """
 
     def __init__(self, path: str, reports: list[str], refused: Container[int] = ()) -> None:

@@ -1,7 +1,7 @@
 """Reads and writes JSON. Numbers keep their spelling, and no member is lost.
 
-`json` reads it, with hooks. `json` cannot write it: its encoder spells numbers itself, from an int or a float, so 1.50, -0
-and 1e400 would change. Therefore `pieces_of` writes.
+The module `json` reads it, with hooks. `pieces_of` writes it, because the encoder of `json` spells numbers from an int or a
+float and would change 1.50, -0 and 1e400.
 """
 from __future__ import annotations
 

@@ -1,4 +1,4 @@
-"""The options of normalising that lose something."""
+"""The options of normalising with which something is lost."""
 from __future__ import annotations
 
 import argparse
@@ -13,7 +13,7 @@ LOSSES = {
 
 
 def add_losses(parser: argparse.ArgumentParser, title: str) -> None:
-    """Adds the options to a parser as a group."""
+    """Adds the lossy options to a parser as a group."""
     lossy = parser.add_argument_group(title)
     for word, told in LOSSES.items():
         lossy.add_argument(f"--{word}", action="store_true", help=told)
@@ -23,5 +23,5 @@ def add_losses(parser: argparse.ArgumentParser, title: str) -> None:
 
 
 def loses(options: argparse.Namespace) -> bool:
-    """Returns whether any of them is given."""
+    """Returns whether any lossy option is given."""
     return any(vars(options)[word.replace("-", "_")] for word in (*LOSSES, "dates", "zones"))

@@ -8,14 +8,14 @@ from program import Program
 
 
 class Refused(NamedTuple):
-    """The refusals of a report by the program."""
+    """The reasons for which the program refuses a report."""
 
     facts: dict[str, str]  # the number and the name of the first refusal of each fact, by identifier
     lines: list[str]  # the reasons for which it refuses the document
 
 
 def refused_in(tree: Tree, program: Program) -> Refused:
-    """Returns the refusals of a report by the program. Errors: NotDone, OSError."""
+    """Asks the program why it refuses a report. Errors: NotDone, OSError."""
     with open(program.place("normalised"), "w", encoding="utf-8", newline="") as file:
         file.writelines(pieces_of(tree))
     refused = Refused({}, [])
