@@ -24,7 +24,7 @@ KNOWN = {
 CORE = ("concept", "entity", "period", "unit", "language", "noteId")
 SCIENTIFIC = re.compile(r"[+-]?(?P<mantissa>\d+(\.\d*)?|\.\d+)[eE][+-]?\d+", re.ASCII)
 WHOLE = re.compile(r"[+-]?\d{1,18}", re.ASCII)
-DIGITS = 18  # the digits of a number without its exponent
+DIGITS = 18  # the most digits of a number that is written without its exponent
 
 GROWTH, SMALL = 16, 1_000_000  # the names of sets may add this many times the report's length plus this many characters
 
