@@ -84,7 +84,7 @@ def rows_agree():
         check(told == [(field, kind[1:]) for field, kind in fields], f"the fields of {name} in the header differ: {told}")
     numbers = dict(re.findall(r"XBRLMERGE_(\w+) = (\d+)", header()))
     levels = {name: numbers.pop(f"ALLOW_{name.upper()}") for name in LEVELS}
-    statuses = dict(re.findall(r"const (\w+): u32 = (\d+)", content(f"{CRATE}/statuses.rt")))
+    statuses = dict(re.findall(r"const (\w+): u32 = (\d+)", content(f"{CRATE}/output.rt")))
     check(numbers == statuses, f"the statuses in the header differ: {numbers}")
     check([int(levels[it]) for it in LEVELS] == [0, 1, 2, 3], "the levels in the header differ")
 
