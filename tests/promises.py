@@ -30,7 +30,7 @@ NAME = re.compile(r"`((?:\w+::)+\w+)`")
 
 
 class Promise:
-    """A public function: the text of its comment, and the names of its clauses; a clause may have no name."""
+    """A function or a law: the first paragraph of its doc comment, and the names of its clauses; a clause may have no name."""
 
     def __init__(self, comment):
         first = comment[: comment.index("")] if "" in comment else comment

@@ -37,7 +37,7 @@ MANY, ALL, EVERY = 5000, 2000, 7
 # if it makes more than MOST, as tests with a device for each byte do, FEW are refused, spread evenly. If its runs would take
 # more than SECONDS of a processor, as many are refused as fit in that time
 MOST, FEW, SECONDS = 50_000, 1000, 240
-# the requests that a process refuses one after another, and the most seconds of a run
+# how many requests a process refuses in turn, and the time limit of a run in seconds
 SHARE, LIMIT = 40, 60
 # the least bytes that a sink takes at a time
 CHUNK = 1 << 16
@@ -223,7 +223,7 @@ def numbers_of(counted):
 
 
 def spread(requests, many):
-    """Returns about this many numbers, spread evenly from the first request to the last."""
+    """Returns about this many request numbers, spread evenly from the first to the last, and a line that describes them."""
     step = -(-requests // many)
     return range(1, requests + 1, step), f"of {requests:,} requests each {step:,}th was refused from the first on"
 

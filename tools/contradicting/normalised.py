@@ -31,7 +31,7 @@ class Normalised:
         self.notes: list[str] = []  # messages about reports that are left as they are
 
     def add(self, report: Report) -> None:
-        """Normalises the next report. If the rules cannot read it, it is copied, and the program refuses it."""
+        """Normalises the next report. If that fails, the original file is used, with a note."""
         try:
             tree, length = read_json_of_length(report.path)
             log = self.normaliser.normalise(tree, length)

@@ -24,7 +24,7 @@ front_digits (suc n) (p ∷ ps) (c ∷ cs) same h zeros =
     let zero_signs = and_parts (p == 48) (list_all (λ sign. sign == 48) (take n ps)) zeros in
     rw (digit_there p c fit.0 zero_signs.0) (front_digits n ps cs (omega arith) fit.1 zero_signs.1)
 
--- n characters after the first i are digits if the form has zeros there
+-- the n characters after the first i are digits if the form has zeros there
 part_digits : (i n : ℕ) (ps cs : List ℕ) → length ps ≡ length cs → list_all matches_picture (zip ps cs) ≡ true → list_all (λ sign. sign == 48) (take n (drop i ps)) ≡ true → list_all is_ascii_digit (take n (drop i cs)) ≡ true
 part_digits zero n ps cs same h zeros = front_digits n ps cs same h zeros
 part_digits (suc i) zero [] [] same h zeros = refl

@@ -159,7 +159,7 @@ flat false false false false false true g = refl
 flat false false false false false false true = refl
 flat false false false false false false false = refl
 
--- the first refusal of both groups
+-- the first refusal in the two groups
 abbrev pub grouped_refusal : Data → Option Reason
 grouped_refusal tree = first_refusal (shape_refusal tree ∷ info_refusal tree ∷ [])
 

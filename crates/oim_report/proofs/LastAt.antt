@@ -35,7 +35,7 @@ colon_other name key plain colon = bytes_not_eq name key (λ same. false≢true 
 pub colon_known : (known : List (List ℕ)) (key : List ℕ) (d : Data) → has_colon key ≡ true → is_unknown known key d ≡ false
 colon_known known key d colon = ap (λ b. not b && not (list_any (λ k. bytes_eq k key) known)) colon
 
--- the same for a name that differs from the key
+-- a text that is the key and differs from the name shows that name and key differ
 pub text_other : (name key t : List ℕ) → t ≡ key → t ≢ name → bytes_eq name key ≡ false
 text_other name key t is differ = bytes_not_eq name key (λ same. differ (is ∙ sym same))
 

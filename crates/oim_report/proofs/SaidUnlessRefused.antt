@@ -144,7 +144,7 @@ member_is_said bs (Some Typed) (whole n) none fits = absurd (cc)
 member_is_said bs (Some Typed) other none fits = absurd (cc)
 member_is_said bs None g none fits = absurd (cc)
 
--- if no condition refuses the keys, they say members
+-- if no condition refuses the dimension keys and their values, they give the members of the fact
 members_are_said : (sheet : Sheet) (bs : List Binding) (es : List (QName × Member)) (ds : List (List ℕ × Given)) → names_refusal bs (flat_map (defined_names sheet bs) ds) ≡ None → list_any (λ d. is_misfit (dimension_kind sheet bs d.0) d.1) ds ≡ false → (said : List (QName × Member)) × (members_with sheet bs es ds ≡ Some said)
 members_are_said sheet bs es [] none fit = (es, refl)
 members_are_said sheet bs es (d ∷ ds) none fit =

@@ -35,7 +35,7 @@ use Rattle.oim_report.proofs.Spelled.{spelled_utf8, spelled_colon}
 use Rattle.oim_report.proofs.WrittenTexts.{plain_utf8, period_utf8, language_utf8, unit_utf8}
 use Rattle.oim_report.proofs.PutMembers.{Ascends, ascends_put, defined_put, known_put, text_there, text_past, text_ascends, text_undefined, text_known}
 
--- ---- written texts are given unchanged
+-- ---- written texts are read back unchanged
 
 option_back : (t : Option (List ℕ)) → IfSome t IsUtf8 → given_of (option_map string t) ≡ option_given t
 option_back None h = refl

@@ -162,7 +162,7 @@ module _ (b : Body) (rises : IsSet fact_cmp b.facts) (done rest : List Row) (r :
 
 -- ---- buffered rows
 
--- the text of the rows so far passed the buffer
+-- the text of the rows so far went through the buffer
 pub record HasPassed (format : RowFormat) (facts : List Fact) (rows : List Row) (old new : Option (List ℕ)) (before after : Pending) : Type 0 where
   pub text : List ℕ
   pub rows_are : HasRows format facts 1 rows text

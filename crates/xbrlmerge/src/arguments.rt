@@ -89,7 +89,7 @@ fn quiet_argument<'w>(alloc: Global) -> Arg<'w> {
         .help("Do not show on a terminal how many reports were read")
 }
 
-/// Returns the arguments for any number of reports.
+/// Returns the argument that takes any number of reports.
 fn reports_argument<'w>(alloc: Global) -> Arg<'w> {
     Arg::new(alloc, REPORT)
         .num_args(0..)

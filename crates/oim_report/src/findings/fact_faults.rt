@@ -57,7 +57,7 @@ pub(crate) fn add_fact_faults(
     add_each(alloc, sheet, aliases, object, place, reasons, faults)
 }
 
-// Appends each given condition that applies.
+// Appends a fault for each of these reasons whose condition applies.
 fn add_each(
     alloc: Global,
     sheet: &Sheet,

@@ -15,7 +15,7 @@ use Rattle.row_formats.specs.Rows.{AreRows, HasRowsOf, row_text}
 use Rattle.row_formats.specs.declared.row_format.RowFormat.{RowFormat}
 use Rattle.row_formats.specs.SourceRows.{source_text}
 
--- the rows of a body, without the header, passed the buffer; or a fault stopped them
+-- the rows of a body, without the header, went through the buffer; or a fault stopped them
 pub record PassesRows (format : RowFormat) (b : Body) (old new : Option (List ℕ)) (before after : Pending) : Type 0 where
   pub text : List ℕ
   pub rows : HasRowsOf format b.facts text
@@ -26,7 +26,7 @@ pub record BreaksRows (format : RowFormat) (b : Body) (old new : Option (List �
   pub rows : HasRowsOf format b.facts text
   pub broken : Breaks old new before text written
 
--- the header and the rows of a body passed the buffer; or a fault stopped them
+-- the header and the rows of a body went through the buffer; or a fault stopped them
 pub record PassesAll (format : RowFormat) (b : Body) (old new : Option (List ℕ)) (before after : Pending) : Type 0 where
   pub text : List ℕ
   pub rows : AreRows format b text

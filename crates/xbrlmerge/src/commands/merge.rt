@@ -53,7 +53,7 @@ pub(crate) fn words<'w>(alloc: Global) -> Result<Command<'w>, AllocError> {
     with_reports(alloc, command(alloc, NAME, ABOUT, MORE)?.arg(allow)?)
 }
 
-/// Returns the command, or None if a required argument is missing.
+/// Returns the command, or None if the arguments contain no level.
 pub(crate) fn of<'w>(matches: &ArgMatches<'w>) -> Option<Subcommand<'w>> {
     let allow = matches.get_str(ALLOW).and_then(Level::read)?;
     Some(Subcommand::Merge(allow))

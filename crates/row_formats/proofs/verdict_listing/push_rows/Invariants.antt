@@ -5,7 +5,7 @@ use Rattle.oim_write.proofs.NumberedFacts.{rows_facts}
 use Rattle.row_formats.proofs.RowTexts.{HasPassed}
 use Rattle.row_formats.proofs.verdict_listing.push_rows.Given as goal
 
--- the rows so far passed the buffer, and their facts are counted
+-- the rows so far went through the buffer, and their facts are counted
 abbrev pub invariant-loop-row : goal.invariant-loop-row
 invariant-loop-row g l = record {
   rows : map shown l.yielded ++ rows_left l.row-iterator ≡ rows_of l.base.body.facts;
