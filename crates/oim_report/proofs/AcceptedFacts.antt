@@ -1,6 +1,6 @@
 -- If nothing refuses an object, it says its fact member by member, and the fact fits the sheet.
-use Rattle.std.proofs.Common.{◌≡◌, ℕ, ◌+◌, List, [], ◌∷◌, map as each_of, Some, None, Result, Ok, Err, refl, subst, arith}
-use Rattle.std.specs.Prelude.{All}
+use Rattle.std.proofs.Common.{◌≡◌, ℕ, ◌+◌, List, [], ◌∷◌, map as each_of, Some, Result, Ok, Err, refl, sym, ap, subst, ◌∙◌, arith}
+use Rattle.std.specs.Prelude.{All, option_and_then}
 use Rattle.std.specs.List.{AllZip}
 use Rattle.std.specs.FinMap as map
 use Rattle.std.proofs.lemmas.List.Elements.{All-cons}
@@ -9,9 +9,7 @@ use Rattle.oim_names.specs.declared.reason.Reason.{Reason}
 use Rattle.oim_dims.specs.DimensionSet.{IsDimensionSet}
 use Rattle.oim_dims.specs.declared.fact.Fact.{Fact}
 use Rattle.serde_json.specs.Data.{Data, Members}
-use Rattle.oim_report.specs.declared.concept_kind.ConceptKind.{ConceptKind}
 use Rattle.oim_report.specs.declared.refusal.Refusal.{Refusal}
-use Rattle.oim_report.specs.Conditions.{concept_kind, decimals_refusal, language_refusal, unit_refusal, value_refusal}
 use Rattle.oim_report.specs.Document.{ObjectSays}
 use Rattle.oim_report.specs.Fact.{SaysFact, SaysValue}
 use Rattle.oim_report.specs.FactFits.{FactFits}
@@ -19,83 +17,74 @@ use Rattle.oim_report.specs.Json.{values}
 use Rattle.oim_report.specs.Outcome.{all_or_first, fact_outcome, facts_said}
 use Rattle.oim_report.specs.Parts.{DimensionParts, FactParts}
 use Rattle.oim_report.specs.Refusal.{map_ok}
-use Rattle.oim_report.specs.Said.{said_value}
 use Rattle.oim_report.specs.Sheet.{Sheet}
-use Rattle.oim_report.proofs.Accepted.{IsAccepted, accepted}
+use Rattle.oim_report.proofs.Accepted.{IsSaid, accepted}
 use Rattle.oim_report.proofs.Fitting.{AreNamespaces, AreCleanDimensions, AreClean, are_clean, concept_fits, said_entity_fits, said_language_fits, said_period_is, value_fits}
 use Rattle.oim_report.proofs.MembersSay.{members_fit, members_rise, members_say}
-use Rattle.oim_report.proofs.SaysParts.{concept_listed, concept_says, entity_says, language_says, period_says, value_says}
+use Rattle.oim_report.proofs.SaysParts.{concept_says, entity_says, language_says, period_says, value_says}
 use Rattle.oim_report.proofs.UnitFits.{unit_fits, unit_is_one}
 use Rattle.oim_report.proofs.UnitSays.{unit_says}
 
-module _ (sheet : Sheet) (bs : List Binding) (are : AreNamespaces bs) (p : FactParts) (ds : DimensionParts) (f : Fact) (clean : AreClean p) (is : IsAccepted sheet bs p ds f) where
-  -- the concept has a kind
-  kind_of_concept : (k : ConceptKind) × (concept_kind sheet bs ds.concept ≡ Some k) × (map.get sheet.concepts f.dimensions.concept ≡ Some k)
-  kind_of_concept = concept_listed sheet bs ds.concept f.dimensions.concept is.none.concept is.each.concept
+module _ (sheet : Sheet) (bs : List Binding) (are : AreNamespaces bs) (p : FactParts) (ds : DimensionParts) (f : Fact) (clean : AreClean p) (there : p.dimensions ≡ Some ds) (is : IsSaid sheet bs p ds f) where
+  listed : map.get sheet.concepts f.dimensions.concept ≡ Some is.kind
+  listed = sym (ap (option_and_then (map.get sheet.concepts)) is.each.concept) ∙ is.listed
 
   clean_dimensions : AreCleanDimensions ds
-  clean_dimensions = clean.dimensions ds is.there
+  clean_dimensions = clean.dimensions ds there
 
   is_set : IsDimensionSet f.dimensions
   is_set = record {
-    members = members_rise sheet bs ds.defined f.dimensions.members is.none.defined is.each.members;
-    unit = unit_is_one bs ds.unit f.dimensions.unit are clean_dimensions.unit is.each.unit;
+    members = members_rise sheet bs ds.defined f.dimensions.members is.each.members;
+    unit = unit_is_one bs is.kind ds.unit f.dimensions.unit are clean_dimensions.unit is.each.unit;
     period = (said_period_is ds.period f.dimensions.period is.each.period).moments;
   }
 
-  value_is : SaysValue bs kind_of_concept.0 p.value p.decimals f.value
-  value_is =
-      let same = kind_of_concept.1 in
-      value_says bs kind_of_concept.0 p.value p.decimals f.value
-      (subst (λ k. value_refusal k p.value ≡ None) same is.none.value)
-      (subst (λ k. decimals_refusal k p.decimals ≡ None) same is.none.decimals)
-      (subst (λ k. said_value bs k p.value p.decimals ≡ Some f.value) same is.value)
+  value_is : SaysValue bs is.kind p.value p.decimals f.value
+  value_is = value_says bs is.kind p.value p.decimals f.value is.value
 
   accepted_says : SaysFact sheet bs p f
   accepted_says = record {
     parts = ds;
-    there = is.there;
+    there = there;
     dimensions = record {
       concept = concept_says bs ds.concept f.dimensions.concept is.each.concept;
       entity = entity_says bs ds.entity f.dimensions.entity is.each.entity;
       period = period_says ds.period f.dimensions.period is.each.period;
-      unit = unit_says bs ds.unit f.dimensions.unit is.each.unit;
-      language = language_says ds.language f.dimensions.language is.each.language;
-      members = members_say sheet bs ds.defined f.dimensions.members is.none.defined is.each.members;
+      unit = unit_says bs is.kind ds.unit f.dimensions.unit is.each.unit;
+      language = language_says is.kind ds.language f.dimensions.language is.each.language;
+      members = members_say sheet bs ds.defined f.dimensions.members is.each.members;
       set = is_set;
     };
-    kind = kind_of_concept.0;
-    listed = kind_of_concept.2;
+    kind = is.kind;
+    listed = listed;
     value = value_is;
   }
 
   accepted_fits : FactFits sheet f
-  accepted_fits =
-      let same = kind_of_concept.1 in
-      record {
-        set = is_set;
-        concept = concept_fits bs ds.concept f.dimensions.concept are clean_dimensions.concept is.each.concept;
-        kind = kind_of_concept.0;
-        listed = kind_of_concept.2;
-        entity = said_entity_fits bs ds.entity f.dimensions.entity are clean_dimensions.entity is.each.entity;
-        period = (said_period_is ds.period f.dimensions.period is.each.period).forward;
-        unit = unit_fits bs ds.unit kind_of_concept.0 f.dimensions.unit are clean_dimensions.unit (subst (λ k. unit_refusal k ds.unit ≡ None) same is.none.unit) is.each.unit;
-        language = said_language_fits kind_of_concept.0 ds.language f.dimensions.language (subst (λ k. language_refusal k ds.language ≡ None) same is.none.language) is.each.language;
-        members = members_fit sheet bs ds.defined f.dimensions.members are clean_dimensions.defined is.none.defined is.each.members;
-        value = value_fits bs kind_of_concept.0 p.value p.decimals f.value are clean.value value_is;
-      }
+  accepted_fits = record {
+    set = is_set;
+    concept = concept_fits bs ds.concept f.dimensions.concept are clean_dimensions.concept is.each.concept;
+    kind = is.kind;
+    listed = listed;
+    entity = said_entity_fits bs ds.entity f.dimensions.entity are clean_dimensions.entity is.each.entity;
+    period = (said_period_is ds.period f.dimensions.period is.each.period).forward;
+    unit = unit_fits bs is.kind ds.unit f.dimensions.unit are clean_dimensions.unit is.each.unit;
+    language = said_language_fits is.kind ds.language f.dimensions.language is.each.language;
+    members = members_fit sheet bs ds.defined f.dimensions.members are clean_dimensions.defined is.each.members;
+    value = value_fits bs is.kind p.value p.decimals f.value are clean.value value_is;
+  }
 
 -- ---- one object
 
 pub fact_said : (sheet : Sheet) (bs : List Binding) (d : Data) (f : Fact) → AreNamespaces bs → fact_outcome sheet bs d ≡ Ok f → ObjectSays sheet bs d f
 fact_said sheet bs d f are e =
     let has = accepted sheet bs d f e in
-    record { parts = has.parts; are = has.are; says = accepted_says sheet bs are has.parts has.dimensions f (are_clean d has.parts has.are) has.accepted }
+    record { parts = has.parts; are = has.are; says = accepted_says sheet bs are has.parts has.dimensions f (are_clean d has.parts has.are) has.there has.said }
 
 pub fact_fits : (sheet : Sheet) (bs : List Binding) (d : Data) (f : Fact) → AreNamespaces bs → fact_outcome sheet bs d ≡ Ok f → FactFits sheet f
 fact_fits sheet bs d f are e =
     let has = accepted sheet bs d f e in
-    accepted_fits sheet bs are has.parts has.dimensions f (are_clean d has.parts has.are) has.accepted
+    accepted_fits sheet bs are has.parts has.dimensions f (are_clean d has.parts has.are) has.there has.said
 
 -- ---- all objects
 

@@ -1,37 +1,31 @@
 -- A fact object is refused for the least condition that applies.
-use Rattle.std.proofs.Common.{◌≡◌, List, false, Result, Ok, Err, refl, sym, ap, ◌∙◌}
+use Rattle.std.proofs.Common.{◌≡◌, List, Result, Ok, Err, refl, sym, ap, ◌∙◌}
 use Rattle.std.specs.Prelude.{◌↔◌, Option, Some, None, option_and_then}
 use Rattle.std.specs.Result.{result_err}
 use Rattle.oim_names.specs.Bindings.{Binding}
 use Rattle.oim_names.specs.declared.reason.Reason.{Reason}
-use Rattle.oim_names.specs.declared.reason.Reason.TheVariants.{MemberForm}
 use Rattle.oim_dims.specs.declared.fact.Fact.{Fact}
 use Rattle.serde_json.specs.Data.{Data}
-use Rattle.oim_report.specs.Outcome.{fact_or, fact_outcome}
-use Rattle.oim_report.specs.Parts.{FactParts, fact_parts}
+use Rattle.oim_report.specs.Outcome.{IsFree, fact_or, fact_outcome}
+use Rattle.oim_report.specs.Parts.{fact_parts}
 use Rattle.oim_report.specs.Said.{said_fact}
 use Rattle.oim_report.specs.Sheet.{Sheet}
 use Rattle.oim_report.specs.Holds.{holds}
 use Rattle.oim_report.specs.Least.{IsLeast, least}
 use Rattle.oim_report.proofs.LeastOf.{least_is, none_is}
-use Rattle.oim_report.proofs.SaidUnlessRefused.{facts_are_said}
-use Rattle.oim_report.proofs.ByParts.{by_parts, no_object, parts_outcome, refused_same}
+use Rattle.oim_report.proofs.SaidWhereFree.{facts_are_said}
 
 -- an object to which no condition applies says a fact
-says_of : (sheet : Sheet) (bs : List Binding) (d : Data) (o : Option FactParts) → fact_parts d ≡ o → least (holds sheet bs d) ≡ None → (f : Fact) × (parts_outcome sheet bs o ≡ Ok f)
-says_of sheet bs d None is none = let no : Some MemberForm ≡ None = sym (no_object sheet bs d is) ∙ none in absurd (cc)
-says_of sheet bs d (Some p) is none =
-    let f = facts_are_said sheet bs p (refused_same sheet bs d p is ∙ none) in
-    (f.0, (λ i. fact_or ((refused_same sheet bs d p is ∙ none) i) (f.1 i)))
-
-pub free_is_said : (sheet : Sheet) (bs : List Binding) (d : Data) → ((r : Reason) → holds sheet bs d r ≡ false) → (f : Fact) × (fact_outcome sheet bs d ≡ Ok f)
-free_is_said sheet bs d free = let s = says_of sheet bs d (fact_parts d) refl ((none_is (holds sheet bs d)).1 free) in (s.0, by_parts sheet bs d ∙ s.1)
+pub free_is_said : (sheet : Sheet) (bs : List Binding) (d : Data) → IsFree sheet bs d → (f : Fact) × (fact_outcome sheet bs d ≡ Ok f)
+free_is_said sheet bs d free =
+    let f = facts_are_said sheet bs d free in
+    (f.0, λ i. fact_or ((none_is (holds sheet bs d)).1 free i) (f.1 i))
 
 ok_free : (r : Option Reason) (o : Option Fact) (f : Fact) → fact_or r o ≡ Ok f → r ≡ None
 ok_free None o f e = refl
 ok_free (Some r) o f e = absurd (cc)
 
-pub said_is_free : (sheet : Sheet) (bs : List Binding) (d : Data) (f : Fact) → fact_outcome sheet bs d ≡ Ok f → (r : Reason) → holds sheet bs d r ≡ false
+pub said_is_free : (sheet : Sheet) (bs : List Binding) (d : Data) (f : Fact) → fact_outcome sheet bs d ≡ Ok f → IsFree sheet bs d
 said_is_free sheet bs d f e = (none_is (holds sheet bs d)).0 (ok_free (least (holds sheet bs d)) _ f e)
 
 ok_none : (o : Result Fact Reason) (f : Fact) → o ≡ Ok f → None ≡ result_err o

@@ -15,8 +15,7 @@ use Rattle.oim_names.specs.declared.reason.Reason.{Reason}
 use Rattle.oim_names.specs.declared.reason.Reason.TheVariants.{OutOfMemory}
 use Rattle.oim_names.proofs.Refusals.{named_kept}
 use Rattle.oim_value.specs.ValueOrder.{name_cmp}
-use Rattle.oim_report.specs.Conditions.{comes_again}
-use Rattle.oim_report.specs.Names.{named}
+use Rattle.oim_report.specs.Names.{comes_again, named}
 use Rattle.oim_report.proofs.Naming.{stands}
 use Rattle.oim_report.proofs.RisingNames.{name_total}
 

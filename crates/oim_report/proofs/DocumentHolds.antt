@@ -17,10 +17,9 @@ use Rattle.oim_report.specs.Json.{Given, any_in, given, given_of, is_no_array, i
 use Rattle.oim_report.specs.code.Findings.{is_text}
 use Rattle.oim_report.specs.Kept.{base_url, is_reference_refused, is_text_within_limit, is_within_limit, kept}
 use Rattle.oim_report.specs.Namespaces.{binds_nothing}
-use Rattle.oim_report.specs.Refusal.{first_holding, first_refusal, or_refusal}
 use Rattle.oim_report.specs.Holds.{any_item, as_text, base, declared, document_holds, document_refusal, entries, is_some_and}
 use Rattle.oim_report.specs.Least.{least}
-use Rattle.oim_report.proofs.EachRefusal.{behind_test}
+use Rattle.oim_report.proofs.EachRefusal.{behind_test, first_holding, first_refusal, or_refusal}
 use Rattle.oim_report.proofs.ValueWords.{by_given, text_same}
 
 -- ---- the conditions in two groups

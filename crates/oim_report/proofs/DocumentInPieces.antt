@@ -4,7 +4,6 @@ use Rattle.std.specs.Prelude.{codes, not, is_none, option_and_then, if◌then◌
 use Rattle.std.specs.Option.{unwrap_or}
 use Rattle.std.specs.Ordering.{is_lt, partial_lt}
 use Rattle.std.proofs.lemmas.Bool.{or_parts, or_from}
-use Rattle.oim_names.specs.declared.reason.Reason.{Reason}
 use Rattle.oim_names.specs.declared.reason.Reason.TheVariants.{MemberForm, UnknownMember, DocumentType, Namespace, BaseUrl, TaxonomyUrl, Feature, DisallowedDuplicates}
 use Rattle.oim_value.specs.Level.{level_cmp}
 use Rattle.oim_value.specs.declared.level.Level.{Level}
@@ -20,11 +19,12 @@ use Rattle.oim_report.specs.Duplicates.{level_of}
 use Rattle.oim_report.specs.Info.{info, namespaces_of, bindings_of, taxonomy_of, features_of, facts_of, said_base, said_references, declarations, said_level, base_said, references_said, level_said, root_keys, info_keys, document_type}
 use Rattle.oim_report.specs.Holds.{document_refusal}
 use Rattle.oim_report.proofs.DocumentHolds.{document_least, has_misshapen_part, has_other_type, has_unknown_part, info_refusal, shape_refusal}
+use Rattle.oim_report.proofs.EachRefusal.{first_holding, first_refusal, none_of}
 use Rattle.oim_report.specs.Json.{json, members, given_of, object_at, any_in, any_member, is_unknown, is_no_object, is_no_array, json_text, without_mark}
 use Rattle.oim_report.specs.code.Findings.{is_text}
 use Rattle.oim_report.specs.Namespaces.{binds_nothing, bindings_in}
 use Rattle.oim_report.specs.Outcome.{at, facts_said, document_with, allowed, then_allowed, unless_refused, tree_outcome, outcome}
-use Rattle.oim_report.specs.Refusal.{first_holding, first_refusal, or_refusal, map_ok}
+use Rattle.oim_report.specs.Refusal.{map_ok}
 use Rattle.oim_report.specs.Sheet.{Sheet}
 use Rattle.oim_report.proofs.PutMembers.{known_put}
 use Rattle.std.specs.Result.{result_ok}
@@ -102,10 +102,6 @@ three true b c e = absurd (cc)
 three false true c e = absurd (cc)
 three false false true e = absurd (cc)
 three false false false e = (refl, refl, refl)
-
-none_of : (r s : Option Reason) → or_refusal r s ≡ None → (r ≡ None) × (s ≡ None)
-none_of None s e = (refl, e)
-none_of (Some r) s e = absurd (cc)
 
 pub not_refused_whole : (ms fs : Members) → document_refusal (object ms) ≡ None → document_refusal (whole ms fs) ≡ None
 not_refused_whole ms fs e =

@@ -18,19 +18,16 @@ use Rattle.oim_report.specs.Duplicates.{level_of}
 use Rattle.oim_report.specs.Info.{base_said, bindings_of, facts_of, level_said, namespaces_of, references_said}
 use Rattle.oim_report.specs.Holds.{document_refusal}
 use Rattle.oim_report.proofs.DocumentHolds.{document_least, info_refusal, shape_refusal}
+use Rattle.oim_report.proofs.EachRefusal.{first_holding, none_of}
 use Rattle.oim_report.specs.Json.{any_in, any_member, json, members}
 use Rattle.oim_report.specs.Namespaces.{binds_nothing}
 use Rattle.oim_report.specs.Outcome.{at, document_with, facts_said, outcome, then_allowed, tree_outcome, unless_above, unless_refused}
-use Rattle.oim_report.specs.Refusal.{first_holding, map_ok, or_refusal}
+use Rattle.oim_report.specs.Refusal.{map_ok}
 use Rattle.oim_report.specs.Sheet.{Sheet}
 use Rattle.oim_report.specs.Report.{AcceptedFactsFit, AcceptedReferencesAreKept, OutcomesAreSaid}
 use Rattle.oim_report.proofs.KeptReferences.{references_kept}
 use Rattle.oim_report.proofs.AcceptedFacts.{facts_are_said, facts_fit, ok_of}
 use Rattle.oim_report.proofs.Fitting.{AreNamespaces, bindings_are}
-
-none_of : (r s : Option Reason) → or_refusal r s ≡ None → (r ≡ None) × (s ≡ None)
-none_of None s e = (refl, e)
-none_of (Some r) s e = absurd (cc)
 
 four : (a b c d : Bool) → first_holding ((a, Namespace) ∷ (b, BaseUrl) ∷ (c, TaxonomyUrl) ∷ (d, Feature) ∷ []) ≡ None → (a ≡ false) × (b ≡ false) × (c ≡ false) × (d ≡ false)
 four true b c d e = absurd (cc)

@@ -1,27 +1,25 @@
--- The first refusal of a list.
-use Rattle.std.proofs.Common.{◌≡◌, List, [], ◌∷◌, ◌++◌, Bool, true, false, refl, sym, ap, ◌∙◌}
+-- The first condition in a list that applies.
+use Rattle.std.proofs.Common.{◌≡◌, List, [], ◌∷◌, Bool, true, false, refl}
 use Rattle.std.specs.Prelude.{Option, Some, None, if◌then◌else◌}
 use Rattle.oim_names.specs.declared.reason.Reason.{Reason}
-use Rattle.oim_report.specs.code.Findings.{when}
-use Rattle.oim_report.specs.Refusal.{first_refusal, or_refusal}
 
-or_refusal-assoc : (r s t : Option Reason) → or_refusal (or_refusal r s) t ≡ or_refusal r (or_refusal s t)
-or_refusal-assoc None s t = refl
-or_refusal-assoc (Some r) s t = refl
+-- the refusal of the first condition that applies; each has a test and a refusal
+abbrev pub first_holding : List (Bool × Reason) → Option Reason
+first_holding [] = None
+first_holding (c ∷ cs) = if c.0 then Some c.1 else first_holding cs
 
-pub first-append : (rs ss : List (Option Reason)) → first_refusal (rs ++ ss) ≡ or_refusal (first_refusal rs) (first_refusal ss)
-first-append [] ss = refl
-first-append (r ∷ rs) ss = ap (or_refusal r) (first-append rs ss) ∙ sym (or_refusal-assoc r (first_refusal rs) (first_refusal ss))
+-- the first refusal, or the later one if there is none
+abbrev pub or_refusal : Option Reason → Option Reason → Option Reason
+or_refusal None later = later
+or_refusal (Some reason) later = Some reason
 
--- the first refusal of a condition and later ones
-pub or_when : (holds : Bool) (reason : Reason) (later : Option Reason) → or_refusal (when holds reason) later ≡ (if holds then Some reason else later)
-or_when true reason later = refl
-or_when false reason later = refl
+abbrev pub first_refusal : List (Option Reason) → Option Reason
+first_refusal [] = None
+first_refusal (r ∷ rs) = or_refusal r (first_refusal rs)
 
--- later conditions matter only if there is no refusal before them
-pub behind : (r s t : Option Reason) → (r ≡ None → s ≡ t) → or_refusal r s ≡ or_refusal r t
-behind None s t same = same refl
-behind (Some r) s t same = refl
+pub none_of : (r s : Option Reason) → or_refusal r s ≡ None → (r ≡ None) × (s ≡ None)
+none_of None s e = (refl, e)
+none_of (Some r) s e = absurd (cc)
 
 -- later conditions matter only if the condition before them does not apply
 pub behind_test : (b : Bool) (r : Reason) (s t : Option Reason) → (b ≡ false → s ≡ t) → (if b then Some r else s) ≡ (if b then Some r else t)

@@ -15,30 +15,28 @@ use Rattle.serde_json.specs.Data.{Data, Members, no_members, member}
 use Rattle.serde_json.specs.Find.{get_member}
 use Rattle.serde_json.specs.Find.{as_object}
 use Rattle.oim_names.specs.Expansion.{Expands}
-use Rattle.oim_names.specs.declared.reason.Reason.TheVariants.{LanguageForm, LanguageOnNumeric}
 use Rattle.oim_value.specs.Decimals.{AreDecimals}
 use Rattle.oim_value.specs.Number.{IsShort}
 use Rattle.oim_value.proofs.ShortLaws.{short_is_kept}
 use Rattle.oim_value.specs.declared.value.Value.{Value}
 use Rattle.oim_value.specs.declared.value.Value.TheVariants.{Nil, Number, Text as AText, Name as AName}
 use Rattle.oim_dims.specs.Language.{is_language}
-use Rattle.oim_dims.specs.Period.{EndsAfterStart, IsPeriod, period_of}
+use Rattle.oim_dims.specs.Period.{IsPeriod, period_of}
 use Rattle.oim_dims.proofs.Languages.{language_kept}
 use Rattle.oim_dims.proofs.ReadPeriods.{read_period_is}
 use Rattle.oim_dims.specs.declared.period.Period.{Period}
-use Rattle.oim_dims.specs.declared.period.Period.TheVariants.{Forever, Instant, Duration}
+use Rattle.oim_dims.specs.declared.period.Period.TheVariants.{Forever}
 use Rattle.oim_report.specs.declared.concept_kind.ConceptKind.{ConceptKind}
 use Rattle.oim_report.specs.declared.concept_kind.ConceptKind.TheVariants.{Numeric, Text, Name}
-use Rattle.oim_report.specs.Conditions.{language_refusal}
 use Rattle.oim_report.specs.Fact.{GivesText, SaysDecimals, SaysNumber, SaysValue}
 use Rattle.oim_report.specs.FactFits.{EntityFits, FitsEntity, FitsName, IsNamespace, LanguageFits, ValueFits}
 use Rattle.oim_report.specs.Json.{Given, absent, nil, text, whole, other, any_member, given, given_at, given_of, has_colon, text_of}
 use Rattle.oim_report.specs.Names.{entity_named, named}
 use Rattle.oim_report.specs.Parts.{DimensionParts, FactParts, defined_in, dimension_parts, fact_parts, parts_of}
-use Rattle.oim_report.specs.Refusal.{first_holding}
 use Rattle.oim_report.specs.Said.{said_concept, said_entity, said_language, said_period}
 use Rattle.oim_report.proofs.Accepted.{and_then_some, map_some}
-use Rattle.oim_report.proofs.SaysParts.{language_says, named_expands, period_ok, text_is}
+use Rattle.oim_report.proofs.Naming.{stands}
+use Rattle.oim_report.proofs.SaysParts.{language_says, period_ok, text_is}
 use Rattle.oim_report.specs.Namespaces.{binds_nothing, bindings_in}
 use Rattle.oim_report.proofs.KeptReferences.{text_utf8}
 use Rattle.oim_report.proofs.Utf8Parts.{after_utf8, only_colon}
@@ -163,14 +161,14 @@ text_clean g t clean e = clean t (text_is g t e)
 pub concept_fits : (bs : List Binding) (g : Given) (n : QName) → AreNamespaces bs → IsClean g → said_concept bs g ≡ Some n → FitsName n
 concept_fits bs g n are clean e =
     let t = and_then_some (named bs) (text_of g) n e in
-    name_fits bs t.0 n are (text_clean g t.0 clean t.1) (named_expands is_name bs t.0 n t.2)
+    name_fits bs t.0 n are (text_clean g t.0 clean t.1) (stands is_name bs t.0 n t.2)
 
 pub said_entity_fits : (bs : List Binding) (g : Given) (said : Option QName) → AreNamespaces bs → IsClean g → said_entity bs g ≡ Some said → EntityFits said
 said_entity_fits bs absent said are clean e = let same : None ≡ said = cc in subst EntityFits same tt
 said_entity_fits bs nil said are clean e = absurd (cc)
 said_entity_fits bs (text t) said are clean e =
     let n = map_some Some (entity_named bs t) said e in
-    subst EntityFits n.2 (entity_fits bs t n.0 are (clean t refl) (named_expands is_entity bs t n.0 n.1))
+    subst EntityFits n.2 (entity_fits bs t n.0 are (clean t refl) (stands is_entity bs t n.0 n.1))
 said_entity_fits bs (whole n) said are clean e = absurd (cc)
 said_entity_fits bs other said are clean e = absurd (cc)
 
@@ -182,26 +180,19 @@ said_period_is (text t) said e = read_period_is t said (period_ok (period_of t) 
 said_period_is (whole n) said e = absurd (cc)
 said_period_is other said e = absurd (cc)
 
-not_numeric : (kind : ConceptKind) (g : Given) (t : List ℕ) → g ≡ text t → language_refusal (Some kind) g ≡ None → kind ≢ Numeric
-not_numeric Numeric g t is e = let h : language_refusal (Some Numeric) (text t) ≡ None = subst (λ x. language_refusal (Some Numeric) x ≡ None) is e in absurd (never (is_language t) h)
-  where
-    never : (b : Bool) → first_holding ((not b, LanguageForm) ∷ (true, LanguageOnNumeric) ∷ []) ≡ None → ⊥
-    never true h = absurd (cc)
-    never false h = absurd (cc)
-not_numeric Text g t is e = λ same. absurd (cc)
-not_numeric Name g t is e = λ same. absurd (cc)
-
 lower_fits : (kind : ConceptKind) (t : List ℕ) (said : Option (List ℕ)) → kind ≢ Numeric → IsTrue (is_language t) × (said ≡ Some (str_to_ascii_lowercase t)) → LanguageFits kind said
 lower_fits kind t said apart both =
     let kept = language_kept t both.0 in
     subst (LanguageFits kind) (sym both.1) (record { form = kept.language; lower = kept.same; other = apart })
 
-pub said_language_fits : (kind : ConceptKind) (g : Given) (said : Option (List ℕ)) → language_refusal (Some kind) g ≡ None → said_language g ≡ Some said → LanguageFits kind said
-said_language_fits kind absent said none e = let same : None ≡ said = cc in subst (LanguageFits kind) same tt
-said_language_fits kind nil said none e = absurd (cc)
-said_language_fits kind (text t) said none e = lower_fits kind t said (not_numeric kind (text t) t refl none) (language_says (text t) said e)
-said_language_fits kind (whole n) said none e = absurd (cc)
-said_language_fits kind other said none e = absurd (cc)
+pub said_language_fits : (kind : ConceptKind) (g : Given) (said : Option (List ℕ)) → said_language kind g ≡ Some said → LanguageFits kind said
+said_language_fits kind absent said e = let same : None ≡ said = cc in subst (LanguageFits kind) same tt
+said_language_fits kind nil said e = absurd (cc)
+said_language_fits Numeric (text t) said e = absurd (cc)
+said_language_fits Text (text t) said e = lower_fits Text t said (λ same. absurd (cc)) (language_says Text (text t) said e)
+said_language_fits Name (text t) said e = lower_fits Name t said (λ same. absurd (cc)) (language_says Name (text t) said e)
+said_language_fits kind (whole n) said e = absurd (cc)
+said_language_fits kind other said e = absurd (cc)
 
 -- ---- values
 

@@ -13,8 +13,6 @@ pub mod MemberLists
 pub mod DefinedRows
 pub mod DimensionAt
 pub mod ReasonTests
-pub mod Groups
-pub mod FactRefused
 pub mod Bound
 pub mod References
 pub mod Declared
@@ -28,8 +26,6 @@ pub mod NoMemory
 pub mod KeptReferences
 pub mod Accepted
 pub mod SaysParts
-pub mod SaidNames
-pub mod SaidUnlessRefused
 pub mod Utf8Parts
 pub mod Fitting
 pub mod UnitSays
@@ -49,7 +45,6 @@ pub mod ReadMembers
 pub mod WrittenTexts
 pub mod PutMembers
 pub mod WrittenParts
-pub mod AcceptedNames
 pub mod ReadParts
 pub mod ReadUnits
 pub mod ReadValues
@@ -70,14 +65,13 @@ pub mod FoundWith
 pub mod NameTests
 pub mod ComesAgain
 pub mod EachRefusal
-pub mod FirstFault
 pub mod FaultLaws
 pub mod LeastOf
 pub mod DocumentHolds
-pub mod FactHolds
 pub mod ValueWords
 pub mod AllTold
-pub mod ByParts
+pub mod FreeParts
+pub mod SaidWhereFree
 pub mod AnsweredLeast
 pub mod SheetHolds
 pub mod JsonStrings

@@ -20,9 +20,8 @@ use Rattle.oim_report.specs.Names.{named}
 use Rattle.oim_report.specs.Refusal.{unless}
 use Rattle.oim_report.specs.Sheet.{Sheet, concept_kind_named, dimension_kind_named, entries_in, entry, has_bad_kind, has_other_kind, has_two_kinds, kind_in, listed, names_no_kind, said_sheet, same_concept_kind, same_dimension_kind, sheet_bindings, sheet_concepts, sheet_dimensions, sheet_holds, sheet_of, sheet_outcome}
 use Rattle.oim_report.proofs.LeastOf.{none_is}
-use Rattle.oim_report.proofs.Naming.{expanded}
+use Rattle.oim_report.proofs.Naming.{expanded, stands}
 use Rattle.oim_report.proofs.RisingNames.{name_total}
-use Rattle.oim_report.proofs.SaysParts.{named_expands}
 use Rattle.oim_report.proofs.SheetEntries.{tied}
 
 module _ {K : Type 0} (kind_named : List ℕ → Option K) (same : K → K → Bool) (same_is : (k l : K) → same k l ≡ true → k ≡ l) (bs : List Binding) where
@@ -43,7 +42,7 @@ module _ {K : Type 0} (kind_named : List ℕ → Option K) (same : K → K → B
   is_said : (ms : Members) (n : QName) (k : K) → find name_cmp n (entries_in kind_named same bs ms) ≡ Some k → SaysKind kind_named bs ms n k
   is_said no_members n k e = absurd (cc)
   is_said (member key d ms) n k e = elim (at_entry (named bs key) (kind_in kind_named same d) (entries_in kind_named same bs ms) n k e) [
-    | inl here ↦ record { key = key; value = d; stands = inl (refl, refl); name = named_expands is_name bs key n here.0; kind = here.1 }
+    | inl here ↦ record { key = key; value = d; stands = inl (refl, refl); name = stands is_name bs key n here.0; kind = here.1 }
     | inr there ↦ later key d ms n k (is_said ms n k there)
   ]
 

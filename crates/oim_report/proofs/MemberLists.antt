@@ -1,26 +1,20 @@
 -- The members of taxonomy-defined dimensions, read one after another.
-use Rattle.std.proofs.Common.{◌≡◌, ℕ, ◌+◌, ◌<◌, length, drop, get_or, add-one, List, [], ◌∷◌, ◌++◌, map, append_assoc, Bool, false, ◌||◌, refl, sym, ap, ◌∙◌}
-use Rattle.std.specs.Prelude.{Some, is_none}
+use Rattle.std.proofs.Common.{◌≡◌, ℕ, ◌+◌, ◌<◌, length, drop, get_or, add-one, List, [], ◌∷◌, ◌++◌, map, append_assoc, refl, sym, ap, ◌∙◌}
+use Rattle.std.specs.Prelude.{Some}
 use Rattle.std.specs.Borrow.{Bor}
 use Rattle.std.proofs.Math.Seq.{drop-cons}
-use Rattle.std.specs.List.{list_any}
 use Rattle.oim_names.specs.QName.{QName}
 use Rattle.oim_names.specs.Bindings.{Binding}
 use Rattle.oim_dims.specs.DimensionSet.{with_member}
 use Rattle.oim_dims.specs.declared.member.Member.{Member}
 use Rattle.oim_report.specs.declared.dimension_kind.DimensionKind.{DimensionKind}
 use Rattle.oim_report.specs.declared.fact.given.Given.{Given as Lent}
-use Rattle.oim_report.specs.Conditions.{dimension_kind, dimension_names, is_misfit, lists_unknown}
 use Rattle.oim_report.specs.code.Given.{seen}
 use Rattle.oim_report.specs.Json.{Given}
 use Rattle.oim_report.specs.Names.{named}
-use Rattle.oim_report.specs.Said.{members_with, said_member}
+use Rattle.oim_report.specs.Said.{dimension_kind, dimension_names, members_with, said_member}
 use Rattle.oim_report.specs.code.SeenParts.{seen_defined}
 use Rattle.oim_report.specs.Sheet.{Sheet}
-
--- some member does not have its dimension's kind
-abbrev pub some_misfit : Sheet → List Binding → List (List ℕ × Given) → Bool
-some_misfit sheet bs ds = list_any (λ d. is_misfit (dimension_kind sheet bs d.0) d.1) ds
 
 -- the names of members
 abbrev pub names_of : List (QName × Member) → List QName
@@ -35,15 +29,8 @@ seen_item x = (x.0.now, seen x.1)
 pub next_defined : (xs : List (Bor (List ℕ) × Lent)) (i : ℕ) (x : Bor (List ℕ) × Lent) → i < length xs → seen_defined (drop i xs) ≡ seen_item (get_or xs i x) ∷ seen_defined (drop (i + 1) xs)
 next_defined xs i x within = rw (add-one, drop-cons xs i x) refl
 
-module _ (sheet : Sheet) (bs : List Binding) (d : List ℕ × Given) (ds : List (List ℕ × Given)) (kind : DimensionKind) (known : dimension_kind sheet bs d.0 ≡ Some kind) where
-  pub unknown_later : lists_unknown sheet bs (d ∷ ds) ≡ lists_unknown sheet bs ds
-  unknown_later = ap (λ k. is_none k || lists_unknown sheet bs ds) known
-
-  pub misfit_later : is_misfit (Some kind) d.1 ≡ false → some_misfit sheet bs (d ∷ ds) ≡ some_misfit sheet bs ds
-  misfit_later fits = ap (λ b. b || some_misfit sheet bs ds) (ap (λ k. is_misfit k d.1) known ∙ fits)
-
-  pub members_more : (es : List (QName × Member)) (n : QName) (m : Member) → named bs d.0 ≡ Some n → said_member bs (Some kind) d.1 ≡ Some m → members_with sheet bs es (d ∷ ds) ≡ members_with sheet bs (with_member n m es) ds
-  members_more es n m names said = rw (known, names, said) refl
+pub members_more : (sheet : Sheet) (bs : List Binding) (d : List ℕ × Given) (ds : List (List ℕ × Given)) (kind : DimensionKind) (es : List (QName × Member)) (n : QName) (m : Member) → dimension_kind sheet bs d.0 ≡ Some kind → named bs d.0 ≡ Some n → said_member bs (Some kind) d.1 ≡ Some m → members_with sheet bs es (d ∷ ds) ≡ members_with sheet bs (with_member n m es) ds
+members_more sheet bs d ds kind es n m known names said = rw (known, names, said) refl
 
 names_pushed : (es : List (QName × Member)) (e : QName × Member) → names_of (es ++ e ∷ []) ≡ names_of es ++ e.0 ∷ []
 names_pushed [] e = refl

@@ -1,6 +1,6 @@
 -- The result has exactly the members that the keys say, and they fit.
-use Rattle.std.proofs.Common.{◌≡◌, ◌≢◌, ◌⊎◌, inl, inr, ⊎_elim, ℕ, zero, suc, ◌<◌, length, get_or, List, [], ◌∷◌, Bool, true, false, ◌||◌, Option, Some, None, refl, sym, ap, subst, ◌∙◌, arith}
-use Rattle.std.specs.Prelude.{All, Contains, IsTrue, is_none, option_and_then}
+use Rattle.std.proofs.Common.{◌≡◌, ◌≢◌, ◌⊎◌, inl, inr, ⊎_elim, ℕ, zero, suc, ◌<◌, length, get_or, List, [], ◌∷◌, Bool, true, false, Option, Some, None, refl, sym, ap, subst, ◌∙◌, arith}
+use Rattle.std.specs.Prelude.{All, Contains, IsTrue, if◌then◌else◌, option_and_then}
 use Rattle.std.specs.List.{list_any}
 use Rattle.std.specs.Ordering.{is_eq}
 use Rattle.std.specs.Str.{IsUtf8}
@@ -10,7 +10,6 @@ use Rattle.std.proofs.lemmas.Bool.{or_parts}
 use Rattle.std.proofs.lemmas.List.Elements.{All-contains, All-contains_itself}
 use Rattle.oim_names.specs.QName.{QName, is_name}
 use Rattle.oim_names.specs.Bindings.{Binding}
-use Rattle.oim_names.specs.declared.reason.Reason.TheVariants.{UnknownDimension, DimensionValue}
 use Rattle.oim_names.specs.contracts.name.NameOrd.TheImpl.Laws.{total-law as name_total}
 use Rattle.oim_value.specs.ValueOrder.{name_cmp}
 use Rattle.oim_dims.specs.DimensionSet.{has_name, rises, with_member}
@@ -19,22 +18,20 @@ use Rattle.oim_dims.specs.declared.member.Member.TheVariants.{Nil as NoMember, T
 use Rattle.oim_dims.proofs.Places.{members_grow, names_are_there}
 use Rattle.oim_report.specs.declared.dimension_kind.DimensionKind.{DimensionKind}
 use Rattle.oim_report.specs.declared.dimension_kind.DimensionKind.TheVariants.{Explicit, Typed}
-use Rattle.oim_report.specs.Conditions.{comes_again, defined_refusal, dimension_kind, dimension_names, is_misfit}
 use Rattle.oim_report.specs.Fact.{SaysDimension, SaysMember, SaysMembers}
 use Rattle.oim_report.specs.FactFits.{DimensionFits, MemberFits}
 use Rattle.oim_report.specs.Json.{Given, absent, nil, text, whole, other}
-use Rattle.oim_report.specs.Names.{named}
-use Rattle.oim_report.specs.Refusal.{first_holding}
-use Rattle.oim_report.specs.Said.{members_with, said_member, said_members}
+use Rattle.oim_report.specs.Names.{comes_again, named}
+use Rattle.oim_report.specs.Said.{dimension_kind, dimension_names, members_with, said_member, said_members}
 use Rattle.oim_report.specs.Sheet.{Sheet}
 use Rattle.oim_report.proofs.Accepted.{and_then_some, map_some}
 use Rattle.oim_report.proofs.Fitting.{AreNamespaces, IsClean, name_fits}
-use Rattle.oim_report.proofs.SaysParts.{named_expands}
+use Rattle.oim_report.proofs.Naming.{stands}
 
 -- ---- one member
 
 member_says : (bs : List Binding) (k : DimensionKind) (g : Given) (m : Member) → said_member bs (Some k) g ≡ Some m → SaysMember bs k g m
-member_says bs Explicit (text t) m e = let n = map_some MemberName (named bs t) m e in subst (SaysMember bs Explicit (text t)) n.2 (named_expands is_name bs t n.0 n.1)
+member_says bs Explicit (text t) m e = let n = map_some MemberName (named bs t) m e in subst (SaysMember bs Explicit (text t)) n.2 (stands is_name bs t n.0 n.1)
 member_says bs Explicit absent m e = absurd (cc)
 member_says bs Explicit nil m e = absurd (cc)
 member_says bs Explicit (whole n) m e = absurd (cc)
@@ -53,7 +50,7 @@ dimension_says : (sheet : Sheet) (bs : List Binding) (d : List ℕ × Given) (n 
 dimension_says sheet bs d n m name says =
     let k = of_kind (dimension_kind sheet bs d.0) bs d.1 m says in
     record {
-      name = named_expands is_name bs d.0 n name;
+      name = stands is_name bs d.0 n name;
       kind = k.0;
       listed = sym (ap (option_and_then (map.get sheet.dimensions)) name) ∙ k.1;
       member = k.2;
@@ -143,28 +140,26 @@ walk sheet bs (d ∷ ds) es new up once apart e =
 
 -- ---- starting with no members
 
-once_by : (sheet : Sheet) (bs : List Binding) (ds : List (List ℕ × Given)) → defined_refusal sheet bs ds ≡ None → comes_again (dimension_names bs ds) ≡ false
-once_by sheet bs ds e = second (list_any (λ d. is_none (dimension_kind sheet bs d.0)) ds) (list_any (λ d. is_misfit (dimension_kind sheet bs d.0) d.1) ds) (comes_again (dimension_names bs ds)) e
-  where
-    second : (a b c : Bool) → first_holding ((a, UnknownDimension) ∷ (b || c, DimensionValue) ∷ []) ≡ None → c ≡ false
-    second true b c h = absurd (cc)
-    second false true c h = absurd (cc)
-    second false false true h = absurd (cc)
-    second false false false h = refl
+-- if the members are said, no name is repeated
+pub once_said : (again : Bool) (o : Option (List (QName × Member))) (es : List (QName × Member)) → (if again then None else o) ≡ Some es → (again ≡ false) × (o ≡ Some es)
+once_said true o es e = absurd (cc)
+once_said false o es e = (refl, e)
 
-walked : (sheet : Sheet) (bs : List Binding) (ds : List (List ℕ × Given)) (es : List (QName × Member)) → defined_refusal sheet bs ds ≡ None → said_members sheet bs ds ≡ Some es → IsWalked sheet bs ds [] es
-walked sheet bs ds es none e = walk sheet bs ds [] es refl (once_by sheet bs ds none) (λ n c there. absurd (cc)) e
+walked : (sheet : Sheet) (bs : List Binding) (ds : List (List ℕ × Given)) (es : List (QName × Member)) → said_members sheet bs ds ≡ Some es → IsWalked sheet bs ds [] es
+walked sheet bs ds es e =
+    let said = once_said (comes_again (dimension_names bs ds)) (members_with sheet bs [] ds) es e in
+    walk sheet bs ds [] es refl said.0 (λ n c there. absurd (cc)) said.1
 
-pub members_rise : (sheet : Sheet) (bs : List Binding) (ds : List (List ℕ × Given)) (es : List (QName × Member)) → defined_refusal sheet bs ds ≡ None → said_members sheet bs ds ≡ Some es → IsTrue (rises es)
-members_rise sheet bs ds es none e = (walked sheet bs ds es none e).rising
+pub members_rise : (sheet : Sheet) (bs : List Binding) (ds : List (List ℕ × Given)) (es : List (QName × Member)) → said_members sheet bs ds ≡ Some es → IsTrue (rises es)
+members_rise sheet bs ds es e = (walked sheet bs ds es e).rising
 
 -- each member is said by some key
 by_key : (sheet : Sheet) (bs : List Binding) (ds : List (List ℕ × Given)) (es : List (QName × Member)) → IsWalked sheet bs ds [] es → (e : QName × Member) → Contains es e → (d : List ℕ × Given) × Contains ds d × SaysDimension sheet bs d e
 by_key sheet bs ds es walk e c = ⊎_elim (λ none. absurd (none_in e none)) (λ found. found) (walk.others e c)
 
-pub members_say : (sheet : Sheet) (bs : List Binding) (ds : List (List ℕ × Given)) (es : List (QName × Member)) → defined_refusal sheet bs ds ≡ None → said_members sheet bs ds ≡ Some es → SaysMembers sheet bs ds es
-members_say sheet bs ds es none e =
-    let is = walked sheet bs ds es none e in
+pub members_say : (sheet : Sheet) (bs : List Binding) (ds : List (List ℕ × Given)) (es : List (QName × Member)) → said_members sheet bs ds ≡ Some es → SaysMembers sheet bs ds es
+members_say sheet bs ds es e =
+    let is = walked sheet bs ds es e in
     record {
       each = λ k d lt. is.each (get_or ds k d) (All-contains_itself ds k d lt);
       others = λ k x lt. (let found = by_key sheet bs ds es is (get_or es k x) (All-contains_itself es k x lt) in (found.1.0, found.0, found.1.1, found.1.2, found.2));
@@ -192,7 +187,7 @@ dimension_fits sheet bs d e are clean says = record {
   member = member_fits bs says.kind d.1 e.1 are clean.1 says.member;
 }
 
-pub members_fit : (sheet : Sheet) (bs : List Binding) (ds : List (List ℕ × Given)) (es : List (QName × Member)) → AreNamespaces bs → All (λ d. IsUtf8 d.0 × IsClean d.1) ds → defined_refusal sheet bs ds ≡ None → said_members sheet bs ds ≡ Some es → All (DimensionFits sheet) es
-members_fit sheet bs ds es are clean none e k x lt =
-    let found = by_key sheet bs ds es (walked sheet bs ds es none e) (get_or es k x) (All-contains_itself es k x lt) in
+pub members_fit : (sheet : Sheet) (bs : List Binding) (ds : List (List ℕ × Given)) (es : List (QName × Member)) → AreNamespaces bs → All (λ d. IsUtf8 d.0 × IsClean d.1) ds → said_members sheet bs ds ≡ Some es → All (DimensionFits sheet) es
+members_fit sheet bs ds es are clean e k x lt =
+    let found = by_key sheet bs ds es (walked sheet bs ds es e) (get_or es k x) (All-contains_itself es k x lt) in
     dimension_fits sheet bs found.0 (get_or es k x) are (All-contains (λ (d : List ℕ × Given). IsUtf8 d.0 × IsClean d.1) ds found.0 clean found.1) found.2

@@ -37,17 +37,17 @@ free_one true false true h k l = absurd (cc)
 free_one true false false h k l = refl
 
 -- none of several names is refused
-record AreFree (bs : List Binding) (ns : List Spelled) : Type 0 where
-  form : refuses_some NameForm bs ns ≡ false
-  prefix : refuses_some UnboundPrefix bs ns ≡ false
-  namespace : refuses_some ReservedNamespace bs ns ≡ false
+pub record AreFree (bs : List Binding) (ns : List Spelled) : Type 0 where
+  pub form : refuses_some NameForm bs ns ≡ false
+  pub prefix : refuses_some UnboundPrefix bs ns ≡ false
+  pub namespace : refuses_some ReservedNamespace bs ns ≡ false
 
-are_free : (bs : List Binding) (ns : List Spelled) → names_refusal bs ns ≡ None → AreFree bs ns
+pub are_free : (bs : List Binding) (ns : List Spelled) → names_refusal bs ns ≡ None → AreFree bs ns
 are_free bs ns e =
     let each = by_none (refuses_some NameForm bs ns) (refuses_some UnboundPrefix bs ns) (refuses_some ReservedNamespace bs ns) e in
     record { form = each.0; prefix = each.1; namespace = each.2 }
 
-none_refused : (bs : List Binding) (ns : List Spelled) → AreFree bs ns → names_refusal bs ns ≡ None
+pub none_refused : (bs : List Binding) (ns : List Spelled) → AreFree bs ns → names_refusal bs ns ≡ None
 none_refused bs ns free = λ i. by_any (free.form i) (free.prefix i) (free.namespace i)
 
 -- ---- one more name

@@ -1,10 +1,9 @@
--- Part by part: the written text says exactly the part and is not refused.
-use Rattle.std.specs.Prelude.{◌≡◌, ℕ, List, All, IsTrue, Option, Some, None, IfSome}
-use Rattle.std.specs.List.{flat_map}
+-- Part by part: the written text says exactly the part.
+use Rattle.std.specs.Prelude.{◌≡◌, ℕ, List, All, IsTrue, Option, Some, IfSome}
 use Rattle.std.specs.FinMap as map
 use Rattle.oim_names.specs.QName.{QName}
 use Rattle.oim_names.specs.Bindings.{Binding}
-use Rattle.oim_names.specs.Expansion.{Expands, a_name, an_entity}
+use Rattle.oim_names.specs.Expansion.{Expands}
 use Rattle.oim_value.specs.declared.value.Value.{Value}
 use Rattle.oim_dims.specs.DimensionSet.{rises}
 use Rattle.oim_dims.specs.Period.{IsPeriod, period_text}
@@ -13,12 +12,10 @@ use Rattle.oim_dims.specs.declared.member.Member.{Member}
 use Rattle.oim_dims.specs.declared.period.Period.{Period}
 use Rattle.oim_report.specs.declared.concept_kind.ConceptKind.{ConceptKind}
 use Rattle.oim_report.specs.Json.{text}
-use Rattle.oim_report.specs.Names.{names_refusal}
-use Rattle.oim_report.specs.Conditions.{spelled_in, concept_kind, defined_names, unit_names, value_names, concept_refusal, defined_refusal, period_refusal, unit_refusal, language_refusal, value_refusal, decimals_refusal}
 use Rattle.oim_report.specs.Fact.{SaysEntity, SaysPeriod, SaysUnit, SaysLanguage, SaysMembers, SaysValue}
 use Rattle.oim_report.specs.FactFits.{FitsName, EntityFits, MeasuresFit, LanguageFits, DimensionFits, ValueFits}
 use Rattle.oim_report.specs.FactObject.{option_spelled, option_unit_text}
-use Rattle.oim_report.specs.Said.{said_concept, said_entity, said_period, said_unit, said_language, said_members, said_value}
+use Rattle.oim_report.specs.Said.{concept_kind, said_concept, said_entity, said_period, said_unit, said_language, said_members, said_value}
 use Rattle.oim_report.specs.Sheet.{Sheet}
 use Rattle.oim_report.specs.ReadBack.{SpellsDimension, SpellsMeasures, SpellsName, SpellsValue, decimals_given, defined_given, option_given, value_given}
 
@@ -26,8 +23,6 @@ pub record ConceptReadsBack (sheet : Sheet) (bs : List Binding) (spelled : QName
   pub says : Expands bs (spelled n) n
   pub said : said_concept bs (text (spelled n)) ≡ Some n
   pub listed : concept_kind sheet bs (text (spelled n)) ≡ Some kind
-  pub accepted : concept_refusal sheet bs (text (spelled n)) ≡ None
-  pub names : names_refusal bs (spelled_in a_name (text (spelled n))) ≡ None
 
 abbrev pub ConceptsReadBack : Type 0
 ConceptsReadBack = (sheet : Sheet) (bs : List Binding) (spelled : QName → List ℕ) (n : QName) (kind : ConceptKind) → FitsName n → SpellsName bs spelled n → map.get sheet.concepts n ≡ Some kind → ConceptReadsBack sheet bs spelled n kind
@@ -35,7 +30,6 @@ ConceptsReadBack = (sheet : Sheet) (bs : List Binding) (spelled : QName → List
 pub record EntityReadsBack (bs : List Binding) (spelled : QName → List ℕ) (entity : Option QName) : Type 0 where
   pub says : SaysEntity bs (option_given (option_spelled spelled entity)) entity
   pub said : said_entity bs (option_given (option_spelled spelled entity)) ≡ Some entity
-  pub names : names_refusal bs (spelled_in an_entity (option_given (option_spelled spelled entity))) ≡ None
 
 abbrev pub EntitiesReadBack : Type 0
 EntitiesReadBack = (bs : List Binding) (spelled : QName → List ℕ) (entity : Option QName) → EntityFits entity → IfSome entity (SpellsName bs spelled) → EntityReadsBack bs spelled entity
@@ -43,24 +37,20 @@ EntitiesReadBack = (bs : List Binding) (spelled : QName → List ℕ) (entity : 
 pub record PeriodReadsBack (p : Period) : Type 0 where
   pub says : SaysPeriod (option_given (period_text p)) p
   pub said : said_period (option_given (period_text p)) ≡ Some p
-  pub accepted : period_refusal (option_given (period_text p)) ≡ None
 
 abbrev pub PeriodsReadBack : Type 0
 PeriodsReadBack = (p : Period) → IsPeriod p → PeriodReadsBack p
 
 pub record UnitReadsBack (bs : List Binding) (spelled : QName → List ℕ) (kind : ConceptKind) (unit : Option Measures) : Type 0 where
   pub says : SaysUnit bs (option_given (option_unit_text spelled unit)) unit
-  pub said : said_unit bs (option_given (option_unit_text spelled unit)) ≡ Some unit
-  pub accepted : unit_refusal (Some kind) (option_given (option_unit_text spelled unit)) ≡ None
-  pub names : names_refusal bs (unit_names (option_given (option_unit_text spelled unit))) ≡ None
+  pub said : said_unit bs kind (option_given (option_unit_text spelled unit)) ≡ Some unit
 
 abbrev pub UnitsReadBack : Type 0
 UnitsReadBack = (bs : List Binding) (spelled : QName → List ℕ) (kind : ConceptKind) (unit : Option Measures) → IfSome unit IsUnit → IfSome unit (MeasuresFit kind) → IfSome unit (SpellsMeasures bs spelled) → UnitReadsBack bs spelled kind unit
 
 pub record LanguageReadsBack (kind : ConceptKind) (language : Option (List ℕ)) : Type 0 where
   pub says : SaysLanguage (option_given language) language
-  pub said : said_language (option_given language) ≡ Some language
-  pub accepted : language_refusal (Some kind) (option_given language) ≡ None
+  pub said : said_language kind (option_given language) ≡ Some language
 
 abbrev pub LanguagesReadBack : Type 0
 LanguagesReadBack = (kind : ConceptKind) (language : Option (List ℕ)) → LanguageFits kind language → LanguageReadsBack kind language
@@ -69,18 +59,13 @@ LanguagesReadBack = (kind : ConceptKind) (language : Option (List ℕ)) → Lang
 pub record MembersReadBack (sheet : Sheet) (bs : List Binding) (spelled : QName → List ℕ) (es : List (QName × Member)) : Type 0 where
   pub says : SaysMembers sheet bs (defined_given spelled es) es
   pub said : said_members sheet bs (defined_given spelled es) ≡ Some es
-  pub accepted : defined_refusal sheet bs (defined_given spelled es) ≡ None
-  pub names : names_refusal bs (flat_map (defined_names sheet bs) (defined_given spelled es)) ≡ None
 
 abbrev pub DimensionsReadBack : Type 0
 DimensionsReadBack = (sheet : Sheet) (bs : List Binding) (spelled : QName → List ℕ) (es : List (QName × Member)) → IsTrue (rises es) → All (DimensionFits sheet) es → All (SpellsDimension bs spelled) es → MembersReadBack sheet bs spelled es
 
 pub record ValueReadsBack (bs : List Binding) (spelled : QName → List ℕ) (kind : ConceptKind) (v : Value) : Type 0 where
   pub says : SaysValue bs kind (value_given spelled v) (decimals_given spelled v) v
-  pub said : said_value bs (Some kind) (value_given spelled v) (decimals_given spelled v) ≡ Some v
-  pub value_accepted : value_refusal (Some kind) (value_given spelled v) ≡ None
-  pub decimals_accepted : decimals_refusal (Some kind) (decimals_given spelled v) ≡ None
-  pub names : names_refusal bs (value_names (Some kind) (value_given spelled v)) ≡ None
+  pub said : said_value bs kind (value_given spelled v) (decimals_given spelled v) ≡ Some v
 
 -- values of every kind are read back
 abbrev pub ValuesReadBack : Type 0

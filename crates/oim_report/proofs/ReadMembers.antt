@@ -1,16 +1,15 @@
 -- The taxonomy-defined dimensions with their members are read back.
 use Rattle.std.proofs.Common.{◌≡◌, ◌≢◌, ℕ, suc, List, [], ◌∷◌, true, false, refl, sym, ap, ◌∙◌, arith}
-use Rattle.std.specs.Prelude.{All, Any, Contains, Option, Some, None, is_none, option_and_then, option_map, ⊤}
+use Rattle.std.specs.Prelude.{All, Any, Contains, Option, Some, None, if◌then◌else◌, option_and_then, option_map, ⊤}
 use Rattle.std.specs.FinMap as map
-use Rattle.std.specs.List.{list_any, cons_option, flat_map}
+use Rattle.std.specs.List.{list_any, cons_option}
 use Rattle.std.specs.Ordering.{nat_cmp, match_ordering, is_eq}
 use Rattle.std.specs.Cmp.Lexicographic.{slice_cmp}
 use Rattle.std.specs.declared.cmp.Ordering.TheVariants.{Less, Equal, Greater}
 use Rattle.std.proofs.lemmas.Bool.{and_parts, or_from}
 use Rattle.std.proofs.lemmas.List.Elements.{All-nil, All-cons, All-head, All-tail, All-weaker}
-use Rattle.std.proofs.lemmas.List.Folds.{list_any_none}
 use Rattle.std.proofs.lemmas.Map.Lookups.{exact_bytes}
-use Rattle.oim_names.specs.QName.{QName, is_name, exact_name}
+use Rattle.oim_names.specs.QName.{QName, exact_name}
 use Rattle.oim_names.specs.Bindings.{Binding}
 use Rattle.oim_value.specs.ValueOrder.{name_cmp}
 use Rattle.oim_dims.specs.declared.member.Member.{Member}
@@ -19,18 +18,14 @@ use Rattle.oim_dims.specs.DimensionSet.{is_below, rises, with_member}
 use Rattle.oim_report.specs.declared.dimension_kind.DimensionKind.{DimensionKind}
 use Rattle.oim_report.specs.declared.dimension_kind.DimensionKind.TheVariants.{Explicit, Typed}
 use Rattle.oim_report.specs.Json.{Given}
-use Rattle.oim_report.specs.Names.{named, names_refusal}
-use Rattle.oim_names.specs.Expansion.{a_name}
-use Rattle.oim_report.specs.Conditions.{dimension_kind, member_names, defined_names, is_misfit, dimension_names, comes_again, defined_refusal}
+use Rattle.oim_report.specs.Names.{comes_again, named}
 use Rattle.oim_report.specs.Fact.{SaysMember, SaysDimension}
 use Rattle.oim_report.specs.FactFits.{MemberFits, DimensionFits}
-use Rattle.oim_report.specs.Said.{said_member, members_with}
+use Rattle.oim_report.specs.Said.{dimension_kind, dimension_names, members_with, said_member, said_members}
 use Rattle.oim_report.specs.Sheet.{Sheet}
 use Rattle.oim_report.specs.ReadBack.{SpellsMember, SpellsDimension, with_given, member_given, defined_given}
 use Rattle.oim_report.proofs.ReadBack.{DimensionsReadBack}
 use Rattle.oim_report.proofs.Spelled.{expands, name_back, spelled_apart}
-use Rattle.oim_report.proofs.AcceptedNames.{one_name}
-use Rattle.oim_report.proofs.NameRefusals.{names_append}
 use Rattle.oim_report.proofs.MemberOrder.{either_first, below_apart, each_added, all_added}
 use Rattle.oim_report.proofs.GivenKeys.{All-with_given, Any-with_given, Any-kept}
 
@@ -57,14 +52,6 @@ says_member bs spelled Explicit NoMember fits s = absurd fits
 says_member bs spelled Typed (MemberName n) fits s = absurd fits
 says_member bs spelled Typed (MemberText t) fits s = refl
 says_member bs spelled Typed NoMember fits s = refl
-
-no_misfit : (bs : List Binding) (spelled : QName → List ℕ) (kind : DimensionKind) (m : Member) → MemberFits kind m → is_misfit (Some kind) (member_given spelled m) ≡ false
-no_misfit bs spelled Explicit (MemberName n) fits = refl
-no_misfit bs spelled Explicit (MemberText t) fits = absurd fits
-no_misfit bs spelled Explicit NoMember fits = absurd fits
-no_misfit bs spelled Typed (MemberName n) fits = absurd fits
-no_misfit bs spelled Typed (MemberText t) fits = refl
-no_misfit bs spelled Typed NoMember fits = refl
 
 -- two steps have the same result if they agree on each value
 same_steps : {A B C : Type 0} (a : Option A) (b : Option B) (f g : A → B → Option C) → ((x : A) → a ≡ Some x → (y : B) → f x y ≡ g x y) → option_and_then (λ x. option_and_then (f x) b) a ≡ option_and_then (λ x. option_and_then (g x) b) a
@@ -231,66 +218,19 @@ module _ (sheet : Sheet) (bs : List Binding) where
         (λ f s. Any-kept (λ (d : Keyed). SaysDimension sheet bs d f) (spelled e.0) (member_given spelled e.1) ds (other_keys e es we ws (apart e es h)) s)
         es (each_said es (rest e es h) ws))
 
-    -- no condition refuses the members
-    all_listed : (es : List Entry) → All IsWritten es → All (λ (d : Keyed). is_none (dimension_kind sheet bs d.0) ≡ false) (defined_given spelled es)
-    all_listed [] w = All-nil (λ (d : Keyed). is_none (dimension_kind sheet bs d.0) ≡ false)
-    all_listed (e ∷ es) w =
-        All-with_given (λ (d : Keyed). is_none (dimension_kind sheet bs d.0) ≡ false) (spelled e.0) (member_given spelled e.1) (defined_given spelled es)
-        (ap is_none (kind_back e (All-head IsWritten e es w)))
-        (all_listed es (All-tail IsWritten e es w))
-
-    none_misfits : (es : List Entry) → All IsWritten es → All (λ (d : Keyed). is_misfit (dimension_kind sheet bs d.0) d.1 ≡ false) (defined_given spelled es)
-    none_misfits [] w = All-nil (λ (d : Keyed). is_misfit (dimension_kind sheet bs d.0) d.1 ≡ false)
-    none_misfits (e ∷ es) w =
-        let we = All-head IsWritten e es w in
-        All-with_given (λ (d : Keyed). is_misfit (dimension_kind sheet bs d.0) d.1 ≡ false) (spelled e.0) (member_given spelled e.1) (defined_given spelled es)
-        (ap (λ k. is_misfit k (member_given spelled e.1)) (kind_back e we) ∙ no_misfit bs spelled we.fits.kind e.1 we.fits.member)
-        (none_misfits es (All-tail IsWritten e es w))
-
     all_distinct : (es : List Entry) → rises es ≡ true → All IsWritten es → Distinct (defined_given spelled es)
     all_distinct [] h w = tt
     all_distinct (e ∷ es) h w =
         let ws = All-tail IsWritten e es w in
         distinct_with (spelled e.0) (member_given spelled e.1) e.0 (key_back e (All-head IsWritten e es w)) (defined_given spelled es) (other_names e.0 es ws (apart e es h)) (all_distinct es (rest e es h) ws)
 
-    -- each name of a member is accepted
-    member_names_none : (kind : DimensionKind) (m : Member) → MemberFits kind m → SpellsMember bs spelled m → names_refusal bs (member_names (Some kind) (member_given spelled m)) ≡ None
-    member_names_none Explicit (MemberName n) fits s = one_name is_name bs (spelled n) n (expands bs spelled n s fits)
-    member_names_none Explicit (MemberText t) fits s = absurd fits
-    member_names_none Explicit NoMember fits s = absurd fits
-    member_names_none Typed m fits s = refl
-
-    one_named : (e : Entry) → IsWritten e → names_refusal bs (defined_names sheet bs (spelled e.0, member_given spelled e.1)) ≡ None
-    one_named e w =
-        names_append bs (a_name (spelled e.0) ∷ []) (member_names (dimension_kind sheet bs (spelled e.0)) (member_given spelled e.1))
-        (one_name is_name bs (spelled e.0) e.0 (expands bs spelled e.0 w.spells.name w.fits.name))
-        (ap (λ k. names_refusal bs (member_names k (member_given spelled e.1))) (kind_back e w) ∙ member_names_none w.fits.kind e.1 w.fits.member w.spells.member)
-
-    abbrev HasNames : Keyed → Type 0
-    HasNames d = names_refusal bs (defined_names sheet bs d) ≡ None
-
-    each_named : (es : List Entry) → All IsWritten es → All HasNames (defined_given spelled es)
-    each_named [] w = All-nil HasNames
-    each_named (e ∷ es) w =
-        All-with_given HasNames (spelled e.0) (member_given spelled e.1) (defined_given spelled es)
-        (one_named e (All-head IsWritten e es w))
-        (each_named es (All-tail IsWritten e es w))
-
-    all_named : (ds : List Keyed) → All HasNames ds → names_refusal bs (flat_map (defined_names sheet bs) ds) ≡ None
-    all_named [] h = refl
-    all_named (d ∷ ds) h = names_append bs (defined_names sheet bs d) (flat_map (defined_names sheet bs) ds) (All-head HasNames d ds h) (all_named ds (All-tail HasNames d ds h))
-
-    all_accepted : (es : List Entry) → rises es ≡ true → All IsWritten es → defined_refusal sheet bs (defined_given spelled es) ≡ None
-    all_accepted es h w =
+    -- no name is repeated, so the members are said
+    said_once : (es : List Entry) → rises es ≡ true → All IsWritten es → said_members sheet bs (defined_given spelled es) ≡ Some es
+    said_once es h w =
         let ds = defined_given spelled es in
-        rw (list_any_none (λ (d : Keyed). is_none (dimension_kind sheet bs d.0)) ds (all_listed es w), list_any_none (λ (d : Keyed). is_misfit (dimension_kind sheet bs d.0) d.1) ds (none_misfits es w), not_again ds (all_distinct es h w)) refl
+        ap (λ b. if b then None else members_with sheet bs [] ds) (not_again ds (all_distinct es h w)) ∙ all_said es [] h w ∙ ap Some (all_added es h)
 
 pub dimensions_back : DimensionsReadBack
 dimensions_back sheet bs spelled es h fits spells =
     let w : All (IsWritten sheet bs spelled) es = λ k d within. record { fits = fits k d within; spells = spells k d within } in
-    record {
-      says = record { each = each_says sheet bs spelled es w; others = each_said sheet bs spelled es h w };
-      said = all_said sheet bs spelled es [] h w ∙ ap Some (all_added es h);
-      accepted = all_accepted sheet bs spelled es h w;
-      names = all_named sheet bs spelled (defined_given spelled es) (each_named sheet bs spelled es w);
-    }
+    record { says = record { each = each_says sheet bs spelled es w; others = each_said sheet bs spelled es h w }; said = said_once sheet bs spelled es h w }

@@ -1,5 +1,5 @@
 -- A written unit is read back.
-use Rattle.std.proofs.Common.{◌≡◌, ◌≢◌, ℕ, zero, suc, ◌+◌, ◌<◌, List, [], ◌∷◌, ◌++◌, length, get_or, map, true, false, not, cond, Some, None, refl, ap, ◌∙◌, arith}
+use Rattle.std.proofs.Common.{◌≡◌, ◌≢◌, ℕ, zero, suc, ◌+◌, ◌<◌, List, [], ◌∷◌, ◌++◌, length, get_or, true, false, not, cond, Some, None, refl, ap, ◌∙◌, arith}
 use Rattle.std.specs.Prelude.{option_and_then, option_map, ◌==◌, ⊤}
 use Rattle.std.specs.Char.{is_ascii_alphanumeric}
 use Rattle.std.specs.List.{AllZip, list_all, list_any}
@@ -12,22 +12,19 @@ use Rattle.std.proofs.lemmas.List.Folds.{list_any-append}
 use Rattle.std.proofs.lemmas.List.Sorted.{IsPermutation-refl, IsPermutation-sym, IsPermutation-trans, IsPermutation-cons, IsPermutation-middle}
 use Rattle.oim_names.specs.QName.{QName, is_name, exact_name}
 use Rattle.oim_names.specs.Bindings.{Binding}
-use Rattle.oim_names.specs.Expansion.{Expands, a_name}
+use Rattle.oim_names.specs.Expansion.{Expands}
 use Rattle.oim_names.specs.contracts.name.NameOrd.TheImpl.Laws.{total-law as name_total}
 use Rattle.oim_value.specs.ValueOrder.{name_cmp}
 use Rattle.oim_dims.specs.Unit.{Measures, IsMeasure, IsUnit, NamesEach, HasMeasures, Spells, SpellsEach, is_mark, is_piece, is_unit_text, numerator_pieces, denominator_pieces, unit_text, pure_name, pure_alone}
 use Rattle.oim_dims.proofs.SortedOnce.{sorted_once}
 use Rattle.oim_dims.proofs.UnitText.{unit_back}
-use Rattle.oim_report.specs.Conditions.{is_other_kind, piece_names}
 use Rattle.oim_report.specs.FactFits.{FitsName}
-use Rattle.oim_report.specs.Names.{names_refusal}
-use Rattle.oim_report.specs.Said.{all_named, with_name, in_order, side_of, unit_with, unit_of}
+use Rattle.oim_report.specs.Json.{text}
+use Rattle.oim_report.specs.Said.{all_named, with_name, in_order, said_unit, side_of, unit_with, unit_of}
 use Rattle.oim_report.specs.ReadBack.{SpellsName}
 use Rattle.oim_report.proofs.ReadBack.{UnitsReadBack}
 use Rattle.oim_report.proofs.MemberOrder.{other_way}
 use Rattle.oim_report.proofs.Spelled.{some_number, expands, named_back}
-use Rattle.oim_report.proofs.AcceptedNames.{names_zip}
-use Rattle.oim_report.proofs.NameRefusals.{names_append}
 
 -- ---- the pieces of a unit's text
 
@@ -139,28 +136,15 @@ unit_said bs t m h is =
     ∙ ap (option_map (unit_with m.numerators)) (side_back bs (denominator_pieces t) m.denominators h.denominators is.denominators)
     ∙ ap Some (with_back m.numerators m.denominators is.unit)
 
-map_append : {A B : Type 0} (f : A → B) (xs ys : List A) → map f (xs ++ ys) ≡ map f xs ++ map f ys
-map_append f [] ys = refl
-map_append f (x ∷ xs) ys = ap (λ zs. f x ∷ zs) (map_append f xs ys)
-
-pieces_named : (bs : List Binding) (t : List ℕ) (m : Measures) → HasMeasures bs t m → names_refusal bs (piece_names t) ≡ None
-pieces_named bs t m h =
-    ap (names_refusal bs) (cond-true (is_unit_text t) (map a_name (numerator_pieces t ++ denominator_pieces t)) [] h.form ∙ map_append a_name (numerator_pieces t) (denominator_pieces t))
-    ∙ names_append bs (map a_name (numerator_pieces t)) (map a_name (denominator_pieces t)) (names_zip bs (numerator_pieces t) h.numerators.spelled h.numerators.expands) (names_zip bs (denominator_pieces t) h.denominators.spelled h.denominators.expands)
-
 pub unit_part_back : UnitsReadBack
-unit_part_back bs spelled kind None is fits s = record { says = refl; said = refl; accepted = refl; names = refl }
+unit_part_back bs spelled kind None is fits s = record { says = refl; said = refl }
 unit_part_back bs spelled kind (Some m) is fits s =
     let each : SpellsEach bs spelled m = record {
       numerators = λ k d within. spells_measure bs spelled _ (fits.numerators k d within) (is.multiplied k d within) (s.numerators k d within);
       denominators = λ k d within. spells_measure bs spelled _ (fits.denominators k d within) (is.divided k d within) (s.denominators k d within);
     } in
     let back = unit_back bs spelled m is each in
-    let has = back.unit.0 in
-    let numeric : is_other_kind (Some kind) ≡ false = ap (λ k. is_other_kind (Some k)) fits.numeric in
     record {
       says = back.unit;
-      said = unit_said bs (unit_text spelled m) m has is;
-      accepted = rw (has.form, numeric) refl;
-      names = pieces_named bs (unit_text spelled m) m has;
+      said = ap (λ k. said_unit bs k (text (unit_text spelled m))) fits.numeric ∙ unit_said bs (unit_text spelled m) m back.unit.0 is;
     }

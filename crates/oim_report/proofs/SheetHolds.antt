@@ -10,8 +10,9 @@ use Rattle.oim_report.specs.Json.{any_in, json, members, object_at}
 use Rattle.oim_report.specs.Least.{least}
 use Rattle.oim_report.specs.Names.{names_refusal, refuses_some}
 use Rattle.oim_report.specs.Namespaces.{binds_nothing, bindings_in}
-use Rattle.oim_report.specs.Refusal.{first_holding, first_refusal, or_refusal, unless}
+use Rattle.oim_report.specs.Refusal.{unless}
 use Rattle.oim_report.specs.Sheet.{RefusesSheet, Sheet, SheetRefusedWhereHeld, concept_kind_named, dimension_kind_named, has_bad_kind, key_names, said_sheet, same_concept_kind, same_dimension_kind, sheet_bindings, sheet_concepts, sheet_dimensions, sheet_holds, sheet_names, sheet_namespaces, sheet_of, sheet_outcome}
+use Rattle.oim_report.proofs.EachRefusal.{first_holding, first_refusal, or_refusal}
 use Rattle.oim_report.proofs.LeastOf.{least_is}
 use Rattle.oim_report.proofs.NameRefusals.{by_any}
 

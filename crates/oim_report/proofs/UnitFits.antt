@@ -9,17 +9,14 @@ use Rattle.std.proofs.lemmas.List.Sorted.{All-permutation, length_permutation}
 use Rattle.oim_names.specs.QName.{QName, prefix_part}
 use Rattle.oim_names.specs.Bindings.{Binding}
 use Rattle.oim_names.specs.Expansion.{Expands}
-use Rattle.oim_names.specs.declared.reason.Reason.TheVariants.{UnitForm, UnitOnOther}
 use Rattle.std.specs.List.{before_first}
 use Rattle.oim_dims.specs.Separators.{is_slash}
-use Rattle.oim_dims.specs.Unit.{IsMeasure, IsUnit, Measures, denominator_pieces, inner, is_mark, is_piece, is_unit_text, numerator_pieces}
+use Rattle.oim_dims.specs.Unit.{IsMeasure, IsUnit, Measures, denominator_pieces, inner, is_mark, is_piece, numerator_pieces}
 use Rattle.oim_dims.proofs.Naming.{side_some}
 use Rattle.oim_report.specs.declared.concept_kind.ConceptKind.{ConceptKind}
 use Rattle.oim_report.specs.declared.concept_kind.ConceptKind.TheVariants.{Numeric, Text, Name}
-use Rattle.oim_report.specs.Conditions.{is_other_kind, unit_refusal}
 use Rattle.oim_report.specs.FactFits.{FitsName, UnitFits}
 use Rattle.oim_report.specs.Json.{Given, absent, nil, text, whole, other}
-use Rattle.oim_report.specs.Refusal.{first_holding}
 use Rattle.oim_report.specs.Said.{said_unit}
 use Rattle.oim_report.proofs.Fitting.{AreNamespaces, IsClean, bound_uri, name_fits}
 use Rattle.oim_report.proofs.UnitSays.{HasSides, IsSide, alone, sides, unit}
@@ -85,30 +82,27 @@ is_unit bs t u has are utf8 = elim has.made [
   })
 ]
 
-pub unit_is_one : (bs : List Binding) (g : Given) (u : Option Measures) → AreNamespaces bs → IsClean g → said_unit bs g ≡ Some u → IfSome u IsUnit
-unit_is_one bs absent u are clean e = let same : None ≡ u = cc in subst (λ v. IfSome v IsUnit) same tt
-unit_is_one bs nil u are clean e = absurd (cc)
-unit_is_one bs (text t) u are clean e = is_unit bs t u (sides bs t u e) are (clean t refl)
-unit_is_one bs (whole n) u are clean e = absurd (cc)
-unit_is_one bs other u are clean e = absurd (cc)
+pub unit_is_one : (bs : List Binding) (kind : ConceptKind) (g : Given) (u : Option Measures) → AreNamespaces bs → IsClean g → said_unit bs kind g ≡ Some u → IfSome u IsUnit
+unit_is_one bs kind absent u are clean e = let same : None ≡ u = cc in subst (λ v. IfSome v IsUnit) same tt
+unit_is_one bs kind nil u are clean e = absurd (cc)
+unit_is_one bs Numeric (text t) u are clean e = is_unit bs t u (sides bs t u e) are (clean t refl)
+unit_is_one bs Text (text t) u are clean e = absurd (cc)
+unit_is_one bs Name (text t) u are clean e = absurd (cc)
+unit_is_one bs kind (whole n) u are clean e = absurd (cc)
+unit_is_one bs kind other u are clean e = absurd (cc)
 
 -- only numbers have units
-numeric_by : (kind : ConceptKind) (form : Bool) → first_holding ((form, UnitForm) ∷ (is_other_kind (Some kind), UnitOnOther) ∷ []) ≡ None → kind ≡ Numeric
-numeric_by Numeric form e = refl
-numeric_by Text true e = absurd (cc)
-numeric_by Text false e = absurd (cc)
-numeric_by Name true e = absurd (cc)
-numeric_by Name false e = absurd (cc)
-
-measures_fit : (bs : List Binding) (t : List ℕ) (kind : ConceptKind) (u : Option Measures) → HasSides bs t u → AreNamespaces bs → IsUtf8 t → kind ≡ Numeric → UnitFits kind u
-measures_fit bs t kind u has are utf8 numeric = elim has.made [
-  | alone none pure ↦ subst (UnitFits kind) (sym none) tt
-  | unit some apart ↦ subst (UnitFits kind) (sym some) (let both = both_good bs t u has are utf8 in record { numerators = seconds has.numerators both.0; denominators = seconds has.denominators both.1; numeric = numeric })
+measures_fit : (bs : List Binding) (t : List ℕ) (u : Option Measures) → HasSides bs t u → AreNamespaces bs → IsUtf8 t → UnitFits Numeric u
+measures_fit bs t u has are utf8 = elim has.made [
+  | alone none pure ↦ subst (UnitFits Numeric) (sym none) tt
+  | unit some apart ↦ subst (UnitFits Numeric) (sym some) (let both = both_good bs t u has are utf8 in record { numerators = seconds has.numerators both.0; denominators = seconds has.denominators both.1; numeric = refl })
 ]
 
-pub unit_fits : (bs : List Binding) (g : Given) (kind : ConceptKind) (u : Option Measures) → AreNamespaces bs → IsClean g → unit_refusal (Some kind) g ≡ None → said_unit bs g ≡ Some u → UnitFits kind u
-unit_fits bs absent kind u are clean none e = let same : None ≡ u = cc in subst (UnitFits kind) same tt
-unit_fits bs nil kind u are clean none e = absurd (cc)
-unit_fits bs (text t) kind u are clean none e = measures_fit bs t kind u (sides bs t u e) are (clean t refl) (numeric_by kind (not (is_unit_text t)) none)
-unit_fits bs (whole n) kind u are clean none e = absurd (cc)
-unit_fits bs other kind u are clean none e = absurd (cc)
+pub unit_fits : (bs : List Binding) (kind : ConceptKind) (g : Given) (u : Option Measures) → AreNamespaces bs → IsClean g → said_unit bs kind g ≡ Some u → UnitFits kind u
+unit_fits bs kind absent u are clean e = let same : None ≡ u = cc in subst (UnitFits kind) same tt
+unit_fits bs kind nil u are clean e = absurd (cc)
+unit_fits bs Numeric (text t) u are clean e = measures_fit bs t u (sides bs t u e) are (clean t refl)
+unit_fits bs Text (text t) u are clean e = absurd (cc)
+unit_fits bs Name (text t) u are clean e = absurd (cc)
+unit_fits bs kind (whole n) u are clean e = absurd (cc)
+unit_fits bs kind other u are clean e = absurd (cc)

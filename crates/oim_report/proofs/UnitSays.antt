@@ -11,12 +11,14 @@ use Rattle.oim_names.specs.Expansion.{Expands}
 use Rattle.oim_names.specs.contracts.name.NameOrd.TheImpl.Laws.{total-law as name_total}
 use Rattle.oim_value.specs.ValueOrder.{name_cmp}
 use Rattle.oim_dims.specs.Unit.{HasMeasures, Measures, NamesEach, UnitOf, denominator_pieces, is_unit_text, numerator_pieces, pure_alone, pure_name}
+use Rattle.oim_report.specs.declared.concept_kind.ConceptKind.{ConceptKind}
+use Rattle.oim_report.specs.declared.concept_kind.ConceptKind.TheVariants.{Numeric, Text, Name}
 use Rattle.oim_report.specs.Fact.{SaysUnit}
 use Rattle.oim_report.specs.Json.{Given, absent, nil, text, whole, other}
 use Rattle.oim_report.specs.Names.{named}
 use Rattle.oim_report.specs.Said.{all_named, in_order, said_unit, side_of, unit_of, unit_with}
 use Rattle.oim_report.proofs.Accepted.{and_then_some, map_some}
-use Rattle.oim_report.proofs.SaysParts.{named_expands}
+use Rattle.oim_report.proofs.Naming.{stands}
 use Rattle.oim_report.proofs.UnitSaid.{is_ordered, order_same, sorted}
 
 -- ---- the names of pieces
@@ -26,7 +28,7 @@ each_named bs [] ns e = let same : [] ≡ ns = cc in subst (AllZip (Expands bs) 
 each_named bs (p ∷ ps) ns e =
     let a = and_then_some (λ n. option_map (λ ms. n ∷ ms) (all_named bs ps)) (named bs p) ns e in
     let b = map_some (λ ms. a.0 ∷ ms) (all_named bs ps) ns a.2 in
-    subst (AllZip (Expands bs) (p ∷ ps)) b.2 (named_expands is_name bs p a.0 a.1, each_named bs ps b.0 b.1)
+    subst (AllZip (Expands bs) (p ∷ ps)) b.2 (stands is_name bs p a.0 a.1, each_named bs ps b.0 b.1)
 
 -- the names of one side, sorted
 pub record IsSide (bs : List Binding) (ps : List (List ℕ)) (ns : List QName) : Type 0 where
@@ -101,9 +103,11 @@ unit_denoted bs t u has = elim has.made [
   | unit some other_unit ↦ subst (UnitOf bs t) (sym some) (measures bs t u has, other_unit)
 ]
 
-pub unit_says : (bs : List Binding) (g : Given) (u : Option Measures) → said_unit bs g ≡ Some u → SaysUnit bs g u
-unit_says bs absent u e = (let same : None ≡ u = cc in sym same)
-unit_says bs nil u e = absurd (cc)
-unit_says bs (text t) u e = unit_denoted bs t u (sides bs t u e)
-unit_says bs (whole n) u e = absurd (cc)
-unit_says bs other u e = absurd (cc)
+pub unit_says : (bs : List Binding) (kind : ConceptKind) (g : Given) (u : Option Measures) → said_unit bs kind g ≡ Some u → SaysUnit bs g u
+unit_says bs kind absent u e = (let same : None ≡ u = cc in sym same)
+unit_says bs kind nil u e = absurd (cc)
+unit_says bs Numeric (text t) u e = unit_denoted bs t u (sides bs t u e)
+unit_says bs Text (text t) u e = absurd (cc)
+unit_says bs Name (text t) u e = absurd (cc)
+unit_says bs kind (whole n) u e = absurd (cc)
+unit_says bs kind other u e = absurd (cc)

@@ -24,12 +24,11 @@ use Rattle.oim_report.specs.declared.concept_kind.ConceptKind.{ConceptKind}
 use Rattle.oim_report.specs.declared.concept_kind.ConceptKind.TheVariants.{Numeric, Text, Name}
 use Rattle.oim_report.specs.declared.dimension_kind.DimensionKind.{DimensionKind}
 use Rattle.oim_report.specs.declared.dimension_kind.DimensionKind.TheVariants.{Explicit, Typed}
-use Rattle.oim_report.specs.Conditions.{comes_again}
 use Rattle.oim_report.specs.Info.{bindings_of, document_type, features_of, info, info_keys, is_allowed_duplicates, namespaces_of, root_keys, taxonomy_of}
 use Rattle.oim_report.specs.Json.{any_in, any_member, has_colon, has_member, is_no_array, is_no_object, is_object, is_unknown, members, object_at}
 use Rattle.oim_report.specs.Kept.{base_url, is_reference_refused}
 use Rattle.oim_report.specs.Least.{least}
-use Rattle.oim_report.specs.Names.{named}
+use Rattle.oim_report.specs.Names.{comes_again, named}
 use Rattle.oim_report.specs.Namespaces.{binds_nothing}
 use Rattle.oim_report.specs.Parts.{core_keys, fact_keys}
 use Rattle.oim_report.specs.Sheet.{Sheet, same_concept_kind, same_dimension_kind}

@@ -7,7 +7,6 @@ pub mod Namespaces
 pub mod Names
 pub mod Sheet
 pub mod Listed
-pub mod Conditions
 pub mod Said
 pub mod Fact
 pub mod Kept

@@ -1,12 +1,14 @@
 -- The names in an object, and why they are refused.
-use Rattle.std.specs.Prelude.{ℕ, List, [], ◌∷◌, Bool, if◌then◌else◌, Option, Some, None, option_and_then}
+use Rattle.std.specs.Prelude.{ℕ, List, [], ◌∷◌, Bool, false, ◌||◌, if◌then◌else◌, Option, Some, None, option_and_then}
 use Rattle.std.specs.List.{find, list_any}
+use Rattle.std.specs.Ordering.{is_eq}
 use Rattle.std.specs.Str.{bytes_eq}
 use Rattle.oim_names.specs.QName.{QName, is_name, is_entity, local_part, prefix_part}
 use Rattle.oim_names.specs.Bindings.{Binding, uri_of}
 use Rattle.oim_names.specs.Expansion.{reserved_uri, Spelled, refuses}
 use Rattle.oim_names.specs.declared.reason.Reason.{Reason}
 use Rattle.oim_names.specs.declared.reason.Reason.TheVariants.{NameForm, UnboundPrefix, ReservedNamespace}
+use Rattle.oim_value.specs.ValueOrder.{name_cmp}
 
 -- whether one of several names is refused for this reason
 abbrev pub refuses_some : Reason → List Binding → List Spelled → Bool
@@ -28,3 +30,8 @@ named = named_as is_name
 
 abbrev pub entity_named : List Binding → List ℕ → Option QName
 entity_named = named_as is_entity
+
+-- a name is repeated
+abbrev pub comes_again : List QName → Bool
+comes_again [] = false
+comes_again (n ∷ ns) = list_any (λ m. is_eq (name_cmp n m)) ns || comes_again ns

@@ -18,13 +18,12 @@ use Rattle.oim_report.specs.Document.{Document, SaysDocument}
 use Rattle.oim_report.specs.Duplicates.{level_of}
 use Rattle.oim_report.specs.Info.{bindings_of, facts_of, references_said, level_said}
 use Rattle.oim_report.specs.Json.{json, values}
-use Rattle.oim_report.specs.Parts.{fact_parts, FactParts}
+use Rattle.oim_report.specs.Parts.{fact_parts}
 use Rattle.oim_report.specs.Refusal.{map_ok}
 use Rattle.oim_report.specs.Said.{said_fact}
 use Rattle.oim_report.specs.Sheet.{Sheet}
 use Rattle.oim_report.specs.Holds.{document_refusal, holds, document_holds}
 use Rattle.oim_report.specs.Least.{least, IsLeast}
-use Rattle.oim_report.specs.Conditions.{fact_refusal}
 
 abbrev pub at : Place → Reason → Refusal
 at place reason = record { reason = reason; place = place }
@@ -83,17 +82,17 @@ outcome sheet bytes = tree_outcome sheet (json bytes)
 abbrev pub OutcomesWantNoMemory : Type 0
 OutcomesWantNoMemory = (sheet : Sheet) (bytes : List ℕ) (place : Place) → outcome sheet bytes ≢ Err (at place OutOfMemory)
 
--- ---- an object that is not refused says a fact
-
--- parts that no condition refuses say a fact, so `fact_outcome` never returns MemberForm because a fact is missing (own)
-abbrev pub FactsAreSaid : Type 0
-FactsAreSaid = (sheet : Sheet) (bs : List Binding) (p : FactParts) → fact_refusal sheet bs p ≡ None → (f : Fact) × (said_fact sheet bs p ≡ Some f)
-
--- ---- accepted reports, in terms of the conditions instead of `outcome` (own)
+-- ---- a fact object to which no condition applies (own)
 
 -- no condition applies to a fact object
 abbrev pub IsFree : Sheet → List Binding → Data → Type 0
 IsFree sheet bs d = (r : Reason) → holds sheet bs d r ≡ false
+
+-- a fact object to which no condition applies says a fact, so `fact_outcome` never returns MemberForm because a fact is missing
+abbrev pub FactsAreSaid : Type 0
+FactsAreSaid = (sheet : Sheet) (bs : List Binding) (d : Data) → IsFree sheet bs d → (f : Fact) × (option_and_then (said_fact sheet bs) (fact_parts d) ≡ Some f)
+
+-- ---- accepted reports, in terms of the conditions instead of `outcome` (own)
 
 -- the bytes are JSON, no condition applies to the document or a fact, they say this document, and the level of its facts is not
 -- above the declared one

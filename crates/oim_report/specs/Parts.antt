@@ -1,9 +1,9 @@
 -- The parts of a fact object (xBRL-JSON 1.0, section 3.1).
-use Rattle.std.specs.Prelude.{ℕ, List, [], ◌∷◌, Bool, ◌||◌, ◌&&◌, if◌then◌else◌, codes, Option, option_map, option_and_then}
+use Rattle.std.specs.Prelude.{◌≡◌, ℕ, List, [], ◌∷◌, Bool, true, false, ◌||◌, ◌&&◌, if◌then◌else◌, codes, Option, Some, option_map, option_and_then}
 use Rattle.std.specs.Str.{is_utf8}
 use Rattle.serde_json.specs.Data.{Data, Members, no_members, member}
 use Rattle.serde_json.specs.Find.{get_member, as_object}
-use Rattle.oim_report.specs.Json.{Given, given, given_at, any_member, has_member, has_colon, is_unknown, is_no_object}
+use Rattle.oim_report.specs.Json.{Given, given, given_at, any_member, has_member, has_colon, is_absent, is_unknown, is_no_object}
 
 -- the members of `dimensions`: the core dimensions, and the taxonomy-defined ones in byte order of their keys; `unknown` states
 -- that some other key has no colon
@@ -64,3 +64,12 @@ parts_of ms = record {
 -- the parts of a value that is an object
 abbrev pub fact_parts : Data → Option FactParts
 fact_parts d = option_map parts_of (as_object d)
+
+-- the dimensions are an object, and no part is misshapen, unknown, a link or a note
+pub record HasForm (p : FactParts) (ds : DimensionParts) : Type 0 where
+  pub there : p.dimensions ≡ Some ds
+  pub shaped : p.misshapen ≡ false
+  pub known : p.unknown ≡ false
+  pub unlinked : p.linked ≡ false
+  pub known_inside : ds.unknown ≡ false
+  pub unnoted : is_absent ds.note ≡ true

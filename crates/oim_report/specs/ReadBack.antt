@@ -1,11 +1,12 @@
 -- A written fact is read as itself.
-use Rattle.std.specs.Prelude.{◌≡◌, ◌≢◌, ⊤, ℕ, List, [], ◌∷◌, ◌++◌, All, IsTrue, Option, Some, None, Ok, IfSome, false}
+use Rattle.std.specs.Prelude.{◌≡◌, ◌≢◌, ◌||◌, ⊤, ℕ, List, [], ◌∷◌, ◌++◌, All, IsTrue, Option, Some, None, Ok, IfSome, false}
 use Rattle.std.specs.List.{list_all}
 use Rattle.std.specs.Char.{is_ascii_alphanumeric}
 use Rattle.std.specs.Ordering.{nat_cmp, match_ordering}
 use Rattle.std.specs.Cmp.Lexicographic.{slice_cmp}
 use Rattle.oim_names.specs.QName.{QName}
 use Rattle.oim_names.specs.Bindings.{Binding, uri_of}
+use Rattle.oim_names.specs.declared.reason.Reason.TheVariants.{NameForm, UnboundPrefix, ReservedNamespace}
 use Rattle.oim_value.specs.Plain.{plain}
 use Rattle.oim_value.specs.declared.value.Value.{Value}
 use Rattle.oim_value.specs.declared.value.Value.TheVariants.{Nil, Number, Text as AText, Name as AName}
@@ -16,14 +17,13 @@ use Rattle.oim_dims.specs.declared.fact.Fact.{Fact}
 use Rattle.oim_dims.specs.declared.member.Member.{Member}
 use Rattle.oim_dims.specs.declared.member.Member.TheVariants.{Nil as NoMember, Text as MemberText, Name as MemberName}
 use Rattle.serde_json.specs.Data.{Data}
-use Rattle.oim_report.specs.Json.{Given, absent, nil, text, whole}
-use Rattle.oim_report.specs.Names.{names_refusal}
-use Rattle.oim_report.specs.Parts.{DimensionParts, FactParts, fact_parts}
-use Rattle.oim_report.specs.Conditions.{form_refusal, names_of, fact_refusal}
+use Rattle.oim_report.specs.Json.{Given, absent, nil, text, whole, is_absent, is_no_text}
+use Rattle.oim_report.specs.Parts.{DimensionParts, FactParts, HasForm, fact_parts}
 use Rattle.oim_report.specs.Fact.{SaysFact}
 use Rattle.oim_report.specs.FactFits.{FactFits}
 use Rattle.oim_report.specs.FactObject.{option_spelled, option_unit_text, fact_object}
-use Rattle.oim_report.specs.Outcome.{fact_outcome}
+use Rattle.oim_report.specs.Holds.{holds}
+use Rattle.oim_report.specs.Outcome.{IsFree, fact_outcome}
 use Rattle.oim_report.specs.PlainJson.{IsPlainJson}
 use Rattle.oim_report.specs.Sheet.{Sheet}
 
@@ -127,13 +127,18 @@ FactObjectHasParts = (sheet : Sheet) (bs : List Binding) (spelled : QName → Li
 
 -- ---- all parts are accepted
 
--- the parts have the form of a fact
+-- the parts have the form of a fact, there is a value, and each core dimension is a text or absent
+pub record AreFormed (p : FactParts) (ds : DimensionParts) : Type 0 where
+  pub form : HasForm p ds
+  pub value : is_absent p.value ≡ false
+  pub texts : (is_no_text ds.concept || is_no_text ds.entity || is_no_text ds.period || is_no_text ds.unit || is_no_text ds.language) ≡ false
+
 abbrev pub FormsAreAccepted : Type 0
-FormsAreAccepted = (spelled : QName → List ℕ) (f : Fact) → form_refusal (parts_given spelled f) ≡ None
+FormsAreAccepted = (spelled : QName → List ℕ) (f : Fact) → AreFormed (parts_given spelled f) (dimensions_given spelled f.dimensions)
 
 -- none of the names is refused
 abbrev pub NamesAreAccepted : Type 0
-NamesAreAccepted = (sheet : Sheet) (bs : List Binding) (spelled : QName → List ℕ) (f : Fact) → FactFits sheet f → SpellsFact bs spelled f → names_refusal bs (names_of sheet bs (dimensions_given spelled f.dimensions) (value_given spelled f.value)) ≡ None
+NamesAreAccepted = (sheet : Sheet) (bs : List Binding) (spelled : QName → List ℕ) (f : Fact) → FactFits sheet f → SpellsFact bs spelled f → let applies = holds sheet bs (fact_object spelled f) in (applies NameForm ≡ false) × (applies UnboundPrefix ≡ false) × (applies ReservedNamespace ≡ false)
 
 -- ---- the fact
 
@@ -141,11 +146,11 @@ NamesAreAccepted = (sheet : Sheet) (bs : List Binding) (spelled : QName → List
 abbrev pub FactObjectIsPlain : Type 0
 FactObjectIsPlain = (sheet : Sheet) (bs : List Binding) (spelled : QName → List ℕ) (f : Fact) → FactFits sheet f → SpellsFact bs spelled f → IsPlainJson (fact_object spelled f) 2
 
--- the parts of a fact object are not refused and say the fact, and the outcome of the object is this fact
+-- no condition applies to a fact object, its parts say the fact, and the outcome of the object is this fact
 pub record IsReadAs (sheet : Sheet) (bs : List Binding) (d : Data) (f : Fact) : Type 0 where
   pub parts : FactParts
   pub are : fact_parts d ≡ Some parts
-  pub accepted : fact_refusal sheet bs parts ≡ None
+  pub accepted : IsFree sheet bs d
   pub says : SaysFact sheet bs parts f
   pub outcome : fact_outcome sheet bs d ≡ Ok f
 

@@ -1,10 +1,14 @@
--- The fact that a fact object says, as a function. Each part is None if the object does not say it.
-use Rattle.std.specs.Prelude.{ℕ, ℤ, List, [], ◌∷◌, if◌then◌else◌, Option, Some, None, option_map, option_and_then}
+-- The fact that a fact object says, as a function. Each part is None if its form, the concept's kind or a repeat forbids it.
+use Rattle.std.specs.Prelude.{ℕ, ℤ, List, [], ◌∷◌, not, ◌&&◌, if◌then◌else◌, Option, Some, None, option_map, option_and_then}
+use Rattle.std.specs.FinMap as map
+use Rattle.std.specs.List.{filter_map}
 use Rattle.std.specs.Result.{result_ok}
 use Rattle.std.specs.Ordering.{is_lt, is_eq}
 use Rattle.std.specs.Str.{str_to_ascii_lowercase}
 use Rattle.oim_names.specs.QName.{QName}
 use Rattle.oim_names.specs.Bindings.{Binding}
+use Rattle.oim_value.specs.Decimals.{is_finite_decimals}
+use Rattle.oim_value.specs.Number.{is_number, is_short}
 use Rattle.oim_value.specs.Units.{units_of}
 use Rattle.oim_value.specs.ValueOrder.{name_cmp}
 use Rattle.oim_value.specs.declared.value.Value.{Value}
@@ -23,10 +27,20 @@ use Rattle.oim_report.specs.declared.concept_kind.ConceptKind.TheVariants.{Numer
 use Rattle.oim_report.specs.declared.dimension_kind.DimensionKind.{DimensionKind}
 use Rattle.oim_report.specs.declared.dimension_kind.DimensionKind.TheVariants.{Explicit, Typed}
 use Rattle.oim_report.specs.Json.{Given, absent, nil, text, whole, other, text_of}
-use Rattle.oim_report.specs.Names.{named, entity_named}
+use Rattle.oim_report.specs.Names.{comes_again, named, entity_named}
 use Rattle.oim_report.specs.Parts.{DimensionParts, FactParts}
-use Rattle.oim_report.specs.Conditions.{concept_kind, dimension_kind}
-use Rattle.oim_report.specs.Sheet.{Sheet}
+use Rattle.oim_report.specs.Sheet.{Sheet, same_concept_kind}
+
+-- ---- kinds
+
+-- the kind of the concept or dimension that a text names, if the sheet lists it
+abbrev pub concept_kind : Sheet → List Binding → Given → Option ConceptKind
+concept_kind sheet bs concept = option_and_then (map.get sheet.concepts) (option_and_then (named bs) (text_of concept))
+
+abbrev pub dimension_kind : Sheet → List Binding → List ℕ → Option DimensionKind
+dimension_kind sheet bs key = option_and_then (map.get sheet.dimensions) (named bs key)
+
+-- ---- core dimensions
 
 -- the value of an optional part, which is `none` if the part is absent
 abbrev pub said_text : {A : Type 0} → A → (List ℕ → Option A) → Given → Option A
@@ -45,8 +59,9 @@ said_entity bs = said_text None (λ t. option_map Some (entity_named bs t))
 abbrev pub said_period : Given → Option Period
 said_period = said_text Forever (λ t. result_ok (period_of t))
 
-abbrev pub said_language : Given → Option (Option (List ℕ))
-said_language = said_text None (λ t. if is_language t then Some (Some (str_to_ascii_lowercase t)) else None)
+-- numbers have no language
+abbrev pub said_language : ConceptKind → Given → Option (Option (List ℕ))
+said_language kind = said_text None (λ t. if not (same_concept_kind Numeric kind) && is_language t then Some (Some (str_to_ascii_lowercase t)) else None)
 
 -- ---- units
 
@@ -76,8 +91,9 @@ abbrev pub unit_of : List Binding → List ℕ → Option (Option Measures)
 unit_of bs t =
     if is_unit_text t then option_and_then (λ ns. option_map (unit_with ns) (side_of bs (denominator_pieces t))) (side_of bs (numerator_pieces t)) else None
 
-abbrev pub said_unit : List Binding → Given → Option (Option Measures)
-said_unit bs = said_text None (unit_of bs)
+-- only numbers have units
+abbrev pub said_unit : List Binding → ConceptKind → Given → Option (Option Measures)
+said_unit bs kind = said_text None (λ t. if same_concept_kind Numeric kind then unit_of bs t else None)
 
 -- ---- taxonomy-defined dimensions
 
@@ -93,36 +109,43 @@ members_with sheet bs es [] = Some es
 members_with sheet bs es (d ∷ ds) =
     option_and_then (λ n. option_and_then (λ m. members_with sheet bs (with_member n m es) ds) (said_member bs (dimension_kind sheet bs d.0) d.1)) (named bs d.0)
 
+abbrev pub dimension_names : List Binding → List (List ℕ × Given) → List QName
+dimension_names bs defined = filter_map (λ d. named bs d.0) defined
+
+-- no dimension is repeated
 abbrev pub said_members : Sheet → List Binding → List (List ℕ × Given) → Option (List (QName × Member))
-said_members sheet bs = members_with sheet bs []
+said_members sheet bs ds = if comes_again (dimension_names bs ds) then None else members_with sheet bs [] ds
 
 -- ---- the value
 
--- without decimals a number is exact
-abbrev pub said_decimals : Given → Option ℤ
-said_decimals (whole n) = Some n
-said_decimals absent = None
-said_decimals nil = None
-said_decimals (text t) = None
-said_decimals other = None
+-- only numbers have decimals; without decimals a number is exact
+abbrev pub said_decimals : ConceptKind → Given → Option (Option ℤ)
+said_decimals kind absent = Some None
+said_decimals kind (whole n) = if same_concept_kind Numeric kind && is_finite_decimals n then Some (Some n) else None
+said_decimals kind nil = None
+said_decimals kind (text t) = None
+said_decimals kind other = None
 
-abbrev pub text_said : List Binding → Option ConceptKind → Given → List ℕ → Option Value
-text_said bs (Some Numeric) decimals t = Some (Number (units_of t) (said_decimals decimals))
-text_said bs (Some Text) decimals t = Some (AText t)
-text_said bs (Some Name) decimals t = option_map AName (named bs t)
-text_said bs None decimals t = None
+abbrev pub text_said : List Binding → ConceptKind → Option ℤ → List ℕ → Option Value
+text_said bs Numeric places t = if is_number t && is_short t then Some (Number (units_of t) places) else None
+text_said bs Text places t = Some (AText t)
+text_said bs Name places t = option_map AName (named bs t)
 
-abbrev pub said_value : List Binding → Option ConceptKind → Given → Given → Option Value
-said_value bs kind (text t) decimals = text_said bs kind decimals t
-said_value bs kind nil decimals = Some Nil
-said_value bs kind absent decimals = None
-said_value bs kind (whole n) decimals = None
-said_value bs kind other decimals = None
+-- the value with these decimals
+abbrev pub value_with : List Binding → ConceptKind → Given → Option ℤ → Option Value
+value_with bs kind (text t) places = text_said bs kind places t
+value_with bs kind nil places = Some Nil
+value_with bs kind absent places = None
+value_with bs kind (whole n) places = None
+value_with bs kind other places = None
+
+abbrev pub said_value : List Binding → ConceptKind → Given → Given → Option Value
+said_value bs kind value decimals = option_and_then (value_with bs kind value) (said_decimals kind decimals)
 
 -- ---- the fact
 
-abbrev pub said_dimensions : Sheet → List Binding → DimensionParts → Option DimensionSet
-said_dimensions sheet bs ds =
+abbrev pub said_dimensions : Sheet → List Binding → ConceptKind → DimensionParts → Option DimensionSet
+said_dimensions sheet bs kind ds =
     option_and_then (λ concept.
     option_and_then (λ entity.
     option_and_then (λ period.
@@ -130,15 +153,19 @@ said_dimensions sheet bs ds =
     option_and_then (λ language.
     option_map (λ members. record { concept = concept; entity = entity; period = period; unit = unit; language = language; members = members })
     (said_members sheet bs ds.defined))
-    (said_language ds.language))
-    (said_unit bs ds.unit))
+    (said_language kind ds.language))
+    (said_unit bs kind ds.unit))
     (said_period ds.period))
     (said_entity bs ds.entity))
     (said_concept bs ds.concept)
 
+-- the fact whose concept has this kind
+abbrev pub fact_with : Sheet → List Binding → FactParts → DimensionParts → ConceptKind → Option Fact
+fact_with sheet bs p ds kind =
+    option_and_then (λ dimensions. option_map (λ value. record { dimensions = dimensions; value = value }) (said_value bs kind p.value p.decimals)) (said_dimensions sheet bs kind ds)
+
 abbrev pub fact_of : Sheet → List Binding → FactParts → DimensionParts → Option Fact
-fact_of sheet bs p ds =
-    option_and_then (λ dimensions. option_map (λ value. record { dimensions = dimensions; value = value }) (said_value bs (concept_kind sheet bs ds.concept) p.value p.decimals)) (said_dimensions sheet bs ds)
+fact_of sheet bs p ds = option_and_then (fact_with sheet bs p ds) (concept_kind sheet bs ds.concept)
 
 abbrev pub said_fact : Sheet → List Binding → FactParts → Option Fact
 said_fact sheet bs p = option_and_then (fact_of sheet bs p) p.dimensions

@@ -128,7 +128,7 @@ pub fn faults_begin_with_the_refusal()
     ensures first { FirstFaultIsAnswered }
 {}
 
-/// If no condition refuses the parts of a fact object, they say a fact.
+/// If no condition applies to a fact object, it says a fact.
 pub fn facts_are_said_unless_refused()
     ensures { FactsAreSaid }
 {}

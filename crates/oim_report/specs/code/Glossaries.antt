@@ -12,10 +12,10 @@ use Rattle.oim_dims.specs.declared.period.Period.{Period}
 use Rattle.oim_report.specs.declared.concept_kind.ConceptKind.{ConceptKind}
 use Rattle.oim_report.specs.declared.dimension_kind.DimensionKind.{DimensionKind}
 use Rattle.oim_report.specs.declared.fact.glossaries.Glossaries.{Glossaries}
-use Rattle.oim_report.specs.Conditions.{concept_kind, dimension_kind}
 use Rattle.oim_report.specs.code.Glossary.{IsGlossary}
 use Rattle.oim_report.specs.Json.{text}
 use Rattle.oim_report.specs.Names.{named}
+use Rattle.oim_report.specs.Said.{concept_kind, dimension_kind}
 use Rattle.oim_report.specs.Sheet.{Sheet}
 
 -- the text names this concept, which the sheet lists with this kind

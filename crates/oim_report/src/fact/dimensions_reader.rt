@@ -1,8 +1,6 @@
-ghost use Rattle.std.specs.Prelude.{◌≡◌, Some, None, false, IfOk, OnOk};
-ghost use Rattle.oim_report.specs.Conditions.{dimension_refusals, has_misshapen_core};
+ghost use Rattle.std.specs.Prelude.{◌≡◌, Some, None, IfOk, OnOk};
 ghost use Rattle.oim_report.specs.code.Given.{seen};
 ghost use Rattle.oim_report.specs.code.Glossaries.{AreGlossaries};
-ghost use Rattle.oim_report.specs.Refusal.{first_refusal};
 ghost use Rattle.oim_report.specs.Said.{said_concept, said_dimensions};
 ghost use Rattle.oim_report.specs.code.SeenParts.{seen_dimensions};
 
@@ -16,7 +14,7 @@ use oim_dims::Dimensions;
 use oim_names::{Aliases, Name, Reason, Text};
 use std::alloc::Global;
 
-/// Returns the dimensions of a fact with this concept. The parts must be well-formed.
+/// Returns the dimensions of a fact with this concept, whose values have this kind.
 ///
 /// Errors: some condition that applies; `OutOfMemory`.
 pub(crate) fn read_dimensions<'s, 'a>(
@@ -29,13 +27,9 @@ pub(crate) fn read_dimensions<'s, 'a>(
     parts: &DimensionParts<'a>,
 ) -> Result<Dimensions, Reason>
     requires known { AreGlossaries sheet.now aliases.now glossaries.old }
-    requires form { has_misshapen_core (seen_dimensions parts.now) ≡ false }
     requires concept { said_concept aliases.now (seen parts.now.concept) ≡ Some concept }
     ensures said { IfOk result
-        (λ d. said_dimensions sheet.now aliases.now (seen_dimensions parts.now) ≡ Some d) }
-    ensures accepted { let ds = seen_dimensions parts.now in
-        let refusals = dimension_refusals sheet.now aliases.now (Some kind) ds in
-        IfOk result (λ _. first_refusal refusals ≡ None) }
+        (λ d. said_dimensions sheet.now aliases.now kind (seen_dimensions parts.now) ≡ Some d) }
     ensures known { OnOk result (AreGlossaries sheet.now aliases.now glossaries.new) }
 {
     let defined = parts.defined.as_slice();

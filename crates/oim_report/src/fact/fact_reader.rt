@@ -1,6 +1,5 @@
-ghost use Rattle.std.specs.Prelude.{◌≡◌, ◌⊎◌, Ok, Err, Some, None, IfOk, IfErr, OnOk};
+ghost use Rattle.std.specs.Prelude.{◌≡◌, ◌⊎◌, Ok, Err, Some, IfOk, IfErr, OnOk};
 ghost use Rattle.serde_json.specs.View.{view};
-ghost use Rattle.oim_report.specs.Conditions.{content_refusal, form_refusal};
 ghost use Rattle.oim_report.specs.code.Glossaries.{AreGlossaries};
 ghost use Rattle.oim_report.specs.Outcome.{fact_outcome};
 ghost use Rattle.oim_report.specs.Said.{fact_of};
@@ -84,7 +83,7 @@ fn read_object<'s, 'a>(
     read_content(alloc, sheet, aliases, glossaries, &parts, dimensions)
 }
 
-// Reads a fact from its parts, which must be well-formed.
+// Reads a fact from its parts.
 fn read_content<'s, 'a>(
     alloc: Global,
     sheet: &'s Sheet,
@@ -94,14 +93,9 @@ fn read_content<'s, 'a>(
     dimensions: &DimensionParts<'a>,
 ) -> Result<Fact, Reason>
     requires known { AreGlossaries sheet.now aliases.now glossaries.old }
-    requires there { parts.now.dimensions ≡ Some dimensions.now }
-    requires form { form_refusal (seen_parts parts.now) ≡ None }
     ensures said { let p = seen_parts parts.now in
         let ds = seen_dimensions dimensions.now in
         IfOk result (λ f. fact_of sheet.now aliases.now p ds ≡ Some f) }
-    ensures accepted { let p = seen_parts parts.now in
-        let ds = seen_dimensions dimensions.now in
-        IfOk result (λ _. content_refusal sheet.now aliases.now p ds ≡ None) }
     ensures known { OnOk result (AreGlossaries sheet.now aliases.now glossaries.new) }
 {
     let concepts = &mut glossaries.concepts;

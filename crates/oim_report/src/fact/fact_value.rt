@@ -1,10 +1,7 @@
-ghost use Rattle.std.specs.Prelude.{◌≡◌, Some, None, IfOk};
-ghost use Rattle.std.specs.Result.{result_err};
-ghost use Rattle.oim_report.specs.Conditions.{decimals_refusal, value_refusals};
+ghost use Rattle.std.specs.Prelude.{◌≡◌, Some, IfOk};
 ghost use Rattle.oim_report.specs.code.Given.{seen};
-ghost use Rattle.oim_report.specs.Json.{text as a_text, whole};
-ghost use Rattle.oim_report.specs.Refusal.{first_refusal};
-ghost use Rattle.oim_report.specs.Said.{said_decimals, said_value};
+ghost use Rattle.oim_report.specs.Json.{whole};
+ghost use Rattle.oim_report.specs.Said.{said_decimals, said_value, text_said};
 
 use crate::concept_kind::ConceptKind;
 use crate::fact::given::Given;
@@ -23,16 +20,12 @@ pub(crate) fn read_value(
     decimals: Given<'_>,
 ) -> Result<Value, Reason>
     ensures said { IfOk result
-        (λ v. said_value aliases.now (Some kind) (seen value.entry) (seen decimals.entry) ≡ Some v) }
-    ensures accepted { let refusals = value_refusals (Some kind) (seen value.entry) (seen decimals.entry) in
-        IfOk result (λ _. first_refusal refusals ≡ None) }
+        (λ v. said_value aliases.now kind (seen value.entry) (seen decimals.entry) ≡ Some v) }
 {
+    let places = read_decimals(kind, decimals)?;
     match value {
-        Given::Nil => {
-            read_decimals(kind, decimals)?;
-            Ok(Value::Nil)
-        }
-        Given::Text(text) => read_text(alloc, aliases, kind, text, decimals),
+        Given::Nil => Ok(Value::Nil),
+        Given::Text(text) => read_text(alloc, aliases, kind, places, text),
         _ => Err(Reason::ValueForm),
     }
 }
@@ -41,52 +34,34 @@ fn read_text(
     alloc: Global,
     aliases: &Aliases,
     kind: ConceptKind,
+    places: Decimals,
     text: &str,
-    decimals: Given<'_>,
 ) -> Result<Value, Reason>
-    ensures said { IfOk result
-        (λ v. said_value aliases.now (Some kind) (a_text text.now) (seen decimals.entry) ≡ Some v) }
-    ensures accepted { let refusals = value_refusals (Some kind) (a_text text.now) (seen decimals.entry) in
-        IfOk result (λ _. first_refusal refusals ≡ None) }
+    ensures { IfOk result (λ v. text_said aliases.now kind places text.now ≡ Some v) }
 {
     match kind {
-        ConceptKind::Numeric => {
-            let number = read_fixed(text)?;
-            Ok(Value::Number(number, read_decimals(kind, decimals)?))
-        }
-        ConceptKind::Text => {
-            read_decimals(kind, decimals)?;
-            Ok(Value::Text(Text::new(alloc, text)?))
-        }
-        ConceptKind::Name => {
-            read_decimals(kind, decimals)?;
-            Ok(Value::Name(aliases.expand(text)?))
-        }
+        ConceptKind::Numeric => Ok(Value::Number(read_fixed(text)?, places)),
+        ConceptKind::Text => Ok(Value::Text(Text::new(alloc, text)?)),
+        ConceptKind::Name => Ok(Value::Name(aliases.expand(text)?)),
     }
 }
 
 // Returns the decimals of a fact whose concept has this kind. A number without decimals is exact.
 fn read_decimals(kind: ConceptKind, decimals: Given<'_>) -> Result<Decimals, Reason>
-    ensures said { IfOk result (λ read. read ≡ said_decimals (seen decimals.entry)) }
-    ensures refused { result_err result ≡ decimals_refusal (Some kind) (seen decimals.entry) }
+    ensures { IfOk result (λ read. said_decimals kind (seen decimals.entry) ≡ Some read) }
 {
-    match decimals {
-        Given::Absent => Ok(Decimals::INFINITE),
-        Given::Whole(number) => read_whole(kind, number),
+    match (kind, decimals) {
+        (_, Given::Absent) => Ok(Decimals::INFINITE),
+        (ConceptKind::Numeric, Given::Whole(number)) => read_whole(number),
         _ => Err(Reason::DecimalsForm),
     }
 }
 
-fn read_whole(kind: ConceptKind, number: i128) -> Result<Decimals, Reason>
-    ensures said { IfOk result (λ read. read ≡ Some number) }
-    ensures refused { result_err result ≡ decimals_refusal (Some kind) (whole number) }
+fn read_whole(number: i128) -> Result<Decimals, Reason>
+    ensures { IfOk result (λ read. said_decimals ConceptKind.Numeric (whole number) ≡ Some read) }
 {
-    let decimals = match i64::try_from(number) {
-        Ok(number) => Decimals::finite(number)?,
-        Err(_) => return Err(Reason::DecimalsRange),
-    };
-    if kind != ConceptKind::Numeric {
-        return Err(Reason::DecimalsOnOther);
+    match i64::try_from(number) {
+        Ok(number) => Decimals::finite(number),
+        Err(_) => Err(Reason::DecimalsRange),
     }
-    Ok(decimals)
 }

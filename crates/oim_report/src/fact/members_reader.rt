@@ -1,6 +1,5 @@
-ghost use Rattle.std.specs.Prelude.{◌≡◌, Some, None, false, IfOk, OnOk};
+ghost use Rattle.std.specs.Prelude.{◌≡◌, Some, IfOk, OnOk};
 ghost use Rattle.oim_names.specs.Expansion.{Expands};
-ghost use Rattle.oim_report.specs.Conditions.{defined_refusal, is_misfit};
 ghost use Rattle.oim_report.specs.code.Given.{seen};
 ghost use Rattle.oim_report.specs.code.Glossary.{IsGlossary, concept_with};
 ghost use Rattle.oim_report.specs.code.Glossaries.{AreGlossaries};
@@ -33,8 +32,6 @@ pub(crate) fn read_members<'s, 'a>(
     ensures said { let all = seen_defined defined.now in
         IfOk result (λ d. said_members sheet.now aliases.now all ≡ Some d.members) }
     ensures others { IfOk result (λ d. d ≡ concept_with concept d.members) }
-    ensures accepted { let all = seen_defined defined.now in
-        IfOk result (λ _. defined_refusal sheet.now aliases.now all ≡ None) }
     ensures known { OnOk result (AreGlossaries sheet.now aliases.now glossaries.new) }
 {
     let mut found = Vec::with_capacity(alloc, defined.len())?;
@@ -61,7 +58,6 @@ fn read_member<'a>(
 ) -> Result<Member, Reason>
     requires known { IsGlossary (Expands aliases.now) members.old }
     ensures said { IfOk result (λ m. said_member aliases.now (Some kind) (seen member.entry) ≡ Some m) }
-    ensures accepted { IfOk result (λ _. is_misfit (Some kind) (seen member.entry) ≡ false) }
     ensures known { OnOk result (IsGlossary (Expands aliases.now) members.new) }
 {
     match (kind, member) {

@@ -8,11 +8,11 @@ ghost use Rattle.oim_names.specs.Expansion.{Expands, ExpandsEntity, entity_refus
 ghost use Rattle.oim_dims.specs.Language.{is_language};
 ghost use Rattle.oim_dims.specs.Period.{period_of};
 ghost use Rattle.oim_dims.specs.Unit.{IsUnit, UnitOf, unit_refusal};
-ghost use Rattle.oim_report.specs.Conditions.{concept_kind, dimension_kind};
 ghost use Rattle.oim_report.specs.code.Glossary.{IsGlossary};
 ghost use Rattle.oim_report.specs.code.Glossaries.{NamesConcept, NamesDimension, TextSaysLanguage, TextSaysPeriod, TextSaysUnit};
 ghost use Rattle.oim_report.specs.Json.{text as a_text};
 ghost use Rattle.oim_report.specs.Names.{named};
+ghost use Rattle.oim_report.specs.Said.{concept_kind, dimension_kind};
 
 use crate::concept_kind::ConceptKind;
 use crate::dimension_kind::DimensionKind;

@@ -3,8 +3,8 @@
 ghost use Rattle.std.specs.Prelude.{◌≡◌, ◌&&◌, is_some, IfOk};
 ghost use Rattle.serde_json.specs.Data.{Data};
 ghost use Rattle.serde_json.specs.View.{view, members_view};
-ghost use Rattle.oim_report.specs.Conditions.{comes_again};
 ghost use Rattle.oim_report.specs.Holds.{holds};
+ghost use Rattle.oim_report.specs.Names.{comes_again};
 ghost use Rattle.oim_report.specs.code.Rows.{any_defined, defined_name, defined_names, is_defined, is_misfit, is_unlisted};
 
 use crate::dimension_kind::DimensionKind;

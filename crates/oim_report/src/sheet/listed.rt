@@ -1,11 +1,10 @@
 ghost use Rattle.std.specs.Prelude.{◌≡◌, Some, IfSome, option_map};
-ghost use Rattle.oim_report.specs.Conditions.{concept_kind, dimension_kind};
 ghost use Rattle.oim_report.specs.code.Given.{seen};
 ghost use Rattle.oim_report.specs.code.Glossary.{IsGlossary};
 ghost use Rattle.oim_report.specs.code.Glossaries.{NamesConcept};
 ghost use Rattle.oim_report.specs.Json.{text as a_text};
 ghost use Rattle.oim_report.specs.Names.{named};
-ghost use Rattle.oim_report.specs.Said.{said_concept};
+ghost use Rattle.oim_report.specs.Said.{concept_kind, dimension_kind, said_concept};
 
 use crate::concept_kind::ConceptKind;
 use crate::dimension_kind::DimensionKind;

@@ -1,9 +1,9 @@
 use Rattle.std.proofs.Common.{◌≡◌, ◌+◌, get_or, Some, option_map, sym, ap, ◌∙◌}
 use Rattle.std.proofs.lemmas.Bool.{false_from_ne_true}
 use Rattle.oim_dims.specs.DimensionSet.{repeats}
-use Rattle.oim_report.specs.Conditions.{dimension_kind}
 use Rattle.oim_report.specs.Names.{named}
-use Rattle.oim_report.proofs.InTurn.{accepted_where_once, found_more, put_in_order}
+use Rattle.oim_report.specs.Said.{dimension_kind}
+use Rattle.oim_report.proofs.InTurn.{found_more, put_in_order}
 use Rattle.oim_report.proofs.MemberLists.{seen_item}
 use Rattle.oim_report.proofs.fact.members_reader.read_members.Goals as goal
 
@@ -27,7 +27,7 @@ loop-key-preserved c =
         languages = l.invariant.known.languages;
         members = c.in_ok-member.ensures.known;
       };
-      found = found_more sheet bs xs l.found.items c.push_reserved.new.self.items l.key-index _ c.loop-key-test.true kind c.in_ok-copied.field-0 c.in_ok-member.member known names c.in_ok-member.ensures.accepted c.in_ok-member.ensures.said c.push_reserved.ensures.items l.invariant.found;
+      found = found_more sheet bs xs l.found.items c.push_reserved.new.self.items l.key-index _ c.loop-key-test.true kind c.in_ok-copied.field-0 c.in_ok-member.member known names c.in_ok-member.ensures.said c.push_reserved.ensures.items l.invariant.found;
       count = c.push_reserved.ensures.len ∙ ap (λ n. n + 1) l.invariant.count;
       room = rw c.push_reserved.ensures.capacity l.invariant.room;
     }
@@ -37,9 +37,3 @@ returns-clause-said c =
     let l = c.loop-key in
     let once = false_from_ne_true (repeats l.found.items) (λ again. let bad = c.in_ok-set_members.ensures.refused.1 again in cc) in
     put_in_order c.args.sheet.now c.args.aliases.now c.args.defined.now l.found.items l.key-index c.loop-key-test.false l.invariant.found c.set_members.new.self.members once c.in_ok-set_members.ensures.members c.in_ok-set_members.ensures.sorted
-
-pub returns-clause-accepted : goal.returns-clause-accepted
-returns-clause-accepted c =
-    let l = c.loop-key in
-    let once = false_from_ne_true (repeats l.found.items) (λ again. let bad = c.in_ok-set_members.ensures.refused.1 again in cc) in
-    accepted_where_once c.args.sheet.now c.args.aliases.now c.args.defined.now l.found.items l.key-index c.loop-key-test.false l.invariant.found once

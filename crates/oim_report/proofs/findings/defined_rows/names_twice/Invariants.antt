@@ -1,6 +1,6 @@
 use Rattle.std.proofs.Common.{◌≡◌}
 use Rattle.serde_json.specs.View.{members_view}
-use Rattle.oim_report.specs.Conditions.{comes_again}
+use Rattle.oim_report.specs.Names.{comes_again}
 use Rattle.oim_report.specs.code.Rows.{defined_names}
 use Rattle.oim_report.proofs.ComesAgain.{again_after}
 use Rattle.oim_report.proofs.findings.defined_rows.names_twice.Given as goal
