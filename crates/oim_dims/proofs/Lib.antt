@@ -5,6 +5,7 @@ pub mod MomentText
 pub mod Cuts
 pub mod Periods
 pub mod Sides
+pub mod FirstFound
 pub mod Naming
 pub mod Places
 pub mod Rising

@@ -22,6 +22,6 @@ pub use member::Member;
 pub use moment::Moment;
 pub use period::{Period, read_period, write_period};
 pub use unit::Unit;
-pub use unit_check::{is_unit_text, refuses_some_piece, unit_refusal};
+pub use unit_check::{is_unit_text, refused_piece, unit_refusal};
 pub use unit_reader::read_unit;
 pub use unit_writer::{can_write_unit, write_unit};

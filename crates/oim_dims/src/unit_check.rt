@@ -1,5 +1,5 @@
-ghost use Rattle.std.specs.Prelude.{◌≡◌, [], MatchOption};
-ghost use Rattle.std.specs.List.{list_all, list_any, slice_split};
+ghost use Rattle.std.specs.Prelude.{◌≡◌, [], ◌++◌, MatchOption, is_some, option_map};
+ghost use Rattle.std.specs.List.{find, list_all, list_any, slice_split};
 ghost use Rattle.oim_names.specs.Expansion.{a_name, refuses};
 ghost use Rattle.oim_dims.specs.Separators.{is_star};
 ghost use Rattle.oim_dims.specs.Unit.{inner, is_piece, is_mark, is_unit_text, some_piece, unit_refusal, numerator_pieces, denominator_pieces};
@@ -39,13 +39,13 @@ pub fn unit_refusal(aliases: &Aliases, text: &str) -> Option<Reason>
     if !is_unit_text(text) {
         return Some(Reason::UnitForm);
     }
-    if refuses_some_piece(aliases, Reason::NameForm, text) {
+    if refused_piece(aliases, Reason::NameForm, text).is_some() {
         return Some(Reason::NameForm);
     }
-    if refuses_some_piece(aliases, Reason::UnboundPrefix, text) {
+    if refused_piece(aliases, Reason::UnboundPrefix, text).is_some() {
         return Some(Reason::UnboundPrefix);
     }
-    if refuses_some_piece(aliases, Reason::ReservedNamespace, text) {
+    if refused_piece(aliases, Reason::ReservedNamespace, text).is_some() {
         return Some(Reason::ReservedNamespace);
     }
     None
@@ -82,24 +82,29 @@ pub(crate) fn has_mark(text: &[u8]) -> bool
         .any(|c| *c == b'(' || *c == b')' || *c == b'*' || *c == b'/')
 }
 
-/// Returns whether some piece of a unit's text is refused for this reason. It takes no memory.
-pub fn refuses_some_piece(aliases: &Aliases, reason: Reason, text: &str) -> bool
-    ensures { result ≡ some_piece (λ p. refuses reason aliases.now (a_name p)) text.now }
+/// Returns the first piece of a unit's text that is refused for this reason. It takes no memory.
+pub fn refused_piece<'t>(aliases: &Aliases, reason: Reason, text: &'t str) -> Option<&'t str>
+    ensures any { is_some result ≡ some_piece (λ p. refuses reason aliases.now (a_name p)) text.now }
+    ensures first { let all = numerator_pieces text.now ++ denominator_pieces text.now in
+        option_map (λ p. p.now) result ≡ find (λ p. refuses reason aliases.now (a_name p)) all }
 {
     let (numerator, denominator) = sides(text);
-    if refuses_one_of(aliases, reason, numerator) {
-        return true;
+    if let Some(piece) = refused_on(aliases, reason, numerator) {
+        return Some(piece);
     }
     match denominator {
-        Some(denominator) => refuses_one_of(aliases, reason, denominator),
-        None => false,
+        Some(side) => refused_on(aliases, reason, side),
+        None => None,
     }
 }
 
-fn refuses_one_of(aliases: &Aliases, reason: Reason, side: &str) -> bool
-    ensures { result ≡ list_any (λ p. refuses reason aliases.now (a_name p)) (slice_split is_star side.now) }
+// Returns the first piece of a side that is refused for this reason.
+fn refused_on<'t>(aliases: &Aliases, reason: Reason, side: &'t str) -> Option<&'t str>
+    ensures { let all = slice_split is_star side.now in
+        option_map (λ p. p.now) result ≡ find (λ p. refuses reason aliases.now (a_name p)) all }
 {
-    side.split('*').any(|piece| refuses(aliases, reason, piece))
+    side.split('*')
+        .find(|piece| refuses(aliases, reason, piece))
 }
 
 // Returns whether the piece is refused for this reason.

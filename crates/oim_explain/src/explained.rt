@@ -1,16 +1,13 @@
-use super::apart::two_apart;
 use super::escaped::Escaped;
 use super::file_kind::{kind_of_bytes, kind_of_tree};
-use super::finding::Finding;
-use super::found::Found;
-use super::found_in_document::{found_in_document, info};
-use super::found_in_fact::{Names, found_in_fact};
-use super::input::Input;
-use super::lines::{Explained, Lines};
-use super::named::read_aliases;
+use super::finding::{Finding, Subject};
+use super::lines::{Explained, Input, Lines};
 use super::repeated::{Role, push_repeated};
 use oim_names::Reason;
-use oim_report::{Place, Refusal, Sheet, faults};
+use oim_report::{
+    Part, Place, Refusal, Sheet, after_mark, document_part, fact_part, facts_apart, report_aliases,
+    tree_faults,
+};
 use serde_json::{Error, Value};
 use std::alloc::{AllocError, Global};
 
@@ -20,7 +17,8 @@ use std::alloc::{AllocError, Global};
 /// file and shows at most 80 characters of a value or key. No line contains anything that changes
 /// a terminal.
 ///
-/// A file that is not JSON has only one line, which says so.
+/// A file that is not JSON has only one line, which says so. Its repeated members are not listed,
+/// although `json` may find some, because it accepts numbers of any size.
 ///
 /// Errors: out of memory.
 pub fn explain(
@@ -29,98 +27,69 @@ pub fn explain(
     input: Input<'_>,
     bytes: &[u8],
 ) -> Result<Explained, AllocError> {
-    let found = faults(alloc, sheet, bytes)?;
     let mut lines = Lines::new(alloc, input);
-    if !found.as_slice().is_empty() {
-        push_faults(&mut lines, sheet, bytes, found.as_slice())?;
-    }
-    if !is_unread(found.as_slice()) {
-        push_repeated(&mut lines, Role::Report, bytes)?;
-    }
-    Ok(lines.explained())
-}
-
-/// Returns whether the file is not JSON. Its repeated members are then not listed, although `json`
-/// may find some, because it accepts numbers of any size.
-fn is_unread(found: &[Refusal]) -> bool {
-    matches!(
-        found.first(),
-        Some(Refusal {
-            reason: Reason::NotJson,
-            ..
-        })
-    )
-}
-
-fn push_faults(
-    lines: &mut Lines<'_>,
-    sheet: &Sheet,
-    bytes: &[u8],
-    found: &[Refusal],
-) -> Result<(), AllocError> {
-    match Value::from_slice(lines.alloc, without_mark(bytes)) {
-        Err(error) if error.is_memory() => Err(AllocError),
+    match Value::from_slice(alloc, after_mark(bytes)) {
+        Ok(tree) => push_faults(&mut lines, sheet, tree)?,
         Err(error) => {
-            let words = words_of(lines.alloc, &error)?;
-            lines.push(&unread(words.as_str(), bytes))
+            let message = message_of(alloc, &error)?;
+            lines.push(&unread(Subject::Report, message.as_str(), bytes))?;
+            return Ok(lines.explained);
         }
-        Ok(mut tree) => push_of_tree(lines, sheet, &mut tree, found),
     }
+    push_repeated(&mut lines, Role::Report, bytes)?;
+    Ok(lines.explained)
 }
 
 /// Returns the message of `serde_json` for a file that is not JSON.
 ///
 /// Errors: out of memory.
-pub(crate) fn words_of(alloc: Global, error: &Error) -> Result<String, AllocError> {
-    let words = format!(in alloc; "{error}")?;
-    format!(in alloc; "{}", Escaped(words.as_str()))
+pub(crate) fn message_of(alloc: Global, error: &Error) -> Result<String, AllocError> {
+    if error.is_memory() {
+        return Err(AllocError);
+    }
+    let message = format!(in alloc; "{error}")?;
+    format!(in alloc; "{}", Escaped(message.as_str()))
 }
 
 /// Returns the fault of a file that is not JSON, with the message of `serde_json`.
-pub(crate) fn unread<'w>(words: &'w str, bytes: &[u8]) -> Finding<'w> {
-    Finding::of_document(Reason::NotJson, Found::Words(words)).with_kind(kind_of_bytes(bytes))
-}
-
-/// Returns the bytes without a byte order mark.
-pub(crate) fn without_mark(bytes: &[u8]) -> &[u8] {
-    match bytes.strip_prefix(b"\xef\xbb\xbf") {
-        Some(rest) => rest,
-        None => bytes,
+pub(crate) fn unread<'m>(subject: Subject<'m>, message: &'m str, bytes: &[u8]) -> Finding<'m> {
+    Finding {
+        message: Some(message),
+        kind: kind_of_bytes(bytes),
+        ..Finding::new(subject, Reason::NotJson, None)
     }
 }
 
-fn push_of_tree(
-    lines: &mut Lines<'_>,
-    sheet: &Sheet,
-    tree: &mut Value,
-    found: &[Refusal],
-) -> Result<(), AllocError> {
-    match found.first() {
+fn push_faults(lines: &mut Lines<'_>, sheet: &Sheet, tree: Value) -> Result<(), AllocError> {
+    let found = tree_faults(lines.alloc, sheet, &tree)?;
+    match found.as_slice().first() {
+        None => Ok(()),
         Some(
             Refusal {
                 place: Place::Fact(_),
                 ..
             },
-        ) => push_of_facts(lines, sheet, tree, found),
-        Some(
-            Refusal {
-                reason: Reason::DisallowedDuplicates,
-                ..
-            },
-        ) => push_apart(lines, sheet, tree),
-        _ => push_of_document(lines, tree, found),
+        ) => push_of_facts(lines, sheet, &tree, found.as_slice()),
+        Some(_) => push_of_document(lines, sheet, &tree, found.as_slice()),
     }
 }
 
 fn push_of_document(
     lines: &mut Lines<'_>,
+    sheet: &Sheet,
     tree: &Value,
     found: &[Refusal],
 ) -> Result<(), AllocError> {
     let mut kind = kind_of_tree(tree);
     for refusal in found {
-        let found = found_in_document(lines.alloc, tree, refusal.reason)?;
-        lines.push(&Finding::of_document(refusal.reason, found).with_kind(kind))?;
+        let part = match refusal.reason {
+            Reason::DisallowedDuplicates => two_facts(lines.alloc, sheet, tree)?,
+            reason => document_part(lines.alloc, tree, reason)?,
+        };
+        lines.push(&Finding {
+            kind,
+            ..Finding::new(Subject::Report, refusal.reason, part)
+        })?;
         kind = None;
     }
     Ok(())
@@ -132,41 +101,37 @@ fn push_of_facts(
     tree: &Value,
     found: &[Refusal],
 ) -> Result<(), AllocError> {
-    let aliases = read_aliases(lines.alloc, info(tree, "namespaces"))?;
-    let names = Names {
-        sheet,
-        aliases: &aliases,
+    let Some(aliases) = report_aliases(lines.alloc, tree)? else {
+        return Ok(());
     };
     let facts = facts_of(lines.alloc, tree)?;
     for refusal in found {
-        if let Some((number, identifier, object)) = fact_at(facts.as_slice(), refusal.place) {
-            let found = found_in_fact(lines.alloc, &names, object, refusal.reason)?;
-            lines.push(&Finding {
-                fact: Some((number, identifier)),
-                reason: refusal.reason,
-                found,
-                kind: None,
-            })?;
+        let Place::Fact(number) = refusal.place else {
+            continue;
+        };
+        if let Some((identifier, object)) = facts.get(number.saturating_sub(1) as usize) {
+            let part = fact_part(lines.alloc, sheet, &aliases, object, refusal.reason)?;
+            let subject = Subject::Fact(number, identifier);
+            lines.push(&Finding::new(subject, refusal.reason, part))?;
         }
     }
     Ok(())
 }
 
-/// Adds the line for two facts that the declared level does not allow.
-fn push_apart(lines: &mut Lines<'_>, sheet: &Sheet, tree: &mut Value) -> Result<(), AllocError> {
-    let two = two_apart(lines.alloc, sheet, tree)?;
-    let facts = facts_of(lines.alloc, tree)?;
-    let found = Found::of_two(two_of(facts.as_slice(), two));
-    lines.push(&Finding::of_document(Reason::DisallowedDuplicates, found))
-}
-
-/// Returns the identifiers at two indices.
-fn two_of<'a>(
-    facts: &[(&'a str, &'a Value)],
-    two: Option<(usize, usize)>,
-) -> Option<(&'a str, &'a str)> {
-    let (one, other) = two?;
-    Some((facts.get(one)?.0, facts.get(other)?.0))
+/// Returns the identifiers of two facts that the declared level does not allow.
+fn two_facts<'t>(
+    alloc: Global,
+    sheet: &Sheet,
+    tree: &'t Value,
+) -> Result<Option<Part<'t>>, AllocError> {
+    let Some((one, other)) = facts_apart(alloc, sheet, tree)? else {
+        return Ok(None);
+    };
+    let facts = facts_of(alloc, tree)?;
+    match (facts.get(one), facts.get(other)) {
+        (Some((one, _)), Some((other, _))) => Ok(Some(Part::Two(one, other))),
+        _ => Ok(None),
+    }
 }
 
 /// Returns the facts in byte order of their identifiers.
@@ -178,13 +143,4 @@ fn facts_of(alloc: Global, tree: &Value) -> Result<Vec<(&str, &Value)>, AllocErr
         }
     }
     Ok(facts)
-}
-
-/// Returns the number, the identifier and the object of a fact.
-fn fact_at<'a>(facts: &[(&'a str, &'a Value)], place: Place) -> Option<(u64, &'a str, &'a Value)> {
-    let Place::Fact(number) = place else {
-        return None;
-    };
-    let (identifier, object) = facts.get(number.checked_sub(1)? as usize).copied()?;
-    Some((number, identifier, object))
 }

@@ -1,31 +1,16 @@
-use super::found_in_document::info;
 use serde_json::Value;
-
-const UTF_16: [&[u8]; 6] = [b"\xfe\xff", b"\xff\xfe", b"{\0", b"\0{", b"<\0", b"\0<"];
 
 /// Guesses the kind of a file that is not JSON from its first bytes.
 pub(crate) fn kind_of_bytes(bytes: &[u8]) -> Option<&'static str> {
-    if bytes.starts_with(b"\x1f\x8b") {
-        return Some("a gzip file: unpack it first");
-    }
-    if bytes.starts_with(b"PK\x03\x04") {
-        return Some("a ZIP file, as a report package is: unpack it first");
-    }
-    if is_utf16(bytes) {
-        return Some("a text in UTF-16: write it as UTF-8");
-    }
-    kind_of_text(text_of(bytes))
-}
-
-/// Returns whether the bytes begin with a byte order mark of UTF-16, or like JSON or XML in
-/// UTF-16.
-fn is_utf16(bytes: &[u8]) -> bool {
-    for start in UTF_16 {
-        if bytes.starts_with(start) {
-            return true;
+    match bytes {
+        [0x1f, 0x8b, ..] => Some("a gzip file: unpack it first"),
+        [b'P', b'K', 3, 4, ..] => Some("a ZIP file, as a report package is: unpack it first"),
+        // a byte order mark of UTF-16, or JSON or XML in UTF-16
+        [0xfe, 0xff, ..] | [0xff, 0xfe, ..] | [b'{' | b'<', 0, ..] | [0, b'{' | b'<', ..] => {
+            Some("a text in UTF-16: write it as UTF-8")
         }
+        _ => kind_of_text(text_of(bytes)),
     }
-    false
 }
 
 /// Returns the longest UTF-8 text at the start, after byte order marks and white space.
@@ -37,17 +22,17 @@ fn text_of(bytes: &[u8]) -> &str {
 }
 
 fn kind_of_text(text: &str) -> Option<&'static str> {
-    let line = match text.split_once('\n') {
-        Some((line, _)) => line,
-        None => text,
-    };
-    if text.starts_with('<') {
+    let first = text.chars().next();
+    if first == Some('<') {
         if text.contains("http://www.xbrl.org/2013/inlineXBRL") {
             Some("Inline XBRL: another program has to write it as xBRL-JSON")
         } else {
             Some("XML: another program has to write it as xBRL-JSON")
         }
-    } else if !text.starts_with(['[', '/']) && is_row(line) {
+    } else if first != Some('[')
+        && first != Some('/')
+        && is_row(text.lines().next().unwrap_or_default())
+    {
         Some("CSV: another program has to write it as xBRL-JSON")
     } else {
         None
@@ -77,11 +62,11 @@ pub(crate) fn kind_of_tree(tree: &Value) -> Option<&'static str> {
 }
 
 fn is_csv(tree: &Value) -> bool {
-    let of_csv = match info(tree, "documentType").and_then(Value::as_str) {
-        Some(kind) => kind.ends_with("/xbrl-csv"),
-        None => false,
-    };
-    of_csv || tree.get("tableTemplates").is_some()
+    let info = tree.get("documentInfo");
+    let kind = info
+        .and_then(|info| info.get("documentType"))
+        .and_then(Value::as_str);
+    kind.unwrap_or_default().ends_with("/xbrl-csv") || tree.get("tableTemplates").is_some()
 }
 
 /// Guesses the kind of a file that was given as a sheet but is not one.

@@ -1,33 +1,48 @@
-use super::found::Found;
+use super::escaped::{Escaped, front_of};
+use super::sentence::{alone_of, around};
 use oim_names::Reason;
+use oim_report::Part;
+use serde_json::Value;
 use std::alloc::{AllocError, Global};
 
-/// A refusal of a file, with the text to show.
+/// What a fault is about.
+#[derive(Clone, Copy)]
+pub(crate) enum Subject<'a> {
+    Sheet,
+    Report,
+    /// A fact, with its number and its identifier.
+    Fact(u64, &'a str),
+}
+
+/// A refusal of a file, with the part at fault.
 #[derive(Clone, Copy)]
 pub(crate) struct Finding<'a> {
-    /// The number and the identifier of the refused fact; None for the document.
-    pub fact: Option<(u64, &'a str)>,
+    pub subject: Subject<'a>,
     pub reason: Reason,
-    /// The part at fault.
-    pub found: Found<'a>,
+    pub part: Part<'a>,
+    /// The message of the parser, if the file is not JSON.
+    pub message: Option<&'a str>,
     /// The kind of file, if it could be guessed.
     pub kind: Option<&'static str>,
 }
 
 impl<'a> Finding<'a> {
-    /// Returns a finding about the document.
-    pub(crate) fn of_document(reason: Reason, found: Found<'a>) -> Finding<'a> {
+    /// Returns a finding. A fraction is not shown: once parsed, it would not be printed as the
+    /// file spells it.
+    pub(crate) fn new(subject: Subject<'a>, reason: Reason, part: Option<Part<'a>>) -> Finding<'a> {
+        let part = match part {
+            Some(Part::Value(value)) if value.is_f64() && reason >= Reason::ValueForm =>
+                Part::Nothing,
+            Some(part) => part,
+            None => Part::Nothing,
+        };
         Finding {
-            fact: None,
+            subject,
             reason,
-            found,
+            part,
+            message: None,
             kind: None,
         }
-    }
-
-    /// Adds the kind of file.
-    pub(crate) fn with_kind(self, kind: Option<&'static str>) -> Finding<'a> {
-        Finding { kind, ..self }
     }
 
     /// Returns the sentence that says what is wrong.
@@ -35,10 +50,88 @@ impl<'a> Finding<'a> {
     /// Errors: out of memory.
     pub(crate) fn sentence(&self, alloc: Global) -> Result<String, AllocError> {
         let mut sentence = String::new(alloc);
-        self.found.push_said(alloc, &mut sentence, self.reason)?;
+        self.push_said(alloc, &mut sentence)?;
+        if let Some(message) = self.message {
+            write!(sentence, ": {message}")?;
+        }
         if let Some(kind) = self.kind {
             write!(sentence, "; the file looks like {kind}")?;
         }
         Ok(sentence)
     }
+
+    fn push_said(&self, alloc: Global, line: &mut String) -> Result<(), AllocError> {
+        match self.part {
+            Part::Nothing => line.push_str(alone_of(self.reason)),
+            Part::Whole => line.push_str(self.whole()),
+            Part::Missing(key) => write!(line, "\"{key}\" is missing"),
+            Part::NoObject(key) => write!(line, "\"{key}\" is no object"),
+            Part::NoArray(key) => write!(line, "\"{key}\" is no array"),
+            Part::NoText(key) => write!(line, "\"{key}\" is no text"),
+            part => {
+                let (before, behind) = around(self.subject, self.reason, part);
+                line.push_str(before)?;
+                push_part(alloc, line, part)?;
+                line.push_str(behind)
+            }
+        }
+    }
+
+    /// Returns what is said of a whole that is not an object.
+    fn whole(&self) -> &'static str {
+        match self.subject {
+            Subject::Sheet => {
+                "the file is no object of \"namespaces\", \"concepts\" and \"dimensions\""
+            }
+            Subject::Report => "the file is no object of \"documentInfo\" and \"facts\"",
+            Subject::Fact(_, _) => "the fact is no object",
+        }
+    }
+}
+
+/// Appends a part. Texts and values are written as JSON, and cut if they are long.
+fn push_part(alloc: Global, line: &mut String, part: Part<'_>) -> Result<(), AllocError> {
+    match part {
+        Part::Key(text) | Part::Name(text) | Part::Entity(text) => push_text(alloc, line, text),
+        Part::KeyIn(text, place) => {
+            push_text(alloc, line, text)?;
+            write!(line, " in \"{place}\"")
+        }
+        Part::Two(one, other) => {
+            push_text(alloc, line, one)?;
+            line.push_str(" and ")?;
+            push_text(alloc, line, other)
+        }
+        Part::Value(value) => push_value(alloc, line, value),
+        Part::Member(key, value) => {
+            push_text(alloc, line, key)?;
+            line.push_str(": ")?;
+            push_value(alloc, line, value)
+        }
+        _ => Ok(()),
+    }
+}
+
+/// Appends a text as JSON. A long text is cut after its first characters and has no closing quote.
+///
+/// Errors: out of memory.
+pub(crate) fn push_text(alloc: Global, line: &mut String, text: &str) -> Result<(), AllocError> {
+    let front = front_of(text);
+    let json = Value::String(String::from_str(alloc, front)?).to_string(alloc)?;
+    if front.len() == text.len() {
+        return write!(line, "{}", Escaped(json.as_str()));
+    }
+    let open = json.as_str().strip_suffix('"').unwrap_or_default();
+    write!(line, "{}..", Escaped(open))
+}
+
+/// Appends a text as `push_text` does, or the first characters of another value.
+fn push_value(alloc: Global, line: &mut String, value: &Value) -> Result<(), AllocError> {
+    if let Some(text) = value.as_str() {
+        return push_text(alloc, line, text);
+    }
+    let json = value.to_string(alloc)?;
+    let front = front_of(json.as_str());
+    let end = if front.len() == json.len() { "" } else { ".." };
+    write!(line, "{}{end}", Escaped(front))
 }

@@ -7,26 +7,17 @@
 //! could print gigabytes.
 #![tactic(auto)]
 
-mod apart;
 mod escaped;
 mod explained;
 mod explained_sheet;
+mod fault;
 mod file_kind;
 mod finding;
-mod found;
-mod found_in_document;
-mod found_in_fact;
-mod found_in_sheet;
-mod found_reference;
-mod input;
 mod lines;
-mod named;
-mod object;
 mod repeated;
 mod sentence;
 
 pub use escaped::Escaped;
 pub use explained::explain;
 pub use explained_sheet::{explain_repeated, explain_sheet};
-pub use input::{Format, Input};
-pub use lines::Explained;
+pub use lines::{Explained, Format, Input};

@@ -1,10 +1,27 @@
-use super::escaped::Escaped;
-use super::finding::Finding;
-use super::found::{Found, push_text};
-use super::input::{Format, Input};
-use super::object::Object;
-use oim_report::Place;
+use super::fault::Fault;
+use super::finding::{Finding, Subject};
+use oim_report::{Part, Place};
 use std::alloc::{AllocError, Global};
+
+/// How faults are printed.
+#[derive(Clone, Copy)]
+pub enum Format {
+    /// A line of text for each fault.
+    Text,
+    /// A JSON object for each fault, on one line.
+    Json,
+}
+
+/// A file to explain.
+#[derive(Clone, Copy)]
+pub struct Input<'n> {
+    /// The number of the report, from 1; None for a sheet.
+    pub report: Option<u64>,
+    /// The name of the file.
+    pub name: &'n str,
+    /// How its faults are printed.
+    pub format: Format,
+}
 
 /// The printed faults of a file, each with its line end, and their count (own).
 #[derive(Drop)]
@@ -18,8 +35,7 @@ pub struct Explained {
 pub(crate) struct Lines<'n> {
     pub alloc: Global,
     input: Input<'n>,
-    text: String,
-    faults: u64,
+    pub explained: Explained,
 }
 
 impl<'n> Lines<'n> {
@@ -27,15 +43,10 @@ impl<'n> Lines<'n> {
         Lines {
             alloc,
             input,
-            text: String::new(alloc),
-            faults: 0,
-        }
-    }
-
-    pub(crate) fn explained(self) -> Explained {
-        Explained {
-            text: self.text,
-            faults: self.faults,
+            explained: Explained {
+                text: String::new(alloc),
+                faults: 0,
+            },
         }
     }
 
@@ -43,55 +54,39 @@ impl<'n> Lines<'n> {
     ///
     /// Errors: out of memory.
     pub(crate) fn push(&mut self, finding: &Finding<'_>) -> Result<(), AllocError> {
-        let sentence = finding.sentence(self.alloc)?;
-        self.faults = self.faults.saturating_add(1);
-        match self.input.format {
-            Format::Text => self.push_line(finding, sentence.as_str()),
-            Format::Json => self.push_object(finding, sentence.as_str()),
-        }
-    }
-
-    fn push_line(&mut self, finding: &Finding<'_>, sentence: &str) -> Result<(), AllocError> {
-        write!(self.text, "{}: ", Escaped(self.input.name))?;
-        if let Some((_, identifier)) = finding.fact {
-            self.text.push_str("fact ")?;
-            push_text(self.alloc, &mut self.text, identifier)?;
-            self.text.push_str(": ")?;
-        }
-        let (number, name) = (finding.reason.number(), finding.reason.name());
-        write!(self.text, "{number} {name}: {sentence}\n")
-    }
-
-    fn push_object(&mut self, finding: &Finding<'_>, sentence: &str) -> Result<(), AllocError> {
-        let object = Object {
-            place: Some(match finding.fact {
-                Some((number, _)) => Place::Fact(number),
-                None => Place::Document,
-            }),
-            reason: Some(finding.reason),
-            identifier: finding.fact.map(|(_, identifier)| identifier),
-            part: finding.found,
-            sentence,
+        let (place, identifier) = match finding.subject {
+            Subject::Fact(number, identifier) => (Place::Fact(number), Some(identifier)),
+            _ => (Place::Document, None),
         };
-        object.push_to(self.alloc, &mut self.text, &self.input)
+        self.put(&Fault {
+            place: Some(place),
+            reason: Some(finding.reason),
+            identifier,
+            part: finding.part,
+            sentence: finding.sentence(self.alloc)?.as_str(),
+        })
     }
 
-    /// Adds a line for a repeated member. Only the last such member is read.
+    /// Adds a line for a repeated member. It has no identifier: a fact may have many repeated
+    /// members, and each line would repeat it.
     ///
     /// Errors: out of memory.
     pub(crate) fn push_repeated(&mut self, key: &str, sentence: &str) -> Result<(), AllocError> {
-        self.faults = self.faults.saturating_add(1);
-        if let Format::Text = self.input.format {
-            return write!(self.text, "{}: {sentence}\n", Escaped(self.input.name));
-        }
-        // no identifier: a fact may have many repeated members, and each line would repeat it
-        let object = Object {
+        self.put(&Fault {
             place: None,
             reason: None,
             identifier: None,
-            part: Found::Text(key),
+            part: Part::Key(key),
             sentence,
-        };
-        object.push_to(self.alloc, &mut self.text, &self.input)
+        })
+    }
+
+    fn put(&mut self, fault: &Fault<'_, '_>) -> Result<(), AllocError> {
+        let Explained { text, faults } = &mut self.explained;
+        *faults = faults.saturating_add(1);
+        match self.input.format {
+            Format::Text => fault.push_line(self.alloc, text, &self.input),
+            Format::Json => fault.push_object(self.alloc, text, &self.input),
+        }
     }
 }

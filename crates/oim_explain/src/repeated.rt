@@ -1,7 +1,7 @@
-use super::explained::without_mark;
-use super::found::push_text;
+use super::finding::push_text;
 use super::lines::Lines;
 use json::{Error, Scratch, Value};
+use oim_report::after_mark;
 use std::alloc::{AllocError, Global};
 
 /// The kind of document that a file is read as.
@@ -20,7 +20,7 @@ pub(crate) fn push_repeated(
     bytes: &[u8],
 ) -> Result<(), AllocError> {
     let mut scratch = Scratch::new(lines.alloc);
-    match Value::from_slice(lines.alloc, without_mark(bytes), &mut scratch) {
+    match Value::from_slice(lines.alloc, after_mark(bytes), &mut scratch) {
         Ok(tree) => match role {
             Role::Report => push_report(lines, &tree),
             Role::Sheet => push_sheet(lines, &tree),
@@ -31,45 +31,42 @@ pub(crate) fn push_repeated(
 }
 
 fn push_report(lines: &mut Lines<'_>, tree: &Value<'_>) -> Result<(), AllocError> {
-    push_of(lines, None, Some(tree), " in the report")?;
+    push_of(lines, "", Some(tree), " in the report")?;
     if let Some(info) = tree.get("documentInfo") {
-        push_of(lines, None, Some(info), " in \"documentInfo\"")?;
-        push_of(lines, None, info.get("namespaces"), " in \"namespaces\"")?;
-        push_of(lines, None, info.get("features"), " in \"features\"")?;
+        push_of(lines, "", Some(info), " in \"documentInfo\"")?;
+        push_of(lines, "", info.get("namespaces"), " in \"namespaces\"")?;
+        push_of(lines, "", info.get("features"), " in \"features\"")?;
     }
-    match tree.get("facts") {
-        Some(facts) => push_facts(lines, facts),
-        None => Ok(()),
-    }
-}
-
-fn push_sheet(lines: &mut Lines<'_>, tree: &Value<'_>) -> Result<(), AllocError> {
-    push_of(lines, None, Some(tree), " in the sheet")?;
-    push_of(lines, None, tree.get("namespaces"), " in \"namespaces\"")?;
-    push_of(lines, None, tree.get("concepts"), " in \"concepts\"")?;
-    push_of(lines, None, tree.get("dimensions"), " in \"dimensions\"")
-}
-
-fn push_facts(lines: &mut Lines<'_>, facts: &Value<'_>) -> Result<(), AllocError> {
-    let Value::Object(members) = facts else {
+    push_of(lines, "fact ", tree.get("facts"), "")?;
+    let Some(Value::Object(facts)) = tree.get("facts") else {
         return Ok(());
     };
-    for identifier in repeated_keys(lines.alloc, members.as_slice())? {
-        push_member(lines, "fact ", identifier, "")?;
-    }
-    for (identifier, fact) in members {
-        let dimensions = fact.get("dimensions");
-        push_of(lines, Some(*identifier), Some(fact), "")?;
-        push_of(lines, Some(*identifier), dimensions, " in \"dimensions\"")?;
+    for (identifier, fact) in facts {
+        let mut before = String::from_str(lines.alloc, "fact ")?;
+        push_text(lines.alloc, &mut before, identifier)?;
+        before.push_str(": ")?;
+        push_of(lines, before.as_str(), Some(fact), "")?;
+        push_of(
+            lines,
+            before.as_str(),
+            fact.get("dimensions"),
+            " in \"dimensions\"",
+        )?;
     }
     Ok(())
 }
 
-/// Adds the repeated members of an object. `fact` is the identifier of its fact, or None for an
-/// object of the document; `place` names the object in the sentence.
+fn push_sheet(lines: &mut Lines<'_>, tree: &Value<'_>) -> Result<(), AllocError> {
+    push_of(lines, "", Some(tree), " in the sheet")?;
+    push_of(lines, "", tree.get("namespaces"), " in \"namespaces\"")?;
+    push_of(lines, "", tree.get("concepts"), " in \"concepts\"")?;
+    push_of(lines, "", tree.get("dimensions"), " in \"dimensions\"")
+}
+
+/// Adds the repeated members of an object, with the words around each key in the sentence.
 fn push_of(
     lines: &mut Lines<'_>,
-    fact: Option<&str>,
+    before: &str,
     object: Option<&Value<'_>>,
     place: &str,
 ) -> Result<(), AllocError> {
@@ -77,31 +74,15 @@ fn push_of(
         return Ok(());
     };
     for key in repeated_keys(lines.alloc, members.as_slice())? {
-        let mut before = String::new(lines.alloc);
-        if let Some(fact) = fact {
-            before.push_str("fact ")?;
-            push_text(lines.alloc, &mut before, fact)?;
-            before.push_str(": ")?;
-        }
-        push_member(lines, before.as_str(), key, place)?;
+        let mut sentence = String::from_str(lines.alloc, before)?;
+        push_text(lines.alloc, &mut sentence, key)?;
+        write!(
+            sentence,
+            " stands twice{place}, and only the last one is read"
+        )?;
+        lines.push_repeated(key, sentence.as_str())?;
     }
     Ok(())
-}
-
-/// Adds a repeated member, with the words around its key in the sentence.
-fn push_member(
-    lines: &mut Lines<'_>,
-    before: &str,
-    key: &str,
-    place: &str,
-) -> Result<(), AllocError> {
-    let mut sentence = String::from_str(lines.alloc, before)?;
-    push_text(lines.alloc, &mut sentence, key)?;
-    write!(
-        sentence,
-        " stands twice{place}, and only the last one is read"
-    )?;
-    lines.push_repeated(key, sentence.as_str())
 }
 
 /// Returns the repeated keys, each once, in byte order.

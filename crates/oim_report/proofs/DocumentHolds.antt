@@ -93,7 +93,7 @@ kept_or false k = refl
 kept_or true None = refl
 kept_or true (Some t) = elim (is_within_limit t) as (λ b. is_none (if not b then None else Some t) ≡ not b) [ true ↦ refl | false ↦ refl ]
 
-one_reference : (b : Option Parts) (d : Data) → is_none (said_reference b d) ≡ option_map_or (is_reference_refused b) (as_text d) true
+pub one_reference : (b : Option Parts) (d : Data) → is_none (said_reference b d) ≡ option_map_or (is_reference_refused b) (as_text d) true
 one_reference b d =
     by_given (λ g t w n. is_none (option_and_then (accepted_reference b) (text_of g)) ≡ option_map_or (is_reference_refused b) t true) refl (λ t. kept_or (is_within_limit t) (kept b t)) (λ n. refl) refl d
 

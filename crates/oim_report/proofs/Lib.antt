@@ -72,6 +72,7 @@ pub mod ValueWords
 pub mod AllTold
 pub mod FreeParts
 pub mod SaidWhereFree
+pub mod DocumentParts
 pub mod AnsweredLeast
 pub mod SheetHolds
 pub mod JsonStrings

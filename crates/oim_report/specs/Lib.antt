@@ -1,5 +1,6 @@
 pub mod Refusal
 pub mod Least
+pub mod Shown
 pub mod Json
 pub mod Pieces
 pub mod Parts
@@ -15,6 +16,7 @@ pub mod Info
 pub mod Document
 pub mod Holds
 pub mod Outcome
+pub mod Apart
 pub mod Identifiers
 pub mod FactFits
 pub mod FactObject

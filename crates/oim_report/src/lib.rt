@@ -18,15 +18,19 @@ mod sheet;
 #[cfg(test)]
 mod tests;
 mod unless_memory;
-mod when;
 
 pub use concept_kind::ConceptKind;
 pub use dimension_kind::DimensionKind;
 pub use document::identifiers::{fact_identifiers, read_identified};
+pub use document::json_tree::after_mark;
+pub use findings::document_part::document_part;
 pub use findings::fact_rows::fact_part;
+pub use findings::facts_apart::facts_apart;
 pub use findings::fault_list::Faults;
-pub use findings::faults_reader::faults;
+pub use findings::faults_reader::{faults, tree_faults};
 pub use findings::part::Part;
+pub use findings::report_aliases::report_aliases;
+pub use findings::sheet_part::sheet_part;
 pub use place::Place;
 pub use reader::read_report;
 pub use refusal::Refusal;

@@ -58,7 +58,8 @@ impl Sheet {
         Sheet::from_tree(alloc, &tree)
     }
 
-    fn from_tree(alloc: Global, tree: &Value) -> Result<Sheet, Reason>
+    /// Does the same as `read` for a JSON value.
+    pub(crate) fn from_tree(alloc: Global, tree: &Value) -> Result<Sheet, Reason>
         ensures ok { IfOk result (λ s. sheet_of (Some (view tree.now)) ≡ Ok s) }
         ensures errors { IfErr result
             (λ r. (r ≡ Reason.OutOfMemory) ⊎ (sheet_of (Some (view tree.now)) ≡ Err r)) }

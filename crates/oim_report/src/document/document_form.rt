@@ -1,4 +1,4 @@
-ghost use Rattle.std.specs.Prelude.{◌≡◌, ◌||◌, ◌∷◌, [], option_map};
+ghost use Rattle.std.specs.Prelude.{◌≡◌, ◌∷◌, [], is_some, option_map};
 ghost use Rattle.std.specs.Result.{result_err};
 ghost use Rattle.serde_json.specs.View.{view};
 ghost use Rattle.std.specs.List.{find};
@@ -9,6 +9,7 @@ ghost use Rattle.oim_report.specs.Holds.{document_holds};
 
 use crate::document::json_tree::{is_no_array, is_no_object, object_at, unknown_in, within};
 use crate::fact::given::Given;
+use crate::findings::part::Part;
 use oim_names::Reason;
 use serde_json::Value;
 
@@ -21,10 +22,10 @@ pub(crate) fn check_shape(tree: &Value) -> Result<(), Reason>
     ensures { let form = Reason.MemberForm ∷ Reason.UnknownMember ∷ Reason.DocumentType ∷ [] in
         result_err result ≡ find (document_holds (view tree.now)) form }
 {
-    if has_misshapen_part(tree) {
+    if misshapen(tree).is_some() {
         return Err(Reason::MemberForm);
     }
-    if has_unknown_part(tree) {
+    if unknown(tree).is_some() {
         return Err(Reason::UnknownMember);
     }
     if has_other_type(tree) {
@@ -33,36 +34,59 @@ pub(crate) fn check_shape(tree: &Value) -> Result<(), Reason>
     Ok(())
 }
 
+/// Returns the whole report if it is not an object, or a member that is missing or has the wrong
+/// kind of value.
 #[tactic(auto, unfolding(crate::specs::Holds::document_holds))]
-pub(crate) fn has_misshapen_part(tree: &Value) -> bool
-    ensures { result ≡ document_holds (view tree.now) Reason.MemberForm }
+pub(crate) fn misshapen(tree: &Value) -> Option<Part<'_>>
+    ensures { is_some result ≡ document_holds (view tree.now) Reason.MemberForm }
 {
-    !tree.is_object()
-        || object_at(tree, "documentInfo").is_none()
-        || is_no_object(within(tree, "documentInfo", "namespaces"))
-        || is_no_object(within(tree, "documentInfo", "features"))
-        || is_no_object(tree.get("facts"))
-        || is_no_array(within(tree, "documentInfo", "taxonomy"))
+    if !tree.is_object() {
+        return Some(Part::Whole);
+    }
+    if object_at(tree, "documentInfo").is_none() {
+        return Some(no_info(tree));
+    }
+    if is_no_object(within(tree, "documentInfo", "namespaces")) {
+        return Some(Part::NoObject("namespaces"));
+    }
+    if is_no_object(within(tree, "documentInfo", "features")) {
+        return Some(Part::NoObject("features"));
+    }
+    if is_no_object(tree.get("facts")) {
+        return Some(Part::NoObject("facts"));
+    }
+    if is_no_array(within(tree, "documentInfo", "taxonomy")) {
+        return Some(Part::NoArray("taxonomy"));
+    }
+    None
 }
 
+fn no_info(tree: &Value) -> Part<'_> {
+    match tree.get("documentInfo") {
+        Some(_) => Part::NoObject("documentInfo"),
+        None => Part::Missing("documentInfo"),
+    }
+}
+
+/// Returns the first key of the report, or of `documentInfo`, that the format does not define.
 #[tactic(auto, unfolding(crate::specs::Holds::document_holds))]
-pub(crate) fn has_unknown_part(tree: &Value) -> bool
-    ensures { result ≡ document_holds (view tree.now) Reason.UnknownMember }
+pub(crate) fn unknown(tree: &Value) -> Option<Part<'_>>
+    ensures { is_some result ≡ document_holds (view tree.now) Reason.UnknownMember }
 {
-    unknown_in(tree.as_object(), &["documentInfo", "facts"]).is_some()
-        || unknown_in(
-            object_at(tree, "documentInfo"),
-            &[
-                "documentType",
-                "namespaces",
-                "taxonomy",
-                "baseURL",
-                "features",
-                "linkTypes",
-                "linkGroups",
-            ],
-        )
-        .is_some()
+    if let Some(key) = unknown_in(tree.as_object(), &["documentInfo", "facts"]) {
+        return Some(Part::Key(key));
+    }
+    let known = &[
+        "documentType",
+        "namespaces",
+        "taxonomy",
+        "baseURL",
+        "features",
+        "linkTypes",
+        "linkGroups",
+    ];
+    let key = unknown_in(object_at(tree, "documentInfo"), known)?;
+    Some(Part::KeyIn(key, "documentInfo"))
 }
 
 #[tactic(auto, unfolding(crate::specs::Holds::document_holds))]

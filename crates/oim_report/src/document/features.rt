@@ -56,7 +56,8 @@ fn only_level(before: Option<Level>, value: Given<'_>) -> Option<Level>
     }
 }
 
-fn is_allowed_duplicates(aliases: &Aliases, key: &str) -> bool
+/// Returns whether a key names the feature `xbrl:allowedDuplicates`.
+pub(crate) fn is_allowed_duplicates(aliases: &Aliases, key: &str) -> bool
     ensures { result ≡ is_allowed_duplicates aliases.now key.now }
 {
     let (prefix, local) = split(key);

@@ -39,7 +39,8 @@ pub(crate) fn read_json_outline(alloc: Global, bytes: &[u8]) -> Option<Outline<'
     read_outline(alloc, text)
 }
 
-fn after_mark(bytes: &[u8]) -> &[u8]
+/// Returns the bytes after at most one byte order mark.
+pub fn after_mark(bytes: &[u8]) -> &[u8]
     ensures { result.now ≡ without_mark bytes.now }
 {
     match bytes.strip_prefix(b"\xef\xbb\xbf") {

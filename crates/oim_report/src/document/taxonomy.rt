@@ -46,7 +46,10 @@ fn keep_all(alloc: Global, base: Option<&Base>, items: &Vec<Value>) -> Result<Ve
     Ok(references)
 }
 
-fn keep_item(alloc: Global, base: Option<&Base>, item: &Value) -> Result<Text, Reason>
+/// Returns the kept text of a reference.
+///
+/// Errors: `TaxonomyUrl`; `OutOfMemory`.
+pub(crate) fn keep_item(alloc: Global, base: Option<&Base>, item: &Value) -> Result<Text, Reason>
     ensures ok { IfOk result (λ kept. said_reference (option_copied base.entry) (view item.now) ≡ Some kept) }
     ensures errors { let said = said_reference (option_copied base.entry) (view item.now) in
         IfErr result (λ r. (r ≡ Reason.OutOfMemory) ⊎ ((r ≡ Reason.TaxonomyUrl) × (said ≡ None))) }

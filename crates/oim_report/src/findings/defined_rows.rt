@@ -62,8 +62,8 @@ fn is_unlisted(sheet: &Sheet, aliases: &Aliases, key: &str) -> bool
         && find_dimension(sheet, aliases, key).is_none()
 }
 
-/// Returns the first dimension whose member does not fit its kind, or `Twice` if two keys name the
-/// same dimension.
+/// Returns the first dimension whose member does not fit its kind, or two keys that name the same
+/// dimension.
 ///
 /// Errors: out of memory.
 #[tactic(auto, unfolding(crate::specs::Holds::holds), using(crate::proofs::DefinedRows::any_of, crate::proofs::DefinedRows::names_of))]
@@ -82,10 +82,7 @@ pub(crate) fn misfit<'a>(
     if let Some(part) = misfit_in(sheet, aliases, dimensions) {
         return Ok(Some(part));
     }
-    if names_twice(alloc, aliases, dimensions)? {
-        return Ok(Some(Part::Twice));
-    }
-    Ok(None)
+    two_keys(alloc, aliases, dimensions)
 }
 
 fn misfit_in<'a>(
@@ -118,26 +115,41 @@ fn is_misfit(sheet: &Sheet, aliases: &Aliases, key: &str, value: &Value) -> bool
     }
 }
 
-// Returns whether two keys name the same dimension.
-fn names_twice(
+// Returns the first key that repeats a dimension, behind the first key of that dimension.
+fn two_keys<'a>(
     alloc: Global,
     aliases: &Aliases,
-    dimensions: &Map<String, Value>,
-) -> Result<bool, AllocError>
+    dimensions: &'a Map<String, Value>,
+) -> Result<Option<Part<'a>>, AllocError>
     ensures { let names = defined_names aliases.now (members_view dimensions.now.entries) in
-        IfOk result (λ twice. twice ≡ comes_again names) }
+        IfOk result (λ part. is_some part ≡ comes_again names) }
 {
     let mut before = Gathered::new(alloc);
     for (key, _value) in dimensions.iter() {
         if let Some(name) = dimension_name(aliases, key.as_str())? {
             if before.has(&name) {
-                return Ok(true);
+                return Ok(Some(beside_first(aliases, dimensions, key.as_str())));
             }
             // the kind does not matter
             before.put(name, DimensionKind::Explicit)?;
         }
     }
-    Ok(false)
+    Ok(None)
+}
+
+/// Returns the key behind the first key with the same name.
+pub(crate) fn beside_first<'a>(
+    aliases: &Aliases,
+    entries: &'a Map<String, Value>,
+    key: &'a str,
+) -> Part<'a> {
+    let name = aliases.resolve(key);
+    for (first, _value) in entries.iter() {
+        if name.is_ok() && aliases.resolve(first.as_str()) == name {
+            return Part::Two(first.as_str(), key);
+        }
+    }
+    Part::Name(key)
 }
 
 // Returns the name of a taxonomy-defined dimension.

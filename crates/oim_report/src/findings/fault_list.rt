@@ -1,10 +1,6 @@
-ghost use Rattle.std.specs.Prelude.{◌≡◌, [], ◌++◌, ◌∷◌, map, OnOk};
-ghost use Rattle.oim_report.specs.code.Findings.{all_refusals};
-ghost use Rattle.oim_report.specs.Outcome.{at};
+ghost use Rattle.std.specs.Prelude.{◌≡◌, [], ◌++◌, ◌∷◌, OnOk};
 
-use crate::place::Place;
 use crate::refusal::Refusal;
-use oim_names::Reason;
 use std::alloc::{AllocError, Global};
 use std::marker::Model;
 
@@ -40,24 +36,6 @@ impl Faults {
         ensures { OnOk result (self.new ≡ self.old ++ refusal ∷ []) }
     {
         self.refusals.push(refusal)?;
-        Ok(())
-    }
-
-    /// Appends the given refusals, with the place.
-    ///
-    /// Errors: out of memory.
-    pub(crate) fn add(
-        &mut self,
-        place: Place,
-        refusals: &[Option<Reason>],
-    ) -> Result<(), AllocError>
-        ensures { OnOk result (self.new ≡ self.old ++ map (at place) (all_refusals refusals.now)) }
-    {
-        for refusal in refusals {
-            if let Some(reason) = *refusal {
-                self.push(Refusal { reason, place })?;
-            }
-        }
         Ok(())
     }
 

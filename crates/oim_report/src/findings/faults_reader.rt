@@ -40,7 +40,10 @@ pub fn faults(alloc: Global, sheet: &Sheet, bytes: &[u8]) -> Result<Faults, Allo
     }
 }
 
-fn tree_faults(alloc: Global, sheet: &Sheet, tree: &Value) -> Result<Faults, AllocError>
+/// Does the same as `faults` for a JSON value.
+///
+/// Errors: out of memory.
+pub fn tree_faults(alloc: Global, sheet: &Sheet, tree: &Value) -> Result<Faults, AllocError>
     ensures { IfOk result (λ found. found ≡ tree_faults sheet.now (view tree.now)) }
 {
     let mut faults = Faults::new(alloc);

@@ -72,7 +72,7 @@ pub(crate) fn unknown(object: &Value) -> Option<Part<'_>>
     }
     let core = &["concept", "entity", "period", "unit", "language", "noteId"];
     let key = unknown_in(object_at(object, "dimensions"), core)?;
-    Some(Part::DimensionKey(key))
+    Some(Part::KeyIn(key, "dimensions"))
 }
 
 #[tactic(auto, unfolding(crate::specs::Holds::holds))]

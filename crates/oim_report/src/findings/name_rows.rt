@@ -18,7 +18,7 @@ use crate::findings::defined_rows::is_defined;
 use crate::findings::part::Part;
 use crate::sheet::Sheet;
 use crate::sheet::listed::find_dimension;
-use oim_dims::{is_unit_text, refuses_some_piece};
+use oim_dims::{is_unit_text, refused_piece};
 use oim_names::{Aliases, Reason};
 use serde_json::{Map, Value};
 
@@ -43,7 +43,7 @@ pub(crate) fn refused_name<'a>(
     if let Some(part) = refused_dimension(sheet, aliases, object, reason) {
         return Some(part);
     }
-    if let Some(part) = refused_piece(aliases, dimension(object, "unit"), reason) {
+    if let Some(part) = refused_unit(aliases, dimension(object, "unit"), reason) {
         return Some(part);
     }
     refused_value(sheet, aliases, object, reason)
@@ -171,19 +171,26 @@ fn refused_member<'a>(
     }
 }
 
-// Returns the unit if it has the form of a unit and one of its pieces is refused for this reason.
-fn refused_piece<'a>(aliases: &Aliases, unit: Option<&'a Value>, reason: Reason) -> Option<Part<'a>>
+fn refused_unit<'a>(aliases: &Aliases, unit: Option<&'a Value>, reason: Reason) -> Option<Part<'a>>
     ensures { let found = option_and_then as_text (option_map (λ v. view v.now) unit.entry) in
         is_some result ≡ refuses_some reason aliases.now (map a_name (option_map_or pieces found [])) }
 {
     match text(unit) {
-        Some(text) if is_refused_unit(aliases, text, reason) => Some(Part::Piece(text)),
-        _ => None,
+        Some(text) => piece_of(aliases, text, reason),
+        None => None,
     }
 }
 
-fn is_refused_unit(aliases: &Aliases, text: &str, reason: Reason) -> bool
-    ensures { result ≡ refuses_some reason aliases.now (map a_name (pieces text.now)) }
+// Returns the first piece of a unit's text that is refused for this reason, if the text has the
+// form of a unit.
+fn piece_of<'a>(aliases: &Aliases, text: &'a str, reason: Reason) -> Option<Part<'a>>
+    ensures { is_some result ≡ refuses_some reason aliases.now (map a_name (pieces text.now)) }
 {
-    is_unit_text(text) && refuses_some_piece(aliases, reason, text)
+    if !is_unit_text(text) {
+        return None;
+    }
+    match refused_piece(aliases, reason, text) {
+        Some(piece) => Some(Part::Name(piece)),
+        None => None,
+    }
 }

@@ -2,35 +2,35 @@ ghost use Rattle.std.specs.Prelude.{◌≡◌, is_some};
 
 use serde_json::Value;
 
-/// The part of a fact that violates a condition.
+/// The part of a report or a sheet that violates a condition.
 #[derive(Clone, Copy)]
 pub enum Part<'a> {
     /// Nothing can be shown, because a part is missing.
     Nothing,
-    /// The whole fact, which is not an object.
+    /// The whole value, which is not an object.
     Whole,
     /// The missing member with this key.
     Missing(&'static str),
     /// The member with this key, which is not an object.
     NoObject(&'static str),
+    /// The member with this key, which is not an array.
+    NoArray(&'static str),
     /// The dimension with this key, which is not a text.
     NoText(&'static str),
-    /// A key of the fact.
+    /// A key.
     Key(&'a str),
-    /// A key of its dimensions.
-    DimensionKey(&'a str),
-    /// A name, as the fact spells it.
+    /// A key of the object at the second key.
+    KeyIn(&'a str, &'static str),
+    /// A name, as the file spells it.
     Name(&'a str),
-    /// An entity, as the fact spells it.
+    /// An entity, as the file spells it.
     Entity(&'a str),
-    /// A unit with a refused piece.
-    Piece(&'a str),
     /// A value.
     Value(&'a Value),
-    /// A dimension with its member.
+    /// A key with its value.
     Member(&'a str, &'a Value),
-    /// Two keys that name the same dimension.
-    Twice,
+    /// Two keys that contradict each other.
+    Two(&'a str, &'a str),
 }
 
 /// If the condition applies, returns the value, or `Nothing` if there is no value.

@@ -66,7 +66,7 @@ fn list_all<K: Kind>(
 }
 
 /// Returns the kind that a value names.
-fn kind_in<K: Kind>(value: &Value) -> Option<K>
+pub(crate) fn kind_in<K: Kind>(value: &Value) -> Option<K>
     ensures { result ≡ kind_in K.kind_named K.same_kind (view value.now) }
 {
     match Given::of_value(value).text() {

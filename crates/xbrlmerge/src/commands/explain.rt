@@ -126,7 +126,7 @@ fn put_under<'n, F: Files, E: Write, S: Sink>(
 fn read_sheet<'n>(alloc: Global, name: &str, bytes: &[u8]) -> Result<Sheet, Error<'n>> {
     match sheet_of(alloc, bytes) {
         Err(Error::Sheet(reason, _)) => {
-            let lines = explain_sheet(alloc, name, bytes, reason)?;
+            let lines = explain_sheet(alloc, name, bytes)?;
             Err(Error::Sheet(reason, Some(lines)))
         }
         read => read,

@@ -246,40 +246,30 @@ const BYTES: [(&[u8], &str); 5] = [
     ),
 ];
 
-const SHEETS: [(&str, Reason, &str); 7] = [
+const SHEETS: [(&str, &str); 7] = [
     (
         r#"{"documentInfo":{}}"#,
-        Reason::UnknownMember,
         "s: the format has no member \"documentInfo\" in a concept sheet; the file looks like a report, and no concept sheet\n",
     ),
     (
         "<xml>",
-        Reason::NotJson,
         "s: the file is no JSON text, or nests deeper than 127: invalid JSON at line 1 column 1; the file looks like XML: another program has to write it as xBRL-JSON\n",
     ),
-    (
-        r#"{"concepts":[]}"#,
-        Reason::MemberForm,
-        "s: \"concepts\" is no object\n",
-    ),
+    (r#"{"concepts":[]}"#, "s: \"concepts\" is no object\n"),
     (
         r#"{"namespaces":{"e g":"u"}}"#,
-        Reason::Namespace,
         "s: the entry \"e g\": \"u\" of \"namespaces\" is no prefix with its URI: neither may be empty, and a prefix has no colon and no white space\n",
     ),
     (
         r#"{"namespaces":{"eg":"u"},"concepts":{"eg:A":"text"},"dimensions":{"q:D":"typed"}}"#,
-        Reason::UnboundPrefix,
         "s: the prefix of \"q:D\" is not bound\n",
     ),
     (
         r#"{"namespaces":{"eg":"u"},"concepts":{"eg:A":"text"},"dimensions":{"eg:D":"text"}}"#,
-        Reason::SheetKind,
         "s: the entry \"eg:D\": \"text\" of the sheet has an unknown kind: a concept is \"numeric\", \"text\" or \"name\", a dimension \"explicit\" or \"typed\"\n",
     ),
     (
         r#"{"namespaces":{"eg":"u","zz":"u"},"concepts":{"eg:A":"text","zz:A":"numeric"}}"#,
-        Reason::SheetKind,
         "s: the entries \"eg:A\" and \"zz:A\" of the sheet are one name with two kinds\n",
     ),
 ];
@@ -336,13 +326,8 @@ fn are_said(rt: &HostRuntime, tables: &[Table<'_>]) -> Result<bool, Fail> {
     Ok(all)
 }
 
-fn is_said_of_sheet_once(
-    rt: &HostRuntime,
-    text: &str,
-    reason: Reason,
-    line: &str,
-) -> Result<bool, AllocError> {
-    let said = explain_sheet(rt.alloc(), "s", text.as_bytes(), reason)?;
+fn is_said_of_sheet_once(rt: &HostRuntime, text: &str, line: &str) -> Result<bool, AllocError> {
+    let said = explain_sheet(rt.alloc(), "s", text.as_bytes())?;
     if said.as_str() != line {
         let found = said.as_str();
         let _ = eprintln!(rt; "{found}");
@@ -350,16 +335,11 @@ fn is_said_of_sheet_once(
     Ok(said.as_str() == line)
 }
 
-fn is_said_of_sheet(
-    rt: &HostRuntime,
-    text: &str,
-    reason: Reason,
-    line: &str,
-) -> Result<bool, AllocError> {
-    match is_said_of_sheet_once(rt, text, reason, line) {
+fn is_said_of_sheet(rt: &HostRuntime, text: &str, line: &str) -> Result<bool, AllocError> {
+    match is_said_of_sheet_once(rt, text, line) {
         Err(_) => {
             tell_refused(rt);
-            is_said_of_sheet_once(rt, text, reason, line)
+            is_said_of_sheet_once(rt, text, line)
         }
         said => said,
     }
@@ -388,8 +368,8 @@ fn files_that_are_no_text_are_told_apart(rt: HostRuntime) -> Result<(), Fail> {
 
 #[test]
 fn refused_sheets_are_told_apart(rt: HostRuntime) -> Result<(), Fail> {
-    for (text, reason, line) in &SHEETS {
-        assert!(rt; is_said_of_sheet(&rt, text, *reason, line)?);
+    for (text, line) in &SHEETS {
+        assert!(rt; is_said_of_sheet(&rt, text, line)?);
     }
     Ok(())
 }

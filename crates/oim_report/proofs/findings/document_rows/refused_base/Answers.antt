@@ -1,0 +1,16 @@
+use Rattle.std.proofs.Common.{ap, ◌∙◌}
+use Rattle.std.specs.Prelude.{codes, is_none}
+use Rattle.serde_json.specs.View.{view}
+use Rattle.oim_report.specs.Holds.{document_holds}
+use Rattle.oim_report.specs.Info.{info}
+use Rattle.oim_report.proofs.DocumentHolds.{base_same}
+use Rattle.oim_report.proofs.FoundWith.{from_some}
+use Rattle.oim_report.proofs.findings.document_rows.refused_base.Goals as goal
+
+pub returns : goal.returns
+unfolding document_holds
+returns c =
+    c.value_if.ensures
+    ∙ from_some c.in_ok-base.base c.is_none.result c.is_none.ensures
+    ∙ ap is_none c.in_ok-base.ensures
+    ∙ base_same (info (codes "baseURL") (view c.args.tree.now))

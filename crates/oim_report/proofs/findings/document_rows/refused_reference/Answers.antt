@@ -1,0 +1,18 @@
+use Rattle.std.proofs.Common.{true, ap, ◌∙◌}
+use Rattle.std.proofs.lemmas.Result.{IfOk-weaker}
+use Rattle.std.specs.Prelude.{codes}
+use Rattle.std.specs.Option.{option_flatten, option_map_or}
+use Rattle.serde_json.specs.View.{view}
+use Rattle.oim_report.specs.Holds.{any_item, as_text, document_holds}
+use Rattle.oim_report.specs.Info.{info, taxonomy_of}
+use Rattle.oim_report.specs.Kept.{is_reference_refused}
+use Rattle.oim_report.proofs.DocumentParts.{flat_base}
+use Rattle.oim_report.proofs.findings.document_rows.refused_reference.Goals as goal
+
+pub returns : goal.returns
+unfolding document_holds
+returns c =
+    let tree = view c.args.tree.now in
+    IfOk-weaker c.reference_under.result _ _
+    (λ part h. h ∙ ap (λ b. any_item (λ v. option_map_or (is_reference_refused b) (as_text v) true) (taxonomy_of tree)) (c.flatten.ensures ∙ ap option_flatten c.in_ok-base.ensures ∙ flat_base (info (codes "baseURL") tree)))
+    c.reference_under.ensures

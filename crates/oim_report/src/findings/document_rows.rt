@@ -1,0 +1,139 @@
+//! Finds the part of a document that violates a condition on its base, its references or its
+//! features.
+
+ghost use Rattle.std.specs.Prelude.{◌≡◌, true, false, if◌then◌else◌, Some, None, is_none, is_some, IfOk};
+ghost use Rattle.std.specs.Option.{option_copied, option_map_or};
+ghost use Rattle.serde_json.specs.View.{view, items_view};
+ghost use Rattle.oim_report.specs.Holds.{any_item, as_text, document_holds};
+ghost use Rattle.oim_report.specs.Info.{base_said, bindings_of, declarations, features_of, namespaces_of, said_level, taxonomy_of};
+ghost use Rattle.oim_report.specs.Json.{any_in};
+ghost use Rattle.oim_report.specs.Kept.{is_reference_refused};
+ghost use Rattle.oim_report.specs.Shown.{is_shown};
+ghost use Rattle.oim_report.specs.Namespaces.{binds_nothing};
+
+use crate::document::base::Base;
+use crate::document::base_url::read_base_url;
+use crate::document::features::{is_allowed_duplicates, read_level};
+use crate::document::json_tree::within;
+use crate::document::taxonomy::keep_item;
+use crate::fact::fact_values::text;
+use crate::findings::part::{Part, value_if};
+use crate::findings::report_aliases::report_aliases;
+use crate::unless_memory::unless_memory;
+use oim_names::{Aliases, Reason};
+use oim_value::Level;
+use serde_json::Value;
+use std::alloc::{AllocError, Global};
+
+/// Returns the `baseURL` if it is refused.
+///
+/// Errors: out of memory.
+pub(crate) fn refused_base(alloc: Global, tree: &Value) -> Result<Option<Part<'_>>, AllocError>
+    ensures { IfOk result (λ part. is_some part ≡ document_holds (view tree.now) Reason.BaseUrl) }
+{
+    let base = said_base(alloc, tree)?;
+    Ok(value_if(base.is_none(), within(tree, "documentInfo", "baseURL")))
+}
+
+// Returns the base of relative references, which may be absent, or None if the base is refused.
+fn said_base(alloc: Global, tree: &Value) -> Result<Option<Option<Base>>, AllocError>
+    ensures { IfOk result (λ base. base ≡ base_said (view tree.now)) }
+{
+    unless_memory(read_base_url(alloc, tree))
+}
+
+/// Returns the first reference that is refused. If the base is refused, there is no base.
+///
+/// Errors: out of memory.
+pub(crate) fn refused_reference(alloc: Global, tree: &Value) -> Result<Option<Part<'_>>, AllocError>
+    ensures { IfOk result (λ part. is_some part ≡ document_holds (view tree.now) Reason.TaxonomyUrl) }
+{
+    let base = said_base(alloc, tree)?;
+    reference_under(alloc, base.flatten(), tree)
+}
+
+fn reference_under(
+    alloc: Global,
+    base: Option<Base>,
+    tree: &Value,
+) -> Result<Option<Part<'_>>, AllocError>
+    ensures { let refused = is_reference_refused base in
+        let all = taxonomy_of (view tree.now) in
+        IfOk result (λ part. is_some part ≡ any_item (λ v. option_map_or refused (as_text v) true) all) }
+{
+    match within(tree, "documentInfo", "taxonomy").and_then(Value::as_array) {
+        Some(references) => first_refused(alloc, base.as_ref(), references),
+        None => Ok(None),
+    }
+}
+
+fn first_refused<'a>(
+    alloc: Global,
+    base: Option<&Base>,
+    references: &'a Vec<Value>,
+) -> Result<Option<Part<'a>>, AllocError>
+    ensures { let refused = is_reference_refused (option_copied base.entry) in
+        let all = items_view references.now.items in
+        IfOk result (λ part. is_some part ≡ any_item (λ v. option_map_or refused (as_text v) true) all) }
+{
+    for reference in references {
+        if is_refused(alloc, base, reference)? {
+            return Ok(Some(Part::Value(reference)));
+        }
+    }
+    Ok(None)
+}
+
+fn is_refused(alloc: Global, base: Option<&Base>, reference: &Value) -> Result<bool, AllocError>
+    ensures { let refused = is_reference_refused (option_copied base.entry) in
+        IfOk result (λ found. found ≡ option_map_or refused (as_text (view reference.now)) true) }
+{
+    let kept = unless_memory(keep_item(alloc, base, reference))?;
+    Ok(kept.is_none())
+}
+
+/// Returns the first declaration whose value is not a level, or all features if there are several
+/// declarations. If the prefixes are refused, the features are not tested.
+///
+/// Errors: out of memory.
+pub(crate) fn refused_feature(alloc: Global, tree: &Value) -> Result<Option<Part<'_>>, AllocError>
+    ensures { IfOk result (λ part. is_some part ≡ is_shown (document_holds (view tree.now)) Reason.Feature) }
+{
+    let aliases = report_aliases(alloc, tree)?;
+    Ok(feature_under(&aliases, tree))
+}
+
+fn feature_under<'a>(aliases: &Option<Aliases>, tree: &'a Value) -> Option<Part<'a>>
+    ensures { is_some result ≡ option_map_or (λ bs. is_none (said_level (declarations bs (features_of (view tree.now))))) aliases.now false }
+{
+    match aliases {
+        Some(aliases) => feature_with(aliases, tree),
+        None => None,
+    }
+}
+
+fn feature_with<'a>(aliases: &Aliases, tree: &'a Value) -> Option<Part<'a>>
+    ensures { is_some result ≡ is_none (said_level (declarations aliases.now (features_of (view tree.now)))) }
+{
+    if read_level(aliases, tree).is_ok() {
+        return None;
+    }
+    Some(misdeclared(aliases, tree))
+}
+
+fn misdeclared<'a>(aliases: &Aliases, tree: &'a Value) -> Part<'a> {
+    let Some(features) = within(tree, "documentInfo", "features") else {
+        return Part::Nothing;
+    };
+    let Some(members) = features.as_object() else {
+        return Part::Nothing;
+    };
+    for (key, value) in members.iter() {
+        if is_allowed_duplicates(aliases, key.as_str())
+            && text(Some(value)).and_then(Level::read).is_none()
+        {
+            return Part::Member(key.as_str(), value);
+        }
+    }
+    Part::Value(features)
+}

@@ -1,0 +1,61 @@
+ghost use Rattle.std.specs.Prelude.{◌≡◌, [], IfOk, is_some, option_map};
+ghost use Rattle.oim_names.specs.Bindings.{is_refused_binding};
+ghost use Rattle.serde_json.specs.View.{view, members_view};
+ghost use Rattle.oim_report.specs.Json.{any_in, any_member};
+ghost use Rattle.oim_report.specs.Namespaces.{binds_nothing};
+
+use crate::fact::given::Given;
+use crate::findings::part::Part;
+use crate::unless_memory::unless_memory;
+use oim_names::Aliases;
+use serde_json::{Map, Value};
+use std::alloc::{AllocError, Global};
+
+/// Returns the first entry of a `namespaces` object that binds nothing.
+///
+/// Errors: out of memory.
+pub(crate) fn unbound<'a>(
+    alloc: Global,
+    namespaces: Option<&'a Map<String, Value>>,
+) -> Result<Option<Part<'a>>, AllocError>
+    ensures { let ms = option_map (λ m. members_view m.now.entries) namespaces.entry in
+        IfOk result (λ part. is_some part ≡ any_in binds_nothing ms) }
+{
+    match namespaces {
+        Some(entries) => first_unbound(alloc, entries),
+        None => Ok(None),
+    }
+}
+
+fn first_unbound<'a>(
+    alloc: Global,
+    entries: &'a Map<String, Value>,
+) -> Result<Option<Part<'a>>, AllocError>
+    ensures { let ms = members_view entries.now.entries in
+        IfOk result (λ part. is_some part ≡ any_member binds_nothing ms) }
+{
+    for (prefix, uri) in entries.iter() {
+        if binds_nothing(alloc, prefix.as_str(), uri)? {
+            return Ok(Some(Part::Member(prefix.as_str(), uri)));
+        }
+    }
+    Ok(None)
+}
+
+// Returns whether an entry binds nothing.
+fn binds_nothing(alloc: Global, prefix: &str, uri: &Value) -> Result<bool, AllocError>
+    ensures { IfOk result (λ nothing. nothing ≡ binds_nothing prefix.now (view uri.now)) }
+{
+    match Given::of_value(uri).text() {
+        Some(uri) => is_no_binding(alloc, prefix, uri),
+        None => Ok(true),
+    }
+}
+
+fn is_no_binding(alloc: Global, prefix: &str, uri: &str) -> Result<bool, AllocError>
+    ensures { IfOk result (λ nothing. nothing ≡ is_refused_binding [] prefix.now uri.now) }
+{
+    let mut alone = Aliases::new(alloc);
+    let bound = unless_memory(alone.add(prefix, uri))?;
+    Ok(bound.is_none())
+}
