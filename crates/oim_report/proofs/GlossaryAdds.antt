@@ -1,11 +1,11 @@
 -- The meanings in a glossary after a text was added.
-use Rattle.std.proofs.Common.{◌≡◌, ◌⊎◌, inl, inr, ℕ, List, Bool, true, false, cond, bytes_eq, Result, Ok, Err, refl, sym, ap, subst, ◌∙◌}
+use Rattle.std.proofs.Common.{◌≡◌, ◌⊎◌, inl, inr, ℕ, List, Bool, true, false, cond, bytes_eq, String, string_bytes, Result, Ok, Err, refl, sym, ap, subst, ◌∙◌}
 use Rattle.std.specs.Prelude.{Option, Some, None, OnOk, OnErr}
-use Rattle.std.specs.Borrow.{Bor}
 use Rattle.std.specs.Cmp.Lexicographic.{bytes_decides}
-use Rattle.std.specs.HashMap.{HashMap, Updates, IsUnchanged, get_by}
+use Rattle.std.specs.HashMap.{HashMap, Updates, IsUnchanged, get_by_text}
+use Rattle.std.specs.String.{string_eq}
 use Rattle.std.specs.Map.{lookup, update}
-use Rattle.std.proofs.lemmas.Map.Text.{hash_map_updates_str}
+use Rattle.std.proofs.lemmas.Map.Text.{hash_map_updates_text}
 use Rattle.oim_report.specs.declared.fact.glossary.Glossary.{Glossary}
 use Rattle.oim_report.specs.code.Glossary.{Adds, IsGlossary, meaning}
 
@@ -25,9 +25,8 @@ pub none_wrong : {A : Type 0} (R : List ℕ → A → Type 0) (g : Glossary A) �
 none_wrong R g empty = record { each = λ t a found. let none = sym (empty t) ∙ found in cc }
 
 -- a text was inserted into a map, or the map is unchanged
-pub after_insert : {A S E : Type 0} (m n : HashMap (Bor (List ℕ)) A S) (k : Bor (List ℕ)) (a : A) (r : Result (Option A) E)
-    → OnOk r (Updates (λ x y. bytes_eq x.now y.now) m n k (Some a)) → OnErr r (IsUnchanged m n)
-    → ((u : List ℕ) → get_by (λ l. bytes_eq u l.now) n ≡ get_by (λ l. bytes_eq u l.now) m)
-    ⊎ ((u : List ℕ) → get_by (λ l. bytes_eq u l.now) n ≡ update bytes_eq (λ v. get_by (λ l. bytes_eq v l.now) m) k.now (Some a) u)
-after_insert m n k a (Ok old) put err = inr (hash_map_updates_str k.now m n (Some a) put)
-after_insert m n k a (Err e) put err = inl (λ u. ap (lookup (λ l. bytes_eq u l.now)) err)
+pub after_insert : {A S E Y : Type 0} (m n : HashMap (String Y) A S) (t : List ℕ) (k : String Y) (a : A) (r : Result (Option A) E) → string_bytes k ≡ t
+    → OnOk r (Updates string_eq m n k (Some a)) → OnErr r (IsUnchanged m n)
+    → ((u : List ℕ) → get_by_text n u ≡ get_by_text m u) ⊎ ((u : List ℕ) → get_by_text n u ≡ update bytes_eq (get_by_text m) t (Some a) u)
+after_insert m n t k a (Ok old) same put err = inr (λ u. subst (λ x. get_by_text n u ≡ update bytes_eq (get_by_text m) x (Some a) u) same (hash_map_updates_text (string_bytes k) m n (Some a) put u))
+after_insert m n t k a (Err e) same put err = inl (λ u. ap (lookup (λ l. bytes_eq u (string_bytes l))) err)

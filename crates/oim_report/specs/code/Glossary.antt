@@ -1,7 +1,7 @@
 -- The meanings of texts that were read (own).
 use Rattle.std.specs.Prelude.{◌≡◌, ◌⊎◌, ℕ, List, Option, Some, None}
 use Rattle.std.specs.Str.{bytes_eq}
-use Rattle.std.specs.HashMap.{get_by}
+use Rattle.std.specs.HashMap.{get_by_text}
 use Rattle.std.specs.Map.{update}
 use Rattle.oim_names.specs.QName.{QName}
 use Rattle.oim_dims.specs.DimensionSet.{DimensionSet}
@@ -11,7 +11,7 @@ use Rattle.oim_report.specs.declared.fact.glossary.Glossary.{Glossary}
 
 -- the meaning of a text, if it was added
 abbrev pub meaning : {A : Type 0} → Glossary A → List ℕ → Option A
-meaning g t = get_by (λ k. bytes_eq t k.now) g.meanings
+meaning g t = get_by_text g.meanings t
 
 -- h is g, or g with t and its meaning a added
 abbrev pub Adds : {A : Type 0} → Glossary A → List ℕ → A → Glossary A → Type 0

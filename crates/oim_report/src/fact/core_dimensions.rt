@@ -17,11 +17,11 @@ use oim_names::{Aliases, Name, Reason, Text};
 use std::alloc::Global;
 
 /// Returns the entity, if the fact has one.
-pub(crate) fn read_entity<'a>(
+pub(crate) fn read_entity(
     alloc: Global,
     aliases: &Aliases,
-    entities: &mut Glossary<'a, Name>,
-    entity: Given<'a>,
+    entities: &mut Glossary<Name>,
+    entity: Given<'_>,
 ) -> Result<Option<Name>, Reason>
     requires known { IsGlossary (ExpandsEntity aliases.now) entities.old }
     ensures said { IfOk result (λ read. said_entity aliases.now (seen entity.entry) ≡ Some read) }
@@ -35,10 +35,10 @@ pub(crate) fn read_entity<'a>(
 }
 
 /// Returns the period. A fact without one holds forever.
-pub(crate) fn read_period<'a>(
+pub(crate) fn read_period(
     alloc: Global,
-    periods: &mut Glossary<'a, Period>,
-    period: Given<'a>,
+    periods: &mut Glossary<Period>,
+    period: Given<'_>,
 ) -> Result<Period, Reason>
     requires known { IsGlossary TextSaysPeriod periods.old }
     ensures said { IfOk result (λ read. said_period (seen period.entry) ≡ Some read) }
@@ -52,12 +52,12 @@ pub(crate) fn read_period<'a>(
 }
 
 /// Returns the unit of a fact whose concept has this kind, if there is one.
-pub(crate) fn read_unit<'a>(
+pub(crate) fn read_unit(
     alloc: Global,
     aliases: &Aliases,
-    units: &mut Glossary<'a, Option<Unit>>,
+    units: &mut Glossary<Option<Unit>>,
     kind: ConceptKind,
-    unit: Given<'a>,
+    unit: Given<'_>,
 ) -> Result<Option<Unit>, Reason>
     requires known { IsGlossary (TextSaysUnit aliases.now) units.old }
     ensures said { IfOk result (λ read. said_unit aliases.now kind (seen unit.entry) ≡ Some read) }
@@ -71,11 +71,11 @@ pub(crate) fn read_unit<'a>(
 }
 
 /// Returns the language, in lower case, of a fact whose concept has this kind, if there is one.
-pub(crate) fn read_language<'a>(
+pub(crate) fn read_language(
     alloc: Global,
-    languages: &mut Glossary<'a, Text>,
+    languages: &mut Glossary<Text>,
     kind: ConceptKind,
-    language: Given<'a>,
+    language: Given<'_>,
 ) -> Result<Option<Text>, Reason>
     requires known { IsGlossary TextSaysLanguage languages.old }
     ensures said { IfOk result (λ read. said_language kind (seen language.entry) ≡ Some read) }

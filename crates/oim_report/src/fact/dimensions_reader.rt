@@ -17,14 +17,14 @@ use std::alloc::Global;
 /// Returns the dimensions of a fact with this concept, whose values have this kind.
 ///
 /// Errors: some condition that applies; `OutOfMemory`.
-pub(crate) fn read_dimensions<'s, 'a>(
+pub(crate) fn read_dimensions<'s>(
     alloc: Global,
     sheet: &'s Sheet,
     aliases: &Aliases,
-    glossaries: &mut Glossaries<'s, 'a>,
+    glossaries: &mut Glossaries<'s>,
     concept: Name,
     kind: ConceptKind,
-    parts: &DimensionParts<'a>,
+    parts: &DimensionParts<'_>,
 ) -> Result<Dimensions, Reason>
     requires known { AreGlossaries sheet.now aliases.now glossaries.old }
     requires concept { said_concept aliases.now (seen parts.now.concept) ≡ Some concept }

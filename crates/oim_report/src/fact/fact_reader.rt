@@ -23,12 +23,12 @@ use std::alloc::Global;
 /// Reads a fact object under a sheet and these prefixes.
 ///
 /// Errors: the condition with the least number that applies; `OutOfMemory`.
-pub(crate) fn read_fact<'s, 'a>(
+pub(crate) fn read_fact<'s>(
     alloc: Global,
     sheet: &'s Sheet,
     aliases: &Aliases,
-    glossaries: &mut Glossaries<'s, 'a>,
-    object: &'a Value,
+    glossaries: &mut Glossaries<'s>,
+    object: &Value,
 ) -> Result<Fact, Reason>
     requires known { AreGlossaries sheet.now aliases.now glossaries.old }
     ensures ok { IfOk result (λ f. fact_outcome sheet.now aliases.now (view object.now) ≡ Ok f) }
@@ -63,12 +63,12 @@ fn least_fault(alloc: Global, sheet: &Sheet, aliases: &Aliases, object: &Value) 
 // Returns the fact, unless a condition applies or a request for memory is refused. Most facts are
 // accepted, so this function visits each part once, and does not look for the condition with the
 // least number.
-fn read_object<'s, 'a>(
+fn read_object<'s>(
     alloc: Global,
     sheet: &'s Sheet,
     aliases: &Aliases,
-    glossaries: &mut Glossaries<'s, 'a>,
-    object: &'a Value,
+    glossaries: &mut Glossaries<'s>,
+    object: &Value,
 ) -> Result<Fact, Reason>
     requires known { AreGlossaries sheet.now aliases.now glossaries.old }
     ensures ok { IfOk result (λ f. fact_outcome sheet.now aliases.now (view object.now) ≡ Ok f) }
@@ -84,13 +84,13 @@ fn read_object<'s, 'a>(
 }
 
 // Reads a fact from its parts.
-fn read_content<'s, 'a>(
+fn read_content<'s>(
     alloc: Global,
     sheet: &'s Sheet,
     aliases: &Aliases,
-    glossaries: &mut Glossaries<'s, 'a>,
-    parts: &FactParts<'a>,
-    dimensions: &DimensionParts<'a>,
+    glossaries: &mut Glossaries<'s>,
+    parts: &FactParts<'_>,
+    dimensions: &DimensionParts<'_>,
 ) -> Result<Fact, Reason>
     requires known { AreGlossaries sheet.now aliases.now glossaries.old }
     ensures said { let p = seen_parts parts.now in

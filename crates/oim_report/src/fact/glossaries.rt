@@ -12,20 +12,20 @@ use std::alloc::{AllocError, Global};
 
 /// Caches of the meanings of one report's texts, under one sheet and one set of prefixes.
 #[derive(Drop)]
-pub(crate) struct Glossaries<'s, 'a> {
+pub(crate) struct Glossaries<'s> {
     /// The concepts that the sheet lists.
-    pub(crate) concepts: Glossary<'a, (&'s Name, ConceptKind)>,
+    pub(crate) concepts: Glossary<(&'s Name, ConceptKind)>,
     /// The taxonomy-defined dimensions that the sheet lists.
-    pub(crate) dimensions: Glossary<'a, (&'s Name, DimensionKind)>,
-    pub(crate) entities: Glossary<'a, Name>,
-    pub(crate) periods: Glossary<'a, Period>,
-    pub(crate) units: Glossary<'a, Option<Unit>>,
-    pub(crate) languages: Glossary<'a, Text>,
+    pub(crate) dimensions: Glossary<(&'s Name, DimensionKind)>,
+    pub(crate) entities: Glossary<Name>,
+    pub(crate) periods: Glossary<Period>,
+    pub(crate) units: Glossary<Option<Unit>>,
+    pub(crate) languages: Glossary<Text>,
     /// The members of explicit dimensions.
-    pub(crate) members: Glossary<'a, Name>,
+    pub(crate) members: Glossary<Name>,
 }
 
-impl<'s, 'a> Glossaries<'s, 'a> {
+impl<'s> Glossaries<'s> {
     /// Returns empty caches, each with capacity for this number of texts, but at most
     /// `MOST_MEANINGS`.
     ///

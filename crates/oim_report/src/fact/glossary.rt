@@ -6,13 +6,15 @@ use crate::limits::MOST_MEANINGS;
 use std::alloc::{AllocError, Global};
 use std::collections::HashMap;
 
-/// A cache of texts and their meanings, so that a repeated text is not read again.
+/// A cache of texts and their meanings, so that a repeated text is not read again. It has copies
+/// of the texts, so it can be used for several pieces of a report.
 #[derive(Drop)]
-pub(crate) struct Glossary<'a, T> {
-    meanings: HashMap<&'a str, T>,
+pub(crate) struct Glossary<T> {
+    alloc: Global,
+    meanings: HashMap<String, T>,
 }
 
-impl<'a, T> Glossary<'a, T> {
+impl<T> Glossary<T> {
     /// Returns an empty cache with capacity for this number of texts, but at most `MOST_MEANINGS`.
     ///
     /// Errors: out of memory.
@@ -20,7 +22,7 @@ impl<'a, T> Glossary<'a, T> {
         ensures { IfOk result (λ g. (t : List ℕ) → meaning g t ≡ None) }
     {
         let meanings = HashMap::with_capacity(alloc, texts.min(MOST_MEANINGS))?;
-        Ok(Glossary { meanings })
+        Ok(Glossary { alloc, meanings })
     }
 
     /// Returns the meaning of a text that was added. It takes no memory.
@@ -31,17 +33,17 @@ impl<'a, T> Glossary<'a, T> {
     }
 }
 
-impl<'a, T: Drop> Glossary<'a, T> {
-    /// Adds the meaning of a text. If the capacity is used up, nothing changes. It takes no memory.
-    pub(crate) fn add(&mut self, text: &'a str, value: T)
+impl<T: Drop> Glossary<T> {
+    /// Adds the meaning of a text. If the cache has `MOST_MEANINGS` texts, or a request for memory
+    /// is refused, nothing changes.
+    pub(crate) fn add(&mut self, text: &str, value: T)
         ensures { Adds self.old text.now value self.new }
     {
-        let texts = self.meanings.len();
-        if texts >= MOST_MEANINGS || texts >= self.meanings.capacity() {
+        if self.meanings.len() >= MOST_MEANINGS {
             return;
         }
-        // there is capacity, so no memory is requested
-        let inserted: Result<_, _> = self.meanings.insert(text, value);
-        let _replaced = inserted.unwrap();
+        if let Ok(key) = String::from_str(self.alloc, text) {
+            let _replaced = self.meanings.insert(key, value);
+        }
     }
 }

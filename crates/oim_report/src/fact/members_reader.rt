@@ -20,13 +20,13 @@ use std::alloc::Global;
 /// are sorted by prefix, so the members are sorted by name once, at the end.
 ///
 /// Errors: some condition that applies; `OutOfMemory`.
-pub(crate) fn read_members<'s, 'a>(
+pub(crate) fn read_members<'s>(
     alloc: Global,
     sheet: &'s Sheet,
     aliases: &Aliases,
-    glossaries: &mut Glossaries<'s, 'a>,
+    glossaries: &mut Glossaries<'s>,
     concept: Name,
-    defined: &[(&'a str, Given<'a>)],
+    defined: &[(&str, Given<'_>)],
 ) -> Result<Dimensions, Reason>
     requires known { AreGlossaries sheet.now aliases.now glossaries.old }
     ensures said { let all = seen_defined defined.now in
@@ -49,12 +49,12 @@ pub(crate) fn read_members<'s, 'a>(
 }
 
 // Reads the member of a dimension of this kind.
-fn read_member<'a>(
+fn read_member(
     alloc: Global,
     aliases: &Aliases,
-    members: &mut Glossary<'a, Name>,
+    members: &mut Glossary<Name>,
     kind: DimensionKind,
-    member: Given<'a>,
+    member: Given<'_>,
 ) -> Result<Member, Reason>
     requires known { IsGlossary (Expands aliases.now) members.old }
     ensures said { IfOk result (λ m. said_member aliases.now (Some kind) (seen member.entry) ≡ Some m) }

@@ -24,11 +24,11 @@ use oim_names::{Aliases, Copied, Name, Reason, Text};
 use std::alloc::Global;
 
 /// Returns the concept that the text names, as the sheet lists it, and the kind of its values.
-pub(crate) fn recall_concept<'s, 'a>(
+pub(crate) fn recall_concept<'s>(
     sheet: &'s Sheet,
     aliases: &Aliases,
-    concepts: &mut Glossary<'a, (&'s Name, ConceptKind)>,
-    text: &'a str,
+    concepts: &mut Glossary<(&'s Name, ConceptKind)>,
+    text: &str,
 ) -> Option<(&'s Name, ConceptKind)>
     requires known { IsGlossary (NamesConcept sheet.now aliases.now) concepts.old }
     ensures kind { option_map (λ c. c.1) result
@@ -45,11 +45,11 @@ pub(crate) fn recall_concept<'s, 'a>(
 }
 
 /// Returns the dimension that the text names, as the sheet lists it, and the kind of its members.
-pub(crate) fn recall_dimension<'s, 'a>(
+pub(crate) fn recall_dimension<'s>(
     sheet: &'s Sheet,
     aliases: &Aliases,
-    dimensions: &mut Glossary<'a, (&'s Name, DimensionKind)>,
-    text: &'a str,
+    dimensions: &mut Glossary<(&'s Name, DimensionKind)>,
+    text: &str,
 ) -> Option<(&'s Name, DimensionKind)>
     requires known { IsGlossary (NamesDimension sheet.now aliases.now) dimensions.old }
     ensures kind { option_map (λ d. d.1) result ≡ dimension_kind sheet.now aliases.now text.now }
@@ -67,11 +67,11 @@ pub(crate) fn recall_dimension<'s, 'a>(
 /// Returns the expanded name that the text spells.
 ///
 /// Errors: the refusal that `Aliases::name_refusal` returns; `OutOfMemory`.
-pub(crate) fn recall_name<'a>(
+pub(crate) fn recall_name(
     alloc: Global,
     aliases: &Aliases,
-    names: &mut Glossary<'a, Name>,
-    text: &'a str,
+    names: &mut Glossary<Name>,
+    text: &str,
 ) -> Result<Name, Reason>
     requires known { IsGlossary (Expands aliases.now) names.old }
     ensures ok { IfOk result (Expands aliases.now text.now) }
@@ -90,11 +90,11 @@ pub(crate) fn recall_name<'a>(
 /// Returns the entity that the text spells.
 ///
 /// Errors: the refusal that `Aliases::entity_refusal` returns; `OutOfMemory`.
-pub(crate) fn recall_entity<'a>(
+pub(crate) fn recall_entity(
     alloc: Global,
     aliases: &Aliases,
-    entities: &mut Glossary<'a, Name>,
-    text: &'a str,
+    entities: &mut Glossary<Name>,
+    text: &str,
 ) -> Result<Name, Reason>
     requires known { IsGlossary (ExpandsEntity aliases.now) entities.old }
     ensures ok { IfOk result (ExpandsEntity aliases.now text.now) }
@@ -113,10 +113,10 @@ pub(crate) fn recall_entity<'a>(
 /// Returns the period that the text denotes.
 ///
 /// Errors: as for `read_period`.
-pub(crate) fn recall_period<'a>(
+pub(crate) fn recall_period(
     alloc: Global,
-    periods: &mut Glossary<'a, Period>,
-    text: &'a str,
+    periods: &mut Glossary<Period>,
+    text: &str,
 ) -> Result<Period, Reason>
     requires known { IsGlossary TextSaysPeriod periods.old }
     ensures period { result ≡ period_of text.now }
@@ -135,11 +135,11 @@ pub(crate) fn recall_period<'a>(
 /// Returns the unit that the text denotes, or None if it is `pure` alone.
 ///
 /// Errors: as for `read_unit`.
-pub(crate) fn recall_unit<'a>(
+pub(crate) fn recall_unit(
     alloc: Global,
     aliases: &Aliases,
-    units: &mut Glossary<'a, Option<Unit>>,
-    text: &'a str,
+    units: &mut Glossary<Option<Unit>>,
+    text: &str,
 ) -> Result<Option<Unit>, Reason>
     requires known { IsGlossary (TextSaysUnit aliases.now) units.old }
     ensures unit { IfOk result (UnitOf aliases.now text.now) }
@@ -159,10 +159,10 @@ pub(crate) fn recall_unit<'a>(
 /// Returns the language of the text, in lower case.
 ///
 /// Errors: as for `read_language`.
-pub(crate) fn recall_language<'a>(
+pub(crate) fn recall_language(
     alloc: Global,
-    languages: &mut Glossary<'a, Text>,
-    text: &'a str,
+    languages: &mut Glossary<Text>,
+    text: &str,
 ) -> Result<Text, Reason>
     requires known { IsGlossary TextSaysLanguage languages.old }
     ensures language { IfOk result (λ language. language ≡ str_to_ascii_lowercase text.now) }

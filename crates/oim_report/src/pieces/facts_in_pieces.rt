@@ -1,13 +1,15 @@
-ghost use Rattle.std.specs.Prelude.{◌≡◌, Ok, IfSome};
+ghost use Rattle.std.specs.Prelude.{◌≡◌, Ok, IfSome, OnSome};
 ghost use Rattle.serde_json.specs.Data.{Members};
 ghost use Rattle.serde_json.specs.View.{members_view};
 ghost use Rattle.oim_report.specs.code.FoundFacts.{AreFound};
+ghost use Rattle.oim_report.specs.code.Glossaries.{AreGlossaries};
 ghost use Rattle.oim_report.specs.Outcome.{facts_said};
 ghost use Rattle.oim_report.specs.Pieces.{IsPiece};
 
 use crate::document::found_facts::FoundFacts;
 use crate::fact::fact_reader::read_fact;
 use crate::fact::glossaries::Glossaries;
+use crate::limits::MOST_MEANINGS;
 use crate::pieces::next_piece::read_next;
 use crate::sheet::Sheet;
 use oim_dims::Fact;
@@ -31,10 +33,11 @@ pub(crate) fn read_facts_in_pieces(
     let mut buffer = String::new(alloc);
     let mut identifiers = Vec::new(alloc);
     let mut facts = Vec::new(alloc);
+    let mut glossaries = Glossaries::with_room(alloc, MOST_MEANINGS).ok()?;
     let mut left = text;
     for _ in 0..text.len() {
         let (objects, rest) = read_next(alloc, &mut buffer, left, size)?;
-        let mut more = read_objects(alloc, sheet, aliases, &objects)?;
+        let mut more = read_objects(alloc, sheet, aliases, &mut glossaries, objects)?;
         identifiers.append(&mut more.identifiers).ok()?;
         facts.append(&mut more.facts).ok()?;
         match rest {
@@ -45,22 +48,24 @@ pub(crate) fn read_facts_in_pieces(
     None
 }
 
-fn read_objects(
+// Reads the facts of a piece, with the caches of the whole report.
+fn read_objects<'s>(
     alloc: Global,
-    sheet: &Sheet,
+    sheet: &'s Sheet,
     aliases: &Aliases,
-    objects: &Map<String, Value>,
+    glossaries: &mut Glossaries<'s>,
+    objects: Map<String, Value>,
 ) -> Option<FoundFacts>
-    ensures { IfSome result (λ f. AreFound sheet.now aliases.now (members_view objects.now.entries)
+    requires known { AreGlossaries sheet.now aliases.now glossaries.old }
+    ensures found { IfSome result (λ f. AreFound sheet.now aliases.now (members_view objects.entries)
         f.identifiers.items f.facts.items) }
+    ensures known { OnSome result (AreGlossaries sheet.now aliases.now glossaries.new) }
 {
     let mut identifiers = Vec::new(alloc);
     let mut facts = Vec::new(alloc);
-    let mut glossaries = Glossaries::with_room(alloc, objects.len()).ok()?;
-    for (identifier, object) in objects.iter() {
-        let fact = read_fact(alloc, sheet, aliases, &mut glossaries, object).ok()?;
-        let key = identifier.clone().ok()?;
-        identifiers.push(key).ok()?;
+    for (identifier, object) in objects {
+        let fact = read_fact(alloc, sheet, aliases, glossaries, &object).ok()?;
+        identifiers.push(identifier).ok()?;
         facts.push(fact).ok()?;
     }
     Some(FoundFacts { identifiers, facts })

@@ -15,11 +15,11 @@ use crate::sheet::Sheet;
 use oim_names::{Aliases, Name};
 
 /// Returns the concept that a text names, as the sheet lists it, and the kind of its values.
-pub(crate) fn find_concept<'s, 'a>(
+pub(crate) fn find_concept<'s>(
     sheet: &'s Sheet,
     aliases: &Aliases,
-    concepts: &mut Glossary<'a, (&'s Name, ConceptKind)>,
-    concept: Given<'a>,
+    concepts: &mut Glossary<(&'s Name, ConceptKind)>,
+    concept: Given<'_>,
 ) -> Option<(&'s Name, ConceptKind)>
     requires known { IsGlossary (NamesConcept sheet.now aliases.now) concepts.old }
     ensures kind { option_map (λ c. c.1) result

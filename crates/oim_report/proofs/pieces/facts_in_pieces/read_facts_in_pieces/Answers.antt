@@ -3,16 +3,22 @@ use Rattle.oim_names.specs.Bindings.{Binding}
 use Rattle.serde_json.specs.Data.{Members, no_members}
 use Rattle.serde_json.specs.View.{members_view}
 use Rattle.oim_report.specs.code.FoundFacts.{AreFound}
+use Rattle.oim_report.specs.code.Glossaries.{AreGlossaries}
 use Rattle.oim_report.specs.Outcome.{facts_said}
 use Rattle.oim_report.specs.Pieces.{IsPiece, put_all}
 use Rattle.oim_report.specs.code.Pieces.{IsNext, append}
 use Rattle.oim_report.specs.Sheet.{Sheet}
+use Rattle.oim_report.proofs.DocumentInPieces.{taken}
 use Rattle.oim_report.proofs.FoundInOrder.{none_found, found_append, found_by, weaker}
 use Rattle.oim_report.proofs.PiecesInTurn.{one_more, last_one}
 use Rattle.oim_report.proofs.pieces.facts_in_pieces.read_facts_in_pieces.Goals as goal
 
 pub loop-init : goal.loop-init
-loop-init c = (search rules, no_members, refl, none_found c.args.sheet.now c.args.aliases.now _ _ c.new-identifiers.ensures.items c.new-facts.ensures.items)
+loop-init c =
+    let sheet = c.args.sheet.now in
+    let bs = c.args.aliases.now in
+    let known = taken c.with_room.result c.in_ok-glossaries.glossaries (λ gs. (s : Sheet) (b : List Binding) → AreGlossaries s b gs) c.with_room.ensures c.in_ok-glossaries.ensures.value in
+    (search rules, no_members, refl, none_found sheet bs _ _ c.new-identifiers.ensures.items c.new-facts.ensures.items, known sheet bs)
 
 pub returns-in-None : goal.returns-in-None
 returns-in-None c =
@@ -24,7 +30,7 @@ returns-in-None c =
     let next = subst (λ r. IsNext c.loop.left.now new (option_map (λ r. r.now) r)) c.in-None.is c.in_ok-objects.ensures in
     let pushed : c.append.new.self.items ≡ c.loop.identifiers.items ++ more.identifiers.items = search rules in
     let added : c.append-in-loop.new.self.items ≡ c.loop.facts.items ++ more.facts.items = search rules in
-    let found = found_by sheet bs _ _ _ _ _ pushed added (found_append sheet bs objects new c.loop.identifiers.items more.identifiers.items c.loop.facts.items more.facts.items c.loop.invariant.3 c.in_ok-more.ensures) in
+    let found = found_by sheet bs _ _ _ _ _ pushed added (found_append sheet bs objects new c.loop.identifiers.items more.identifiers.items c.loop.facts.items more.facts.items c.loop.invariant.3 c.in_ok-more.ensures.found) in
     weaker c.in_order.result
     (λ facts. (s : Sheet) (b : List Binding) (ms : Members) → AreFound s b ms c.append.new.self.items c.append-in-loop.new.self.items → facts_said s b (put_all ms no_members) ≡ Ok facts.items)
     (λ facts. (ms : Members) × IsPiece c.args.text.now ms × (facts_said sheet bs ms ≡ Ok facts.items))
@@ -41,5 +47,5 @@ loop-preserved c =
     let next = subst (λ r. IsNext c.loop.left.now new (option_map (λ r. r.now) r)) c.in-Some.is c.in_ok-objects.ensures in
     let pushed : c.append.new.self.items ≡ c.loop.identifiers.items ++ more.identifiers.items = search rules in
     let added : c.append-in-loop.new.self.items ≡ c.loop.facts.items ++ more.facts.items = search rules in
-    let found = found_by sheet bs _ _ _ _ _ pushed added (found_append sheet bs objects new c.loop.identifiers.items more.identifiers.items c.loop.facts.items more.facts.items c.loop.invariant.3 c.in_ok-more.ensures) in
-    (search rules, append objects new, one_more c.args.text.now c.loop.left.now c.in-Some.rest.now objects new c.loop.invariant.2 next, found)
+    let found = found_by sheet bs _ _ _ _ _ pushed added (found_append sheet bs objects new c.loop.identifiers.items more.identifiers.items c.loop.facts.items more.facts.items c.loop.invariant.3 c.in_ok-more.ensures.found) in
+    (search rules, append objects new, one_more c.args.text.now c.loop.left.now c.in-Some.rest.now objects new c.loop.invariant.2 next, found, c.in_ok-more.ensures.known)

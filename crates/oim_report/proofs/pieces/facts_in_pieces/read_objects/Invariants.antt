@@ -8,5 +8,5 @@ use Rattle.oim_report.proofs.pieces.facts_in_pieces.read_objects.Given as goal
 
 abbrev pub invariant-loop-identifier : goal.invariant-loop-identifier
 invariant-loop-identifier l =
-    (done : Members) × (append done (members_view l.identifier-iterator) ≡ members_view l.objects.entries) × AreFound l.sheet l.aliases done l.identifiers.items l.facts.items
+    (done : Members) × (append done (members_view l.identifier-iterator) ≡ members_view l.initial.identifier-iterator) × AreFound l.sheet l.aliases done l.identifiers.items l.facts.items
     × AreGlossaries l.sheet l.aliases l.glossaries
