@@ -113,10 +113,3 @@ pub asks_text : (IsSheet : Reason → Type 0) (Says : List ℕ → List (ℕ × 
 asks_text IsSheet Says made old new status says stops s is =
     let a = asks NoRow IsSheet Says made old new status says stops s is in
     record { text = a.text; told = a.told; says = text_alone a.told a.text a.says; short = a.short }
-
--- a call with a level may fail for every reason for which a call without one may fail
-pub stops_anyhow : (IsRow : ℕ → List (ℕ × Refusal) → Type 0) (IsSheet : Reason → Type 0) (fault : Fault) → StopsBy NoRow IsSheet fault → StopsBy IsRow IsSheet fault
-stops_anyhow IsRow IsSheet (TooLoose number told) s = absurd s
-stops_anyhow IsRow IsSheet (SheetFault reason) s = s
-stops_anyhow IsRow IsSheet (OutOfMemory written) s = tt
-stops_anyhow IsRow IsSheet (Device written) s = tt

@@ -12,6 +12,8 @@ use Rattle.oim_merge.specs.Sources.{sources}
 use Rattle.row_formats.specs.Rows.{AreRows}
 use Rattle.row_formats.specs.SourceRows.{sources_in}
 use Rattle.row_formats.specs.declared.row_format.RowFormat.TheVariants.{Json}
+use Rattle.xbrlmerge_c.specs.declared.listing.Listing.{Listing}
+use Rattle.xbrlmerge_c.specs.declared.listing.Listing.TheVariants.{Sources, SourcesJson, Verdicts, VerdictsJson}
 
 -- the bytes of a sheet are refused
 abbrev pub IsSheetRefused : List ℕ → Reason → Type 0
@@ -32,30 +34,16 @@ pub record IsLoose (sheet : List ℕ) (reports : List (List ℕ)) (level : Level
   pub first : IsFirstAbove level (merged listed reports) number
   pub refusals_are : told ≡ refused listed reports
 
--- the verdict lines of the accepted reports, and the refusals of the others
-pub record Judges (sheet : List ℕ) (reports : List (List ℕ)) (text : List ℕ) (told : List (ℕ × Refusal)) : Type 0 where
-  pub listed : Sheet
-  pub read : sheet_outcome sheet ≡ Ok listed
-  pub lines : AreLines (merged listed reports) text
-  pub refusals_are : told ≡ refused listed reports
+-- the text of a listing of the accepted reports
+abbrev pub IsListing : Listing → Sheet → List (List ℕ) → List ℕ → Type 0
+IsListing Verdicts sheet reports text = AreLines (merged sheet reports) text
+IsListing Sources sheet reports text = text ≡ sources sheet reports
+IsListing VerdictsJson sheet reports text = AreRows Json (merged sheet reports) text
+IsListing SourcesJson sheet reports text = text ≡ sources_in Json sheet reports
 
--- the source lines of the accepted reports, and the refusals of the others
-pub record TellsSources (sheet : List ℕ) (reports : List (List ℕ)) (text : List ℕ) (told : List (ℕ × Refusal)) : Type 0 where
+-- a listing of the accepted reports, and the refusals of the others
+pub record Lists (listing : Listing) (sheet : List ℕ) (reports : List (List ℕ)) (text : List ℕ) (told : List (ℕ × Refusal)) : Type 0 where
   pub listed : Sheet
   pub read : sheet_outcome sheet ≡ Ok listed
-  pub text_is : text ≡ sources listed reports
-  pub refusals_are : told ≡ refused listed reports
-
--- the verdicts as JSON, one object per line
-pub record JudgesJson (sheet : List ℕ) (reports : List (List ℕ)) (text : List ℕ) (told : List (ℕ × Refusal)) : Type 0 where
-  pub listed : Sheet
-  pub read : sheet_outcome sheet ≡ Ok listed
-  pub rows : AreRows Json (merged listed reports) text
-  pub refusals_are : told ≡ refused listed reports
-
--- the sources as JSON, one object per line
-pub record TellsSourcesJson (sheet : List ℕ) (reports : List (List ℕ)) (text : List ℕ) (told : List (ℕ × Refusal)) : Type 0 where
-  pub listed : Sheet
-  pub read : sheet_outcome sheet ≡ Ok listed
-  pub text_is : text ≡ sources_in Json listed reports
+  pub is : IsListing listing listed reports text
   pub refusals_are : told ≡ refused listed reports

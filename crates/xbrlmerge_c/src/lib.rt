@@ -4,7 +4,7 @@
 
 mod calls;
 mod check;
-mod json_calls;
+mod listing;
 mod output;
 mod refusal_name;
 mod reports;

@@ -1,6 +1,8 @@
-use crate::calls::{xbrlmerge_merge, xbrlmerge_sources, xbrlmerge_verdicts};
+use crate::calls::{
+    xbrlmerge_merge, xbrlmerge_sources, xbrlmerge_sources_json, xbrlmerge_verdicts,
+    xbrlmerge_verdicts_json,
+};
 use crate::check::{CheckedReport, xbrlmerge_check};
-use crate::json_calls::{xbrlmerge_sources_json, xbrlmerge_verdicts_json};
 use crate::output::{
     BAD_ENDS, BAD_LEVEL, DONE, NO_MEMORY, REFUSED, RefusedReport, SHEET_REFUSED, TOO_LOOSE,
     TOO_SHORT,

@@ -1,0 +1,123 @@
+ghost use Rattle.std.specs.Prelude.{◌≡◌, ◌≢◌, ◌-◌, ◌^◌, ◌<◌, ◌≤◌, IfErr, IfOk};
+ghost use Rattle.xbrlmerge_c.specs.Answers.{NoReason, NoRow, StopsBy};
+ghost use Rattle.xbrlmerge_c.specs.Calls.{IsSheetRefused, Lists};
+ghost use Rattle.xbrlmerge_c.specs.Ends.{AreEnds, reports_at};
+ghost use Rattle.xbrlmerge_c.specs.Room.{Asks, Hands, Rejects, room};
+ghost use Rattle.xbrlmerge_c.specs.Statuses.{bad_ends, done, no_memory, refused_some, sheet_refused, too_loose, too_short};
+ghost use Rattle.xbrlmerge_c.specs.code.Listing.{AppendsListing};
+
+use crate::output::{BAD_ENDS, Made, RefusedReport, answer};
+use crate::reports::{add_reports, are_ends, read_sheet, reports_of};
+use oim_merge::{Fault, Refusals, source_lines};
+use oim_report::Sheet;
+use oim_write::{Sink, StdSink};
+use row_formats::{RowFormat, finish_rows, source_rows};
+use std::alloc::Global;
+
+/// What a call lists, and in which format.
+#[derive(Clone, Copy, Debug)]
+pub(crate) enum Listing {
+    /// Verdicts, one line each.
+    Verdicts,
+    /// Sources, one line each.
+    Sources,
+    /// Verdicts, one JSON object each.
+    VerdictsJson,
+    /// Sources, one JSON object each.
+    SourcesJson,
+}
+
+/// Does what an exported call that lists verdicts or sources does, with the same arguments and the
+/// same contract.
+pub(crate) fn list(
+    alloc: Global,
+    listing: Listing,
+    sheet: &[u8],
+    reports: &[u8],
+    ends: &[usize],
+    out: &mut [u8],
+    needed: &mut usize,
+    refusals: &mut [RefusedReport],
+    refused: &mut usize,
+) -> u32
+    ensures statuses { result ≤ bad_ends }
+    ensures never_loose { result ≢ too_loose }
+    ensures ends { result ≤ no_memory → AreEnds reports.now ends.now }
+    ensures done { result ≤ refused_some → Hands (Lists listing sheet.now (reports_at reports.now ends.now))
+        (room out.old needed.old refusals.old refused.old) (room out.new needed.new refusals.new refused.new) }
+    ensures none_refused { result ≡ done → refused.new ≡ 0 }
+    ensures some_refused { result ≡ refused_some → 0 < refused.new }
+    ensures short { result ≡ too_short → Asks (Lists listing sheet.now (reports_at reports.now ends.now))
+        (room out.old needed.old refusals.old refused.old) (room out.new needed.new refusals.new refused.new) }
+    ensures sheet { result ≡ sheet_refused → Rejects (IsSheetRefused sheet.now)
+        (room out.old needed.old refusals.old refused.old) (room out.new needed.new refusals.new refused.new) }
+    ensures bad_ends { result ≡ bad_ends → AreEnds reports.now ends.now → ⊥ }
+    ensures kept { no_memory ≤ result → room out.new needed.new refusals.new refused.new
+        ≡ room out.old needed.old refusals.old refused.old }
+{
+    if !are_ends(reports, ends) {
+        return BAD_ENDS;
+    }
+    let made = listed(alloc, listing, sheet, reports, ends);
+    answer(made, out, needed, refusals, refused)
+}
+
+/// Returns the listing of the accepted reports, and the refusals of the others.
+///
+/// Errors: `Sheet`; `OutOfMemory` and `Device` both mean that memory was refused.
+fn listed(
+    alloc: Global,
+    listing: Listing,
+    sheet: &[u8],
+    reports: &[u8],
+    ends: &[usize],
+) -> Result<Made, Fault>
+    requires { AreEnds reports.now ends.now }
+    ensures ok { IfOk result (λ made.
+        Lists listing sheet.now (reports_at reports.now ends.now) made.text.items made.refusals) }
+    ensures err { IfErr result (StopsBy NoRow (IsSheetRefused sheet.now)) }
+{
+    let sheet = read_sheet(alloc, sheet)?;
+    let mut sink = StdSink::new(Vec::new(alloc));
+    let refusals = write(alloc, listing, &sheet, reports, ends, &mut sink)?;
+    Ok(Made {
+        text: sink.into_inner(),
+        refusals,
+    })
+}
+
+/// Appends the listing to a sink, under a parsed sheet. Only sources need a copy of the reports,
+/// since they read each of them twice.
+fn write<S: Sink>(
+    alloc: Global,
+    listing: Listing,
+    sheet: &Sheet,
+    reports: &[u8],
+    ends: &[usize],
+    out: &mut S,
+) -> Result<Refusals, Fault>
+    requires sink { S.failures out.old < 2 ^ 64 - 1 }
+    requires ends { AreEnds reports.now ends.now }
+    ensures ok { IfOk result
+        (AppendsListing listing sheet.now (reports_at reports.now ends.now) (S.told out.old) (S.told out.new)) }
+    ensures err { IfErr result (StopsBy NoRow NoReason) }
+{
+    match listing {
+        Listing::Verdicts => match add_reports(alloc, sheet, reports, ends) {
+            Ok(consolidation) => consolidation.finish_lines(out),
+            Err(_) => Err(Fault::OutOfMemory(0)),
+        },
+        Listing::VerdictsJson => match add_reports(alloc, sheet, reports, ends) {
+            Ok(consolidation) => finish_rows(alloc, consolidation, RowFormat::Json, out),
+            Err(_) => Err(Fault::OutOfMemory(0)),
+        },
+        Listing::Sources => match reports_of(alloc, reports, ends) {
+            Ok(reports) => source_lines(alloc, sheet, reports.as_slice(), out),
+            Err(_) => Err(Fault::OutOfMemory(0)),
+        },
+        Listing::SourcesJson => match reports_of(alloc, reports, ends) {
+            Ok(reports) => source_rows(alloc, sheet, reports.as_slice(), RowFormat::Json, out),
+            Err(_) => Err(Fault::OutOfMemory(0)),
+        },
+    }
+}
