@@ -41,8 +41,6 @@ pub fn explain(
 }
 
 /// Returns the message of `serde_json` for a file that is not JSON.
-///
-/// Errors: out of memory.
 pub(crate) fn message_of(alloc: Global, error: &Error) -> Result<String, AllocError> {
     if error.is_memory() {
         return Err(AllocError);
@@ -61,16 +59,12 @@ pub(crate) fn unread<'m>(subject: Subject<'m>, message: &'m str, bytes: &[u8]) -
 }
 
 fn push_faults(lines: &mut Lines<'_>, sheet: &Sheet, tree: Value) -> Result<(), AllocError> {
-    let found = tree_faults(lines.alloc, sheet, &tree)?;
-    match found.as_slice().first() {
+    let faults = tree_faults(lines.alloc, sheet, &tree)?;
+    let found = faults.as_slice();
+    match found.first().map(|first| first.place) {
         None => Ok(()),
-        Some(
-            Refusal {
-                place: Place::Fact(_),
-                ..
-            },
-        ) => push_of_facts(lines, sheet, &tree, found.as_slice()),
-        Some(_) => push_of_document(lines, sheet, &tree, found.as_slice()),
+        Some(Place::Document) => push_of_document(lines, sheet, &tree, found),
+        Some(Place::Fact(_)) => push_of_facts(lines, sheet, &tree, found),
     }
 }
 

@@ -20,8 +20,6 @@ pub(crate) struct Fault<'f, 's> {
 
 impl Fault<'_, '_> {
     /// Appends the fault as a line of text.
-    ///
-    /// Errors: out of memory.
     pub(crate) fn push_line(
         &self,
         alloc: Global,
@@ -35,16 +33,13 @@ impl Fault<'_, '_> {
             text.push_str(": ")?;
         }
         if let Some(reason) = self.reason {
-            let (number, name) = (reason.number(), reason.name());
-            write!(text, "{number} {name}: ")?;
+            write!(text, "{} {}: ", reason.number(), reason.name())?;
         }
         write!(text, "{}\n", self.sentence)
     }
 
     /// Appends the fault as a JSON object on one line. Characters that a terminal does not show
     /// are escaped.
-    ///
-    /// Errors: out of memory.
     pub(crate) fn push_object(
         &self,
         alloc: Global,
@@ -55,15 +50,11 @@ impl Fault<'_, '_> {
         writer.begin_object()?;
         put_number(&mut writer, "report", input.report)?;
         put_text(&mut writer, "file", Some(input.name))?;
-        match self.place {
-            Some(Place::Fact(number)) => {
-                put_text(
-                    &mut writer,
-                    "place",
-                    Some(format!(in alloc; "fact {number}")?.as_str()),
-                )?;
-            }
-            place => put_text(&mut writer, "place", place.map(|_| "document"))?,
+        if let Some(Place::Fact(number)) = self.place {
+            let place = format!(in alloc; "fact {number}")?;
+            put_text(&mut writer, "place", Some(place.as_str()))?;
+        } else {
+            put_text(&mut writer, "place", self.place.map(|_| "document"))?;
         }
         let number = self.reason.map(|reason| u64::from(reason.number()));
         put_number(&mut writer, "number", number)?;

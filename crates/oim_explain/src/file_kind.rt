@@ -7,7 +7,7 @@ pub(crate) fn kind_of_bytes(bytes: &[u8]) -> Option<&'static str> {
         [b'P', b'K', 3, 4, ..] => Some("a ZIP file, as a report package is: unpack it first"),
         // a byte order mark of UTF-16, or JSON or XML in UTF-16
         [0xfe, 0xff, ..] | [0xff, 0xfe, ..] | [b'{' | b'<', 0, ..] | [0, b'{' | b'<', ..] => {
-            Some("a text in UTF-16: write it as UTF-8")
+            Some("text in UTF-16: convert it to UTF-8")
         }
         _ => kind_of_text(text_of(bytes)),
     }
@@ -25,15 +25,12 @@ fn kind_of_text(text: &str) -> Option<&'static str> {
     let first = text.chars().next();
     if first == Some('<') {
         if text.contains("http://www.xbrl.org/2013/inlineXBRL") {
-            Some("Inline XBRL: another program has to write it as xBRL-JSON")
+            Some("Inline XBRL: convert it to xBRL-JSON with another program")
         } else {
-            Some("XML: another program has to write it as xBRL-JSON")
+            Some("XML: convert it to xBRL-JSON with another program")
         }
-    } else if first != Some('[')
-        && first != Some('/')
-        && is_row(text.lines().next().unwrap_or_default())
-    {
-        Some("CSV: another program has to write it as xBRL-JSON")
+    } else if !matches!(first, Some('[' | '/')) && is_row(text.lines().next().unwrap_or_default()) {
+        Some("CSV: convert it to xBRL-JSON with another program")
     } else {
         None
     }
@@ -53,28 +50,26 @@ fn is_row(line: &str) -> bool {
 /// Guesses the kind of a JSON file that is not a report.
 pub(crate) fn kind_of_tree(tree: &Value) -> Option<&'static str> {
     if is_csv(tree) {
-        Some("the metadata of an xBRL-CSV report: another program has to write it as xBRL-JSON")
+        Some("the metadata of an xBRL-CSV report: convert it to xBRL-JSON with another program")
     } else if tree.get("documentInfo").is_none() && tree.get("concepts").is_some() {
-        Some("a concept sheet, and no report")
+        Some("a concept sheet, not a report")
     } else {
         None
     }
 }
 
 fn is_csv(tree: &Value) -> bool {
-    let info = tree.get("documentInfo");
-    let kind = info
-        .and_then(|info| info.get("documentType"))
-        .and_then(Value::as_str);
-    kind.unwrap_or_default().ends_with("/xbrl-csv") || tree.get("tableTemplates").is_some()
+    let kind = tree.pointer("/documentInfo/documentType");
+    let kind = kind.and_then(Value::as_str).unwrap_or_default();
+    kind.ends_with("/xbrl-csv") || tree.get("tableTemplates").is_some()
 }
 
 /// Guesses the kind of a file that was given as a sheet but is not one.
 pub(crate) fn kind_of_sheet(tree: &Value) -> Option<&'static str> {
     if is_csv(tree) {
-        Some("the metadata of an xBRL-CSV report, and no concept sheet")
+        Some("the metadata of an xBRL-CSV report, not a concept sheet")
     } else if tree.get("documentInfo").is_some() {
-        Some("a report, and no concept sheet")
+        Some("a report, not a concept sheet")
     } else {
         None
     }

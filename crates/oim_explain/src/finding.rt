@@ -46,8 +46,6 @@ impl<'a> Finding<'a> {
     }
 
     /// Returns the sentence that says what is wrong.
-    ///
-    /// Errors: out of memory.
     pub(crate) fn sentence(&self, alloc: Global) -> Result<String, AllocError> {
         let mut sentence = String::new(alloc);
         self.push_said(alloc, &mut sentence)?;
@@ -65,9 +63,9 @@ impl<'a> Finding<'a> {
             Part::Nothing => line.push_str(alone_of(self.reason)),
             Part::Whole => line.push_str(self.whole()),
             Part::Missing(key) => write!(line, "\"{key}\" is missing"),
-            Part::NoObject(key) => write!(line, "\"{key}\" is no object"),
-            Part::NoArray(key) => write!(line, "\"{key}\" is no array"),
-            Part::NoText(key) => write!(line, "\"{key}\" is no text"),
+            Part::NoObject(key) => write!(line, "\"{key}\" is not an object"),
+            Part::NoArray(key) => write!(line, "\"{key}\" is not an array"),
+            Part::NoText(key) => write!(line, "\"{key}\" is not a string"),
             part => {
                 let (before, behind) = around(self.subject, self.reason, part);
                 line.push_str(before)?;
@@ -81,10 +79,10 @@ impl<'a> Finding<'a> {
     fn whole(&self) -> &'static str {
         match self.subject {
             Subject::Sheet => {
-                "the file is no object of \"namespaces\", \"concepts\" and \"dimensions\""
+                "the file is not an object with \"namespaces\", \"concepts\" and \"dimensions\""
             }
-            Subject::Report => "the file is no object of \"documentInfo\" and \"facts\"",
-            Subject::Fact(_, _) => "the fact is no object",
+            Subject::Report => "the file is not an object with \"documentInfo\" and \"facts\"",
+            Subject::Fact(_, _) => "the fact is not an object",
         }
     }
 }
@@ -113,8 +111,6 @@ fn push_part(alloc: Global, line: &mut String, part: Part<'_>) -> Result<(), All
 }
 
 /// Appends a text as JSON. A long text is cut after its first characters and has no closing quote.
-///
-/// Errors: out of memory.
 pub(crate) fn push_text(alloc: Global, line: &mut String, text: &str) -> Result<(), AllocError> {
     let front = front_of(text);
     let json = Value::String(String::from_str(alloc, front)?).to_string(alloc)?;

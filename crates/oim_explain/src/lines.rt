@@ -40,19 +40,16 @@ pub(crate) struct Lines<'n> {
 
 impl<'n> Lines<'n> {
     pub(crate) fn new(alloc: Global, input: Input<'n>) -> Lines<'n> {
+        let text = String::new(alloc);
+        let explained = Explained { text, faults: 0 };
         Lines {
             alloc,
             input,
-            explained: Explained {
-                text: String::new(alloc),
-                faults: 0,
-            },
+            explained,
         }
     }
 
     /// Adds a line for a refusal.
-    ///
-    /// Errors: out of memory.
     pub(crate) fn push(&mut self, finding: &Finding<'_>) -> Result<(), AllocError> {
         let (place, identifier) = match finding.subject {
             Subject::Fact(number, identifier) => (Place::Fact(number), Some(identifier)),
@@ -67,10 +64,7 @@ impl<'n> Lines<'n> {
         })
     }
 
-    /// Adds a line for a repeated member. It has no identifier: a fact may have many repeated
-    /// members, and each line would repeat it.
-    ///
-    /// Errors: out of memory.
+    /// Adds a line for a repeated member, without the identifier, which each line would repeat.
     pub(crate) fn push_repeated(&mut self, key: &str, sentence: &str) -> Result<(), AllocError> {
         self.put(&Fault {
             place: None,

@@ -12,8 +12,6 @@ pub(crate) enum Role {
 }
 
 /// Adds the repeated members in the parts that are read. A file that is not JSON adds none.
-///
-/// Errors: out of memory.
 pub(crate) fn push_repeated(
     lines: &mut Lines<'_>,
     role: Role,
@@ -46,12 +44,8 @@ fn push_report(lines: &mut Lines<'_>, tree: &Value<'_>) -> Result<(), AllocError
         push_text(lines.alloc, &mut before, identifier)?;
         before.push_str(": ")?;
         push_of(lines, before.as_str(), Some(fact), "")?;
-        push_of(
-            lines,
-            before.as_str(),
-            fact.get("dimensions"),
-            " in \"dimensions\"",
-        )?;
+        let dimensions = fact.get("dimensions");
+        push_of(lines, before.as_str(), dimensions, " in \"dimensions\"")?;
     }
     Ok(())
 }
@@ -76,10 +70,7 @@ fn push_of(
     for key in repeated_keys(lines.alloc, members.as_slice())? {
         let mut sentence = String::from_str(lines.alloc, before)?;
         push_text(lines.alloc, &mut sentence, key)?;
-        write!(
-            sentence,
-            " stands twice{place}, and only the last one is read"
-        )?;
+        write!(sentence, " is repeated{place}; only the last one is read")?;
         lines.push_repeated(key, sentence.as_str())?;
     }
     Ok(())

@@ -13,16 +13,12 @@ pub(crate) fn around(
             "the facts ",
             " have the same dimensions, and the report's own \"allowedDuplicates\" does not allow both",
         ),
-        (Part::Two(_, _), Reason::SheetKind, _) => {
-            ("the entries ", " of the sheet are one name with two kinds")
-        }
-        (Part::Two(_, _), _, _) => ("the keys ", " are one dimension"),
-        (Part::Entity(_), Reason::NameForm, _) => {
-            (
-                "",
-                " is no entity: that is a prefix, a colon and an identifier",
-            )
-        }
+        (Part::Two(_, _), Reason::SheetKind, _) => ("the entries ", " give one name two kinds"),
+        (Part::Two(_, _), _, _) => ("the keys ", " name the same dimension"),
+        (Part::Entity(_), Reason::NameForm, _) => (
+            "",
+            " is not an entity such as prefix:identifier",
+        ),
         (_, Reason::UnknownMember, Subject::Sheet) => (before(reason), " in a concept sheet"),
         _ => (before(reason), behind(reason)),
     }
@@ -31,20 +27,16 @@ pub(crate) fn around(
 /// Returns the whole sentence if no part is shown.
 pub(crate) fn alone_of(reason: Reason) -> &'static str {
     match reason {
-        Reason::NotJson => "the file is no JSON text, or nests deeper than 127",
+        Reason::NotJson => "the file is not JSON, or nests deeper than 127 levels",
         Reason::DocumentType => {
-            "there is no \"documentType\", which must be \"https://xbrl.org/2021/xbrl-json\""
+            "\"documentType\" is missing; it must be \"https://xbrl.org/2021/xbrl-json\""
         }
         Reason::DimensionsMissing => "the fact has no \"dimensions\"",
-        Reason::MissingConcept => "the \"dimensions\" of the fact have no \"concept\"",
-        Reason::ValueForm => {
-            "the value is neither a text nor null: a number, too, stands in quotes"
-        }
-        Reason::DecimalsForm => {
-            "the decimals are no whole number without quotes, point or exponent"
-        }
+        Reason::MissingConcept => "the fact has no \"concept\" in \"dimensions\"",
+        Reason::ValueForm => "the value is neither a string nor null; numbers need quotes",
+        Reason::DecimalsForm => "\"decimals\" must be an integer without quotes",
         Reason::DecimalsOnOther => {
-            "decimals must not be there: by the sheet, the values of the concept are no numbers"
+            "\"decimals\" is only for concepts that are numeric in the sheet"
         }
         _ => "the part at fault cannot be shown",
     }
@@ -58,8 +50,7 @@ fn before(reason: Reason) -> &'static str {
         Reason::BaseUrl => "the \"baseURL\" ",
         Reason::TaxonomyUrl => "the reference ",
         Reason::Feature => {
-            "\"allowedDuplicates\" must stand once in \"features\", as \"none\", \"complete\", \
-             \"consistent\" or \"all\": not as "
+            "\"features\" must have \"allowedDuplicates\" once, with \"none\", \"complete\", \"consistent\" or \"all\"; it has "
         }
         Reason::Links => "the links ",
         Reason::Notes => "the note ",
@@ -70,7 +61,8 @@ fn before(reason: Reason) -> &'static str {
         Reason::UnitForm | Reason::UnitOnOther => "the unit ",
         Reason::LanguageForm | Reason::LanguageOnNumeric => "the language ",
         Reason::ValueForm | Reason::NumberForm | Reason::NumberDigits => "the value ",
-        Reason::DecimalsForm | Reason::DecimalsRange | Reason::DecimalsOnOther => "the decimals ",
+        Reason::DecimalsForm | Reason::DecimalsRange | Reason::DecimalsOnOther =>
+            "the decimals value ",
         _ => "",
     }
 }
@@ -78,30 +70,24 @@ fn before(reason: Reason) -> &'static str {
 fn behind(reason: Reason) -> &'static str {
     match reason {
         Reason::SheetKind => {
-            " of the sheet has an unknown kind: a concept is \"numeric\", \"text\" or \"name\", a \
-             dimension \"explicit\" or \"typed\""
+            " of the sheet has an unknown kind: a concept is \"numeric\", \"text\" or \"name\", a dimension \"explicit\" or \"typed\""
         }
         Reason::DocumentType => ", but must be \"https://xbrl.org/2021/xbrl-json\"",
         Reason::Namespace => {
-            " of \"namespaces\" is no prefix with its URI: neither may be empty, and a prefix has no \
-             colon and no white space"
+            " of \"namespaces\" is not a prefix and a URI: neither may be empty, and a prefix has no colon or white space"
         }
-        Reason::BaseUrl => " is no http or https URL of at most 65,536 bytes",
+        Reason::BaseUrl => " is not an http or https URL of at most 65,536 bytes",
         Reason::TaxonomyUrl => {
-            " of \"taxonomy\" is no text, has more than 65,536 bytes itself or as a URL, or is no http \
-             or https URL against \"baseURL\""
+            " of \"taxonomy\" is not a string, is longer than 65,536 bytes as written or as a URL, or is not an http or https URL when resolved against \"baseURL\""
         }
         Reason::Links | Reason::Notes => " cannot be merged",
         Reason::NameForm => {
-            " is no name: that is a prefix, a colon and a local part, without white space and without a \
-             second colon"
+            " is not a name such as prefix:local, without white space or a second colon"
         }
         Reason::UnboundPrefix => " is not bound",
-        Reason::ReservedNamespace => {
-            " is bound to https://xbrl.org/2021, in which no fact has a name"
-        }
+        Reason::ReservedNamespace => " is bound to https://xbrl.org/2021, which is reserved",
         Reason::UnknownConcept | Reason::UnknownDimension => " is not in the sheet",
-        Reason::DimensionValue => " has not the kind of value that the sheet gives it",
+        Reason::DimensionValue => " does not have a value of the kind that the sheet lists",
         _ => behind_content(reason),
     }
 }
@@ -109,25 +95,21 @@ fn behind(reason: Reason) -> &'static str {
 fn behind_content(reason: Reason) -> &'static str {
     match reason {
         Reason::PeriodForm => {
-            " is no date and time that exists, such as 2024-12-31T00:00:00, without zone and fraction \
-             of a second, nor two of these with / between them"
+            " is neither a date and time such as 2024-12-31T00:00:00, without zone or fraction, nor two of these with / between"
         }
         Reason::PeriodOrder => " ends before it starts",
-        Reason::UnitForm => " is no unit such as a:b, a:b*a:c or a:b/a:c",
-        Reason::LanguageForm => " is no language such as en or de-AT",
-        Reason::LanguageOnNumeric => {
-            " must not be there: by the sheet, the values of the concept are numbers"
-        }
-        Reason::ValueForm => " is neither a text nor null: a number, too, stands in quotes",
+        Reason::UnitForm => " is not a unit such as a:b, a:b*a:c or a:b/a:c",
+        Reason::LanguageForm => " is not a language such as en or de-AT",
+        Reason::LanguageOnNumeric => " is not for concepts that are numeric in the sheet",
+        Reason::ValueForm => " is neither a string nor null; numbers need quotes",
         Reason::NumberForm => {
-            " is no plain number such as -1234.5, without exponent, thousands separator or white space, \
-             and by the sheet the values of the concept are numbers"
+            " is not a plain number such as -1234.5, without exponent, thousands separator or white space; in the sheet, the concept is numeric"
         }
         Reason::NumberDigits => " has more than 18 digits",
-        Reason::DecimalsForm => " are no whole number without quotes",
-        Reason::DecimalsRange => " are not from -18 to 18",
+        Reason::DecimalsForm => " is not an integer without quotes",
+        Reason::DecimalsRange => " is not from -18 to 18",
         Reason::UnitOnOther | Reason::DecimalsOnOther => {
-            " must not be there: by the sheet, the values of the concept are no numbers"
+            " is only for concepts that are numeric in the sheet"
         }
         _ => "",
     }

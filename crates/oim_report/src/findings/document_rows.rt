@@ -5,11 +5,9 @@ ghost use Rattle.std.specs.Prelude.{◌≡◌, true, false, if◌then◌else◌,
 ghost use Rattle.std.specs.Option.{option_copied, option_map_or};
 ghost use Rattle.serde_json.specs.View.{view, items_view};
 ghost use Rattle.oim_report.specs.Holds.{any_item, as_text, document_holds};
-ghost use Rattle.oim_report.specs.Info.{base_said, bindings_of, declarations, features_of, namespaces_of, said_level, taxonomy_of};
-ghost use Rattle.oim_report.specs.Json.{any_in};
+ghost use Rattle.oim_report.specs.Info.{base_said, declarations, features_of, said_level, taxonomy_of};
 ghost use Rattle.oim_report.specs.Kept.{is_reference_refused};
 ghost use Rattle.oim_report.specs.Shown.{is_shown};
-ghost use Rattle.oim_report.specs.Namespaces.{binds_nothing};
 
 use crate::document::base::Base;
 use crate::document::base_url::read_base_url;

@@ -1,4 +1,4 @@
-use Rattle.std.proofs.Common.{◌||◌, ◌&&◌, true, false, sym, ap, ◌∙◌}
+use Rattle.std.proofs.Common.{◌||◌, ◌&&◌, sym, ap, ◌∙◌}
 use Rattle.serde_json.specs.View.{view, members_view}
 use Rattle.oim_report.specs.code.Rows.{any_defined, is_defined, is_unlisted}
 use Rattle.oim_report.proofs.findings.defined_rows.unlisted_in.Goals as goal
