@@ -2,6 +2,7 @@
 import contextlib
 import io
 import os
+import signal
 import sys
 import tempfile
 import time
@@ -32,6 +33,11 @@ class RoomTest(unittest.TestCase):
         with open(self.place(name), "wb") as file:
             file.write(text if isinstance(text, bytes) else text.encode())
         return self.place(name)
+
+
+def heeding(number):
+    """Returns a `preexec_fn` for a tool that ends at this signal, even if the tests run where it is ignored, as under nohup."""
+    return lambda: signal.signal(number, signal.SIG_DFL)
 
 
 def stub_program(folder):

@@ -7,7 +7,7 @@ import sys
 import textwrap
 import unittest
 
-from in_process import TOOLS, RoomTest
+from in_process import TOOLS, RoomTest, heeding
 
 HEAD = f"""
 import argparse, lzma, sys, time
@@ -101,7 +101,8 @@ class Signals(ProcessTest):
                        "        while True:\n            time.sleep(0.01)\n"
                        "    finally:\n        print('clean', flush=True)\nrun(main)\n")
         for number in (signal.SIGHUP, signal.SIGINT, signal.SIGTERM):
-            with subprocess.Popen([sys.executable, place], stdout=subprocess.PIPE, stderr=subprocess.PIPE) as tool:
+            with subprocess.Popen([sys.executable, place], stdout=subprocess.PIPE, stderr=subprocess.PIPE,
+                                  preexec_fn=heeding(number)) as tool:
                 self.assertEqual(tool.stdout.readline(), b"ready\n")
                 tool.send_signal(number)
                 self.assertEqual(tool.communicate(), (b"clean\n", b""))

@@ -7,7 +7,7 @@ import sys
 import unittest
 from unittest import mock
 
-from in_process import TOOLS, RoomTest
+from in_process import TOOLS, RoomTest, heeding
 import whole_files
 
 WAITS = f"""
@@ -120,7 +120,7 @@ class WholeFiles(RoomTest):
         self.put(self.first)
         for number in (signal.SIGHUP, signal.SIGTERM):
             words = [sys.executable, "-c", WAITS, self.first, self.second]
-            with subprocess.Popen(words, stdout=subprocess.PIPE, stderr=subprocess.PIPE) as tool:
+            with subprocess.Popen(words, stdout=subprocess.PIPE, stderr=subprocess.PIPE, preexec_fn=heeding(number)) as tool:
                 self.assertEqual(tool.stdout.readline(), b"ready\n")
                 tool.send_signal(number)
                 self.assertEqual(tool.communicate(), (b"", b""))
