@@ -12,9 +12,9 @@ The first form runs `xbrlmerge` on the reports and writes these files into the f
     rows.csv            all rows, with how many providers report each ("1 of 3")
     merged.json         the merged report
 
-Providers are named after their files: issuer.json is by "issuer". NAME=REPORT gives another name. If a provider made several
-reports, repeat its NAME. A refused report is listed with the lines of `xbrlmerge explain`, and the other reports are
-used. --taxonomy makes the sheet first and writes it as sheet.json; it may be repeated.
+Providers are named after their files: the provider of issuer.json is "issuer". NAME=REPORT sets another name. If a provider
+made several reports, repeat its NAME. A refused report is listed with the lines of `xbrlmerge explain`, and the other reports
+are used. --taxonomy makes the sheet first and writes it as sheet.json; the option may be repeated.
 
 --normalise applies the rules of tools/normalise to each report first, with the same options, and lists the changes in
 changes.csv.
@@ -25,11 +25,11 @@ language, or a dimension that one row lacks. Pairs are left out if one provider 
 differ in the same dimension, at most 1,000 pairs are compared.
 
 --from uses the earlier output of `xbrlmerge merge` and `xbrlmerge verdicts`. --sources uses the output of `xbrlmerge sources`,
-and --names lists the providers in the order of the reports. Instead of both, each PROVIDER=TEXT names the merged report of
-that provider's own reports.
+and --names lists the providers in the order of the reports. Instead of both, you can name the merged report of each
+provider's own reports, as PROVIDER=TEXT.
 
-The page shows at most 80 characters of an identifier, a URI or a text; the tables contain all. In the tables, a ' precedes
-each text that a spreadsheet would read as a formula.
+The page shows at most 80 characters of an identifier, a URI or a text; the tables contain them whole. In the tables, a '
+precedes each text that a spreadsheet would read as a formula.
 
 Status 0: all reports were read without loss, and there is no contradiction. 1: the files are written, and there is something
 to look at: a contradiction, a refused report, a loss of --normalise or --taxonomy, or pairs that --near did not compare
