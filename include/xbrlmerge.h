@@ -4,21 +4,21 @@
 
    Memory. It belongs to the caller: a call keeps no pointer after it returns, and returns none. The caller also provides
    the buffers for the text and for the records of refused reports. If one of them is too short, the call returns the
-   required lengths and leaves both unchanged: make that buffer longer, and call again. If both are long enough at once, the
-   text is made only once. A call gets its own memory from malloc, and frees it before it returns.
+   required lengths and leaves both unchanged: make that buffer longer, and call again. If both are long enough in the
+   first call, the text is made only once. A call gets its own memory from malloc, and frees it before it returns.
 
    Pointers. None may be null, not even if the length is 0: pass the address of any variable of its type instead. (The
    data() of an empty std::vector may be null.) The output (`out`, `needed`, `refusals`, `refused`, `checked`,
    `refusal`) must not overlap any other argument. During the call, nothing else may access the output, or write to the
-   input. Output need not be initialised. A pointer to numbers is aligned as C requires.
+   input. Output need not be initialised. A pointer to numbers must be aligned as C requires.
 
    Reports. They are concatenated in `reports`, and `ends` contains the position where each one ends, counted from the
    start: reports of 3 and 4 bytes have the ends 3 and 7. Bytes after the last end are ignored. If an end is less than the
    one before it, or beyond `reports_length`, the call returns XBRLMERGE_BAD_ENDS and reads nothing (or XBRLMERGE_BAD_LEVEL,
    if `allow` is not a level either).
 
-   Threads. There is no state between calls: any threads may call at once. Do not call from a signal handler, or in the
-   child of a process that had several threads when it forked.
+   Threads. Calls share no state: several threads may call at the same time. Do not call from a signal handler, or in the
+   forked child of a process with several threads.
 
    Stack. A call needs at most 128 kB of stack for JSON that is nested 126 deep. That is measured, not proved. JSON may be
    nested 127 deep, so leave some room. */
@@ -78,7 +78,7 @@ uint32_t xbrlmerge_merge(const uint8_t *sheet, size_t sheet_length, const uint8_
                          size_t *needed, xbrlmerge_refusal *refusals, size_t refusals_length, size_t *refused);
 
 /* Judges the duplicates of reports, as `verdicts` does: `out` gets a line for each row. Otherwise it is like
-   xbrlmerge_merge, and never returns XBRLMERGE_TOO_LOOSE. */
+   xbrlmerge_merge, but never returns XBRLMERGE_TOO_LOOSE. */
 uint32_t xbrlmerge_verdicts(const uint8_t *sheet, size_t sheet_length, const uint8_t *reports, size_t reports_length,
                             const size_t *ends, size_t ends_length, uint8_t *out, size_t out_length, size_t *needed,
                             xbrlmerge_refusal *refusals, size_t refusals_length, size_t *refused);
@@ -89,7 +89,7 @@ uint32_t xbrlmerge_sources(const uint8_t *sheet, size_t sheet_length, const uint
                            const size_t *ends, size_t ends_length, uint8_t *out, size_t out_length, size_t *needed,
                            xbrlmerge_refusal *refusals, size_t refusals_length, size_t *refused);
 
-/* Like xbrlmerge_verdicts and xbrlmerge_sources, but `out` gets what `--format json` prints: a JSON object a line. */
+/* Like xbrlmerge_verdicts and xbrlmerge_sources, but `out` gets what `--format json` prints: one JSON object per line. */
 uint32_t xbrlmerge_verdicts_json(const uint8_t *sheet, size_t sheet_length, const uint8_t *reports, size_t reports_length,
                                  const size_t *ends, size_t ends_length, uint8_t *out, size_t out_length, size_t *needed,
                                  xbrlmerge_refusal *refusals, size_t refusals_length, size_t *refused);
@@ -104,7 +104,7 @@ uint32_t xbrlmerge_check(const uint8_t *sheet, size_t sheet_length, const uint8_
                          xbrlmerge_checked *checked, xbrlmerge_refusal *refusal);
 
 /* Writes the name of a refusal, such as "UnboundPrefix", to the start of `out`, without a NUL, and returns its length: at
-   most 20, and 0 if no refusal has this number. If `out` is shorter than that, it is unchanged. */
+   most 20, and 0 if no refusal has this number. If `out` is shorter than the name, it is unchanged. */
 size_t xbrlmerge_refusal_name(uint32_t number, uint8_t *out, size_t out_length);
 
 #ifdef __cplusplus

@@ -5,18 +5,18 @@
 
 An entry, `- [FILE](../crates/..): `name`, ..`, lists contracts, types, limits and lines of code (`src/`), or definitions
 (`specs/`). A row `| [`word`](../crates/..) | [`law`](../crates/..) |` names a definition that needs no reading, and laws
-that say enough about it. FORMAT may use all that DOUBT lists, and may list a word of DOUBT. The status is 1 if
+that say enough about it. FORMAT may use all that DOUBT lists, and may list words of DOUBT as entries. The status is 1 if
 
 - a name is not in its file, or is listed twice;
 - a listed definition or contract uses a definition of this repository that is neither listed nor a word;
-- no contract of the page needs an entry or a word;
+- the page has an entry or a word that none of its contracts needs;
 - a law of a word does not exist, is on neither page, or does not mention the word;
 - the table of conditions differs from `Reason`, its numbers, and the definitions of the conditions;
-- the number of lines that a page gives is wrong, or the headline has more than 600.
+- the number of lines on a page is wrong, or the headline has more than 600 lines.
 
 Definitions of the kit are not followed. A record field does not hide a definition of the same name; a variable does, in its
 scope. --format prints the format, --quiet nothing. --write updates the entries, the conditions and the numbers of lines, but
-no words.
+not the words.
 """
 import glob
 import os

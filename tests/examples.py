@@ -3,24 +3,24 @@
 
     tests/examples [PROGRAM [EMBEDDED]]
 
-It builds the program and, in a copy of the repository, examples/embed/main.txt, or uses the programs that are named.
-If only PROGRAM is named, nothing that embeds the library is built. It compares
+It builds the program and, in a copy of the repository, examples/embed/main.txt, or uses the named programs. If only PROGRAM
+is named, it builds nothing that embeds the library. It compares
 
 - the output for the reports in examples/ with the files beside them; earlier.json is the merged report as it was
   written before levels were declared;
 - each page in PAGES with the results of its commands. The blocks of a page run in order, as a reader types them, by `sh`
   and then by `bash`, in a folder with the repository's files, which must not change. The last command of a block
   must return the status that the paragraph before it names, or 0; each other command must return 0. If a block of
-  output follows, the command must print exactly that; `..` at the end of a line stands for the rest of it. Otherwise
+  output follows, the command must print exactly that; `..` at the end of a line matches the rest of the line. Otherwise
   standard error may only contain the lines of statuses 1 to 3. A block that proves (`rt`, the gate) is skipped;
 - the JSON that docs/GUIDE.md shows with the examples;
-- the output of tools/contradictions for a taxonomy package and for reports as other tools write them, in
-  tests/normalise/vendors, when it makes the sheet and normalises the reports;
+- the output of tools/contradictions when it makes the sheet from a taxonomy package and normalises reports in the form
+  of other tools, in tests/normalise/vendors;
 - the commands in the man pages and in the program's help, in the same way;
-- each example in docs/REFUSALS.md with the line by which it is refused.
+- each example in docs/REFUSALS.md with the line that refuses it.
 
-The pieces of code in docs/LIBRARY.md are proved with the program that embeds the library. Both take minutes, and
-much longer if ./build was not run before.
+The code in docs/LIBRARY.md is proved together with the program that embeds the library. This takes minutes, and much longer
+if ./build was not run before.
 
 Status 0: all is as shown. 1: something is not. 2: the program is not built.
 """

@@ -4,8 +4,8 @@
     [SETS=300] [SEED=1] tests/formats [PROGRAM]
 
 It runs the examples, texts with quotes, line ends and formulas, and SETS sets of drawn reports. It computes the output of
-`--format json` and `--format csv` from the lines and from the output of `merge`; both must be equal byte for byte.
-`--spreadsheet` may only add a ' before a text, and must add it wherever tools/contradictions does.
+`--format json` and `--format csv` from the lines and from the output of `merge`. The program's output must equal it byte for
+byte. `--spreadsheet` may only add a ' before a text, and must add it wherever tools/contradictions does.
 
 Status 0: all is as expected. 1: it is not. 2: the program is not built.
 """

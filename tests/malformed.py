@@ -5,9 +5,9 @@
 
 PROGRAM is $XBRLMERGE or the built one by default. Each run must end within 10 seconds, not by a signal, with a status and
 lines that its input allows. A report is read in full and, with spaces after it, in pieces; both results must be equal. A
-refused report beside two good ones must not change their text. An accepted report is written; the text must be accepted
-and written again byte for byte. JOBS processes run in parallel, as many as there are processors by default. CASE runs only the
-case with this number.
+refused report beside two good ones must not change their text. An accepted report is merged; the text must be accepted and
+merge to the same bytes. JOBS processes run in parallel, as many as there are processors by default. CASE runs only the case
+with this number.
 
 Status 0: all is as expected. 1: it is not; the seed and the case are printed, and the broken bytes are kept as a file. 2:
 there is no program.

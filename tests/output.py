@@ -1,9 +1,9 @@
 #!/usr/bin/env python3
-"""Runs the program with `--output` while each call that writes the file fails, or kills the run. Not in the gate.
+"""Runs the program with `--output` while each call that writes the file fails, or kills the run. Not part of the gate.
 
     tests/output [PROGRAM]
 
-PROGRAM is $XBRLMERGE or the built one by default. It needs cc.
+PROGRAM is $XBRLMERGE or the built one by default. The test needs cc.
 
 Status 0: the file is always the old one or the complete new one, and only killed runs leave other files. 1: it is not; each
 case is printed. 2: there is no program, or no cc.

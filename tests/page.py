@@ -9,8 +9,8 @@ expected, the light page is written to PICTURE; docs/contradictions.png is made 
 
 On 11,000 contradictions that the script makes itself, the tool may take at most 10 seconds of a processor and 300 MB. The
 browser must show something within 2 seconds, draw the page within 30 and return its whole text within 60. An entry of the
-index must open the rows of its concept, the filter must find exactly the rows with the words, and nothing may be wider than
-the window, at any of three widths.
+index must open the rows of its concept. The filter must find exactly the rows with the words. Nothing may be wider than the
+window, at any of three widths.
 
 Status 0: all is as expected, or no Chromium is installed, which a line reports. 1: it is not; each fault is printed. 2: the
 program is not built, or could not be run.

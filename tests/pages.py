@@ -5,7 +5,7 @@
 
 It prints the words of each page in BOUNDS beside its bound, or only for the named pages. Code blocks, comments and generated
 tables (from a comment that begins with `generated` to one that begins with `end`) do not count. In docs/DOUBT.md and
-docs/FORMAT.md only the prose counts: no tables, and no entry lines, which name the definitions to read in `crates/`.
+docs/FORMAT.md, tables and entry lines do not count either. Entry lines name the definitions to read in `crates/`.
 
 The status is 1 if a page is missing or too long, or if a relative link of any page has no file or no such heading.
 """

@@ -4,13 +4,14 @@
     [JOBS=N] tests/refused_memory [CRATE | program ..]
 
 The tests of a crate are crates/NAME/out/NAME_tests, which `rt test` makes. The program is ./xbrlmerge, or
-crates/xbrlmerge/out/xbrlmerge if that does not exist. Without arguments it tests all. A first run of each test counts the
-requests; each later run refuses one of them, and a last one refuses none. A test must pass and print on standard error that
-a call was refused (`refused`) or that its own setup was (`refused here`); if it prints neither, the request counts as passed
-over. The program runs on command lines of every command. It must print the line `out of memory`, end with status 3 and have
-written a first part of its text. It may also print its whole text: then its runtime made the request, and asked again for
-less. JOBS runs are parallel, as many as there are processors by default. If a test makes more than 5,000 requests, only each
-7th is refused from 2,001 on. Fewer are refused if it makes more than 50,000, or if its runs are long. A line describes them.
+crates/xbrlmerge/out/xbrlmerge if that does not exist. Without arguments it tests all crates and the program. A first run of
+each test counts the requests; each later run refuses one of them, and the last run refuses none. A test must pass and print
+on standard error that a call was refused (`refused`) or that its own setup was (`refused here`); if it prints neither, the
+request counts as passed over. The program runs on command lines of every command. It must print the line `out of memory`,
+end with status 3 and have written a first part of its text. It may also print its whole text: then its runtime made the
+request, and asked again for less. JOBS runs are parallel, as many as there are processors by default. If a test makes more
+than 5,000 requests, only each 7th is refused from 2,001 on. Fewer are refused if it makes more than 50,000, or if its runs
+are long. A line reports which.
 
 Status 0: nothing failed and nothing was passed over. 1: something was. 2: tests are not built, or are older than the
 sources.

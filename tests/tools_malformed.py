@@ -5,11 +5,11 @@
 
 make_sheet reads schemas, catalogs and sheets; contradictions reads label linkbases, merged texts, sheets and the lines of
 `verdicts` and `sources`; normalise reads reports and sheets. In each case one file is broken, or the package that contains
-it. Each run must end within 10 seconds of processor time and 1 GB of memory, with status 0, 1 or 3, with lines that a
-terminal can print, and without an exception that the tool does not expect. After 0 and 1 all outputs are complete, and
-normalise leaves its own output unchanged. After 3 every output is unchanged. The tools run in this process; one case in 20
-also runs as a process, with the same result. JOBS processes run in parallel, as many as there are processors by default.
-CASE runs only the case with this number.
+it. Each run must end within 10 seconds of processor time and 1 GB of memory, with status 0, 1 or 3. It may print only lines
+that a terminal can show, and must not raise an exception that the tool does not expect. After 0 and 1 all outputs must be
+complete, and normalise must leave its own output unchanged. After 3 no output may have changed. The tools run in this
+process; one case in 20 also runs as a process, with the same result. JOBS processes run in parallel, as many as there are
+processors by default. CASE runs only the case with this number.
 
 Status 0: all is as expected. 1: it is not; the seed and the case are printed, and the files are kept.
 """

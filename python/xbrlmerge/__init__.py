@@ -60,7 +60,7 @@ class SheetRefused(ValueError):
 
 
 class TooLoose(ValueError):
-    """A row exceeds the allowed level; `row` is the number of the first, from 1."""
+    """A row exceeds the allowed level; `row` is the number of the first such row, from 1."""
 
     def __init__(self, row: int, refusals: List[Refusal]) -> None:
         self.row, self.refusals = row, refusals
@@ -126,7 +126,7 @@ class Sources(List[Source]):
 
 
 class Columns(Dict[str, List[Any]]):
-    """Columns by their names, as pandas.DataFrame takes them; `text` contains the JSON objects that the program prints, one
+    """Columns by their names, for pandas.DataFrame; `text` contains the JSON objects that the program prints, one
     per line, and `refusals` the refused reports."""
 
     def __init__(self, names: Iterable[str], rows: Iterable[Tuple[Any, ...]], text: bytes, refusals: List[Refusal]) -> None:
