@@ -141,22 +141,25 @@ static struct room short_rooms(const struct asked *asked) {
     return ample;
 }
 
-/* Refuses each request in turn, which must change nothing. Refusing one after the last has no effect. */
+/* Refuses each request in turn. A call then changes nothing, or has its usual result, because a cache does without memory. */
 static long refuse_each(const struct asked *asked, const struct room *whole, uint32_t wanted) {
-    struct room room = make_room(whole->out_length, whole->rows_length);
-    long number = 1;
-    for (;; number++) {
-        chosen = number, made = 0;
+    long number = 0, refused = 0;
+    do {
+        struct room room = make_room(whole->out_length, whole->rows_length);
+        chosen = ++number, made = 0;
         uint32_t status = call(asked, &room);
-        if (made < chosen) {
+        if (status == XBRLMERGE_NO_MEMORY) {
+            refused++;
+            EXPECT(made >= chosen && room.needed == 77 && room.refused == 78 && is_kept(&room, 0, 0));
+        } else {
             EXPECT(status == wanted && room.needed == whole->needed && room.refused == whole->refused);
-            break;
+            EXPECT(memcmp(room.out, whole->out, whole->out_length) == 0);
+            EXPECT(memcmp(room.rows, whole->rows, whole->rows_length * sizeof(xbrlmerge_refusal)) == 0);
         }
-        EXPECT(status == XBRLMERGE_NO_MEMORY && room.needed == 77 && room.refused == 78 && is_kept(&room, 0, 0));
-    }
+        drop_room(&room);
+    } while (made >= chosen);
     chosen = 0;
-    drop_room(&room);
-    return number - 1;
+    return refused;
 }
 
 static int texts(struct asked *asked) {
@@ -176,15 +179,23 @@ static int texts(struct asked *asked) {
 }
 
 static int check(const struct asked *asked) {
-    xbrlmerge_checked checked = {1, 2, 3};
-    xbrlmerge_refusal row = {4, 5, 6};
-    uint32_t status = XBRLMERGE_NO_MEMORY;
-    long number = 0;
+    xbrlmerge_checked checked, usual = {1, 2, 3};
+    xbrlmerge_refusal row, usual_row = {4, 5, 6};
+    uint32_t status, wanted;
+    long number = 0, refused = 0;
+    wanted = xbrlmerge_check(asked->sheet, asked->sheet_length, asked->reports, asked->reports_length, &usual, &usual_row);
     do {
+        checked = (xbrlmerge_checked){1, 2, 3}, row = (xbrlmerge_refusal){4, 5, 6};
         chosen = ++number, made = 0, inside = 1;
         status = xbrlmerge_check(asked->sheet, asked->sheet_length, asked->reports, asked->reports_length, &checked, &row);
         inside = 0;
-        EXPECT(made < chosen || (status == XBRLMERGE_NO_MEMORY && checked.facts == 1 && row.report == 4));
+        if (status == XBRLMERGE_NO_MEMORY) {
+            refused++;
+            EXPECT(made >= chosen && checked.facts == 1 && row.report == 4);
+        } else {
+            EXPECT(status == wanted && checked.facts == usual.facts && checked.level == usual.level);
+            EXPECT(checked.canonical == usual.canonical && row.report == usual_row.report && row.number == usual_row.number);
+        }
     } while (made >= chosen);
     chosen = 0;
     EXPECT((checked.facts == 1 && checked.level == 2 && checked.canonical == 3) || status == XBRLMERGE_DONE);
@@ -200,7 +211,7 @@ static int check(const struct asked *asked) {
         EXPECT(status == XBRLMERGE_SHEET_REFUSED && row.report == 0 && row.fact == 0);
         fprintf(stderr, "sheet: %u\n", row.number);
     }
-    fprintf(stderr, "requests: %ld refused in turn\n", number - 1);
+    fprintf(stderr, "requests: %ld refused in turn\n", refused);
     return (int)status;
 }
 
