@@ -199,12 +199,12 @@ def facts_in_no_order(n):
     return merging(sheet(), report(dict(members)))
 
 
-def facts_one_of_which_stands_twice(n):
+def facts_with_one_repeated(n):
     text = json.dumps(report(apart(n)), separators=(",", ":"))
     return merging(sheet(), text.removesuffix("}}") + f',"f{0:07}":{json.dumps(numeric("0", period=period(0)))}}}}}')
 
 
-def facts_the_last_of_which_is_refused(n):
+def facts_with_the_last_refused(n):
     words, files = merging(sheet(), report(apart(n) | {"g": fact(concept="eg:Unknown")}))
     files[REFUSED] = files.pop("report0.json")
     return [*words[:-1], REFUSED], files
@@ -276,13 +276,13 @@ def duplicates_that_are_denied(n):
     return explaining(report(numbered(numbers), **level))
 
 
-def members_that_stand_twice(n):
+def repeated_members(n):
     text = json.dumps(report(numbered(fact(f"v{place}") for place in range(n))), separators=(",", ":"))
     facts = text.partition('"facts":{')[2].removesuffix("}}")
     return explaining(text.removesuffix("}}") + f",{facts}}}}}")
 
 
-def members_that_stand_twice_in_one_fact(n):
+def repeated_members_of_one_fact(n):
     """A fact with an identifier of n characters and n / 10 repeated members."""
     twice = ",".join(f'"x:e{place:07}":1' for place in range(n // 10) for _ in range(2))
     text = json.dumps(report({"f" * n: fact()}), separators=(",", ":"))
@@ -356,8 +356,8 @@ SHAPES = {
     facts_on_lines_of_their_own: 5_000,
     facts_before_document_info: 5_000,
     facts_in_no_order: 5_000,
-    facts_one_of_which_stands_twice: 5_000,
-    facts_the_last_of_which_is_refused: 5_000,
+    facts_with_one_repeated: 5_000,
+    facts_with_the_last_refused: 5_000,
     reports: 500,
     facts_of_one_dimension_set: 5_000,
     numbers_of_one_dimension_set: 5_000,
@@ -371,8 +371,8 @@ SHAPES = {
     faults_of_facts: 5_000,
     faults_of_one_fact: 5_000,
     duplicates_that_are_denied: 5_000,
-    members_that_stand_twice: 5_000,
-    members_that_stand_twice_in_one_fact: 50_000,
+    repeated_members: 5_000,
+    repeated_members_of_one_fact: 50_000,
     lines_that_join: 5_000,
     lines_that_take: 1_000,
     texts_sent_and_received: 1_000,
