@@ -1,4 +1,4 @@
--- The refusal of a name agrees with the tests for the reasons.
+-- A name is refused for a reason exactly if the test for that reason holds.
 use Rattle.std.proofs.Common.{◌≡◌, ℕ, List, Bool, true, false, not, ◌&&◌, refl}
 use Rattle.std.specs.Prelude.{Option, Some, None, is_none, if◌then◌else◌}
 use Rattle.std.specs.Option.{option_eq, option_map_or}
@@ -10,7 +10,7 @@ use Rattle.oim_names.specs.contracts.reason.ReasonPartialEq.TheImpl.{eq-value as
 use Rattle.oim_names.specs.declared.reason.Reason.{Reason}
 use Rattle.oim_names.specs.declared.reason.Reason.TheVariants.{NameForm, UnboundPrefix, ReservedNamespace}
 
--- whether a name is refused for this reason, given whether it has the form and the URI of its prefix
+-- whether a name is refused for this reason, given the test of its form and the URI of its prefix
 abbrev refuses_so : Reason → Bool → Option (List ℕ) → Bool
 refuses_so NameForm form uri = not form
 refuses_so UnboundPrefix form uri = form && is_none uri
@@ -31,7 +31,6 @@ told_so UnboundPrefix true (Some u) = elim (bytes_eq u reserved_uri) as (λ b. o
 told_so ReservedNamespace true (Some u) = elim (bytes_eq u reserved_uri) as (λ b. option_eq same_reason.it (if b then Some ReservedNamespace else None) (Some ReservedNamespace) ≡ b) [ true ↦ refl | false ↦ refl ]
 told_so r true (Some u) = elim (bytes_eq u reserved_uri) as (λ b. option_eq same_reason.it (if b then Some ReservedNamespace else None) (Some r) ≡ false) [ true ↦ refl | false ↦ refl ]
 
--- a name is refused for a reason exactly if the test for that reason holds
 pub told : (r : Reason) (bs : List Binding) (n : Spelled) → option_eq same_reason.it (refusal_as n.has_form bs n.text) (Some r) ≡ refuses r bs n
 told NameForm bs n = told_so NameForm (n.has_form n.text) (uri_of bs (prefix_part n.text))
 told UnboundPrefix bs n = told_so UnboundPrefix (n.has_form n.text) (uri_of bs (prefix_part n.text))

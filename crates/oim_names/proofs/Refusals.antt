@@ -15,25 +15,21 @@ abbrev pub by_tests : Bool → Bool → Bool → Option Reason
 by_tests form unbound reserved =
     if form then (if unbound then Some UnboundPrefix else (if reserved then Some ReservedNamespace else None)) else Some NameForm
 
--- if there is no refusal, all three tests have passed
 pub passed : (a b c : Bool) → by_tests a b c ≡ None → (a ≡ true) × (b ≡ false) × (c ≡ false)
 passed false b c h = absurd (cc)
 passed true true c h = absurd (cc)
 passed true false true h = absurd (cc)
 passed true false false h = (refl, refl, refl)
 
--- a prefix that is bound, but not to the reserved URI, has another URI
 there : (u : Option (List ℕ)) → is_none u ≡ false → option_map_or (λ v. bytes_eq v reserved_uri) u false ≡ false → (v : List ℕ) × (u ≡ Some v) × (v ≢ reserved_uri)
 there None h k = absurd (cc)
 there (Some v) h k = (v, refl, other_bytes v reserved_uri k)
 
--- a text that expands to a name is not refused
 pub named_kept : (has_form : List ℕ → Bool) (bs : List Binding) (t : List ℕ) (n : QName) → ExpandsAs has_form bs t n → refusal_as has_form bs t ≡ None
 named_kept has_form bs t n e =
     let differs : bytes_eq n.uri reserved_uri ≡ false = bytes_not_eq n.uri reserved_uri e.allowed in
     rw (e.form, e.uri, differs) refl
 
--- a text that is not refused expands to the URI of its prefix and its local part
 pub kept_named : (has_form : List ℕ → Bool) (bs : List Binding) (t : List ℕ) → refusal_as has_form bs t ≡ None → (n : QName) × ExpandsAs has_form bs t n
 kept_named has_form bs t none =
     let tests = passed (has_form t) (is_none (uri_of bs (prefix_part t))) (option_map_or (λ v. bytes_eq v reserved_uri) (uri_of bs (prefix_part t)) false) none in
@@ -47,13 +43,11 @@ same_name : (m n : QName) → m.uri ≡ n.uri → m.local_part ≡ n.local_part 
 same_name m n uri part =
     ap (λ u. record { uri = u; local_part = m.local_part }) uri ∙ ap (λ l. record { uri = n.uri; local_part = l }) part
 
--- a text expands to one name only: two expansions have the same URI and the same local part
 pub names_one : (has_form : List ℕ → Bool) → NamesOne has_form
 names_one has_form bs t m n a b =
     let uris : Some m.uri ≡ Some n.uri = sym a.uri ∙ b.uri in
     same_name m n (cc) (a.local_part ∙ sym b.local_part)
 
--- a text is refused for a reason exactly if the test for that reason holds
 form_first : (a b c : Bool) → (by_tests a b c ≡ Some NameForm) ↔ IsTrue (not a)
 form_first false b c = (λ h. refl, λ h. refl)
 form_first true true c = (λ h. absurd (cc), λ h. absurd (cc))

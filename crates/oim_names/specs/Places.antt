@@ -1,4 +1,4 @@
--- The index of the last text that was added, stored for each class of texts (own).
+-- For each class of texts, the index of the text that was added last (own).
 use Rattle.std.specs.Prelude.{ℕ, List, length, ◌+◌, ◌-◌, ◌*◌, ◌%◌}
 use Rattle.std.specs.List.{slice_index_or}
 

@@ -16,11 +16,11 @@ use std::alloc::{AllocError, Global};
 use std::collections::BTreeMap;
 use std::marker::Model;
 
-/// xBRL's own namespace. No name in a fact may be in it.
 const RESERVED: &str = "https://xbrl.org/2021";
 
-/// Prefixes and their URIs. Contracts see the bindings in the order in which they were added.
-/// Adding a binding and finding a URI take a number of steps that grows with the logarithm of the
+/// Prefixes and the URIs that they are bound to. Contracts see the bindings in the order in which
+/// they were added.
+/// Adding a binding or finding a URI takes a number of steps that grows with the logarithm of the
 /// number of bindings.
 #[derive(Debug, Drop)]
 pub struct Aliases {
@@ -42,7 +42,7 @@ impl Model for Aliases {
 }
 
 impl Aliases {
-    /// Returns aliases without bindings. Later calls take their memory from `alloc`.
+    /// Returns aliases without bindings. Later calls allocate from `alloc`.
     pub fn new(alloc: Global) -> Aliases
         ensures { result ≡ [] }
     {
@@ -55,7 +55,7 @@ impl Aliases {
 
     /// Binds the prefix to the URI. Binding it to the same URI again changes nothing.
     ///
-    /// Errors: `Namespace` if the prefix is empty or has white space or a colon, if the URI is
+    /// Errors: `Namespace` if the prefix is empty or contains white space or a colon, if the URI is
     /// empty, or if the prefix is bound to another URI (XML Namespaces 1.0, section 3; the last
     /// rule is own); `OutOfMemory`.
     pub fn add(&mut self, prefix: &str, uri: &str) -> Result<(), Reason>
@@ -104,8 +104,8 @@ impl Aliases {
         self.uri_text(prefix).map(|uri| uri.as_str())
     }
 
-    /// Returns the URI as a `Text`, so that names can share it. The cache finds most prefixes in
-    /// one step.
+    /// Returns a `Text`, so that names can share the URI. The cache finds most prefixes in one
+    /// step.
     fn uri_text(&self, prefix: &str) -> Option<&Text>
         ensures found { option_copied result ≡ uri_of self.now prefix.now }
         ensures filled { IfSome result (λ uri. uri.now ≢ []) }
@@ -116,7 +116,7 @@ impl Aliases {
         }
     }
 
-    /// Does nothing. Its contract states that each prefix has its form and is bound once, and that
+    /// Does nothing. Its contract states that each prefix is well-formed and bound once, and that
     /// no URI is empty.
     pub fn known(&self)
         ensures { AreBindings self.now }
@@ -150,7 +150,7 @@ impl Aliases {
         Ok(named(*self.bindings.allocator(), uri, local)?)
     }
 
-    /// Returns the URI and the local part of a prefixed name. It takes no memory.
+    /// Returns the URI and the local part of a prefixed name. It does not allocate.
     ///
     /// Errors: the reason that `name_refusal` returns.
     pub fn resolve<'a>(&'a self, text: &'a str) -> Result<(&'a str, &'a str), Reason>
@@ -164,7 +164,7 @@ impl Aliases {
     }
 
     /// Returns why `expand` refuses the text under these bindings, or None. It tests in this order:
-    /// `NameForm`, `UnboundPrefix`, `ReservedNamespace`. It takes no memory.
+    /// `NameForm`, `UnboundPrefix`, `ReservedNamespace`. It does not allocate.
     pub fn name_refusal(&self, text: &str) -> Option<Reason>
         ensures { result ≡ name_refusal self.now text.now }
     {
@@ -185,8 +185,8 @@ impl Aliases {
     }
 
     /// Expands an entity: a prefix bound to the URI of its scheme, a colon and an identifier, which
-    /// may be any text but the empty one (xBRL-JSON 1.0, section 3.1.4). The name shares the URI of
-    /// its prefix.
+    /// may be any non-empty text (xBRL-JSON 1.0, section 3.1.4). The name shares the URI of its
+    /// prefix.
     ///
     /// Errors: the reason that `entity_refusal` returns; `OutOfMemory`.
     pub fn expand_entity(&self, text: &str) -> Result<Name, Reason>
@@ -201,7 +201,7 @@ impl Aliases {
         Ok(named(*self.bindings.allocator(), uri, identifier)?)
     }
 
-    /// Returns the scheme's URI and the identifier of an entity. It takes no memory.
+    /// Returns the scheme's URI and the identifier of an entity. It does not allocate.
     ///
     /// Errors: the reason that `entity_refusal` returns.
     pub fn resolve_entity<'a>(&'a self, text: &'a str) -> Result<(&'a str, &'a str), Reason>
@@ -215,7 +215,7 @@ impl Aliases {
     }
 
     /// Returns why `expand_entity` refuses the text under these bindings, or None. It tests in this
-    /// order: `NameForm`, `UnboundPrefix`, `ReservedNamespace`. It takes no memory.
+    /// order: `NameForm`, `UnboundPrefix`, `ReservedNamespace`. It does not allocate.
     pub fn entity_refusal(&self, text: &str) -> Option<Reason>
         ensures { result ≡ entity_refusal self.now text.now }
     {
@@ -235,7 +235,6 @@ impl Aliases {
         Ok((self.naming_uri(prefix)?, identifier))
     }
 
-    /// Returns the URI of the prefix, or the reason to refuse a name with this prefix.
     fn naming_uri(&self, prefix: &str) -> Result<&Text, Reason>
         ensures uri { IfOk result (λ uri. uri_of self.now prefix.now ≡ Some uri.now) }
         ensures filled { IfOk result (λ uri. uri.now ≢ []) }
@@ -274,7 +273,6 @@ fn joined(alloc: Global, prefix: &str, local: &str) -> Result<Text, AllocError>
     Text::from_string(alloc, text)
 }
 
-/// Returns a name that shares the URI and has a copy of the local part.
 fn named(alloc: Global, uri: &Text, local: &str) -> Result<Name, AllocError>
     ensures { IfOk result (λ name. name ≡ record { uri = uri.now; local_part = local.now }) }
 {

@@ -3,12 +3,11 @@ ghost use Rattle.oim_names.specs.Places.{byte_from_end, place_in, text_class};
 
 use std::marker::Model;
 
-/// The number of classes of texts.
 const CLASSES: usize = 2048;
 
-/// Remembers for each class of texts the index of the text that was added last. The index is a
-/// hint: it may belong to another text of the class, or to none, so the caller compares the text at
-/// the index. Contracts see one index for each class.
+/// Remembers, for each class of texts, the index of the text that was added last. The index is only
+/// a hint: the text there may be another one of the class, or the index may be out of range. So
+/// callers compare the text at the index. Contracts see one index for each class.
 #[derive(Clone, Copy, Debug)]
 pub struct PositionCache {
     places: [u16; CLASSES],
@@ -32,7 +31,7 @@ impl PositionCache {
         }
     }
 
-    /// Returns the index of the last text of this class that was added.
+    /// Returns the index of the text of this class that was added last.
     pub fn place(&self, text: &str) -> usize
         ensures { result ≡ place_in self.now text.now }
     {
@@ -49,7 +48,6 @@ impl PositionCache {
     }
 }
 
-/// Returns the class of a text, which depends on its length and its last four bytes.
 #[tactic(auto, unfolding(crate::specs::Places::text_class))]
 fn class_of(text: &str) -> usize
     ensures is { result ≡ text_class text.now }
@@ -60,8 +58,6 @@ fn class_of(text: &str) -> usize
     (text.len() % CLASSES + 31 * four) % CLASSES
 }
 
-/// Returns the byte at this distance from the end. For a shorter text it is the first byte, and for
-/// an empty one 0.
 fn byte_from_end(text: &str, back: usize) -> usize
     ensures is { result ≡ byte_from_end text.now back }
     ensures bounded { result < 256 }
