@@ -9,7 +9,6 @@ use Rattle.std.specs.Fmt.{decimal}
 use Rattle.std.specs.Str.Parse.{digits_value_after}
 use Rattle.oim_value.proofs.Numerals.{after_grows, both_true, digit_is, digit_small}
 
--- `decimal` writes at least one digit, and no leading zero unless the number is 0
 lead : (n : ℕ) → n < 10 ^ 64 → (0 < length (decimal n)) × (0 < n → 48 < get_or (decimal n) 0 0)
 lead n small =
     decimal_by_steps_wide (λ m ds. (0 < length ds) × (0 < m → 48 < get_or ds 0 0))

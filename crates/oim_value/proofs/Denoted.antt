@@ -27,7 +27,6 @@ no_positive zero n some e = omega arith
 no_positive (suc x) zero some e = cc
 no_positive (suc x) (suc n) some e = cc
 
--- if z times p is n with a sign, then z is n / p with this sign
 quotient : (b : Bool) (z : ℤ) (p n : ℕ) → 0 < p → z *ℤ pos p ≡ signed b n → z ≡ signed b (n / p)
 quotient b z p n some e =
     let size : unsigned_abs z * p ≡ n = sym (magnitude z p) ∙ ap unsigned_abs e ∙ unsigned_abs-signed b n in
@@ -47,7 +46,6 @@ ten_positive n = let p : 10 ^ 0 ≤ 10 ^ n = pow-le-pow_right {n = 10} (omega ar
 pub denotes_units : (t : List ℕ) (units : ℤ) → Denotes t units → units ≡ units_of t
 denotes_units t units says = quotient (is_negative t) units (10 ^ length (fraction_part t)) (10 ^ UNIT_PLACES * digits_value 10 (both_parts t)) (ten_positive (length (fraction_part t))) says.value
 
--- the text of a number with at most MOST_DIGITS significant digits denotes `units_of` the text
 pub short_denotes : (t : List ℕ) → IsTrue (is_number t) → IsTrue (is_short t) → Denotes t (units_of t)
 short_denotes t form short =
     let few : length (without_leading (integer_part t)) + length (without_trailing (fraction_part t)) ≤ MOST_DIGITS = grind (arith, nat_tests) in

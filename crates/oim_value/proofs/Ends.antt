@@ -63,7 +63,6 @@ all_meet_iff_ends_meet is e points ends = (
 
 -- ---- the ends exist
 
--- some item has a property if an item after the first has it
 later : {A : Type 0} (P : A → Type 0) (x : A) (xs : List A) → Any P xs → Any P (x ∷ xs)
 later P x xs a = (suc a.0, a.1, omega (arith, a.2), a.3, a.4)
 
@@ -114,7 +113,6 @@ one_number p q = omega (arith, ints, p, q)
 one_interval : (d e : Interval) → d.low ≡ e.low → d.high ≡ e.high → d ≡ e
 one_interval d e low high = λ i. record { low = low i; high = high i }
 
--- if some interval has P and all intervals have Q, some interval has both
 at_reached : (P Q : Interval → Type 0) (is : List Interval) → Any P is → All Q is → (i : Interval) × P i × Q i
 at_reached P Q is some each = (some.1, some.4, subst Q some.3 (each some.0 some.1 some.2))
 
@@ -138,7 +136,6 @@ within_ends_is_within_each is e z ends = (
       record { above = subst (λ w. w ≤ℤ z) low.1 low.2.above; below = subst (λ w. z ≤ℤ w) high.1 high.2.below },
 )
 
--- intervals that are not empty are equal if they contain the same numbers
 same_points : (d e : Interval) → HasPoints d → ((z : ℤ) → IsWithin z d → IsWithin z e) → ((z : ℤ) → IsWithin z e → IsWithin z d) → d ≡ e
 same_points d e some to from =
     let low = to d.low (record { above = omega (arith, ints); below = some }) in

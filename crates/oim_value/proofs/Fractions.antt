@@ -14,7 +14,6 @@ step_after v w n d p q h e = rw (h, e) (grind arith)
 first_alone : (v d p w : ℕ) → v ≡ (0 * 10 + d) * p + w → v ≡ d * p + w
 first_alone v d p w h = omega (arith, h)
 
--- digits after n add their own value to n * 10^(number of digits)
 pub after_split : (n : ℕ) (ds : List ℕ) → digits_value_after 10 n ds ≡ n * 10 ^ length ds + digits_value_after 10 0 ds
 after_split n [] = omega arith
 after_split n (d ∷ ds) =
@@ -30,7 +29,6 @@ value_append xs ys = after_append 0 xs ys ∙ after_split (digits_value_after 10
 pub value_lt : (ds : List ℕ) → list_all is_ascii_digit ds ≡ true → digits_value_after 10 0 ds < 10 ^ length ds
 value_lt ds e = omega (arith, after_lt 0 ds e)
 
--- arithmetic of the step over the first digit of two fractions
 step_fraction : (x y v w p q : ℕ) → (x * p + v) * (q * 10) ≡ (y * q + w) * (p * 10) → x * (p * q) + v * q ≡ y * (p * q) + w * p
 step_fraction x y v w p q h = omega (arith, h)
 
@@ -47,7 +45,6 @@ no_first : (d p w : ℕ) → 0 < p → d * p + w ≡ 0 → (d ≡ 0) × (w ≡ 0
 no_first zero p w some h = (refl, omega arith)
 no_first (suc d) p w some h = absurd (omega arith)
 
--- digits with the value zero are all trailing zeros
 pub without_trailing-nothing : (ds : List ℕ) → list_all is_ascii_digit ds ≡ true → digits_value_after 10 0 ds ≡ 0 → without_trailing ds ≡ []
 without_trailing-nothing [] e h = refl
 without_trailing-nothing (d ∷ ds) e h =

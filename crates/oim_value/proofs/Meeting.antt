@@ -1,4 +1,3 @@
--- Each value meets itself. If one value meets another, the other meets it.
 use Rattle.std.proofs.Common.{refl, sym}
 use Rattle.oim_value.specs.declared.value.Value.TheVariants.{Nil, Number, Text as AText, Name as AName}
 use Rattle.oim_value.specs.Interval.{interval}

@@ -1,4 +1,4 @@
--- Digits and their numbers.
+-- The numbers that digits write.
 use Rattle.std.proofs.Common.{◌≡◌, ℕ, ◌+◌, ◌*◌, ◌^◌, ◌<◌, ◌≤◌, Bool, true, false, cond, eqb, List, [], ◌∷◌, ◌++◌, length, get_or, take, drop, length-append, refl, sym, ap, ◌∙◌, arith}
 use Rattle.std.specs.Prelude.{nat_lt}
 use mathlib.Core.Bool.{◌&&◌, false≢true}
@@ -14,7 +14,6 @@ use Rattle.std.specs.Str.Parse.{digits_value_after}
 use Rattle.oim_value.specs.declared.limits.TheConstants.{MOST_DIGITS, UNIT_PLACES}
 use Rattle.oim_value.specs.Number.{is_numeral, without_leading, without_trailing, onto_digit}
 
--- further digits never make a number smaller
 pub after_grows : (n : ℕ) (ds : List ℕ) → n ≤ digits_value_after 10 n ds
 after_grows n [] = omega arith
 after_grows n (d ∷ ds) = omega (arith, after_grows (n * 10 + digit_value d) ds)
@@ -33,7 +32,6 @@ is_zero c e = grind (arith, nat_tests)
 pub digit_small : (c : ℕ) → is_ascii_digit c ≡ true → digit_value c < 10
 digit_small c e = grind (arith, nat_tests)
 
--- arithmetic for the next lemmas
 step_lt : (v n d p q : ℕ) → d < 10 → v < (n * 10 + d + 1) * p → q ≡ p * 10 → v < (n + 1) * q
 step_lt v n d p q small rest is = let more : p * (n * 10 + d + 1) ≤ p * (n * 10 + 10) = mul-le-mul_left p (omega arith) in rw is (grind (arith, rest, more))
 
@@ -49,7 +47,6 @@ step_more v n p q a b h is is' = rw (is, is') (grind (arith, h))
 regroup : (v w a p k : ℕ) → v * a ≡ w * p → k * a ≡ 10 ^ UNIT_PLACES → (w * k) * p ≡ 10 ^ UNIT_PLACES * v
 regroup v w a p k h places = rw (← places) (grind (arith, ap (λ x. k * x) h))
 
--- k digits after n write a number below (n + 1) * 10^k
 pub after_lt : (n : ℕ) (ds : List ℕ) → list_all is_ascii_digit ds ≡ true → digits_value_after 10 n ds < (n + 1) * 10 ^ length ds
 after_lt n [] e = omega arith
 after_lt n (d ∷ ds) e =
@@ -80,7 +77,6 @@ pub digits_without_trailing : (ds : List ℕ) → list_all is_ascii_digit ds ≡
 digits_without_trailing [] e = refl
 digits_without_trailing (d ∷ ds) e = digits_onto d (without_trailing ds) (both_true _ _ e).0 (digits_without_trailing ds (both_true _ _ e).1)
 
--- leading zeros do not change a value
 pub value_without_leading : (ds : List ℕ) → digits_value_after 10 0 (without_leading ds) ≡ digits_value_after 10 0 ds
 value_without_leading [] = refl
 value_without_leading (d ∷ ds) =
@@ -102,12 +98,10 @@ pub value_without_trailing : (n : ℕ) (ds : List ℕ) → digits_value_after 10
 value_without_trailing n [] = refl
 value_without_trailing n (d ∷ ds) = value_onto n d ds (without_trailing ds) (value_without_trailing (n * 10 + digit_value d) ds)
 
--- a zero at the end does not change the digits without trailing zeros
 pub without_trailing_zero : (ds : List ℕ) → without_trailing (ds ++ 48 ∷ []) ≡ without_trailing ds
 without_trailing_zero [] = refl
 without_trailing_zero (d ∷ ds) = ap (onto_digit d) (without_trailing_zero ds)
 
--- digits that end in a digit other than zero have no trailing zeros
 pub without_trailing_other : (ds : List ℕ) (c : ℕ) → eqb c 48 ≡ false → without_trailing (ds ++ c ∷ []) ≡ ds ++ c ∷ []
 without_trailing_other [] c e = ap (λ b. cond b [] (c ∷ [])) e
 without_trailing_other (d ∷ []) c e = ap (onto_digit d) (without_trailing_other [] c e)
@@ -119,11 +113,9 @@ trailing_zero_at ds i h e = ap without_trailing (take_more ds i 0 h ∙ ap (λ c
 pub no_trailing_zero_at : (ds : List ℕ) (i : ℕ) → i < length ds → eqb (get_or ds i 0) 48 ≡ false → without_trailing (take (i + 1) ds) ≡ take (i + 1) ds
 no_trailing_zero_at ds i h e = ap without_trailing (take_more ds i 0 h) ∙ (without_trailing_other (take i ds) (get_or ds i 0) e ∙ sym (take_more ds i 0 h))
 
--- both parts of a numeral are digits
 pub parts_of_numeral : (xs ys : List ℕ) → is_numeral (xs ++ ys) ≡ true → (list_all is_ascii_digit xs ≡ true) × (list_all is_ascii_digit ys ≡ true)
 parts_of_numeral xs ys e = both_true _ _ (rw (list_all-append is_ascii_digit xs ys) at (both_true (nat_lt 0 (length (xs ++ ys))) (list_all is_ascii_digit (xs ++ ys)) e).1)
 
--- two lists of digits, together at most MOST_DIGITS, write a number below 10^MOST_DIGITS
 pub few_digits : (xs ys : List ℕ) → list_all is_ascii_digit xs ≡ true → list_all is_ascii_digit ys ≡ true → length xs + length ys ≤ MOST_DIGITS → digits_value_after 10 0 (xs ++ ys) < 10 ^ MOST_DIGITS
 few_digits xs ys dx dy few =
     let p : 10 ^ length (xs ++ ys) ≤ 10 ^ MOST_DIGITS = pow-le-pow_right {n = 10} (omega arith) {i = length (xs ++ ys)} {j = MOST_DIGITS} (omega (arith, length-append xs ys)) in

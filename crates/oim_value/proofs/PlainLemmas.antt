@@ -1,4 +1,3 @@
--- Lemmas on the plain text.
 use Rattle.std.proofs.Common.{◌≡◌, ℕ, suc, zero, ◌+◌, ◌-◌, ◌^◌, ◌%◌, ◌<◌, ◌≤◌, true, false, cond, eqb, List, [], ◌∷◌, ◌++◌, length, take, length-append, refl, ap, arith}
 use Rattle.std.specs.Prelude.{replicate}
 use Rattle.std.proofs.lemmas.Bool.Decides.{nat_tests}
@@ -23,7 +22,6 @@ padded_integral-zeros ds =
     let same : UNIT_PLACES - length ds - 0 - 0 ≡ UNIT_PLACES - length ds = omega arith in
     rw (append-nil ds) (ap (λ n. replicate n 48 ++ ds) same)
 
--- the digits without trailing zeros are a prefix of all digits
 take_kept : (d : ℕ) (ds ws : List ℕ) → take (length ws) ds ≡ ws → take (length (onto_digit d ws)) (d ∷ ds) ≡ onto_digit d ws
 take_kept d ds [] e = elim (eqb d 48) as (λ b. take (length (cond b [] (d ∷ []))) (d ∷ ds) ≡ cond b [] (d ∷ [])) [ true ↦ refl | false ↦ refl ]
 take_kept d ds (w ∷ ws) e = ap (λ r. d ∷ r) e

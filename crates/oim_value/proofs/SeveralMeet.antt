@@ -206,7 +206,6 @@ different_meet_between_ends kind vs two different alike = (
 
 -- ---- the low end is above the high end
 
--- if some value passes a test, the first index of such a value is in range
 first_place : (p : Value → Bool) (vs : List Value) (k : ℕ) → k < length vs → p (get_or vs k Nil) ≡ true → position_or_len p vs < length vs
 first_place p vs k lt is_so = elim (cases_lt (position_or_len p vs) (length vs)) [
   | inl inside ↦ inside

@@ -12,7 +12,6 @@ use Rattle.oim_value.specs.Number.{is_negative, is_point, unsigned}
 use Rattle.oim_value.specs.Plain.{has_point, sign_text, with_point}
 use Rattle.oim_value.proofs.Numerals.{both_true}
 
--- a digit is none of `+`, `-` and `.`
 digit_no_plus : (d : ℕ) → is_ascii_digit d ≡ true → eqb d 43 ≡ false
 digit_no_plus d e = grind (arith, nat_tests)
 

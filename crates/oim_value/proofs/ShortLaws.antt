@@ -72,7 +72,6 @@ length-without_leading : (ds : List ℕ) → length (without_leading ds) ≤ len
 length-without_leading [] = omega arith
 length-without_leading (d ∷ ds) = elim (eqb d 48) as (λ b. length (cond b (without_leading ds) (d ∷ ds)) ≤ suc (length ds)) [ true ↦ omega (arith, length-without_leading ds) | false ↦ omega arith ]
 
--- a numeral below 10^k has at most k significant digits
 counted_integer : (k q : ℕ) → q < 10 ^ k → k ≤ MOST_DIGITS → length (without_leading (decimal q)) ≤ k
 counted_integer k zero small within = rw (decimal_digit 0 (omega arith)) (omega arith)
 counted_integer zero (suc q) small within = absurd (omega arith)

@@ -8,7 +8,6 @@ use Rattle.oim_value.specs.declared.limits.TheConstants.{MOST_DIGITS, UNIT_PLACE
 use Rattle.oim_value.proofs.Numerals.{whole_value}
 use Rattle.oim_value.specs.Number.{signed, integer_part, fraction_part, is_negative, is_number, without_leading, without_trailing, Denotes, IsShort}
 
--- a number with at most MOST_DIGITS digits, followed by at most UNIT_PLACES zeros, is bounded
 pub size_bound : (n e : ℕ) → n < 10 ^ MOST_DIGITS → e ≤ UNIT_PLACES → n * 10 ^ e ≤ 10 ^ (MOST_DIGITS + UNIT_PLACES)
 size_bound n e few within =
     let p : 10 ^ e ≤ 10 ^ UNIT_PLACES = pow-le-pow_right (omega arith) within in

@@ -29,11 +29,9 @@ values_agree = elim [
 pub value_cmp_total : IsTotalOrder value_cmp
 value_cmp_total = subst IsTotalOrder (λ i x y. values_agree x y i) total-law
 
--- values that compare as equal are equal
 pub value_cmp_exact : (x y : Value) → value_cmp x y ≡ Equal → x ≡ y
 value_cmp_exact x y h = exact-law x y (values_agree x y ∙ h)
 
--- a value compares as equal to itself
 pub value_cmp_self : (x : Value) → value_cmp x x ≡ Equal
 value_cmp_self x = ties (value_cmp x x) (value_cmp_total.antisymm x x)
   where

@@ -1,4 +1,4 @@
--- The plain text is joined from all digits and cut at its trailing zeros.
+-- Joining all digits and cutting trailing zeros gives the plain text.
 use Rattle.std.proofs.Common.{◌≡◌, ℕ, zero, suc, ◌*◌, ◌/◌, ◌%◌, ◌^◌, ◌<◌, List, [], ◌∷◌, ◌++◌, length, length-append, append_assoc, refl, sym, ap, ◌∙◌, arith}
 use Rattle.std.specs.Prelude.{ℤ, unsigned_abs}
 use Rattle.std.proofs.lemmas.List.{append-nil}
@@ -19,7 +19,6 @@ onto_some : (d : ℕ) (ds : List ℕ) → 0 < length ds → onto_digit d ds ≡ 
 onto_some d [] some = absurd (omega arith)
 onto_some d (e ∷ ds) some = refl
 
--- digits before significant digits are not dropped
 without_trailing-append : (xs ys : List ℕ) → 0 < length (without_trailing ys) → without_trailing (xs ++ ys) ≡ xs ++ without_trailing ys
 without_trailing-append [] ys some = refl
 without_trailing-append (x ∷ xs) ys some =
@@ -52,12 +51,10 @@ point_some (f ∷ fs) some = refl
 abbrev pub all_places : ℤ → List ℕ
 all_places m = sign_text m ++ (integer_digits (unsigned_abs m) ++ 46 ∷ with_leading_zeros UNIT_PLACES (decimal (unsigned_abs m % 10 ^ UNIT_PLACES)))
 
--- the plain text of a number without a fraction is its sign and its integer digits
 pub plain_whole : (m : ℤ) → unsigned_abs m % 10 ^ UNIT_PLACES ≡ 0 → sign_text m ++ integer_digits (unsigned_abs m) ≡ plain m
 plain_whole m none =
     ap (λ ds. sign_text m ++ ds) (sym (append-nil (integer_digits (unsigned_abs m))) ∙ ap (λ fs. integer_digits (unsigned_abs m) ++ with_point fs) (sym (no_digits (unsigned_abs m % 10 ^ UNIT_PLACES) none)))
 
--- the plain text of a number with a fraction is the text of all its places without trailing zeros
 pub plain_cut : (m : ℤ) → 0 < unsigned_abs m % 10 ^ UNIT_PLACES → without_trailing (all_places m) ≡ plain m
 plain_cut m some =
     let r : ℕ = unsigned_abs m % 10 ^ UNIT_PLACES in

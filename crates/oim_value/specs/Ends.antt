@@ -25,7 +25,7 @@ EndsAreOne = (is : List Interval) (d e : Interval) → AreEnds d is → AreEnds 
 abbrev pub WithinEndsIsWithinEach : Type 0
 WithinEndsIsWithinEach = (is : List Interval) (e : Interval) (units : ℤ) → AreEnds e is → IsWithin units e ↔ All (IsWithin units) is
 
--- an interval that is not empty and contains exactly the numbers in all intervals is the interval between their ends
+-- if a non-empty interval contains exactly the numbers that lie in every interval, its ends are the ends of these intervals
 abbrev pub EndsAreCommonInterval : Type 0
 EndsAreCommonInterval = (is : List Interval) (e : Interval) → 0 < length is → HasPoints e → ((units : ℤ) → IsWithin units e ↔ All (IsWithin units) is) → AreEnds e is
 

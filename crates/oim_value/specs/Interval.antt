@@ -1,4 +1,4 @@
--- Rounding intervals (own), in units of 10 to the power of minus UNIT_PLACES.
+-- Rounding intervals (own), in units of 10^-UNIT_PLACES.
 use Rattle.std.specs.Prelude.{◌≡◌, ◌↔◌, ℕ, ◌-◌, ◌*◌, ◌^◌, ◌<◌, ◌≤◌, ℤ, pos, neg_ℤ, ◌+ℤ◌, ◌-ℤ◌, ◌≤ℤ◌, int_le, unsigned_abs, Bool, ◌&&◌, IsTrue, Option, Some, None}
 use Rattle.std.specs.Int.{int_max, int_min}
 use Rattle.oim_value.specs.declared.interval.Interval.{Interval}
@@ -13,7 +13,7 @@ abbrev pub half_width : Option ℤ → ℕ
 half_width (Some d) = 5 * 10 ^ half_zeros d
 half_width None = 0
 
--- the numbers that may have been rounded to a number with these decimals
+-- the numbers that may have been rounded to this number with these decimals
 abbrev pub interval : ℤ → Option ℤ → Interval
 interval units decimals = record { low = units -ℤ pos (half_width decimals); high = units +ℤ pos (half_width decimals) }
 
@@ -74,10 +74,10 @@ pub record IsCommonPoint (a b : Interval) (units : ℤ) : Type 0 where
   pub first : IsWithin units a
   pub second : IsWithin units b
 
--- intervals that are not empty meet exactly if some number lies in both
+-- non-empty intervals meet exactly if some number lies in both
 abbrev pub MeetsByCommonPoint : Type 0
 MeetsByCommonPoint = (a b : Interval) → HasPoints a → HasPoints b → IsTrue (intervals_meet a b) ↔ ((units : ℤ) × IsCommonPoint a b units)
 
--- intervals that are not empty meet exactly if their common part is not empty
+-- non-empty intervals meet exactly if their common part is not empty
 abbrev pub MeetsByCommonPart : Type 0
 MeetsByCommonPart = (a b : Interval) → HasPoints a → HasPoints b → IsTrue (intervals_meet a b) ↔ HasPoints (common_part a b)

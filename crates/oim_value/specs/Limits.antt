@@ -4,7 +4,6 @@ use Rattle.oim_value.specs.declared.limits.TheConstants.{MOST_DECIMALS, MOST_DIG
 use Rattle.oim_value.specs.Decimals.{is_finite_decimals}
 use Rattle.oim_value.specs.Number.{counted, is_short, Denotes}
 
--- the constants
 pub record LimitsAre : Type 0 where
   pub digits : MOST_DIGITS ≡ 18
   pub places : UNIT_PLACES ≡ 19

@@ -40,13 +40,13 @@ is_numeral ds = nat_lt 0 (length ds) && list_all is_ascii_digit ds
 abbrev pub is_number : List ℕ → Bool
 is_number t = is_numeral (both_parts t)
 
--- a number, or its negative if the sign is set
+-- the number, negated if the flag is set
 abbrev pub signed : Bool → ℕ → ℤ
 signed true n = neg_ℤ (pos n)
 signed false n = pos n
 
--- the text denotes this number of units: units * 10^(number of digits after the point) is 10^UNIT_PLACES times the signed number
--- that all digits write
+-- the text denotes this number of units: units * 10^p = 10^UNIT_PLACES * n, for p digits after the point and the signed number n
+-- of all digits
 pub record Denotes (t : List ℕ) (units : ℤ) : Type 0 where
   pub form : IsTrue (is_number t)
   pub value : units *ℤ pos (10 ^ length (fraction_part t)) ≡ signed (is_negative t) (10 ^ UNIT_PLACES * digits_value 10 (both_parts t))

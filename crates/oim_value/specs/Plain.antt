@@ -1,4 +1,4 @@
--- The plain text of a number, which is the only text that is written for it (own).
+-- The plain text of a number: the only text that is written for it (own).
 use Rattle.std.specs.Prelude.{◌≡◌, ◌≢◌, ◌↔◌, ℕ, ◌-◌, ◌/◌, ◌%◌, ◌^◌, ◌<◌, ℤ, pos, negsuc, ◌<ℤ◌, unsigned_abs, FitsSigned, Bool, IsTrue, List, [], ◌∷◌, ◌++◌, length, replicate, slice_index, None}
 use Rattle.std.specs.List.{list_any}
 use Rattle.std.specs.Fmt.{decimal}
@@ -35,8 +35,7 @@ plain units = sign_text units ++ (integer_digits (unsigned_abs units) ++ with_po
 abbrev pub has_point : List ℕ → Bool
 has_point t = list_any is_point t
 
--- the text denotes this number of units; it has no `+`, a `-` only below zero, at least one integer digit, no leading zero unless
--- it is the only integer digit, a point exactly if there are fraction digits, and no trailing zero among these
+-- the text denotes this number of units, with no superfluous sign, digit or point (own)
 pub record IsPlain (t : List ℕ) (units : ℤ) : Type 0 where
   pub denotes : Denotes t units
   pub no_plus : slice_index t 0 ≢ 43
@@ -46,7 +45,7 @@ pub record IsPlain (t : List ℕ) (units : ℤ) : Type 0 where
   pub point : IsTrue (has_point t) ↔ (0 < length (fraction_part t))
   pub no_trailing_zero : without_trailing (fraction_part t) ≡ fraction_part t
 
--- the units have at most 64 digits, which is the limit of `decimal`; an i128 has at most 39
+-- the units have at most 64 digits, the limit of `decimal`; an i128 has at most 39
 abbrev pub IsWritable : ℤ → Type 0
 IsWritable units = unsigned_abs units < 10 ^ 64
 

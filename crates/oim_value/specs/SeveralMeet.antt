@@ -18,16 +18,15 @@ AreDifferent = AllPairs (λ x y. x ≢ y)
 abbrev pub EachTwoValuesMeet : List Value → Type 0
 EachTwoValuesMeet = AllPairs Meets
 
--- each value meets each later one exactly if all members meet each other; repeats and order do not matter, since each value
--- meets itself
+-- each value meets each later one exactly if every two members meet, so order and repeats do not matter
 abbrev pub EachTwoMeetByMembers : Type 0
 EachTwoMeetByMembers = (vs : List Value) → EachTwoValuesMeet vs ↔ ((x y : Value) → Contains vs x → Contains vs y → Meets x y)
 
--- each value is nil or of one kind: number, text or name
+-- each value is nil or of this kind: number, text or name
 abbrev pub AreNilOrOfKind : ℕ → List Value → Type 0
 AreNilOrOfKind kind = All (λ v. (v ≡ Nil) ⊎ (kind_order v ≡ kind))
 
--- no value is nil, some are numbers, and the interval e between their ends is not empty
+-- no value is nil, and the interval e between the ends of the numbers' intervals is not empty
 pub record MeetBetween (vs : List Value) (e : Interval) : Type 0 where
   pub no_nil : Contains vs Nil → ⊥
   pub ends : AreEnds e (intervals_of vs)
@@ -42,7 +41,7 @@ DifferentMeetAsNumbers = (x y : Value) → x ≢ y → Meets x y → IsTrue (has
 abbrev pub DifferentMeetBetweenEnds : Type 0
 DifferentMeetBetweenEnds = (kind : ℕ) (vs : List Value) → 2 ≤ length vs → AreDifferent vs → AreNilOrOfKind kind vs → EachTwoValuesMeet vs ↔ ((e : Interval) × MeetBetween vs e)
 
--- the value is a number whose interval has this low end, or this high end
+-- the value is a number whose interval has this low end
 abbrev pub has_low : ℤ → Value → Bool
 has_low z (Number units decimals) = int_eq (interval units decimals).low z
 has_low z other = false
@@ -51,14 +50,15 @@ abbrev pub has_high : ℤ → Value → Bool
 has_high z (Number units decimals) = int_eq (interval units decimals).high z
 has_high z other = false
 
--- the first index with the greatest low end, and the first with the least high end, if e is the interval between the ends
+-- the index of the first value with the low end of e
 abbrev pub place_of_greatest_low : Interval → List Value → ℕ
 place_of_greatest_low e = position_or_len (has_low e.low)
 
+-- the index of the first value with the high end of e
 abbrev pub place_of_least_high : Interval → List Value → ℕ
 place_of_least_high e = position_or_len (has_high e.high)
 
--- the values at both indices do not meet
+-- the values at these two indices do not meet
 pub record AreApart (vs : List Value) (i j : ℕ) : Type 0 where
   pub first : Value
   pub second : Value
@@ -66,6 +66,6 @@ pub record AreApart (vs : List Value) (i j : ℕ) : Type 0 where
   pub second_there : slice_get vs j ≡ Some second
   pub apart : Meets first second → ⊥
 
--- if the low end is above the high end, the values at these two indices do not meet
+-- if the low end is above the high end, the values at the indices of these ends do not meet
 abbrev pub CrossedEndsAreApart : Type 0
 CrossedEndsAreApart = (vs : List Value) (e : Interval) → AreEnds e (intervals_of vs) → e.high <ℤ e.low → AreApart vs (place_of_least_high e vs) (place_of_greatest_low e vs)

@@ -7,17 +7,17 @@ use oim_names::{Copied, Key, Reason};
 use std::alloc::{AllocError, Global};
 use std::marker::Model;
 
-// Decimals are ordered in the order of the variants.
+// The derived order depends on the order of the variants.
 #[derive(Clone, Copy, Debug, PartialEq, Eq, PartialOrd, Ord)]
 enum Places {
     Finite(i8),
     Infinite,
 }
 
-/// How precisely a number is reported (Open Information Model, `decimals`): to a number of places
-/// after the point, to a place before the point if that number is negative, or exactly. Contracts
-/// see the number of places, or None if the number is exact. Finite decimals are ordered by number,
-/// and infinite ones come last.
+/// How precisely a number is reported (Open Information Model, `decimals`): rounded to a number of
+/// places after the point, or exact. A negative number counts places before the point. Contracts
+/// see the number of places, or None for an exact number. Finite decimals are ordered by number;
+/// infinite decimals are last.
 #[derive(Clone, Copy, Debug, PartialEq, Eq, PartialOrd, Ord)]
 pub struct Decimals {
     places: Places,

@@ -4,7 +4,6 @@ ghost use Rattle.std.specs.Char.{is_ascii_digit};
 ghost use Rattle.std.specs.Str.Parse.{digits_value_after};
 ghost use Rattle.oim_value.specs.Number.{is_negative, is_numeral, is_point, unsigned, without_leading, without_trailing};
 
-/// Returns whether a text begins with `-`, and the text without its sign.
 pub(crate) fn split_sign(text: &[u8]) -> (bool, &[u8])
     ensures negative { result.0 ≡ is_negative text.now }
     ensures rest { result.1.now ≡ unsigned text.now }
@@ -16,7 +15,6 @@ pub(crate) fn split_sign(text: &[u8]) -> (bool, &[u8])
     }
 }
 
-/// Splits a number's text at its first point.
 pub(crate) fn split_point(body: &[u8]) -> (&[u8], &[u8])
     ensures integer { result.0.now ≡ before_first is_point body.now }
     ensures fraction { result.1.now ≡ after_first is_point body.now }
@@ -40,7 +38,6 @@ fn point_place(body: &[u8]) -> usize
     body.len()
 }
 
-/// Returns whether both parts consist of digits and contain at least one.
 pub(crate) fn are_digits(integer: &[u8], fraction: &[u8]) -> bool
     ensures { result ≡ is_numeral (integer.now ++ fraction.now) }
 {
@@ -73,7 +70,6 @@ pub(crate) fn skip_trailing_zeros(digits: &[u8]) -> &[u8]
     &digits[..end]
 }
 
-/// Appends `digits` to the digits of the number `start`.
 pub(crate) fn append_digits(start: u64, digits: &[u8]) -> u64
     requires digits { list_all is_ascii_digit digits.now ≡ true }
     requires fits { digits_value_after 10 start digits.now < 2 ^ 64 }

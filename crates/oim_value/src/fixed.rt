@@ -15,8 +15,8 @@ use oim_names::{Reason, Text};
 use std::alloc::{AllocError, Global};
 use std::marker::Model;
 
-/// A decimal number with at most `MOST_DIGITS` significant digits. Contracts see it in units of 10
-/// to the power of minus `UNIT_PLACES`.
+/// A decimal number with at most `MOST_DIGITS` significant digits. Contracts see it in units of
+/// 10^-`UNIT_PLACES`.
 #[derive(Clone, Copy, Debug, PartialEq, Eq, PartialOrd, Ord)]
 pub struct Fixed {
     units: i128,
@@ -36,7 +36,7 @@ impl Model for Fixed {
 }
 
 impl Fixed {
-    /// Returns the number in units of 10 to the power of minus `UNIT_PLACES`.
+    /// Returns the number in units of 10^-`UNIT_PLACES`.
     pub fn units(&self) -> i128
         ensures value { result ≡ self.now }
         ensures short { IsShort self.now }
@@ -70,7 +70,6 @@ pub fn read_fixed(text: &str) -> Result<Fixed, Reason>
     Ok(scaled(number, fraction.len() as u32, negative))
 }
 
-// Returns the number with the digits of both parts.
 fn number_of(integer: &[u8], fraction: &[u8]) -> u64
     requires integer { list_all is_ascii_digit integer.now ≡ true }
     requires fraction { list_all is_ascii_digit fraction.now ≡ true }
@@ -81,7 +80,6 @@ fn number_of(integer: &[u8], fraction: &[u8]) -> u64
     append_digits(append_digits(0, integer), fraction)
 }
 
-// Returns the number with the point moved `places` digits to the left.
 fn scaled(number: u64, places: u32, negative: bool) -> Fixed
     requires few { number < 10 ^ MOST_DIGITS }
     requires places { places ≤ MOST_DIGITS }
@@ -104,7 +102,7 @@ fn size_of(number: u64, zeros: u32) -> i128
     (u128::from(number) * 10u128.pow(zeros)) as i128
 }
 
-/// Writes a number as its only plain text, as `write_units` does.
+/// Returns the plain text of a number, as `write_units` does.
 ///
 /// Errors: out of memory.
 pub fn write_fixed(alloc: Global, value: Fixed) -> Result<Text, AllocError>

@@ -6,8 +6,8 @@ use crate::decimals::Decimals;
 use crate::fixed::Fixed;
 use crate::limits::{MOST_DECIMALS, UNIT_PLACES};
 
-/// The numbers from `low` to `high`, both included, in units of 10 to the power of minus
-/// `UNIT_PLACES`. The interval is empty if `low` is above `high`.
+/// The numbers from `low` to `high`, both included, in units of 10^-`UNIT_PLACES`. The interval is
+/// empty if `low` is above `high`.
 #[derive(Clone, Copy, Debug, PartialEq, Eq)]
 pub struct Interval {
     /// The least number.
@@ -17,8 +17,8 @@ pub struct Interval {
 }
 
 /// Returns the numbers that may have been rounded to a value with these decimals. The interval
-/// extends half of the last decimal place to each side. If the decimals are infinite it contains
-/// only the value.
+/// extends half of the last decimal place to each side. For infinite decimals, it contains only the
+/// value.
 pub fn interval_of(value: Fixed, decimals: Decimals) -> Interval
     ensures { result ≡ interval value decimals }
 {
@@ -56,16 +56,16 @@ fn zeros_of(places: i8) -> u32
     (i64::from(UNIT_PLACES) - 1 - i64::from(places)) as u32
 }
 
-/// Returns whether neither interval ends before the other begins. Two intervals that are not empty
-/// meet exactly if some number lies in both.
+/// Returns whether neither interval ends before the other begins. Two non-empty intervals meet
+/// exactly if some number lies in both.
 pub fn meets(a: Interval, b: Interval) -> bool
     ensures { result ≡ intervals_meet a b }
 {
     a.low <= b.high && b.low <= a.high
 }
 
-/// Returns the common part of both intervals, from the greater low end to the lesser high end. It
-/// is empty if they do not meet.
+/// Returns the common part of two intervals, from the greater low end to the lesser high end. It is
+/// empty if they do not meet.
 pub fn common(a: Interval, b: Interval) -> Interval
     ensures { result ≡ common_part a b }
 {

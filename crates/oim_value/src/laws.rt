@@ -41,8 +41,8 @@ pub fn short_is_kept()
     ensures { ShortIsKept }
 {}
 
-/// Every number of units that fits 128 bits is written in full, and so is every number with at most
-/// 18 significant digits.
+/// Every number of units that fits an `i128` is written in full. So is every number with at most 18
+/// significant digits.
 pub fn units_are_writable()
     ensures fitting { FittingIsWritable }
     ensures short { ShortIsWritable }
@@ -65,7 +65,7 @@ pub fn plain_tells_apart()
     ensures { PlainTellsApart }
 {}
 
-/// Values are ordered as `value_cmp` defines: by kind, and then within each kind.
+/// Values are ordered by kind, then within each kind, as `value_cmp` defines.
 pub fn values_are_ordered()
     ensures { (x y : Seen) → ⟦<Value as Ord>⟧.cmp x y ≡ value_cmp x y }
 {}
@@ -83,8 +83,8 @@ pub fn infinite_is_no_number() -> Decimals
     Decimals::INFINITE
 }
 
-/// Twice the half width of an interval is 10 to the power of minus the decimals, which is a whole
-/// number of units.
+/// For finite decimals d, twice the half width of an interval is 10^-d, which is a whole number of
+/// units.
 pub fn interval_is_half_a_place()
     ensures after_point { HalfAfterPoint }
     ensures before_point { HalfBeforePoint }
@@ -99,7 +99,7 @@ pub fn interval_has_what_is_near()
 {}
 
 /// Both ends of a number's interval are smaller in size than 10^(`MOST_DIGITS` + `UNIT_PLACES`)
-/// plus the half width for decimals of `-MOST_DECIMALS`. This bound is 15 * 10^36 units, which fits
+/// plus the half width for decimals of `-MOST_DECIMALS`. This sum is 1.5 * 10^37 units, which fits
 /// an `i128`.
 pub fn interval_ends_are_bounded()
     ensures { IntervalEndsAreBounded }
@@ -117,21 +117,21 @@ pub fn common_has_both()
     ensures { CommonIsBoth }
 {}
 
-/// Intervals that are not empty meet exactly if some number lies in both, and exactly if their
-/// common part is not empty.
+/// Non-empty intervals meet exactly if some number lies in both, and exactly if their common part
+/// is not empty.
 pub fn meets_by_common_point()
     ensures point { MeetsByCommonPoint }
     ensures part { MeetsByCommonPart }
 {}
 
-/// Each value meets itself. If one value meets another, the other meets it.
+/// Each value meets itself. If one value meets another, the other meets the first.
 pub fn values_meet_both_ways()
     ensures reflexive { MeetsIsReflexive }
     ensures symmetric { MeetsIsSymmetric }
 {}
 
-/// Each value of a list meets each later one exactly if all its members meet each other, so order
-/// and repeats do not matter.
+/// Each value of a list meets each later one exactly if every two members meet. So order and
+/// repeats do not matter.
 pub fn each_two_meet_by_members()
     ensures { EachTwoMeetByMembers }
 {}
@@ -152,9 +152,9 @@ pub fn all_meet_iff_ends_meet()
 {}
 
 /// Take several different values, each nil or of one kind. They meet each other exactly if all are
-/// numbers and the greatest low end of their intervals is at most the least high end. If the low
-/// end is above the high end, the first number with the least high end and the first with the
-/// greatest low end do not meet.
+/// numbers and the greatest low end of their intervals is at most the least high end. If the
+/// greatest low end is above the least high end, two numbers do not meet: the first with this high
+/// end and the first with this low end.
 pub fn different_meet_between_ends()
     ensures numbers { DifferentMeetAsNumbers }
     ensures between { DifferentMeetBetweenEnds }

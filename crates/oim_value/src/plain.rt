@@ -6,9 +6,9 @@ use crate::limits::UNIT_PLACES;
 use oim_names::Text;
 use std::alloc::{AllocError, Global};
 
-/// Writes a number, given in units of 10 to the power of minus `UNIT_PLACES`, as its only plain
-/// text. The text has `-` below zero, the integer digits without leading zeros (`0` if there are
-/// none), and, if there are fraction digits, a point and these digits without trailing zeros.
+/// Returns the only plain text of a number in units of 10^-`UNIT_PLACES`. The text contains `-` for
+/// a negative number, then the integer digits without leading zeros (`0` if there are none). If
+/// there are fraction digits, a point and these digits without trailing zeros follow.
 ///
 /// Errors: out of memory.
 pub fn write_units(alloc: Global, units: i128) -> Result<Text, AllocError>

@@ -15,7 +15,7 @@ pub enum Value {
     Nil,
     /// A number and its decimals.
     Number(Fixed, Decimals),
-    /// A text as the report spells it.
+    /// A text as it is spelled in the report.
     Text(Text),
     /// An expanded name.
     Name(Name),

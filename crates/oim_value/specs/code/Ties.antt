@@ -1,4 +1,3 @@
--- Comparisons that return Equal.
 use Rattle.std.specs.Prelude.{◌≡◌, refl}
 use Rattle.std.specs.declared.cmp.Ordering.{Ordering}
 use Rattle.std.specs.declared.cmp.Ordering.TheVariants.{Less, Equal, Greater}
