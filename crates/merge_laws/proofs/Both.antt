@@ -94,7 +94,6 @@ module _ {K V : Type 0} {R : K → K → Ordering} (o : IsTotalOrder R) (merged 
   }
 
 module _ {K V : Type 0} {R : K → K → Ordering} (o : IsTotalOrder R) (exact : (x y : K) → R x y ≡ Equal → x ≡ y) (merged : V → V → V) where
-  -- an entry that was found is in the map and has the key
   found_entry : (k : K) (es : List (K × V)) (e : K × V) → item_at R entry_key k es ≡ Some e → Contains es e × (k ≡ e.0)
   found_entry k [] e is = absurd (true≢false (sym (ap is_some is)))
   found_entry k (f ∷ es) e is = elim (is_eq (R k f.0)) as (λ b. is_eq (R k f.0) ≡ b → cond b (Some f) (item_at R entry_key k es) ≡ Some e → Contains (f ∷ es) e × (k ≡ e.0)) [

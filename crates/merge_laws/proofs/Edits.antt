@@ -32,7 +32,6 @@ module _ {K E : Type 0} {R : K → K → Ordering} (key : E → K) (o : IsTotalO
   pub not_here : (k : K) (e : E) (es : List E) → R k (key e) ≡ Greater → has_key R key k (e ∷ es) ≡ has_key R key k es
   not_here k e es p = ap (λ r. is_some (cond (is_eq r) (Some e) (item_at R key k es))) p
 
-  -- a key below all keys is not in the list
   not_below : {A : Type 0} (k : K) (es : List E) → Below key o k es → has_key R key k es ≡ true → A
   not_below k es h has = absurd (true≢false (sym has ∙ ap is_some (none_below key o k es h)))
 
@@ -48,7 +47,6 @@ module _ {K E : Type 0} {R : K → K → Ordering} (key : E → K) (o : IsTotalO
   unfolding IsStrictlySortedBy
   rest_rises e es h = h.1
 
-  -- the item with a key is the item at the index of the key
   pub item_there : (k : K) (es : List E) (d : E) → IsRising R key es → has_key R key k es ≡ true → item_at R key k es ≡ Some (get_or es (place_of R key k es) d)
   item_there k [] d h has = absurd (true≢false (sym has))
   item_there k (e ∷ es) d h has =
@@ -62,7 +60,6 @@ module _ {K E : Type 0} {R : K → K → Ordering} (key : E → K) (o : IsTotalO
       ] refl
 
   module _ (join : E → E → E) where
-    -- a new item is inserted at the index of its key
     pub placed : (x : E) (es : List E) → has_key R key (key x) es ≡ false → take (place_of R key (key x) es) es ++ x ∷ drop (place_of R key (key x) es) es ≡ with_item R key join x es
     placed x [] has = refl
     placed x (e ∷ es) has =
@@ -74,7 +71,6 @@ module _ {K E : Type 0} {R : K → K → Ordering} (key : E → K) (o : IsTotalO
               ∙ ap (λ s. e ∷ s) (placed x es (sym (not_here (key x) e es p) ∙ has))
         ] refl
 
-    -- an item whose key is in the list is joined with the item there
     pub replaced : (x : E) (es : List E) (d : E) → IsRising R key es → has_key R key (key x) es ≡ true → set es (place_of R key (key x) es) (join (get_or es (place_of R key (key x) es) d) x) ≡ with_item R key join x es
     replaced x [] d h has = absurd (true≢false (sym has))
     replaced x (e ∷ es) d h has =
@@ -105,13 +101,12 @@ module _ {K E : Type 0} {R : K → K → Ordering} (key : E → K) (o : IsTotalO
   unfolding IsStrictlySortedBy
   nothing_rises = tt
 
-  -- a look-up returns the item at the index that a search found
   pub item_found : (k : K) (es : List E) (i : ℕ) (d : E) → IsRising R key es → Ok i ≡ found_at R key k es → item_at R key k es ≡ Some (get_or es i d)
   item_found k es i d h at =
       let told = tells_ok (has_key R key k es) (place_of R key k es) i at in
       item_there k es d h told.0 ∙ ap (λ n. Some (get_or es n d)) told.1
 
-  -- an item whose key is in the list is not new; any other is new, with the index of its key
+  -- an item is new exactly if the list does not have its key
   pub not_new : (f : E) (es : List E) (i : ℕ) → Ok i ≡ found_at R key (key f) es → new_item R key es f ≡ []
   not_new f es i at = ap (λ b. cond b [] ((place_of R key (key f) es, f) ∷ [])) (tells_ok _ _ i at).0
 

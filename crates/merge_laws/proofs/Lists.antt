@@ -1,4 +1,4 @@
--- Lists taken apart at their end, and parts of ascending lists.
+-- Lists split before their last item, and parts of ascending lists.
 use Rattle.std.proofs.Common.{◌≡◌, ℕ, zero, suc, ◌+◌, ◌<◌, ◌≤◌, get_or, List, [], ◌∷◌, ◌++◌, append-nil, take, length, Option, Some, None, refl, sym, ap, subst, ◌∙◌, arith}
 use Rattle.std.specs.Prelude.{reverse}
 use Rattle.std.specs.Option.{option_or}
@@ -35,7 +35,6 @@ pub all_weaker : {A : Type 0} (P Q : A → Type 0) (xs : List A) → ((x : A) �
 all_weaker P Q [] f h = tt
 all_weaker P Q (x ∷ xs) f h = (f x h.0, all_weaker P Q xs f h.1)
 
--- if the first i items and the next one have a property, the first i + 1 items have it
 pub all_more : {A : Type 0} (P : A → Type 0) (xs : List A) (i : ℕ) (x : A) → i < length xs → x ≡ get_or xs i x → AllByRecursion P (take i xs) → P x → AllByRecursion P (take (i + 1) xs)
 all_more P xs i x within is all p = subst (AllByRecursion P) (sym (take_more xs i x within ∙ ap (λ y. take i xs ++ y ∷ []) (sym is))) (all_both P (take i xs) (x ∷ []) all (p, tt))
 
@@ -73,7 +72,6 @@ module _ {K E : Type 0} {R : K → K → Ordering} (key : E → K) (o : IsTotalO
   rises_back [] ys h = h
   rises_back (x ∷ xs) ys h = rises_back xs ys h.1
 
-  -- in an ascending list, the items before y are below y
   pub below_last : (xs : List E) (y : E) (zs : List E) → IsRising R key (xs ++ y ∷ zs) → AllBelow (key y) xs
   unfolding IsStrictlySortedBy
   below_last [] y zs h = tt

@@ -24,7 +24,6 @@ same_tests false true f g = g refl
 same_tests false false f g = refl
 
 module _ {K : Type 0} {R : K → K → Ordering} (o : IsTotalOrder R) (exact : (x y : K) → R x y ≡ Equal → x ≡ y) where
-  -- the item at a key of a set is the key
   itself_found : (q : K) (xs : List K) → item_at R itself q xs ≡ cond (has_key R itself q xs) (Some q) None
   itself_found q [] = refl
   itself_found q (x ∷ xs) = elim (is_eq (R q x)) as (λ b. is_eq (R q x) ≡ b → cond b (Some x) (item_at R itself q xs) ≡ cond (is_some (cond b (Some x) (item_at R itself q xs))) (Some q) None) [
@@ -50,7 +49,6 @@ module _ {K : Type 0} {R : K → K → Ordering} (o : IsTotalOrder R) (exact : (
   pub map_is_its_values : (V : Type 0) → MapIsItsValues R V
   map_is_its_values V es fs g h same = same_items entry_key o es fs g h (λ k. entry_there k es ∙ ap (λ (a : Option V). option_map (λ v. (k, v)) a) (same k) ∙ sym (entry_there k fs))
 
--- a property that all items have by recursion holds at every index
 pub all_by_place : {A : Type 0} (P : A → Type 0) (xs : List A) → AllByRecursion P xs → All P xs
 all_by_place P [] h k d lt = absurd (omega (arith, lt))
 all_by_place P (x ∷ xs) h zero d lt = h.0
@@ -60,7 +58,7 @@ pub all_in_turn : {A : Type 0} (P : A → Type 0) (xs : List A) → All P xs →
 all_in_turn P [] h = tt
 all_in_turn P (x ∷ xs) h = (h zero x (omega arith), all_in_turn P xs (λ k d lt. h (suc k) d (omega (arith, lt))))
 
--- a property that merging keeps holds for all entries of a union if it holds for the entries of both
+-- if merging keeps a property that all entries of two maps have, all entries of their union have it
 module _ {K V : Type 0} {R : K → K → Ordering} (exact : (x y : K) → R x y ≡ Equal → x ≡ y) (merged : V → V → V) (P : K → V → Type 0) (closed : (k : K) (v w : V) → P k v → P k w → P k (merged v w)) where
   abbrev pub Has : K × V → Type 0
   Has e = P e.0 e.1
@@ -106,7 +104,6 @@ pub summary_of_both : SummaryOfBoth
 summary_of_both [] ws = refl
 summary_of_both (v ∷ vs) ws = ap (both_summaries (summary_of v)) (summary_of_both vs ws) ∙ sym (summary_associates (summary_of v) (summary_of_all vs) (summary_of_all ws))
 
--- the first two of three summaries may be exchanged
 past : (a b c : Summarised) → both_summaries a (both_summaries b c) ≡ both_summaries b (both_summaries a c)
 past a b c = sym (summary_associates a b c) ∙ ap (λ x. both_summaries x c) (summary_commutes a b) ∙ summary_associates b a c
 
@@ -129,13 +126,11 @@ module _ (R : Value → Value → Ordering) (exact : (v w : Value) → R v w ≡
 pub summary_of_union : SummaryOfUnion
 summary_of_union R exact vs ws = more R exact vs ws
 
--- a value that is already in the list adds nothing to the summary
 nothing_new : (v : Value) (ws : List Value) (k : ℕ) → k < length ws → get_or ws k v ≡ v → both_summaries (summary_of v) (summary_of_all ws) ≡ summary_of_all ws
 nothing_new v [] k lt is = absurd (omega (arith, lt))
 nothing_new v (w ∷ ws) zero lt is = ap (λ x. both_summaries (summary_of x) (summary_of_all (w ∷ ws))) (sym is) ∙ again (summary_of w) (summary_of_all ws)
 nothing_new v (w ∷ ws) (suc k) lt is = past (summary_of v) (summary_of w) (summary_of_all ws) ∙ ap (both_summaries (summary_of w)) (nothing_new v ws k (omega (arith, lt)) is)
 
--- several values that are already in the list add nothing to the summary
 none_new : (vs ws : List Value) → ((v : Value) → Contains vs v → Contains ws v) → both_summaries (summary_of_all vs) (summary_of_all ws) ≡ summary_of_all ws
 none_new [] ws there = refl
 none_new (v ∷ vs) ws there =

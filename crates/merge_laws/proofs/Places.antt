@@ -23,7 +23,6 @@ less Equal t = absurd (true≢false t)
 less Greater t = absurd (true≢false t)
 
 module _ {K E : Type 0} {R : K → K → Ordering} (key : E → K) (o : IsTotalOrder R) where
-  -- the item at the lower index has the lower key
   pub rising_at : (es : List E) → IsRising R key es → (i j : ℕ) (d : E) → i < j → j < length es → R (key (get_or es i d)) (key (get_or es j d)) ≡ Less
   rising_at es h i j d below within = Less-from_sorted (λ e f. R (key e) (key f)) es i j d h below within
 
@@ -39,7 +38,6 @@ module _ {K E : Type 0} {R : K → K → Ordering} (key : E → K) (o : IsTotalO
   first_place : (es : List E) (k : K) (i : ℕ) (d : E) → i ≤ length es → ((j : ℕ) → j < i → R (key (get_or es j d)) k ≡ Less) → (i < length es → is_lt (R (key (get_or es i d)) k) ≡ false) → place_of R key k es ≡ i
   first_place es k i d le below at = position_or_len_is (λ e. not (is_lt (R (key e) k))) es i d le (λ j lt. ap (λ r. not (is_lt r)) (below j lt)) (λ lt. ap not (at lt))
 
-  -- the search returns the index of an item with the key
   pub found_here : (es : List E) (k : K) (i : ℕ) (d : E) → IsRising R key es → i < length es → R (key (get_or es i d)) k ≡ Equal → Ok i ≡ found_at R key k es
   found_here es k i d h lt p =
       let place = first_place es k i d (omega (arith, lt)) (λ j below. sym (alike_right o _ k _ p) ∙ rising_at es h j i d below lt) (λ _. ap is_lt p) in
@@ -85,12 +83,10 @@ module _ {K E : Type 0} {R : K → K → Ordering} (key : E → K) (o : IsTotalO
         | inr over ↦ let same : j ≡ i = omega (arith, over, ge) in ap (λ n. R (key (get_or es n d)) k) same ∙ read
       ]
 
-  -- the index of a key is at most the length
   pub place_bound : (k : K) (es : List E) → place_of R key k es ≤ length es
   place_bound k [] = omega arith
   place_bound k (e ∷ es) = let rest = place_bound k es in elim (is_lt (R (key e) k)) as (λ b. cond (not (not b)) (1 + place_of R key k es) 0 ≤ length (e ∷ es)) [ true ↦ omega (arith, rest) | false ↦ omega arith ]
 
-  -- the items before the index of a key are below the key
   pub before_place : (k : K) (es : List E) (j : ℕ) (d : E) → j < place_of R key k es → R (key (get_or es j d)) k ≡ Less
   before_place k [] j d lt = absurd (omega (arith, lt))
   before_place k (e ∷ es) zero d lt = elim (is_lt (R (key e) k)) as (λ b. is_lt (R (key e) k) ≡ b → R (key e) k ≡ Less) [
@@ -102,7 +98,7 @@ module _ {K E : Type 0} {R : K → K → Ordering} (key : E → K) (o : IsTotalO
     | false ↦ λ t. let count : place_of R key k (e ∷ es) ≡ 0 = ap (λ b. cond (not (not b)) (1 + place_of R key k es) 0) t in absurd (omega (arith, lt, count))
   ] refl)
 
-  -- all items before the index of one of the other items are below the next of the others
+  -- all items of es before the index of an item of fs are below the next item of fs
   pub passed_next : (es fs : List E) (i : ℕ) (x d : E) → IsRising R key fs → i + 1 < length fs → x ≡ get_or fs i x → (j : ℕ) (e : E) → j < place_of R key (key x) es → R (key (get_or es j e)) (key (get_or fs (i + 1) d)) ≡ Less
   passed_next es fs i x d h within is j e lt =
       o.trans _ _ _ (before_place (key x) es j e lt)

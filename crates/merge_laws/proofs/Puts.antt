@@ -19,14 +19,12 @@ module _ {K V : Type 0} {R : K → K → Ordering} (o : IsTotalOrder R) (P : V �
       ∙ (λ n. set es (sym told.1 n) ((get_or es (sym told.1 n) x).0, merged (get_or es (sym told.1 n) x).1 v))
       ∙ replaced entry_key o (merged_entries merged) (k, v) es x h told.0
 
-  -- the result of `put` is a map
   pub put_map : ((v w : V) → P v → P w → P (merged v w)) → (es : List (K × V)) (k : K) (v : V) → IsMap R P es → P v → IsMap R P (map_with R merged k v es)
   put_map closed es k v m p = record {
     rises = rises_with entry_key o (merged_entries merged) (λ _ _. refl) (k, v) es m.rises;
     values = all_with entry_key o (merged_entries merged) (λ _ _. refl) (λ e. P e.1) (λ e f. closed e.1 f.1) (k, v) es p m.values;
   }
 
-  -- putting the same value back changes nothing
   pub put_back : (es : List (K × V)) (m : V) (i : ℕ) (x : K × V) → i < length es → x ≡ get_or es i x → m ≡ x.1 → set es i (x.0, m) ≡ es
   put_back es m i x within read same = (λ n. set es i (x.0, same n)) ∙ ap (set es i) read ∙ set-get_or es i x
 

@@ -16,7 +16,6 @@ module _ {K E : Type 0} (R : K → K → Ordering) (key : E → K) where
   unfolding IsStrictlySortedBy
   one_rises x = (tt, tt)
 
-  -- a list still ascends after an item above all others is added at the end
   pub rises_behind : (es : List E) (x : E) → IsRising R key es → AllByRecursion (λ e. R (key e) (key x) ≡ Less) es → IsRising R key (es ++ x ∷ [])
   unfolding IsStrictlySortedBy
   rises_behind [] x h below = (tt, tt)

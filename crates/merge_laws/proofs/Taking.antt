@@ -1,4 +1,4 @@
--- Inserting the new items, the last one first, each at the index that a search found, gives the union.
+-- Inserting all new items at the indices that searches found, the last item first, gives the union.
 use Rattle.std.proofs.Common.{◌≡◌, suc, ◌+◌, ◌≤◌, arith, true, false, not, cond, List, [], ◌∷◌, ◌++◌, append-nil, take, drop, take-append-drop, Option, Some, None, refl, sym, ap, subst, ◌∙◌, ℕ}
 use Rattle.std.specs.Prelude.{reverse, is_some}
 use Rattle.std.specs.Option.{option_or}
@@ -58,7 +58,6 @@ module _ {K E : Type 0} {R : K → K → Ordering} (key : E → K) (o : IsTotalO
             record { below = subst (λ i. AllBelow key o k (take i (e ∷ es))) behind (lower, rest.below); above = subst (λ i. Below key o k (drop i (e ∷ es))) behind rest.above }
       ] refl
 
-  -- a look-up of a lower key needs only the items below k
   below_finds : (w k : K) (es : List E) → IsRising R key es → R w k ≡ Less → item_at R key w (take (place_of R key k es) es) ≡ item_at R key w es
   below_finds w k [] h p = refl
   below_finds w k (e ∷ es) h p =
@@ -121,7 +120,6 @@ module _ {K E : Type 0} {R : K → K → Ordering} (key : E → K) (o : IsTotalO
       ap reverse (flat_map-append (new_item R key es) fs (f ∷ []) ∙ ap (λ ns. new_items R key es fs ++ ns) (append-nil (new_item R key es f)))
       ∙ reverse-append (new_items R key es fs) (new_item R key es f)
 
-  -- an item that is already in the list adds nothing
   taken_there : (es fs out : List E) (f : E) → has_key R key (key f) es ≡ true → AllBelow key o (key f) fs → IsTaken es fs out → IsTaken es (fs ++ f ∷ []) out
   taken_there es fs out f has low taken = record {
     rises = taken.rises;
@@ -134,7 +132,6 @@ module _ {K E : Type 0} {R : K → K → Ordering} (key : E → K) (o : IsTotalO
     below = λ k low_es low_fs. taken.below k low_es (all_front (λ e. R (key e) k ≡ Less) fs (f ∷ []) low_fs);
   }
 
-  -- the state after a new item is inserted
   taken_new : (es fs out : List E) (f : E) → IsRising R key es → has_key R key (key f) es ≡ false → AllBelow key o (key f) fs → IsTaken (take (place_of R key (key f) es) es) fs out → IsTaken es (fs ++ f ∷ []) (out ++ f ∷ drop (place_of R key (key f) es) es)
   taken_new es fs out f h has low taken =
       let i = place_of R key (key f) es in
@@ -181,7 +178,6 @@ module _ {K E : Type 0} {R : K → K → Ordering} (key : E → K) (o : IsTotalO
   pub takes_all : (es fs : List E) → IsRising R key es → IsRising R key fs → IsTaken es fs (inserted es (reverse (new_items R key es fs)))
   takes_all es fs = from_end Takes (λ es h g. record { rises = h; at = λ q. sym (or_none (item_at R key q es)); below = λ k low_es low_fs. low_es }) takes_more fs es
 
-  -- a greater key does not have a lower index
   places_rise : (j k : K) (es : List E) → R j k ≡ Less → place_of R key j es ≤ place_of R key k es
   places_rise j k [] p = omega arith
   places_rise j k (e ∷ es) p =
@@ -202,7 +198,6 @@ module _ {K E : Type 0} {R : K → K → Ordering} (key : E → K) (o : IsTotalO
     | false ↦ (places_rise k (key f) es h.0, none_before k es fs h.1)
   ]
 
-  -- new items are listed in ascending order of their indices
   pub first_least : (end : ℕ) (es fs : List E) → IsRising R key fs → IsFirstLeast end (new_items R key es fs)
   unfolding IsStrictlySortedBy
   first_least end es [] h = tt

@@ -26,7 +26,6 @@ module _ {K : Type 0} {R : K → K → Ordering} (o : IsTotalOrder R) where
       same_items itself o _ _ taken.rises (rises_union itself o older (λ _ _. refl) xs ys g) (λ q.
       taken.at q ∙ older_or (item_at R itself q xs) (item_at R itself q ys) ∙ sym (item_at-union itself o older (λ _ _. refl) q xs ys g h))
 
-  -- the union of the empty set and another is the other
   pub set_of_other : ((x y : K) → R x y ≡ Equal → x ≡ y) → (xs ys : List K) → length xs ≡ 0 → IsSet R ys → set_union R xs ys ≡ ys
   set_of_other exact [] ys none h = set_commutes o exact [] ys (nothing_rises itself o) h
   set_of_other exact (x ∷ xs) ys none h = absurd (omega (arith, none))

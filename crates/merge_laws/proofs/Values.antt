@@ -28,7 +28,6 @@ module _ {K V : Type 0} where
   set_is_value (e ∷ es) (suc i) v x is = ap (λ s. e ∷ s) (set_is_value es i v x is)
 
 module _ {K V : Type 0} {R : K → K → Ordering} (o : IsTotalOrder R) where
-  -- replacing a value does not change the keys
   below_kept : (k : K) (i : ℕ) (v : V) (es : List (K × V)) → Below entry_key o k es → Below entry_key o k (with_value i v es)
   below_kept k i v [] h = tt
   below_kept k zero v (e ∷ es) h = h
@@ -96,7 +95,7 @@ module _ {K V : Type 0} {R : K → K → Ordering} (o : IsTotalOrder R) where
     none_above q [] h = refl
     none_above q (f ∷ fs) h = ap (λ r. cond (is_eq r) (Some f) (item_at R entry_key q fs)) (o.antisymm q f.0 ∙ ap ordering_reverse h.0) ∙ none_above q fs h.1
 
-    -- adding an entry whose key only the others have changes no value
+    -- an entry with a new key changes no value
     other_alone : (es fs out : List (K × V)) (f : K × V) → item_at R entry_key f.0 es ≡ None → IsRevalued es fs out → IsRevalued es (fs ++ f ∷ []) out
     other_alone es fs out f none before = record {
       rises = before.rises;
@@ -109,7 +108,7 @@ module _ {K V : Type 0} {R : K → K → Ordering} (o : IsTotalOrder R) where
       ] refl;
     }
 
-    -- adding an entry whose key both maps have sets the merged value at the key
+    -- an entry with a shared key sets the merged value
     other_shared : (es fs out : List (K × V)) (f e : K × V) → item_at R entry_key f.0 es ≡ Some e → AllBelow entry_key o f.0 fs → IsRevalued es fs out → IsRevalued es (fs ++ f ∷ []) (with_value (place_of R entry_key f.0 es) (merged e.1 f.1) out)
     other_shared es fs out f e here low before =
         let v = merged e.1 f.1 in
@@ -147,7 +146,6 @@ module _ {K V : Type 0} {R : K → K → Ordering} (o : IsTotalOrder R) where
     pub revalues_all : (es fs : List (K × V)) → IsRising R entry_key es → IsRising R entry_key fs → IsRevalued es fs (with_values es (new_values R merged es fs))
     revalues_all es fs h = from_end (Revalues es) (λ g. record { rises = h; has = λ k. refl; place = λ k. refl; at = λ q. sym (no_others (item_at R entry_key q es)) }) (revalues_more es) fs
 
-    -- a key of the map has an index below the length
     place_within : (k : K) (es : List (K × V)) → IsRising R entry_key es → has_key R entry_key k es ≡ true → place_of R entry_key k es < length es
     place_within k [] h has = absurd (true≢false (sym has))
     place_within k (e ∷ es) h has =

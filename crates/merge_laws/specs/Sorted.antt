@@ -1,5 +1,4 @@
--- Lists of items in the strict order of their keys (own). The items of a set are their own keys. The items of a map have a key
--- and a value.
+-- Lists whose items have strictly ascending keys (own).
 use Rattle.std.specs.Prelude.{Bool, List, Option, is_some}
 use Rattle.std.specs.List.{AllByRecursion, find}
 use Rattle.std.specs.List.Sorted.{IsStrictlySortedBy}

@@ -29,14 +29,14 @@ older x y = x
 abbrev pub merged_entries : {K V : Type 0} → (V → V → V) → K × V → K × V → K × V
 merged_entries merged e f = (e.0, merged e.1 f.1)
 
--- a set with an item inserted, and the union of two sets
+-- a set with an item inserted
 abbrev pub set_with : {K : Type 0} → (K → K → Ordering) → K → List K → List K
 set_with R = with_item R itself older
 
 abbrev pub set_union : {K : Type 0} → (K → K → Ordering) → List K → List K → List K
 set_union R = union_of R itself older
 
--- a map after a value is put at a key, and the union of two maps
+-- a map after a value is put at a key
 abbrev pub map_with : {K V : Type 0} → (K → K → Ordering) → (V → V → V) → K → V → List (K × V) → List (K × V)
 map_with R merged k v = with_item R entry_key (merged_entries merged) (k, v)
 

@@ -1,4 +1,4 @@
--- Definitions that only private code cites: how values are stored, and intermediate laws. No public contract uses them.
+-- Definitions that no public contract uses.
 pub mod Few
 pub mod Insertions
 pub mod Items

@@ -15,11 +15,10 @@ use std::alloc::{AllocError, Global};
 pub(crate) struct Changes<K: Drop, V: Drop> {
     /// The merged values of the keys that both maps have, each with the index of its key.
     pub(crate) values: Vec<(usize, V)>,
-    /// The entries with new keys, each with the index before which it is inserted.
+    /// The entries with new keys, each with the index at which it is inserted.
     pub(crate) new_entries: Vec<(usize, (K, V))>,
 }
 
-/// Returns the changes that merging the other entries makes. New keys and values are copied.
 pub(crate) fn changes_by<K: Key, V: Merge>(
     alloc: Global,
     entries: &[(K, V)],
@@ -41,8 +40,7 @@ pub(crate) fn changes_by<K: Key, V: Merge>(
     Ok(changes)
 }
 
-/// Returns the changes that merging the other entries makes. It consumes them, so nothing is
-/// copied: new entries are moved, and the value of a shared key is merged into the other entry.
+/// Does the same as `changes_by`, but consumes the other entries, so nothing is copied.
 pub(crate) fn changes_of<K: Key, V: Merge>(
     alloc: Global,
     entries: &[(K, V)],
@@ -67,8 +65,6 @@ pub(crate) fn changes_of<K: Key, V: Merge>(
 }
 
 impl<K: Key, V: Merge> Changes<K, V> {
-    // Adds the changes that one more entry makes, and returns the index of its key. The key must be
-    // above all keys before index `from`.
     fn add(
         &mut self,
         alloc: Global,
@@ -97,7 +93,6 @@ impl<K: Key, V: Merge> Changes<K, V> {
         }
     }
 
-    // Does the same as `add`, but consumes the other entry.
     fn take(
         &mut self,
         alloc: Global,
@@ -129,9 +124,6 @@ impl<K: Key, V: Merge> Changes<K, V> {
         }
     }
 
-    /// Applies the changes to the entries.
-    ///
-    /// Errors: out of memory; the entries are then unchanged.
     pub(crate) fn make(self, entries: &mut Vec<(K, V)>) -> Result<(), AllocError>
         requires values { AllByRecursion (λ c. c.0 < vec_len entries.old) self.values.items }
         requires new_entries { IsFirstLeast (vec_len entries.old) self.new_entries.items }
@@ -145,7 +137,6 @@ impl<K: Key, V: Merge> Changes<K, V> {
     }
 }
 
-// Replaces the values at these indices.
 fn set_values<K: Drop, V: Drop>(entries: &mut Vec<(K, V)>, values: Vec<(usize, V)>)
     requires { AllByRecursion (λ c. c.0 < vec_len entries.old) values.items }
     ensures items { entries.new.items ≡ with_values entries.old.items values.items }

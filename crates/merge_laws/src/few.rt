@@ -7,8 +7,7 @@ use oim_names::{Copied, Key};
 use std::alloc::{AllocError, Global};
 use std::marker::Model;
 
-/// A list whose contracts see only its items. A single item is stored in the list itself and takes
-/// no memory on the heap.
+/// A list that stores a single item without heap memory. Contracts see only the items.
 #[derive(Drop)]
 pub(crate) struct Few<T: Key> {
     room: Room<T>,
@@ -62,9 +61,6 @@ impl<T: Key> Few<T> {
         }
     }
 
-    /// Returns the items as a `Vec`.
-    ///
-    /// Errors: out of memory; the items are then lost.
     pub(crate) fn into_list(self) -> Result<Vec<T>, AllocError>
         ensures { IfOk result (λ items. items.items ≡ self) }
     {
@@ -75,9 +71,6 @@ impl<T: Key> Few<T> {
         }
     }
 
-    /// Inserts an item before the index `place`, or at the end.
-    ///
-    /// Errors: out of memory; the items are then unchanged.
     pub(crate) fn insert(&mut self, place: usize, item: T) -> Result<(), AllocError>
         requires { place ≤ length self.old }
         ensures ok { OnOk result (self.new ≡ insert self.old place item) }
@@ -93,10 +86,6 @@ impl<T: Key> Few<T> {
         Ok(())
     }
 
-    /// Inserts new items. Each has the index of the item before which it is inserted, and indices
-    /// ascend.
-    ///
-    /// Errors: out of memory; the items are then unchanged.
     pub(crate) fn insert_new(&mut self, news: Vec<(usize, T)>) -> Result<(), AllocError>
         requires { IsFirstLeast (length self.old) news.items }
         ensures ok { OnOk result (self.new ≡ inserted self.old (reverse news.items)) }
@@ -124,7 +113,6 @@ impl<T: Key> Copied for Few<T> {
     }
 }
 
-// Returns copies of the items, with capacity for more.
 fn copies_of<T: Copied>(alloc: Global, items: &[T], more: usize) -> Result<Vec<T>, AllocError>
     ensures { IfOk result (λ copies. copies.items ≡ items.now) }
 {

@@ -3,11 +3,8 @@ ghost use Rattle.merge_laws.specs.code.Insertions.{IsFirstLeast, first_place, in
 
 use std::alloc::AllocError;
 
-// Each new item has the index of the item before which it is inserted, and indices ascend.
+// Each new item has the index of the item before which it is inserted. The indices ascend.
 
-/// Inserts the new items.
-///
-/// Errors: out of memory; the items are then unchanged.
 pub(crate) fn insert_new<E: Drop>(
     items: &mut Vec<E>,
     news: Vec<(usize, E)>,
@@ -21,8 +18,7 @@ pub(crate) fn insert_new<E: Drop>(
     Ok(())
 }
 
-/// Reserves all the memory that `insert_all` needs: capacity in the list, and a list for the items
-/// that are moved.
+/// Reserves all memory that `insert_all` needs, so that an insertion cannot fail halfway.
 pub(crate) fn room_for<E: Drop>(
     items: &mut Vec<E>,
     news: &[(usize, E)],
@@ -41,7 +37,7 @@ pub(crate) fn room_for<E: Drop>(
     Vec::with_capacity(*items.allocator(), moved + news.len())
 }
 
-/// Inserts the new items. Only items after the first insertion are moved.
+/// Moves only the items after the first insertion.
 pub(crate) fn insert_all<E: Drop>(items: &mut Vec<E>, mut news: Vec<(usize, E)>, mut above: Vec<E>)
     requires order { IsFirstLeast (vec_len items.old) news.items }
     requires empty { above.items ≡ [] }
@@ -56,7 +52,6 @@ pub(crate) fn insert_all<E: Drop>(items: &mut Vec<E>, mut news: Vec<(usize, E)>,
     lower(items, above);
 }
 
-// Moves the items from an index on to the end of `above`, the last item first.
 fn lift<E: Drop>(items: &mut Vec<E>, place: usize, above: &mut Vec<E>)
     requires { vec_len above.old + (vec_len items.old - place) ≤ vec_capacity above.old }
     ensures items { items.new.items ≡ take place items.old.items }
@@ -71,7 +66,6 @@ fn lift<E: Drop>(items: &mut Vec<E>, place: usize, above: &mut Vec<E>)
     }
 }
 
-// Moves the items back, in reverse order.
 fn lower<E: Drop>(items: &mut Vec<E>, mut above: Vec<E>)
     requires { vec_len items.old + vec_len above ≤ vec_capacity items.old }
     ensures { items.new.items ≡ items.old.items ++ reverse above.items }

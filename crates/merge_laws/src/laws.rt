@@ -15,8 +15,8 @@ pub fn set_has_both<T: Key>()
 {}
 
 /// The union of two maps has the keys of both. If both have a key, its value is the merge of their
-/// values. After `put`, a map also has the key, with the merged value if it had one before. A
-/// look-up finds a value at a key exactly if the map has this entry.
+/// values. `put` adds a key with its value, or merges the value into the one at the key. A look-up
+/// finds a value at a key exactly if the map has this entry.
 pub fn map_has_both<K: Key, V: Merge>()
     ensures told { MapTellsEntry K.cmp V.merged }
     ensures union { MapUnionHasBoth K.cmp V.merged }
@@ -40,14 +40,14 @@ pub fn set_is_its_members<T: Key>()
     ensures { SetIsItsMembers T.cmp }
 {}
 
-/// Maps that have the same value, or none, at each key are equal.
+/// Two maps are equal if they have the same value, or none, at each key.
 pub fn map_is_its_values<K: Key, V: Merge>()
     ensures { MapIsItsValues K.cmp V }
 {}
 
-/// Suppose that the merge of two values passes a test of key and value if both values pass it. Then
-/// all entries of a union pass it if the entries of both maps do. All entries of a map after `put`
-/// pass it if its entries and the new one do.
+/// Take a test of key and value that the merge of two values passes if both values pass it. If all
+/// entries of two maps pass the test, so do all entries of their union. The same holds after `put`
+/// if the new entry passes it too.
 pub fn map_keeps_what_merging_keeps<K: Key, V: Merge>()
     ensures union { MapUnionKeeps K.cmp V.merged }
     ensures put { MapWithKeeps K.cmp V.merged }

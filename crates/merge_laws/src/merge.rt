@@ -23,10 +23,10 @@ pub trait Merge: Copied {
     fn known(&self)
         ensures { is_known self.now };
 
-    /// The merge of two values has the property, too.
+    /// The merge of two values has the property too.
     ghost closed: { (x y : Self) → is_known x → is_known y → is_known (merged x y) };
 
-    /// Merging three values gives the same result whichever two are merged first.
+    /// Merging three values gives the same result in either grouping.
     ghost associative: { (x y z : Self) → is_known x → is_known y → is_known z → merged (merged x y) z ≡ merged x (merged y z) };
 
     /// Merging two values gives the same result in either order.

@@ -8,9 +8,8 @@ ghost use Rattle.merge_laws.specs.Sorted.{IsRising};
 use oim_names::Key;
 use std::cmp::Ordering;
 
-/// An item of a list that is sorted by keys and can be searched.
+/// An item of a list that is sorted by keys.
 pub(crate) trait Keyed<K: Key> {
-    /// The key of the item.
     ghost key_of: { Self → K };
 
     fn key(&self) -> &K
@@ -38,8 +37,7 @@ impl<K: Key, V> Keyed<K> for (K, V) {
     }
 }
 
-/// Returns the index of the key, or the index at which to insert it. A key above the last one takes
-/// a single comparison, so adding keys in order needs no search.
+/// A key above the last one takes a single comparison, so adding keys in order needs no search.
 pub(crate) fn find<K: Key, E: Keyed<K>>(items: &[E], key: &K) -> Result<usize, usize>
     requires { IsRising K.cmp E.key_of items.now }
     ensures place { result ≡ found_at K.cmp E.key_of key.now items.now }
@@ -51,8 +49,7 @@ pub(crate) fn find<K: Key, E: Keyed<K>>(items: &[E], key: &K) -> Result<usize, u
     }
 }
 
-/// Does the same as `find` for a key above all keys before index `from`. It searches from there in
-/// steps that double, so a near key takes few steps.
+/// Searches from index `from` in steps that double, so a near key takes few steps.
 pub(crate) fn find_from<K: Key, E: Keyed<K>>(
     items: &[E],
     key: &K,
@@ -78,8 +75,7 @@ pub(crate) fn find_from<K: Key, E: Keyed<K>>(
     halve(items, key, low, items.len())
 }
 
-// Does the same as `find`, by binary search, for a key above all keys before `from` and below all
-// keys from `to` on.
+// Binary search.
 fn halve<K: Key, E: Keyed<K>>(items: &[E], key: &K, from: usize, to: usize) -> Result<usize, usize>
     requires rises { IsRising K.cmp E.key_of items.now }
     requires order { from ≤ to }

@@ -11,7 +11,7 @@ use oim_names::{Copied, Key};
 use std::alloc::{AllocError, Global};
 use std::marker::Model;
 
-/// A map. Contracts see its entries in the order of their keys, each key once.
+/// A map whose values merge. Contracts see its entries in the order of their keys, each key once.
 #[derive(Drop)]
 pub struct SortedMap<K: Key, V: Merge> {
     entries: Vec<(K, V)>,
@@ -29,7 +29,7 @@ impl<K: Key, V: Merge> Model for SortedMap<K, V> {
 }
 
 impl<K: Key, V: Merge> SortedMap<K, V> {
-    /// Returns an empty map. Later calls take their memory from `alloc`.
+    /// Returns an empty map. Later calls allocate from `alloc`.
     pub fn new(alloc: Global) -> Self
         ensures { result ≡ [] }
     {
@@ -66,8 +66,8 @@ impl<K: Key, V: Merge> SortedMap<K, V> {
         }
     }
 
-    /// Merges the other map in, as `merge` does, but consumes it. New entries are moved, and values
-    /// of shared keys are not copied.
+    /// Merges the other map into this one, as `merge` does, but consumes it. New entries are moved,
+    /// and values of shared keys are not copied.
     ///
     /// Errors: out of memory; the map is then unchanged, and the other is lost.
     pub fn absorb(&mut self, other: Self) -> Result<(), AllocError>
@@ -122,7 +122,7 @@ impl<K: Key, V: Merge> Copied for SortedMap<K, V> {
     }
 }
 
-// Does nothing. Its contract states the property that each value has.
+// Does nothing. Its contract states that each value has the property `is_known`.
 fn know_values<K, V: Merge>(entries: &[(K, V)])
     ensures { AllByRecursion (λ e. V.is_known e.1) entries.now }
 {
@@ -144,8 +144,8 @@ fn copies_of<K: Copied, V: Copied>(
     Ok(copies)
 }
 
-/// A merged map has the keys of both. At a shared key, the values are merged in a copy, so that
-/// nothing changes if memory is refused. Other entries of the map stay, and new ones are copied.
+/// A merged map has the keys of both maps. Values of shared keys are merged in a copy, so that
+/// nothing changes if memory is refused.
 impl<K: Key, V: Merge> Merge for SortedMap<K, V> {
     ghost use Rattle.merge_laws.specs.Sorted.{IsMap};
     ghost use Rattle.merge_laws.specs.Union.{map_union};

@@ -28,7 +28,7 @@ impl<T: Key> Model for SortedSet<T> {
 }
 
 impl<T: Key> SortedSet<T> {
-    /// Returns an empty set. Later calls take their memory from `alloc`.
+    /// Returns an empty set. Later calls allocate from `alloc`.
     pub fn new(alloc: Global) -> Self
         ensures { result ≡ [] }
     {
@@ -37,7 +37,7 @@ impl<T: Key> SortedSet<T> {
         }
     }
 
-    /// Returns the set of one item, which takes no memory on the heap.
+    /// Returns the set of one item. It does not allocate.
     pub fn of_one(alloc: Global, item: T) -> Self
         ensures { result ≡ item ∷ [] }
     {
@@ -74,7 +74,7 @@ impl<T: Key> SortedSet<T> {
         }
     }
 
-    /// Merges the other set in, as `merge` does, but consumes it. New items are moved.
+    /// Merges the other set into this one, as `merge` does, but consumes it. New items are moved.
     ///
     /// Errors: out of memory; the set is then unchanged, and the other is lost.
     pub fn absorb(&mut self, other: Self) -> Result<(), AllocError>
@@ -107,8 +107,6 @@ impl<T: Key> Copied for SortedSet<T> {
     }
 }
 
-// Returns copies of the others that are not among the items, each with the index before which it is
-// inserted.
 fn new_among<T: Key>(
     alloc: Global,
     items: &[T],
@@ -132,7 +130,6 @@ fn new_among<T: Key>(
     Ok(news)
 }
 
-// Does the same as `new_among`, but consumes the others. New items are moved.
 fn new_of<T: Key>(alloc: Global, items: &[T], others: Vec<T>) -> Result<Vec<(usize, T)>, AllocError>
     requires items { IsSet T.cmp items.now }
     requires others { IsSet T.cmp others.items }
@@ -152,7 +149,7 @@ fn new_of<T: Key>(alloc: Global, items: &[T], others: Vec<T>) -> Result<Vec<(usi
     Ok(news)
 }
 
-/// A merged set is the union. Items of the set stay, and new ones are copied.
+/// Merging two sets gives their union.
 impl<T: Key> Merge for SortedSet<T> {
     ghost use Rattle.merge_laws.specs.Sorted.{IsSet};
     ghost use Rattle.merge_laws.specs.Union.{set_union};

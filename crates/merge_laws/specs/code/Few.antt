@@ -1,4 +1,4 @@
--- The private representation of a list (own). No public clause cites this module.
+-- How the code stores short lists (own).
 use Rattle.std.specs.Prelude.{List}
 use Rattle.merge_laws.specs.declared.few.Room.{Room}
 use Rattle.merge_laws.specs.declared.few.Room.TheVariants.{One, Many}

@@ -1,5 +1,4 @@
--- The changes that merging one list into another makes (own): new items, each with the index before which it is inserted, and
--- merged values. Private functions ensure these as steps towards a union, which Union defines.
+-- The changes that merging one list into another makes (own): new items and merged values, each with its index.
 use Rattle.std.specs.Prelude.{ℕ, zero, suc, ◌≤◌, if◌then◌else◌, List, [], ◌∷◌, ◌++◌, take, drop, Option, Some, None, Result, Ok, Err, not}
 use Rattle.std.specs.List.{AllByRecursion, flat_map, position_or_len}
 use Rattle.std.specs.declared.cmp.Ordering.{Ordering}

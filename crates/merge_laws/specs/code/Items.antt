@@ -40,7 +40,6 @@ module _ {K E : Type 0} {R : K → K → Ordering} (key : E → K) (o : IsTotalO
   pub turned_greater : (x y : K) → R x y ≡ Greater → R y x ≡ Less
   turned_greater x y p = o.antisymm y x ∙ ap ordering_reverse p
 
-  -- a look-up of a key below the keys of all items finds nothing
   pub none_below : (q : K) (es : List E) → Below q es → item_at R key q es ≡ None
   none_below q [] h = refl
   none_below q (e ∷ es) h = ap (λ r. cond (is_eq r) (Some e) (item_at R key q es)) h.0 ∙ none_below q es h.1
@@ -51,7 +50,6 @@ module _ {K E : Type 0} {R : K → K → Ordering} (key : E → K) (o : IsTotalO
   at_first : (e : E) (es : List E) → item_at R key (key e) (e ∷ es) ≡ Some e
   at_first e es = ap (λ r. cond (is_eq r) (Some e) (item_at R key (key e) es)) (tied_itself o (key e))
 
-  -- keys that compare as equal find the same item
   pub same_found : (p q : K) (es : List E) → R p q ≡ Equal → item_at R key p es ≡ item_at R key q es
   same_found p q [] t = refl
   same_found p q (e ∷ es) t = λ i. cond (is_eq (o.congr p q (key e) t i)) (Some e) (same_found p q es t i)
