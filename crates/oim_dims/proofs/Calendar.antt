@@ -37,7 +37,6 @@ date_is date y m d h few_y few_m few_d =
     let ed : date.day ≡ d = omega (arith, ints, h.2) in
     (rw (ey, em, ed) at (civil date), rw (ey, em, ed) refl)
 
--- a date in the calendar passes the tests of `has_date`
 pub is_real : (y m d : ℕ) → 1 ≤ y → IsCivilDate (pos y) m d → (nat_le 1 y && is_in_range 1 12 m && is_in_range 1 (days_in_month (pos y) m) d) ≡ true
 is_real y m d low h = grind (arith, nat_tests)
 
@@ -56,7 +55,6 @@ greatest_is p (suc n) k h low here above =
       | inr le ↦ let e : k ≡ suc n = omega arith in let passes = rw e at here in rw passes (sym e)
     ]
 
--- a lesser count of days gives a lesser day number
 earlier : (a b : ℤ) (m d n e : ℕ) → day_count a m d < day_count b n e → days_from_civil a m d <ℤ days_from_civil b n e
 earlier a b m d n e h = omega (arith, signed_arith, days_from_civil-day_count a m d, days_from_civil-day_count b n e)
 
@@ -107,7 +105,6 @@ date_parts date z is low =
     let first : 1 ≤ y = (positive date.year some).1 in
     (e ∙ ap pos (sym (year_is y date.month date.day first real) ∙ ap year_of here), sym (month_is y date.month date.day first real) ∙ ap month_of here, sym (day_is y date.month date.day first real) ∙ ap day_of here)
 
--- 1970-01-01 is day 0
 pub epoch_is_zero : (date : Date) → IsYmd (pos 1970) (pos 1) (pos 1) date → epoch_day date ≡ pos 0
 epoch_is_zero date h =
     let ey : date.year ≡ pos 1970 = h.0 in

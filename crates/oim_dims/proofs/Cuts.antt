@@ -4,7 +4,6 @@ use mathlib.Core.Bool.{◌||◌}
 use Rattle.std.specs.List.{position_or_len, before_first, after_first, list_any}
 use Rattle.std.proofs.Math.Seq.{take-append_seam}
 
--- nothing in a list passes the test if `position_or_len` returns the length
 pub none_passes : (p : ℕ → Bool) (xs : List ℕ) → position_or_len p xs ≡ length xs → list_any p xs ≡ false
 none_passes p [] h = refl
 none_passes p (x ∷ xs) h =
@@ -21,7 +20,6 @@ no_place p (x ∷ xs) h =
       | false ↦ λ e. let rest = no_place p xs (rw e at h) in rw (e, rest) (omega arith)
     ] refl
 
--- if nothing in xs passes the test and c does, the index of c is the first that passes
 place_after : (p : ℕ → Bool) (xs ys : List ℕ) (c : ℕ) → list_any p xs ≡ false → p c ≡ true → position_or_len p (xs ++ c ∷ ys) ≡ length xs
 place_after p [] ys c none here = rw here refl
 place_after p (x ∷ xs) ys c none here =

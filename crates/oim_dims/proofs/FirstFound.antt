@@ -14,14 +14,12 @@ mapped_some v None = refl
 mapped_some v (Some a) = refl
 
 module _ {A B : Type 0} (v : A → B) (test : B → Bool) (xs ys : List B) where
-  -- the first list has what is searched for
   pub in_first : (a : A) → option_map v (Some a) ≡ find test xs → option_map v (Some a) ≡ find test (xs ++ ys)
   in_first a found = sym (find-append test xs ys ∙ ap (λ o. option_or o (find test ys)) (sym found))
 
   pub some_first : (a : A) → option_map v (Some a) ≡ find test xs → true ≡ (list_any test xs || list_any test ys)
   some_first a found = ap (λ b. b || list_any test ys) (ap is_some found ∙ some_found test xs)
 
-  -- only the second list may have it
   pub in_second : (o : Option A) → option_map v None ≡ find test xs → option_map v o ≡ find test ys → option_map v o ≡ find test (xs ++ ys)
   in_second o none found = sym (find-append test xs ys ∙ ap (λ q. option_or q (find test ys)) (sym none) ∙ sym found)
 

@@ -19,7 +19,6 @@ lower_letter_or_digit c = grind (arith, nat_tests)
 lower_twice : (c : ℕ) → to_ascii_lowercase (to_ascii_lowercase c) ≡ to_ascii_lowercase c
 lower_twice c = grind (arith, nat_tests)
 
--- lower case does not change the result of a test that ignores case
 lower_all : (p : ℕ → Bool) → ((c : ℕ) → p (to_ascii_lowercase c) ≡ p c) → (xs : List ℕ) → list_all p (str_to_ascii_lowercase xs) ≡ list_all p xs
 lower_all p same [] = refl
 lower_all p same (x ∷ xs) = rw (same x, lower_all p same xs) refl

@@ -85,7 +85,6 @@ parts z h =
 clock_shows : (h n s : ℕ) → h < 24 → n < 60 → s < 60 → (nat_le n 59 && nat_le s 59 && nat_le (3600 * h + 60 * n + s) DAY_SECONDS) ≡ true
 clock_shows h n s hh hn hs = grind (arith, nat_tests)
 
--- the text of a moment's parts denotes the moment
 spelled_back : (z : ℤ) (y m d h n s : ℕ) → IsMoment z → AreParts z y m d h n s → moment_of (spelled y m d h n s) ≡ Some z
 unfolding has_date has_time day_number second_of_day
 spelled_back z y m d h n s moment p =
@@ -106,7 +105,6 @@ pub moment_back : (z : ℤ) → IsMoment z → moment_of (moment_text z) ≡ Som
 unfolding moment_text date_text time_text
 moment_back z h = spelled_back z _ _ _ _ _ _ h (parts z h)
 
--- a byte of 48 or more is not `/`
 not_slash : (k : ℕ) → is_slash (48 + k) ≡ false
 not_slash k = grind (arith, nat_tests)
 

@@ -26,7 +26,6 @@ none_of_three true true c h k l = cc
 none_of_three true false true h k l = cc
 none_of_three true false false h k l = refl
 
--- a piece that passes the three tests is not refused as a name
 piece_named : (bs : List Binding) (p : List ℕ) → lacks_form is_name p ≡ false → lacks_binding is_name bs p ≡ false → lies_in_reserved is_name bs p ≡ false → name_refusal bs p ≡ None
 piece_named bs p h k l = none_of_three (is_name p) (is_unbound bs p) (is_reserved bs p) h k l
 
@@ -64,11 +63,9 @@ unit_named bs t h =
     let c = or_parts _ _ e.3 in
     record { form = e.0; numerators = all_named bs (numerator_pieces t) a.0 b.0 c.0; denominators = all_named bs (denominator_pieces t) a.1 b.1 c.1 }
 
--- out of memory is the only error for a name that is not refused
 pub only_memory : (bs : List Binding) (p : List ℕ) (e : Reason) → name_refusal bs p ≡ None → (e ≡ OutOfMemory) ⊎ (name_refusal bs p ≡ Some e) → e ≡ OutOfMemory
 only_memory bs p e none h = elim h [ inl memory ↦ memory | inr refused ↦ absurd (cc (sym none ∙ refused)) ]
 
--- a text without reserved characters has none after its first n bytes
 no_mark_after : (n : ℕ) (p : List ℕ) → list_any is_mark p ≡ false → list_any is_mark (drop n p) ≡ false
 no_mark_after zero p h = h
 no_mark_after (suc n) [] h = refl
@@ -86,7 +83,6 @@ measure_of_piece bs p n were e h =
       plain = rw e.local_part (no_mark_after _ p plain);
     }
 
--- the names that pieces expand to are measures
 pub measures_of_pieces : (bs : List Binding) (ps : List (List ℕ)) (ns : List QName) → AreBindings bs → AllZip (Expands bs) ps ns → list_all is_piece ps ≡ true → All IsMeasure ns
 measures_of_pieces bs [] [] were z h = λ j d lt. absurd (omega arith)
 measures_of_pieces bs [] (n ∷ ns) were z h = absurd z
@@ -95,7 +91,6 @@ measures_of_pieces bs (p ∷ ps) (n ∷ ns) were z h =
     let b = and_parts (is_piece p) (list_all is_piece ps) h in
     All-cons IsMeasure n ns (measure_of_piece bs p n were z.0 b.0) (measures_of_pieces bs ps ns were z.1 b.1)
 
--- a side has at least one piece
 onto_some : (c : ℕ) (ps : List (List ℕ)) → 0 < length (onto_first c ps)
 onto_some c [] = omega arith
 onto_some c (p ∷ ps) = omega arith
@@ -113,7 +108,6 @@ long bs (p ∷ ps) (n ∷ ns) z = omega (arith, long bs ps ns z.1)
 pub side_some : (bs : List Binding) (s : List ℕ) (ns ms : List QName) → AllZip (Expands bs) (slice_split is_star s) ns → length ms ≡ length ns → ms ≢ []
 side_some bs s ns ms z same e = let none : length ms ≡ 0 = ap length e in omega (arith, long bs (slice_split is_star s) ns z, split_some s)
 
--- a list of length 1 has only its first name
 pub alone_is : (ns : List QName) (n : QName) → length ns ≡ 1 → n ≡ get_or ns 0 n → ns ≡ n ∷ []
 alone_is [] n one h = absurd (omega arith)
 alone_is (m ∷ []) n one h = ap (λ x. x ∷ []) (sym h)

@@ -18,7 +18,6 @@ use Rattle.oim_dims.specs.Unit.{Measures, NamesEach, HasMeasures, unit_refusal, 
 use Rattle.oim_dims.proofs.Naming.{unit_named}
 use Rattle.oim_dims.proofs.SortedOnce.{sorted_once}
 
--- pieces expand to at most one list of names
 same_names : (bs : List Binding) (ps : List (List ℕ)) (ms ns : List QName) → AllZip (Expands bs) ps ms → AllZip (Expands bs) ps ns → ms ≡ ns
 same_names bs [] [] [] a b = refl
 same_names bs [] [] (n ∷ ns) a b = absurd b
@@ -38,7 +37,6 @@ one_unit_of bs t m n a b mu md nu nd =
     let down = one_side bs (denominator_pieces t) m.denominators n.denominators a.denominators b.denominators md nd in
     λ i. record { numerators = up i; denominators = down i }
 
--- lists of at most one name are sorted
 alone_sorted : (n : QName) → IsSorted name_cmp (n ∷ [])
 alone_sorted n k d low within = absurd (omega arith)
 

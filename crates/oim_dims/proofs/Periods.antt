@@ -18,11 +18,9 @@ not_less m = grind (arith, ints)
 one_moment : (t : List ℕ) (m : ℤ) → list_any is_slash t ≡ false → start_part t ≡ t → moment_of t ≡ Some m → period_of t ≡ Ok (Instant m)
 one_moment t m none start h = rw (none, start, h, not_less m) refl
 
--- a text without `/` denotes an instant if it denotes a moment
 pub alone : (t : List ℕ) (m : ℤ) → position_or_len is_slash t ≡ length t → moment_of t ≡ Some m → Ok (Instant m) ≡ period_of t
 alone t m whole h = sym (one_moment t m (none_passes is_slash t whole) (rw whole (take_all (length t) t (omega arith))) h)
 
--- the text of a moment has no `/` and denotes the moment
 moment_alone : (m : ℤ) → IsMoment m → period_of (moment_text m) ≡ Ok (Instant m)
 moment_alone m h = sym (alone (moment_text m) m (no_place is_slash (moment_text m) (moment_has_no m)) (moment_back m h))
 
@@ -33,7 +31,6 @@ two_moments start end s e rises =
     let earlier : int_lt start end ≡ true = grind (arith, ints) in
     rw (h.some, h.before, h.after, moment_back start s, moment_back end e, later, earlier) refl
 
--- the text of a period denotes it
 pub period_back : PeriodsReadBack
 period_back Forever h = tt
 period_back (Instant m) h = moment_alone m h.moments

@@ -9,11 +9,9 @@ use Rattle.std.specs.List.{list_all, zip}
 use Rattle.std.proofs.Math.Seq.{drop-cons}
 use Rattle.oim_dims.specs.DateTime.{matches_picture, picture, has_picture}
 
--- the text has a digit wherever the form has a 0
 digit_there : (sign c : ℕ) → matches_picture (sign, c) ≡ true → (sign == 48) ≡ true → is_ascii_digit c ≡ true
 digit_there sign c h zero_sign = rw zero_sign at h
 
--- the first n characters are digits if the form has zeros there
 front_digits : (n : ℕ) (ps cs : List ℕ) → length ps ≡ length cs → list_all matches_picture (zip ps cs) ≡ true → list_all (λ sign. sign == 48) (take n ps) ≡ true → list_all is_ascii_digit (take n cs) ≡ true
 front_digits zero ps cs same h zeros = refl
 front_digits (suc n) [] [] same h zeros = refl

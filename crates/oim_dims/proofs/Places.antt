@@ -25,7 +25,6 @@ less_is Less h = refl
 less_is Equal h = cc
 less_is Greater h = cc
 
--- a name n below k is not in the list if k is below all names of the list
 below_none : (n k : QName) (es : List (QName × Member)) → name_cmp n k ≡ Less → is_below k es ≡ true → has_name n es ≡ false
 below_none n k [] less h = refl
 below_none n k (e ∷ es) less h =
@@ -33,7 +32,6 @@ below_none n k (e ∷ es) less h =
     let here : name_cmp n e.0 ≡ Less = name_total.trans n k e.0 less (less_is _ b.0) in
     rw here (below_none n k es less b.1)
 
--- a name that belongs at index i or later is not in the list if it is below the name at i
 pub below_here : (n : QName) (es : List (QName × Member)) (i : ℕ) (e : QName × Member) → i < length es → e ≡ get_or es i e → name_cmp n e.0 ≡ Less → IsPast n es i → has_name n es ≡ false
 below_here n es i e within is less h =
     let here : drop i es ≡ e ∷ drop (suc i) es = drop-cons es i e within ∙ ap (λ x. x ∷ drop (suc i) es) (sym is) in
@@ -47,7 +45,6 @@ below_all n k (e ∷ es) less h =
     let here : name_cmp n e.0 ≡ Less = name_total.trans n k e.0 less (less_is _ b.0) in
     rw here (below_all n k es less b.1)
 
--- a name below all names of the list is still below them after a greater name is added
 below_with : (k n : QName) (m : Member) (es : List (QName × Member)) → name_cmp k n ≡ Less → is_below k es ≡ true → is_below k (with_member n m es) ≡ true
 below_with k n m [] less h = rw less refl
 below_with k n m (e ∷ es) less h =
@@ -56,7 +53,6 @@ below_with k n m (e ∷ es) less h =
       | false ↦ let b = and_parts (is_lt (name_cmp k e.0)) (is_below k es) h in rw (b.0, below_with k n m es less b.1) refl
     ]
 
--- names still ascend after one is added
 pub rises_with : (n : QName) (m : Member) (es : List (QName × Member)) → rises es ≡ true → has_name n es ≡ false → rises (with_member n m es) ≡ true
 rises_with n m [] h none = refl
 rises_with n m (e ∷ es) h none =
@@ -78,7 +74,6 @@ pub still_rises : {T E : Type 0} (r : Result T E) (new es : List (QName × Membe
 still_rises (Ok x) new es place n m h none is ok err = rw (ok, is) (rises_with n m es h (not_there (has_name n es) none))
 still_rises (Err e) new es place n m h none is ok err = rw err h
 
--- a name in the list has a member
 there : (n : QName) (es : List (QName × Member)) → IsTrue (has_name n es) → (m : Member) × Contains es (n, m)
 there n [] h = absurd (cc)
 there n (e ∷ es) h =
@@ -103,7 +98,6 @@ here_at n (e ∷ es) m (suc k) within is = rw (here_at n es m k (omega arith) is
 pub names_are_there : NamesAreThere
 names_are_there n es = (there n es, λ found. here_at n es found.0 found.1.0 found.1.1 found.1.2)
 
--- an item of a list is the first item or in the rest
 head_or_tail : (e f : QName × Member) (es : List (QName × Member)) → Contains (e ∷ es) f → (e ≡ f) ⊎ Contains es f
 head_or_tail e f es c = at c.0 c.1 c.2
   where

@@ -11,7 +11,6 @@ not_same : (s t : List ℕ) (b : Bool) → bytes_eq s t ≡ b → s ≢ t → b 
 not_same s t true e ne = absurd (ne (same_bytes s t e))
 not_same s t false e ne = refl
 
--- a prefix that differs from all bound prefixes differs from a prefix with a URI
 differs : (bs : List Binding) (p u k : List ℕ) → uri_of bs p ≡ Some u → All (λ b. k ≢ b.prefix) bs → k ≢ p
 differs [] p u k e each = absurd (cc)
 differs (b ∷ bs) p u k e each =

@@ -20,7 +20,6 @@ use Rattle.oim_dims.proofs.Calendar.{day_range}
 use Rattle.oim_value.proofs.Numerals.{after_lt}
 use Rattle.oim_dims.proofs.Picture.{pictured_length, pictured_digits}
 
--- a date that passes the tests of `has_date` is in the calendar
 real_is : (y m d : ℕ) → y < 10_000 → (nat_le 1 y && is_in_range 1 12 m && is_in_range 1 (days_in_month (pos y) m) d) ≡ true → (1 ≤ y) × IsCivilDate (pos y) m d
 real_is y m d few h =
     let a = and_parts (nat_le 1 y && is_in_range 1 12 m) (is_in_range 1 (days_in_month (pos y) m) d) h in

@@ -1,4 +1,4 @@
--- Members whose names ascend are sorted members without repeats.
+-- Names ascend exactly if the members are sorted and no name is repeated.
 use Rattle.std.proofs.Common.{◌≡◌, ℕ, suc, ◌+◌, ◌<◌, Bool, true, false, List, [], ◌∷◌, length, get_or, drop, add-one, refl, sym, ap, ◌∙◌, arith}
 use Rattle.std.specs.Prelude.{◌&&◌, IsPermutation}
 use Rattle.std.specs.List.{IsDistinct, AllByRecursion}
@@ -31,7 +31,6 @@ and_false : (b : Bool) → (b && false) ≡ false
 and_false true = refl
 and_false false = refl
 
--- if the first name is below the second, all names ascend exactly if those after the first do
 pub rises_behind : (e f : Item) (es : List Item) → is_lt (name_cmp e.0 f.0) ≡ true → rises (e ∷ f ∷ es) ≡ rises (f ∷ es)
 rises_behind e f es lesser =
     ap (λ b. (b && is_below e.0 es) && (is_below f.0 es && rises es)) lesser
@@ -43,7 +42,6 @@ rises_behind e f es lesser =
 pub falls_behind : (e f : Item) (es : List Item) → is_lt (name_cmp e.0 f.0) ≡ false → rises (e ∷ f ∷ es) ≡ false
 falls_behind e f es no_lesser = ap (λ b. (b && is_below e.0 es) && (is_below f.0 es && rises es)) no_lesser
 
--- the list from an index on begins with the item at the index
 pub at_place : (es : List Item) (i : ℕ) (e : Item) → i < length es → e ≡ get_or es i e → drop i es ≡ e ∷ drop (i + 1) es
 at_place es i e within is = rw add-one (drop-cons es i e within ∙ ap (λ x. x ∷ drop (suc i) es) (sym is))
 
@@ -89,7 +87,6 @@ below_differs n (e ∷ es) h =
     let b = and_parts (is_lt (name_cmp n e.0)) (is_below n es) h in
     or_from (is_eq (name_cmp n e.0)) (has_name n es) (ap is_eq (less_is _ b.0)) (below_differs n es b.1)
 
--- names that ascend are not repeated
 pub rises_once : (es : List Item) → rises es ≡ true → repeats es ≡ false
 rises_once [] h = refl
 rises_once (e ∷ es) h =
@@ -99,7 +96,6 @@ rises_once (e ∷ es) h =
 sorted_rest : (e : Item) (es : List Item) → IsSorted item_order (e ∷ es) → IsSorted item_order es
 sorted_rest e es h k d low within = let one : suc k + 1 ≡ suc (k + 1) = omega arith in rw one at (h (suc k) d (omega arith) (omega arith))
 
--- sorted names ascend if none is repeated
 pub once_rises : (es : List Item) → IsSorted item_order es → repeats es ≡ false → rises es ≡ true
 once_rises [] sorted h = refl
 once_rises (e ∷ []) sorted h = refl
@@ -113,7 +109,6 @@ once_rises (e ∷ f ∷ es) sorted h =
           absurd (let apart : is_lt (item_order f e) ≡ false = sorted 0 e (omega arith) (omega arith) in cc (rw back at apart))
     ] refl
 
--- sorted members ascend exactly if no name is repeated
 pub once_where_it_rises : (es sorted : List Item) → IsPermutation es sorted → rises sorted ≡ true → repeats es ≡ false
 once_where_it_rises es sorted moved up = repeats_moved sorted es (IsPermutation-sym es sorted moved) (rises_once sorted up)
 

@@ -9,7 +9,6 @@ use Rattle.oim_dims.specs.Separators.{is_slash}
 use Rattle.oim_dims.specs.Unit.{inner, side_pieces, numerator_pieces, denominator_pieces}
 use Rattle.oim_dims.proofs.Cuts.{none_passes, some_passes}
 
--- a list that is not empty is its front followed by its last item
 front_and_last : (xs : List ℕ) → 0 < length xs → xs ≡ take (length xs - 1) xs ++ get_or xs (length xs - 1) 0 ∷ []
 front_and_last xs h =
     let e : length xs - 1 + 1 ≡ length xs = omega arith in
@@ -18,7 +17,6 @@ front_and_last xs h =
 is_it : (c n : ℕ) → (c == n) ≡ true → c ≡ n
 is_it c n h = grind (arith, nat_tests)
 
--- `inner` does not change a side without an opening parenthesis
 pub unopened : (s : List ℕ) → ((rest : List ℕ) → s ≢ 40 ∷ rest) → s ≡ inner s
 unopened [] h = refl
 unopened (c ∷ cs) h =
@@ -27,7 +25,6 @@ unopened (c ∷ cs) h =
       | false ↦ λ e. rw e refl
     ] refl
 
--- the value of `inner` for a side with an opening parenthesis
 inner_open : (rest : List ℕ) → inner (40 ∷ rest) ≡ (if get_or (40 ∷ rest) (length rest) 0 == 41 then take (length rest - 1) rest else 40 ∷ rest)
 inner_open rest = let e : length (40 ∷ rest) - 1 ≡ length rest = omega arith in rw e refl
 
@@ -37,7 +34,6 @@ last_open c cs h =
     let e : length (c ∷ cs) - 1 ≡ length cs = omega arith in
     rw (e, last) at (front_and_last (c ∷ cs) (omega arith))
 
--- `inner` does not change a side without a closing parenthesis
 open_alone : (rest : List ℕ) → ((front : List ℕ) → rest ≢ front ++ 41 ∷ []) → 40 ∷ rest ≡ inner (40 ∷ rest)
 open_alone [] h = refl
 open_alone (c ∷ cs) h =
@@ -49,19 +45,16 @@ open_alone (c ∷ cs) h =
 pub unclosed : (s rest : List ℕ) → s ≡ 40 ∷ rest → ((front : List ℕ) → rest ≢ front ++ 41 ∷ []) → s ≡ inner s
 unclosed s rest is h = rw is (open_alone rest h)
 
--- `inner` removes a pair of outer parentheses
 pub closed : (s rest body : List ℕ) → s ≡ 40 ∷ rest → rest ≡ body ++ 41 ∷ [] → body ≡ inner s
 closed s rest body is ends =
     let long : length (body ++ 41 ∷ []) ≡ suc (length body) = omega (arith, length-append body (41 ∷ [])) in
     let back : suc (length body) - 1 ≡ length body = omega arith in
     rw (is, ends) (sym (inner_open (body ++ 41 ∷ []) ∙ rw (long, get_or-append_seam body 41 [] 0, back) (take-append_seam body (41 ∷ []))))
 
--- the pieces of a text without `/`
 pub one_side : (t : List ℕ) → position_or_len is_slash t ≡ length t → (numerator_pieces t ≡ side_pieces t) × (denominator_pieces t ≡ [])
 unfolding numerator_pieces denominator_pieces
 one_side t whole = (let front : before_first is_slash t ≡ t = rw whole (take_all (length t) t (omega arith)) in rw front refl, rw (none_passes is_slash t whole) refl)
 
--- the pieces of a text with `/`
 pub two_sides : (t : List ℕ) → position_or_len is_slash t < length t → (numerator_pieces t ≡ side_pieces (before_first is_slash t)) × (denominator_pieces t ≡ side_pieces (after_first is_slash t))
 unfolding numerator_pieces denominator_pieces
 two_sides t some = (refl, rw (some_passes is_slash t some) refl)

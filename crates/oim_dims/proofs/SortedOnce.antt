@@ -34,7 +34,6 @@ module _ {X : Type 0} (R : X → X → Ordering) (o : IsTotalOrder R) (exact : (
         | Greater ↦ λ e l. let back : R y x ≡ Less = o.antisymm y x ∙ ap ordering_reverse e in absurd (cc (sym k ∙ ap is_lt back))
       ] refl h
 
-  -- the first item of a list is not below the first item of a sorted list with the same items
   first_not_below : (x y : X) (xs ys : List X) → IsSorted R (y ∷ ys) → ((f : X → ℕ) → sum_by f (x ∷ xs) ≡ sum_by f (y ∷ ys)) → is_lt (R x y) ≡ false
   first_not_below x y xs ys sorted same =
       let above : All (λ e. is_lt (R e y) ≡ false) (y ∷ ys) = λ k d within. sorted_far _ (ranks_by o (λ e. e)) (y ∷ ys) sorted 0 k d (omega arith) within in

@@ -20,7 +20,6 @@ use Rattle.oim_dims.proofs.Prefixes.{bound_back}
 use Rattle.oim_dims.proofs.Sides.{unopened, closed, one_side}
 use Rattle.oim_dims.proofs.Cuts.{cut, no_place}
 
--- a piece has no reserved characters
 plain_piece : (t : List ℕ) → is_piece t ≡ true → list_any is_mark t ≡ false
 plain_piece t h = not-true (list_any is_mark t) (and_parts (not (length t == 0)) (not (list_any is_mark t)) h).1
 
@@ -33,7 +32,6 @@ some_after xs ys c = some_long (length (xs ++ c ∷ ys)) (omega (arith, length-a
     some_long : (n : ℕ) → 0 < n → not (n == 0) ≡ true
     some_long n h = grind (arith, nat_tests)
 
--- `measure_text` spells a measure that the bindings can write
 spelled : (bs : List Binding) (n : QName) → AreBindings bs → IsMeasure n → is_writable bs n ≡ true → Spells bs (measure_text bs n) n
 spelled bs n were h w =
     elim (prefix_of bs n.uri) as (λ o. prefix_of bs n.uri ≡ o → option_map_or (λ p. not (list_any is_mark p)) o false ≡ true → Spells bs (unwrap_or o [] ++ 58 ∷ n.local_part) n) [
@@ -55,12 +53,10 @@ bindings_spell bs m were h w =
     let b = and_parts (list_all (is_writable bs) m.numerators) (list_all (is_writable bs) m.denominators) w in
     record { numerators = all_spelled bs m.numerators were h.multiplied b.0; denominators = all_spelled bs m.denominators were h.divided b.1 }
 
--- the texts of a list of names spell the names
 each_spelled : (bs : List Binding) (f : QName → List ℕ) (ns : List QName) → All (λ n. Spells bs (f n) n) ns → AllZip (Spells bs) (map f ns) ns
 each_spelled bs f [] h = tt
 each_spelled bs f (n ∷ ns) h = (h 0 n (omega arith), each_spelled bs f ns (All-tail (λ m. Spells bs (f m) m) n ns h))
 
--- if only reserved characters pass a test, nothing passes it in a text without them
 without : (p : ℕ → Bool) → ((c : ℕ) → is_mark c ≡ false → p c ≡ false) → (xs : List ℕ) → list_any is_mark xs ≡ false → list_any p xs ≡ false
 without p under [] h = refl
 without p under (x ∷ xs) h =
@@ -107,7 +103,6 @@ split_joined bs (t ∷ u ∷ ts) (n ∷ m ∷ ns) z h =
     slice_split_at is_star t 42 (join_with_byte 42 (u ∷ ts)) (none_all is_star t (without is_star under_star t (plain_piece t z.0.piece))) refl
     ∙ ap (λ x. t ∷ x) (split_joined bs (u ∷ ts) (m ∷ ns) z.1 (omega arith))
 
--- `inner` does not change a side without an opening parenthesis
 no_opening : (s : List ℕ) → list_any is_opening s ≡ false → s ≡ inner s
 no_opening s h = unopened s (λ rest is. absurd (cc (rw is at h)))
 
@@ -130,7 +125,6 @@ side_is_of bs f ns h =
           ∙ split_joined bs (map f ns) ns h.texts h.some
     ]
 
--- no side has a `/`
 product_slash : (bs : List Binding) (f : QName → List ℕ) (ns : List QName) → IsSide bs f ns → list_any is_slash (product_text f ns) ≡ false
 product_slash bs f ns h = joined_without bs is_slash under_slash refl (map f ns) ns h.texts
 
@@ -141,7 +135,6 @@ side_slash bs f ns h =
       | false ↦ neither_in is_slash (product_text f ns) 41 [] (product_slash bs f ns h) refl refl
     ]
 
--- a text that spells a measure has the form of a piece
 pieces_are : (bs : List Binding) (ts : List (List ℕ)) (ns : List QName) → AllZip (Spells bs) ts ns → list_all is_piece ts ≡ true
 pieces_are bs [] ns z = refl
 pieces_are bs (t ∷ ts) [] z = absurd z
@@ -156,7 +149,7 @@ expand_each bs (t ∷ ts) (n ∷ ns) z = (z.0.expands, expand_each bs ts ns z.1)
 names_each : (bs : List Binding) (f : QName → List ℕ) (ns : List QName) → AllZip (Spells bs) (map f ns) ns → NamesEach bs (map f ns) ns
 names_each bs f ns z = record { spelled = ns; expands = expand_each bs _ ns z; same = IsPermutation-refl ns }
 
--- a text with the pieces of a unit has its measures
+-- a text whose pieces spell the measures of a unit has these measures
 has_measures : (bs : List Binding) (f : QName → List ℕ) (t : List ℕ) (m : Measures) → numerator_pieces t ≡ map f m.numerators → denominator_pieces t ≡ map f m.denominators → AllZip (Spells bs) (map f m.numerators) m.numerators → AllZip (Spells bs) (map f m.denominators) m.denominators → HasMeasures bs t m
 has_measures bs f t m np dp nz dz = record {
   form = rw (np, dp) (rw (pieces_are bs (map f m.numerators) m.numerators nz, pieces_are bs (map f m.denominators) m.denominators dz) refl);
@@ -205,7 +198,6 @@ denotes bs f m h spells =
       | false ↦ λ e. let p = both_sides bs f m nz some dz (some_names_by m.denominators e) in (has_measures bs f _ m p.0 p.1 nz dz, h.unit)
     ] refl
 
--- the text of a unit denotes only that unit
 pub unit_back : UnitsReadBack
 unit_back bs f m h spells =
     let unit = denotes bs f m h spells in

@@ -18,7 +18,7 @@ matches_picture e = if e.0 == 48 then is_ascii_digit e.1 else e.1 == e.0
 unfoldable pub has_picture : List ℕ → Bool
 has_picture t = length t == 19 && list_all matches_picture (zip picture t)
 
--- the number that the bytes i to j - 1 write, and the year, month and day of a date-time
+-- the number that the bytes i to j - 1 write
 abbrev pub number : List ℕ → ℕ → ℕ → ℕ
 number t i j = digits_value 10 (slice_range t i j)
 
@@ -31,7 +31,7 @@ month t = number t 5 7
 abbrev pub day : List ℕ → ℕ
 day t = number t 8 10
 
--- the calendar has the date, which is in the year 0001 or later
+-- the calendar has the date, and its year is 0001 or later
 unfoldable pub has_date : List ℕ → Bool
 has_date t =
     nat_le 1 (year t) && is_in_range 1 12 (month t) && is_in_range 1 (days_in_month (pos (year t)) (month t)) (day t)
@@ -68,7 +68,7 @@ unfoldable pub greatest : (ℕ → Bool) → ℕ → ℕ
 greatest p zero = 0
 greatest p (suc n) = if p (suc n) then suc n else greatest p n
 
--- the date with a day number: the last year, month and day that begin on that day or before
+-- the year of a day number: the last one that begins on that day or before; the same for the month and the day
 unfoldable pub year_of : ℤ → ℕ
 year_of d = greatest (λ y. int_le (days_from_civil (pos y) 1 1) d) 9999
 

@@ -48,11 +48,11 @@ pub record IsDimensionSet (d : DimensionSet) : Type 0 where
   pub unit : IfSome d.unit IsUnit
   pub period : HasMoments d.period
 
--- a name is in the list exactly if the list has a member with it
+-- a name is in the list exactly if the list has a member with that name
 abbrev pub NamesAreThere : Type 0
 NamesAreThere = (n : QName) (es : List (QName × Member)) → IsTrue (has_name n es) ↔ ((m : Member) × Contains es (n, m))
 
--- the list has one more member, and all other members are the same
+-- the new list has one more member; all other members are the same
 pub record IsOneMore (old new : List (QName × Member)) (e : QName × Member) : Type 0 where
   pub rises : IsTrue (rises new)
   pub members : (f : QName × Member) → Contains new f ↔ (Contains old f ⊎ (f ≡ e))

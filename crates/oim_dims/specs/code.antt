@@ -1,2 +1,2 @@
--- Definitions that only private code cites: how values are stored, and intermediate laws. No public contract uses them.
+-- Definitions that no public contract uses.
 pub mod Ties

@@ -15,8 +15,8 @@ use std::cmp::Ordering;
 use std::marker::Model;
 
 /// A dimension set (OIM Common 1.0): the core dimensions, and the taxonomy-defined dimensions in
-/// the order of names, each name once. Fields are compared in this order, and an absent value is
-/// less than a present one.
+/// the order of names, each name once. Sets are compared by concept, entity, period, unit,
+/// language, then members. An absent part is less than a present one.
 #[derive(Debug, Drop, PartialEq, Eq, PartialOrd, Ord)]
 pub struct Dimensions {
     concept: Name,
@@ -41,8 +41,8 @@ impl Model for Dimensions {
 }
 
 impl Dimensions {
-    /// Returns dimensions that have only a concept and the period forever. Later calls take their
-    /// memory from `alloc`.
+    /// Returns a dimension set with only a concept. The period is forever. Later calls allocate
+    /// from `alloc`.
     pub fn new(alloc: Global, concept: Name) -> Dimensions
         ensures { result ≡ record { concept = concept; entity = None; period = Forever; unit = None; language = None; members = [] } }
     {
@@ -95,8 +95,7 @@ impl Dimensions {
         self.unit.as_ref()
     }
 
-    /// Returns the language of a text, as it was set. `read_language` returns languages in lower
-    /// case.
+    /// Returns the language of a text, as it was set.
     pub fn language(&self) -> Option<&Text>
         ensures { option_copied result ≡ self.now.language }
     {
@@ -158,7 +157,7 @@ impl Dimensions {
     }
 
     /// Replaces the taxonomy-defined dimensions and their members. The new ones may be in any
-    /// order. An error changes nothing. It takes no memory.
+    /// order. An error changes nothing. It does not allocate.
     ///
     /// Errors: `DimensionValue` exactly if a dimension is repeated.
     pub fn set_members(&mut self, mut members: Vec<(Name, Member)>) -> Result<(), Reason>
@@ -178,7 +177,6 @@ impl Dimensions {
     }
 }
 
-// Returns whether each name is below the next one.
 fn do_names_rise(members: &[(Name, Member)]) -> bool
     ensures { result ≡ rises members.now }
 {
@@ -195,7 +193,6 @@ fn do_names_rise(members: &[(Name, Member)]) -> bool
     true
 }
 
-// Returns the index at which to insert the name, or `None` if it is in the list.
 fn place_of(members: &[(Name, Member)], name: &Name) -> Option<usize>
     requires { rises members.now ≡ true }
     ensures there { (result ≡ None) ↔ IsTrue (has_name name.now members.now) }

@@ -28,13 +28,13 @@ pub fn read_periods_are_periods()
     ensures { ReadPeriodsArePeriods }
 {}
 
-/// A language in lower case is a language, and reading it changes nothing.
+/// The lower case of a language is a language, and reading it changes nothing.
 pub fn languages_are_kept()
     ensures { LanguagesAreKept }
 {}
 
 /// If the text of each measure expands to the measure, the text of the unit denotes that unit and
-/// no other. This is so under all bindings that can write the unit.
+/// no other. Bindings that can write the unit write such texts.
 pub fn units_read_back()
     ensures back { UnitsReadBack }
     ensures spelled { BindingsSpell }

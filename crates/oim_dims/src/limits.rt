@@ -1,6 +1,4 @@
-// The range of moments in this project's profile.
-
-/// The number of seconds in every day.
+/// The number of seconds in each day.
 pub const DAY_SECONDS: u32 = 86_400;
 
 /// The first second of the year 0001, counted from 1970-01-01T00:00:00.

@@ -9,7 +9,7 @@ use std::alloc::{AllocError, Global};
 pub enum Member {
     /// The value null of a typed dimension.
     Nil,
-    /// The value of a typed dimension, as the report spells it.
+    /// The value of a typed dimension, as it is spelled in the report.
     Text(Text),
     /// The member of an explicit dimension.
     Name(Name),

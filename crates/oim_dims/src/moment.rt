@@ -62,7 +62,6 @@ impl fmt::Display for Moment {
     }
 }
 
-// Returns the date with this day number.
 fn date_of(day: i64) -> Date
     requires { IsBetween (neg_ℤ (pos 719_162)) (pos 2_932_896) day }
     ensures { jiff_date_text result ≡ date_text day }
@@ -70,7 +69,6 @@ fn date_of(day: i64) -> Date
     date(1970, 1, 1).checked_add(day.days()).unwrap()
 }
 
-// Returns the time of this second of the day.
 #[tactic(auto, unfolding(crate::specs::DateTime::time_text))]
 fn time_of(second: u32) -> Time
     requires { second < DAY_SECONDS }
@@ -81,8 +79,6 @@ fn time_of(second: u32) -> Time
     Time::new(hour, minute, (second % 60) as i8, 0).unwrap()
 }
 
-/// Returns the moment of a date-time (XML Schema Part 2, section 3.2.7), or `None` if the text is
-/// not a date-time.
 pub(crate) fn read_moment(text: &[u8]) -> Option<Moment>
     ensures { result ≡ moment_of text.now }
 {
@@ -123,7 +119,6 @@ fn matches_picture(sign: u8, c: u8) -> bool
     }
 }
 
-// Returns the day number of the date, counted from 1970-01-01, if the calendar has the date.
 #[tactic(auto, unfolding(crate::specs::DateTime::has_date, crate::specs::DateTime::day_number))]
 fn read_day(text: &[u8]) -> Option<i64>
     requires { has_picture text.now ≡ true }
@@ -142,7 +137,6 @@ fn read_day(text: &[u8]) -> Option<i64>
     }
 }
 
-// Returns the second of the day if a clock shows the time, or if the time is 24:00:00.
 #[tactic(auto, unfolding(crate::specs::DateTime::has_time, crate::specs::DateTime::second_of_day))]
 fn read_second_of_day(text: &[u8]) -> Option<i64>
     requires { has_picture text.now ≡ true }
@@ -159,7 +153,6 @@ fn read_second_of_day(text: &[u8]) -> Option<i64>
     }
 }
 
-// Returns the number whose digits are between two indices.
 fn number(text: &[u8], from: usize, to: usize) -> u32
     requires picture { has_picture text.now ≡ true }
     requires places { IsTrue (nat_le from to && nat_le to 19 && nat_le (to - from) 4) }
@@ -170,7 +163,6 @@ fn number(text: &[u8], from: usize, to: usize) -> u32
     number_of(&text[from..to])
 }
 
-// Returns the number with these digits, at most four.
 fn number_of(digits: &[u8]) -> u32
     requires digits { list_all is_ascii_digit digits.now ≡ true }
     requires few { length digits.now ≤ 4 }

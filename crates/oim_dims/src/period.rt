@@ -36,11 +36,10 @@ impl Period {
     }
 }
 
-/// Reads a period: one date-time, or two with `/` between them.
+/// Reads a period: one date-time, or two with `/` between them. It does not allocate.
 ///
-/// Errors: `PeriodForm` exactly if the text does not have this form, `PeriodOrder` exactly if it
-/// has the form and the end is before the start. It takes no memory, though callers pass an
-/// allocator.
+/// Errors: `PeriodForm` exactly if the text does not have this form; `PeriodOrder` exactly if it
+/// has this form and the end is before the start.
 pub fn read_period(_alloc: Global, text: &str) -> Result<Period, Reason>
     ensures { result ≡ period_of text.now }
 {
@@ -65,8 +64,8 @@ fn from_to(start: Option<Moment>, end: Option<Moment>) -> Result<Period, Reason>
     }
 }
 
-/// Writes a period, or returns `None` for forever. Hours range from 00 to 23. Reading the text of
-/// an instant, or of a duration that ends after its start, returns the period.
+/// Returns the text of a period, or `None` for forever. Hours range from 00 to 23. Reading the text
+/// of an instant, or of a duration that ends after its start, returns the period.
 ///
 /// Errors: out of memory.
 pub fn write_period(alloc: Global, period: &Period) -> Result<Option<Text>, AllocError>

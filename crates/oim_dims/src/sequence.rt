@@ -6,7 +6,7 @@ use std::alloc::{AllocError, Global};
 use std::cmp::Ordering;
 use std::marker::Model;
 
-/// A list whose contracts see only its items.
+/// A list whose contracts see only its items, and not its capacity.
 #[derive(Debug, Drop)]
 pub struct Sequence<T: Key> {
     items: Vec<T>,
@@ -35,7 +35,6 @@ impl<T: Key> Sequence<T> {
         self.items.as_slice()
     }
 
-    /// Inserts an item before the index `place`, or at the end.
     pub(crate) fn insert(&mut self, place: usize, item: T) -> Result<(), AllocError>
         requires { place ≤ length self.old }
         ensures ok { OnOk result (self.new ≡ insert self.old place item) }

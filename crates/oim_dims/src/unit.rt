@@ -8,10 +8,10 @@ use oim_names::{Copied, Key, Name};
 use std::alloc::{AllocError, Global};
 use std::marker::Model;
 
-/// The unit of a number: measures that are multiplied, and measures that the product is divided by
-/// (OIM Common 1.0, the core dimension unit). Both lists are in the order of names and may have
-/// repeats. There is at least one numerator, no local part has `*`, `/`, `(` or `)`, and `pure`
-/// alone is not a unit.
+/// The unit of a number (OIM Common 1.0, the core dimension unit): numerators, which are
+/// multiplied, and denominators, by which the product is divided. Both lists are in the order of
+/// names and may contain repeats. There is at least one numerator, no local part contains `*`, `/`,
+/// `(` or `)`, and `pure` alone is not a unit.
 #[derive(Debug, Drop, PartialEq, Eq, PartialOrd, Ord)]
 pub struct Unit {
     numerators: Sequence<Name>,
@@ -53,7 +53,7 @@ impl Unit {
         let _numerators = &self.numerators;
     }
 
-    /// Returns the measures that are multiplied, sorted.
+    /// Returns the measures of the numerator, sorted.
     pub fn numerators(&self) -> &[Name]
         ensures { result.now ≡ self.now.numerators }
     {

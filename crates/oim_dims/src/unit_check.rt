@@ -6,8 +6,6 @@ ghost use Rattle.oim_dims.specs.Unit.{inner, is_piece, is_mark, is_unit_text, so
 
 use oim_names::{Aliases, Reason};
 
-/// Returns both sides of a unit's text, without their outer parentheses. A text without `/` has
-/// only one side.
 pub(crate) fn sides(text: &str) -> (&str, Option<&str>)
     ensures numerators { slice_split is_star result.0.now ≡ numerator_pieces text.now }
     ensures denominators { MatchOption result.1 (denominator_pieces text.now ≡ []) (λ side. slice_split is_star side.now ≡ denominator_pieces text.now) }
@@ -32,7 +30,7 @@ fn inner(side: &str) -> &str
 
 /// Returns why a text is refused as a unit under these aliases, or None. It tests the form of the
 /// unit first (`UnitForm`). Then it tests all pieces, in this order: `NameForm`, `UnboundPrefix`,
-/// `ReservedNamespace`. It takes no memory.
+/// `ReservedNamespace`. It does not allocate.
 pub fn unit_refusal(aliases: &Aliases, text: &str) -> Option<Reason>
     ensures { result ≡ unit_refusal aliases.now text.now }
 {
@@ -74,7 +72,6 @@ fn is_piece(piece: &str) -> bool
     !piece.is_empty() && !has_mark(piece.as_bytes())
 }
 
-/// Returns whether a text has a reserved character.
 pub(crate) fn has_mark(text: &[u8]) -> bool
     ensures { result ≡ list_any is_mark text.now }
 {
@@ -82,7 +79,7 @@ pub(crate) fn has_mark(text: &[u8]) -> bool
         .any(|c| *c == b'(' || *c == b')' || *c == b'*' || *c == b'/')
 }
 
-/// Returns the first piece of a unit's text that is refused for this reason. It takes no memory.
+/// Returns the first piece of a unit's text that is refused for this reason. It does not allocate.
 pub fn refused_piece<'t>(aliases: &Aliases, reason: Reason, text: &'t str) -> Option<&'t str>
     ensures any { is_some result ≡ some_piece (λ p. refuses reason aliases.now (a_name p)) text.now }
     ensures first { let all = numerator_pieces text.now ++ denominator_pieces text.now in
@@ -98,7 +95,6 @@ pub fn refused_piece<'t>(aliases: &Aliases, reason: Reason, text: &'t str) -> Op
     }
 }
 
-// Returns the first piece of a side that is refused for this reason.
 fn refused_on<'t>(aliases: &Aliases, reason: Reason, side: &'t str) -> Option<&'t str>
     ensures { let all = slice_split is_star side.now in
         option_map (λ p. p.now) result ≡ find (λ p. refuses reason aliases.now (a_name p)) all }
@@ -107,7 +103,6 @@ fn refused_on<'t>(aliases: &Aliases, reason: Reason, side: &'t str) -> Option<&'
         .find(|piece| refuses(aliases, reason, piece))
 }
 
-// Returns whether the piece is refused for this reason.
 fn refuses(aliases: &Aliases, reason: Reason, piece: &str) -> bool
     ensures { result ≡ refuses reason aliases.now (a_name piece.now) }
 {

@@ -12,9 +12,9 @@ use crate::unit_check::{is_unit_text, sides, unit_refusal};
 use oim_names::{Aliases, Name, Reason};
 use std::alloc::Global;
 
-/// Reads a unit: measures with `*` between them and, if there are denominators, `/` and measures
-/// with `*` between them. Each side may be in parentheses (xBRL-JSON 1.0). It returns `None` for
-/// `pure` alone, which is not a unit.
+/// Reads a unit: measures with `*` between them, then optionally `/` and the measures of the
+/// denominator. Each side may be in parentheses (xBRL-JSON 1.0). It returns `None` for `pure`
+/// alone, which is not a unit.
 ///
 /// Errors: `UnitForm` exactly if the text does not have this form; otherwise the first of
 /// `NameForm`, `UnboundPrefix` and `ReservedNamespace` that applies to any piece; `OutOfMemory`.
@@ -33,7 +33,6 @@ pub fn read_unit(alloc: Global, aliases: &Aliases, text: &str) -> Result<Option<
     }
 }
 
-// Reads the measures of both sides. If the text is not refused, the only error is `OutOfMemory`.
 // Most units are not refused, so `read_unit` reads first and looks for the refusal only after an
 // error.
 fn read_sides(alloc: Global, aliases: &Aliases, text: &str) -> Result<Option<Unit>, Reason>
@@ -58,7 +57,6 @@ fn read_sides(alloc: Global, aliases: &Aliases, text: &str) -> Result<Option<Uni
     Ok(Some(unit))
 }
 
-// Returns the measures of a side, sorted.
 fn measures(alloc: Global, aliases: &Aliases, side: &str) -> Result<Sequence<Name>, Reason>
     requires pieces { list_all is_piece (slice_split is_star side.now) ≡ true }
     ensures names { IfOk result (NamesEach aliases.now (slice_split is_star side.now)) }
@@ -74,7 +72,6 @@ fn measures(alloc: Global, aliases: &Aliases, side: &str) -> Result<Sequence<Nam
     Ok(Sequence::new(names))
 }
 
-// Returns the names of a side's pieces, in their order.
 fn names_of(alloc: Global, aliases: &Aliases, side: &str) -> Result<Vec<Name>, Reason>
     ensures names { IfOk result (λ names. AllZip (Expands aliases.now) (slice_split is_star side.now) names.items) }
     ensures errors { All (λ p. name_refusal aliases.now p ≡ None) (slice_split is_star side.now) →

@@ -7,8 +7,8 @@ use crate::unit_check::has_mark;
 use oim_names::{Aliases, Name, Text};
 use std::alloc::{AllocError, Global};
 
-/// Writes a unit under these aliases, each side in the order of names (xBRL-JSON 1.0). Reading the
-/// text returns the unit. `can_write_unit` tests the precondition.
+/// Returns the text of a unit under these aliases, each side in the order of names (xBRL-JSON 1.0).
+/// Reading the text returns the unit. `can_write_unit` tests the precondition.
 ///
 /// Errors: out of memory.
 pub fn write_unit(alloc: Global, aliases: &Aliases, unit: &Unit) -> Result<Text, AllocError>
@@ -23,8 +23,8 @@ pub fn write_unit(alloc: Global, aliases: &Aliases, unit: &Unit) -> Result<Text,
     Text::new(alloc, text.as_str())
 }
 
-/// Returns whether the URI of every measure has a prefix and its first prefix has none of `*`, `/`,
-/// `(` and `)`.
+/// Returns whether the URI of every measure has a prefix, and its first prefix contains none of
+/// `*`, `/`, `(` and `)`.
 pub fn can_write_unit(aliases: &Aliases, unit: &Unit) -> bool
     ensures { result ≡ can_write aliases.now unit.now }
 {
@@ -65,7 +65,6 @@ fn push_unit(
     push_side(text, aliases, denominators)
 }
 
-// Writes one side of a quotient.
 fn push_side(text: &mut String, aliases: &Aliases, names: &[Name]) -> Result<(), AllocError>
     requires { list_all (is_writable aliases.now) names.now ≡ true }
     ensures { OnOk result (string_bytes text.new ≡ string_bytes text.old ++ side_text (measure_text aliases.now) names.now) }
@@ -78,7 +77,6 @@ fn push_side(text: &mut String, aliases: &Aliases, names: &[Name]) -> Result<(),
     text.push_str(")")
 }
 
-// Writes measures with `*` between them.
 fn push_product(text: &mut String, aliases: &Aliases, names: &[Name]) -> Result<(), AllocError>
     requires { list_all (is_writable aliases.now) names.now ≡ true }
     ensures { OnOk result (string_bytes text.new ≡ string_bytes text.old ++ product_text (measure_text aliases.now) names.now) }

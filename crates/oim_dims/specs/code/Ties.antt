@@ -1,4 +1,3 @@
--- Only equal values compare as equal.
 use Rattle.std.specs.Prelude.{◌≡◌}
 use Rattle.std.specs.Ordering.{ordering_then}
 use Rattle.std.specs.declared.cmp.Ordering.TheVariants.{Equal}
