@@ -1,18 +1,18 @@
-/* xbrlmerge.h - merges xBRL-JSON reports about one entity into one canonical report, judges their duplicates, lists who
-   reported what, or returns numbered refusals. Each call returns the same bytes as the program's command of the
-   same name. docs/LIBRARY.md says what is proved about the calls, and what is not.
+/* xbrlmerge.h - merges xBRL-JSON reports about one entity into one canonical report, judges their duplicates, and lists
+   who reported what. Refused reports are returned with numbers. Each call returns the same bytes as the program's command
+   of the same name. docs/LIBRARY.md says what is proved about the calls, and what is not.
 
-   Memory. It belongs to the caller: a call keeps no pointer after it returns, and returns none. The caller also provides
-   the buffers for the text and for the records of refused reports. If one of them is too short, the call returns the
-   required lengths and leaves both unchanged: make that buffer longer, and call again. If both are long enough in the
-   first call, the text is made only once. A call gets its own memory from malloc, and frees it before it returns.
+   Memory. The caller provides all buffers. A call keeps no pointer after it returns, and returns none. If the buffer for
+   the text or for the refused reports is too short, the call returns the required lengths and leaves both unchanged: make
+   that buffer longer, and call again. If both are long enough in the first call, the text is made only once. A call
+   allocates its own memory with malloc, and frees it before it returns.
 
-   Pointers. None may be null, not even if the length is 0: pass the address of any variable of its type instead. (The
+   Pointers. No pointer may be null, even if the length is 0: pass the address of any variable of its type instead. (The
    data() of an empty std::vector may be null.) The output (`out`, `needed`, `refusals`, `refused`, `checked`,
    `refusal`) must not overlap any other argument. During the call, nothing else may access the output, or write to the
    input. Output need not be initialised. A pointer to numbers must be aligned as C requires.
 
-   Reports. They are concatenated in `reports`, and `ends` contains the position where each one ends, counted from the
+   Reports. They are concatenated in `reports`, and `ends` contains the position where each report ends, counted from the
    start: reports of 3 and 4 bytes have the ends 3 and 7. Bytes after the last end are ignored. If an end is less than the
    one before it, or beyond `reports_length`, the call returns XBRLMERGE_BAD_ENDS and reads nothing (or XBRLMERGE_BAD_LEVEL,
    if `allow` is not a level either).
@@ -36,8 +36,8 @@ extern "C" {
 enum {
     XBRLMERGE_DONE = 0,          /* done, and every report was accepted */
     XBRLMERGE_REFUSED = 1,       /* done, but some reports were refused; the output is made from the others */
-    XBRLMERGE_TOO_LOOSE = 2,     /* the duplicates of a row exceed `allow`: `needed` is the number of the first such line of
-                                    xbrlmerge_verdicts, from 1 */
+    XBRLMERGE_TOO_LOOSE = 2,     /* the duplicates of a row exceed `allow`: `needed` is the number of the first such row,
+                                    from 1 */
     XBRLMERGE_TOO_SHORT = 3,     /* `out` has fewer than `needed` bytes, or `refusals` fewer than `refused` records. If
                                     the duplicates exceed `allow`, `needed` is 0, and only `refusals` is too short */
     XBRLMERGE_SHEET_REFUSED = 4, /* the sheet is refused: `needed` is the number of its refusal */
@@ -56,7 +56,7 @@ enum {
 
 /* A refused report. Facts are counted from 1 in byte order of their identifiers. */
 typedef struct {
-    uint64_t report; /* its number, from 1; 0 for the sheet (only from xbrlmerge_check) */
+    uint64_t report; /* the number of the report, from 1; 0 for the sheet (only from xbrlmerge_check) */
     uint64_t fact;   /* the number of the fact, from 1; 0 for the document */
     uint32_t number; /* the number of the refusal, as docs/REFUSALS.md lists them */
 } xbrlmerge_refusal;
@@ -70,7 +70,7 @@ typedef struct {
 
 /* Merges reports, as `merge --allow` does. The canonical text is written to the start of `out`, without a NUL or a line
    end, and the refused reports to the start of `refusals`, in their order. `needed` is set to the number of these bytes,
-   and `refused` to the number of these records; what follows them is unchanged.
+   and `refused` to the number of these records; the rest of both buffers is unchanged.
    XBRLMERGE_TOO_LOOSE returns the refused reports too, and leaves `out` unchanged. XBRLMERGE_SHEET_REFUSED sets `refused`
    to 0. */
 uint32_t xbrlmerge_merge(const uint8_t *sheet, size_t sheet_length, const uint8_t *reports, size_t reports_length,

@@ -1,4 +1,4 @@
--- The results for the bytes of a sheet and of reports (own).
+-- The results of calls on the bytes of a sheet and of reports (own).
 use Rattle.std.specs.Prelude.{◌≡◌, ℕ, List, Ok, Err}
 use Rattle.oim_names.specs.declared.reason.Reason.{Reason}
 use Rattle.oim_value.specs.declared.level.Level.{Level}

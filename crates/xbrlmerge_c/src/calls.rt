@@ -16,7 +16,6 @@ use oim_value::Level;
 use oim_write::StdSink;
 use std::alloc::Global;
 
-/// Returns the level with this number, from 0 for the strictest.
 pub(crate) fn level_numbered(number: u32) -> Option<Level>
     ensures { result ≡ slice_get levels number }
 {
@@ -34,9 +33,9 @@ pub(crate) fn level_numbered(number: u32) -> Option<Level>
 /// text is written to the start of `out` and the refused reports to the start of `refusals`;
 /// `needed` and `refused` get their lengths.
 ///
-/// Errors, by the status: `TOO_LOOSE`, with the number of the first row above the level in `needed`;
-/// `TOO_SHORT`; `SHEET_REFUSED`, with the number of the refusal in `needed`; `NO_MEMORY`, `BAD_ENDS`
-/// and `BAD_LEVEL`, with nothing changed.
+/// Errors, by the status: `TOO_LOOSE`, with the number of the first row above the level in
+/// `needed`; `TOO_SHORT`; `SHEET_REFUSED`, with the number of the refusal in `needed`; `NO_MEMORY`,
+/// `BAD_ENDS` and `BAD_LEVEL`, with nothing changed.
 #[unsafe(no_mangle)]
 pub extern "C" fn xbrlmerge_merge(
     alloc: Global,
@@ -80,9 +79,7 @@ pub extern "C" fn xbrlmerge_merge(
     answer(made, out, needed, refusals, refused)
 }
 
-/// Returns the canonical text of the accepted reports, and the refusals of the others.
-///
-/// Errors: `Sheet` and `TooLoose`; `OutOfMemory` and `Device` both mean that memory was refused.
+/// A sink in memory fails only if memory is refused, so `Device` means the same as `OutOfMemory`.
 fn merged(
     alloc: Global,
     sheet: &[u8],
@@ -108,12 +105,10 @@ fn merged(
     })
 }
 
-/// Judges the duplicates of reports, as `oim_merge::verdict_lines` does. The reports are concatenated
-/// in `reports` and end at `ends`. The lines are written to the start of `out` and the refused reports
-/// to the start of `refusals`; `needed` and `refused` get their lengths.
+/// Writes a line with the verdict on each row, as `oim_merge::verdict_lines` does. Otherwise it is
+/// like `xbrlmerge_merge`, but without a level.
 ///
-/// Errors, by the status: `TOO_SHORT`; `SHEET_REFUSED`, with the number of the refusal in `needed`;
-/// `NO_MEMORY` and `BAD_ENDS`, with nothing changed.
+/// Errors, by the status: as for `xbrlmerge_merge`, but never `TOO_LOOSE` or `BAD_LEVEL`.
 #[unsafe(no_mangle)]
 pub extern "C" fn xbrlmerge_verdicts(
     alloc: Global,
@@ -153,12 +148,8 @@ pub extern "C" fn xbrlmerge_verdicts(
     )
 }
 
-/// Lists the sources of facts, as `oim_merge::source_lines` does. The reports are concatenated in
-/// `reports` and end at `ends`. The lines are written to the start of `out` and the refused reports to
-/// the start of `refusals`; `needed` and `refused` get their lengths.
-///
-/// Errors, by the status: `TOO_SHORT`; `SHEET_REFUSED`, with the number of the refusal in `needed`;
-/// `NO_MEMORY` and `BAD_ENDS`, with nothing changed.
+/// Writes a line for each source of a fact, as `oim_merge::source_lines` does. Otherwise it is like
+/// `xbrlmerge_verdicts`.
 #[unsafe(no_mangle)]
 pub extern "C" fn xbrlmerge_sources(
     alloc: Global,
@@ -198,13 +189,8 @@ pub extern "C" fn xbrlmerge_sources(
     )
 }
 
-/// Judges the duplicates of reports, as `row_formats::verdict_rows` does in JSON. The reports are
-/// concatenated in `reports` and end at `ends`. The objects, one per line, are written to the start
-/// of `out` and the refused reports to the start of `refusals`; `needed` and `refused` get their
-/// lengths.
-///
-/// Errors, by the status: `TOO_SHORT`; `SHEET_REFUSED`, with the number of the refusal in `needed`;
-/// `NO_MEMORY` and `BAD_ENDS`, with nothing changed.
+/// Writes a JSON object with the verdict on each row, one per line, as `row_formats::verdict_rows`
+/// does. Otherwise it is like `xbrlmerge_verdicts`.
 #[unsafe(no_mangle)]
 pub extern "C" fn xbrlmerge_verdicts_json(
     alloc: Global,
@@ -244,13 +230,8 @@ pub extern "C" fn xbrlmerge_verdicts_json(
     )
 }
 
-/// Lists the sources of facts, as `row_formats::source_rows` does in JSON. The reports are
-/// concatenated in `reports` and end at `ends`. The objects, one per line, are written to the start
-/// of `out` and the refused reports to the start of `refusals`; `needed` and `refused` get their
-/// lengths.
-///
-/// Errors, by the status: `TOO_SHORT`; `SHEET_REFUSED`, with the number of the refusal in `needed`;
-/// `NO_MEMORY` and `BAD_ENDS`, with nothing changed.
+/// Writes a JSON object for each source of a fact, one per line, as `row_formats::source_rows`
+/// does. Otherwise it is like `xbrlmerge_verdicts`.
 #[unsafe(no_mangle)]
 pub extern "C" fn xbrlmerge_sources_json(
     alloc: Global,

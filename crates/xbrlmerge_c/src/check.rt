@@ -15,7 +15,7 @@ use std::alloc::{AllocError, Global};
 #[repr(C)]
 #[derive(Clone, Copy, Debug, PartialEq, Eq)]
 pub struct CheckedReport {
-    /// The number of its facts, repeats counted.
+    /// The number of its facts, repeats included.
     pub facts: u64,
     /// The strictest level that its facts satisfy, from 0 for `none` to 3 for `all`.
     pub level: u32,
@@ -36,7 +36,7 @@ impl CheckedReport {
 }
 
 /// Checks one report, as `oim_merge::check_report` does. `checked` gets the result for an accepted
-/// report. `refusal` gets the refusal of the report, with the report number 1, or of the sheet, with 0.
+/// report. `refusal` gets the refusal of the report (its report number is 1) or of the sheet (0).
 ///
 /// Errors, by the status: `REFUSED`; `SHEET_REFUSED`; `NO_MEMORY`, with nothing changed.
 #[unsafe(no_mangle)]
@@ -77,9 +77,7 @@ pub extern "C" fn xbrlmerge_check(
     }
 }
 
-/// Returns the result for the report, or its refusal.
-///
-/// Errors: out of memory, which does not count as a refusal here.
+/// Out of memory is an error here, and not a refusal.
 fn checked_or_refused(
     alloc: Global,
     sheet: &Sheet,

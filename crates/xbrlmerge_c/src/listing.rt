@@ -17,18 +17,13 @@ use std::alloc::Global;
 /// What a call lists, and in which format.
 #[derive(Clone, Copy, Debug)]
 pub(crate) enum Listing {
-    /// Verdicts, one line each.
     Verdicts,
-    /// Sources, one line each.
     Sources,
-    /// Verdicts, one JSON object each.
     VerdictsJson,
-    /// Sources, one JSON object each.
     SourcesJson,
 }
 
-/// Does what an exported call that lists verdicts or sources does, with the same arguments and the
-/// same contract.
+/// The body of each exported call that lists verdicts or sources, under the same contract.
 pub(crate) fn list(
     alloc: Global,
     listing: Listing,
@@ -62,9 +57,7 @@ pub(crate) fn list(
     answer(made, out, needed, refusals, refused)
 }
 
-/// Returns the listing of the accepted reports, and the refusals of the others.
-///
-/// Errors: `Sheet`; `OutOfMemory` and `Device` both mean that memory was refused.
+/// A sink in memory fails only if memory is refused, so `Device` means the same as `OutOfMemory`.
 fn listed(
     alloc: Global,
     listing: Listing,
@@ -86,8 +79,7 @@ fn listed(
     })
 }
 
-/// Appends the listing to a sink, under a parsed sheet. Only sources need a copy of the reports,
-/// since they read each of them twice.
+/// Only the listing of sources needs a copy of the reports, since it reads each report twice.
 fn write<S: Sink>(
     alloc: Global,
     listing: Listing,

@@ -6,30 +6,22 @@ ghost use Rattle.xbrlmerge_c.specs.Rows.{place_number, row, rows_of};
 use oim_merge::{Fault, Refusals};
 use oim_report::{Place, Refusal};
 
-// The statuses, as XBRLMERGE_DONE and so on in include/xbrlmerge.h.
+// The statuses, as include/xbrlmerge.h lists them.
 
-/// Done, and every report was accepted.
 pub(crate) const DONE: u32 = 0;
 
-/// Done, but some reports were refused.
 pub(crate) const REFUSED: u32 = 1;
 
-/// A dimension set has duplicates above the allowed level.
 pub(crate) const TOO_LOOSE: u32 = 2;
 
-/// A buffer is too short for the text or the records.
 pub(crate) const TOO_SHORT: u32 = 3;
 
-/// The sheet is refused.
 pub(crate) const SHEET_REFUSED: u32 = 4;
 
-/// Memory was refused.
 pub(crate) const NO_MEMORY: u32 = 5;
 
-/// An end is less than the one before it, or beyond the bytes.
 pub(crate) const BAD_ENDS: u32 = 6;
 
-/// There is no level with this number.
 pub(crate) const BAD_LEVEL: u32 = 7;
 
 /// A refused report as numbers.
@@ -45,7 +37,6 @@ pub struct RefusedReport {
 }
 
 impl RefusedReport {
-    /// Returns the record for a refusal of the report with this number.
     pub(crate) fn new(report: u64, refusal: &Refusal) -> RefusedReport
         ensures { result ≡ row report refusal.now }
     {
@@ -66,7 +57,6 @@ fn number_of(place: Place) -> u64
     }
 }
 
-/// Writes refused reports to the start of the records.
 pub(crate) fn put_rows(told: &[(u64, Refusal)], rows: &mut [RefusedReport])
     requires { length told.now ≤ length rows.old }
     ensures { rows.new ≡ rows_of told.now ++ drop (length told.now) rows.old }
@@ -76,15 +66,12 @@ pub(crate) fn put_rows(told: &[(u64, Refusal)], rows: &mut [RefusedReport])
     }
 }
 
-/// A text made from reports, and the refusals of the other reports.
 #[derive(Drop)]
 pub(crate) struct Made {
     pub text: Vec<u8>,
     pub refusals: Refusals,
 }
 
-/// Writes a text and refused reports to the start of their buffers, and returns their lengths in
-/// `needed` and `refused`. Returns true if both fit; otherwise the buffers are unchanged.
 pub(crate) fn hand_over(
     text: &[u8],
     told: &[(u64, Refusal)],
@@ -108,7 +95,6 @@ pub(crate) fn hand_over(
     true
 }
 
-/// Writes the result of a call, or why it failed. Returns the status.
 pub(crate) fn answer(
     made: Result<Made, Fault>,
     out: &mut [u8],

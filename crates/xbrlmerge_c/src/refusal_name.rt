@@ -4,7 +4,6 @@ ghost use Rattle.xbrlmerge_c.specs.Names.{name_numbered};
 
 use oim_names::Reason;
 
-/// All refusals, each at the index of its number.
 const REASONS: [Reason; 33] = [
     Reason::OutOfMemory,
     Reason::NotJson,

@@ -11,7 +11,6 @@ use oim_report::Sheet;
 use oim_write::Encoded;
 use std::alloc::{AllocError, Global};
 
-/// Returns whether the ends never decrease and none is beyond the bytes.
 pub(crate) fn are_ends(bytes: &[u8], ends: &[usize]) -> bool
     ensures { IsTrue result ↔ AreEnds bytes.now ends.now }
 {
@@ -25,9 +24,6 @@ pub(crate) fn are_ends(bytes: &[u8], ends: &[usize]) -> bool
     true
 }
 
-/// Copies the reports, which are concatenated and end at these positions.
-///
-/// Errors: out of memory.
 pub(crate) fn reports_of(
     alloc: Global,
     reports: &[u8],
@@ -45,9 +41,6 @@ pub(crate) fn reports_of(
     Ok(each)
 }
 
-/// Adds the reports, which are concatenated and end at these positions.
-///
-/// Errors: out of memory.
 pub(crate) fn add_reports<'s>(
     alloc: Global,
     sheet: &'s Sheet,
@@ -66,9 +59,6 @@ pub(crate) fn add_reports<'s>(
     Ok(consolidation)
 }
 
-/// Reads a sheet from these bytes.
-///
-/// Errors: `Sheet` with the first refusal; `OutOfMemory`.
 pub(crate) fn read_sheet(alloc: Global, bytes: &[u8]) -> Result<Sheet, Fault>
     ensures ok { IfOk result (λ sheet. sheet_outcome bytes.now ≡ Ok sheet) }
     ensures err { IfErr result (StopsBy NoRow (IsSheetRefused bytes.now)) }

@@ -11,8 +11,8 @@ use crate::refusal_name::xbrlmerge_refusal_name;
 use std::alloc::Global;
 use std::test::Fail;
 
-// The tests make each call with enough room and memory, and cause each status. A call is repeated
-// after a refused request for memory.
+// The tests make each call with large buffers and enough memory, and cause each status. A call is
+// repeated after a refused request for memory.
 
 const SHEET: &str = r#"{"namespaces":{"eg":"http://example.org/t"},"concepts":{"eg:A":"numeric"}}"#;
 
@@ -159,7 +159,6 @@ fn called(rt: &HostRuntime, call: Call, sheet: &str, ends: &[usize], room: usize
     called_once(rt.alloc(), call, sheet, ends, room)
 }
 
-/// Returns whether the text and the record of the refused report are at the start of the buffers.
 fn has_all(left: &Left, text: &[u8]) -> bool {
     left.status == REFUSED
         && left.needed == text.len()

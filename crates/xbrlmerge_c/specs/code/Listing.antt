@@ -1,4 +1,4 @@
--- A listing on its way to a sink (own).
+-- Listings that are appended to a sink (own).
 use Rattle.std.specs.Prelude.{ℕ, List, Option}
 use Rattle.oim_report.specs.Sheet.{Sheet}
 use Rattle.oim_report.specs.declared.refusal.Refusal.{Refusal}
