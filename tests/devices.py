@@ -4,8 +4,8 @@
     tests/devices [PROGRAM]
 
 PROGRAM is $XBRLMERGE or the built one by default. The tables below list the expected status and line for each case. If the
-line has a length, standard output must contain exactly that many bytes, the first part of the full text; otherwise it must
-contain all of the text or nothing. No file may change.
+line has a length, standard output must contain exactly that many bytes from the start of the text. Otherwise it must contain
+all of the text or nothing. No file may change.
 
 Status 0: all cases are as expected. 1: some are not; each is printed. 2: there is no program.
 """

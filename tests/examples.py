@@ -11,8 +11,8 @@ is named, it builds nothing that embeds the library. It compares
 - each page in PAGES with the results of its commands. The blocks of a page run in order, as a reader types them, by `sh`
   and then by `bash`, in a folder with the repository's files, which must not change. The last command of a block
   must return the status that the paragraph before it names, or 0; each other command must return 0. If a block of
-  output follows, the command must print exactly that; `..` at the end of a line matches the rest of the line. Otherwise
-  standard error may only contain the lines of statuses 1 to 3. A block that proves (`rt`, the gate) is skipped;
+  output follows, the command must print exactly that; `..` at the end of a line matches the rest of the line. If no
+  output follows, standard error may contain only the lines of statuses 1 to 3. A block that proves (`rt`, the gate) is skipped;
 - the JSON that docs/GUIDE.md shows with the examples;
 - the output of tools/contradictions when it makes the sheet from a taxonomy package and normalises reports in the form
   of other tools, in tests/normalise/vendors;

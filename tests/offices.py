@@ -5,9 +5,9 @@ the gate.
     [SCHEDULES=200] [SEED=1] tests/offices [PROGRAM]
 
 PROGRAM is $XBRLMERGE or the built one by default. Three offices, each with its own folder, use only the commands `merge` and
-`check`. They follow a drawn schedule: they take reports, some of which are refused, send their text, receive texts (late,
-repeated, reordered), and lose everything. A sent text must be canonical and declare the strictest level that its facts
-satisfy, as computed from the definition. Some texts are then sent in the earlier form, without a level.
+`check`. They follow a drawn schedule: they take reports, of which some are refused, and exchange texts. Texts arrive late,
+repeated or reordered, and an office may lose everything. A sent text must be canonical and declare the strictest level that
+its facts satisfy, as computed from the definition. Some texts are then sent in the earlier form, without a level.
 
 Status 0: all texts are equal. 1: some are not; the difference is printed with the seed and the schedule. 2: there is no
 program.

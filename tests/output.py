@@ -1,5 +1,5 @@
 #!/usr/bin/env python3
-"""Runs the program with `--output` while each call that writes the file fails, or kills the run. Not part of the gate.
+"""Runs the program with `--output`. In each run, one call that writes the file fails, or kills the run. Not part of the gate.
 
     tests/output [PROGRAM]
 

@@ -7,7 +7,7 @@ It runs the tool on examples/ with the built program. The page that the browser 
 light and the dark theme, the background, the values and the gaps of the number lines must have their colours. If all is as
 expected, the light page is written to PICTURE; docs/contradictions.png is made this way.
 
-On 11,000 contradictions that the script makes itself, the tool may take at most 10 seconds of a processor and 300 MB. The
+On 11,000 contradictions that the script generates, the tool may take at most 10 seconds of a processor and 300 MB. The
 browser must show something within 2 seconds, draw the page within 30 and return its whole text within 60. An entry of the
 index must open the rows of its concept. The filter must find exactly the rows with the words. Nothing may be wider than the
 window, at any of three widths.

@@ -7,7 +7,7 @@ The tests of a crate are crates/NAME/out/NAME_tests, which `rt test` makes. The 
 crates/xbrlmerge/out/xbrlmerge if that does not exist. Without arguments it tests all crates and the program. A first run of
 each test counts the requests; each later run refuses one of them, and the last run refuses none. A test must pass and print
 on standard error that a call was refused (`refused`) or that its own setup was (`refused here`); if it prints neither, the
-request counts as passed over. The program runs on command lines of every command. It must print the line `out of memory`,
+request counts as passed over. The program runs with arguments for every command. It must print the line `out of memory`,
 end with status 3 and have written a first part of its text. It may also print its whole text, since two requests may be
 refused without harm: one for the key of a cache while a report is read, and one for clap's search for similar words. For
 the same reason no request counts as passed over in the tests of crates that read reports. JOBS runs are parallel, as many as

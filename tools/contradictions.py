@@ -107,7 +107,6 @@ def check(parser: argparse.ArgumentParser, options: argparse.Namespace) -> None:
 
 
 def outputs_of(options: argparse.Namespace) -> list[str]:
-    """Returns the output files."""
     names = ["page.html", "contradictions.csv", "rows.csv", *["merged.json"] * (not options.texts)]
     names += ["sheet.json"] * bool(options.taxonomy) + ["changes.csv"] * options.normalise
     return [*(os.path.join(options.output, name) for name in names), *[options.near] * bool(options.near)]
@@ -132,7 +131,6 @@ def main() -> Status:
 
 
 def run_program(options: argparse.Namespace, progress: Progress) -> Status:
-    """Writes the output of the program for the reports."""
     program, reports = program_at(options.program), reports_of(options.words)
     with tempfile.TemporaryDirectory(prefix=".new-", dir=os.path.abspath(options.output)) as folder:
         return write(Run(program, options, reports, folder, progress).inputs(), options, progress)

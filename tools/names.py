@@ -22,7 +22,6 @@ class Name(NamedTuple):
     local: str
 
     def shown(self) -> str:
-        """Returns the name as lines show it."""
         return f"{{{shortened(self.uri)}}}{shortened(self.local)}"
 
 

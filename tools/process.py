@@ -87,7 +87,6 @@ def status_of(main: Callable[[], Status]) -> Status:
 
 
 def sentence(fault: Exception) -> str:
-    """Returns the message for an exception."""
     if isinstance(fault, MemoryError):
         return "out of memory"
     if isinstance(fault, RecursionError):
@@ -116,7 +115,7 @@ def signals_held() -> Iterator[None]:
 
 
 def fill_standard_files() -> None:
-    """Opens the null device in place of each closed standard stream, in the wrong direction, so each use of it fails.
+    """Opens the null device in place of each closed standard stream, in the wrong direction, so that each use fails.
 
     Otherwise the next file that is opened would get its number, and lines for standard error would go into that file.
     Both streams are buffered, even if PYTHONUNBUFFERED is set: an unbuffered stream may take a part of the bytes and raise no

@@ -18,7 +18,6 @@ REFUSAL = re.compile(r"report ([1-9]\d{0,17}): (\d+ \w+ at .*)")
 
 
 def add_program(parser: argparse.ArgumentParser) -> None:
-    """Adds the option that names the program."""
     parser.add_argument("--program", metavar="FILE", help="the program, by default ./xbrlmerge beside tools/, or the one on the PATH")
 
 

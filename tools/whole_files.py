@@ -44,7 +44,7 @@ class Output:
 
 
 def write_files(texts: Iterable[tuple[str, Iterable[str]]]) -> None:
-    """Writes all files or none. `texts` has their paths and pieces.
+    """Writes all files or none. `texts` lists their paths and pieces.
 
     Each file is written in a new folder beside its place, then moved there. It keeps the permissions of the file that it
     replaces, and its owner and group if that is permitted. A signal that `process.run` handles removes the new files.
@@ -56,7 +56,7 @@ def write_files(texts: Iterable[tuple[str, Iterable[str]]]) -> None:
 
 @contextlib.contextmanager
 def files_written(texts: Iterable[tuple[str, Iterable[str]]]) -> Iterator[None]:
-    """Writes files as `write_files` does, and moves them to their places when the block ends. If it raises, none is moved."""
+    """Writes files as `write_files` does, and moves them to their places when the block ends, unless it raises."""
     with contextlib.ExitStack() as folders:
         outputs = [write_beside(path, pieces, folders) for path, pieces in texts]
         yield

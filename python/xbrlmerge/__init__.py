@@ -139,7 +139,7 @@ class Columns(Dict[str, List[Any]]):
 class Checked:
     """The result for an accepted report. It prints as the program's line."""
 
-    facts: int  #: how many facts it has, repeats included
+    facts: int  #: the number of its facts, repeats included
     level: str  #: the strictest level that its facts satisfy
     canonical: bool  #: whether its bytes are the canonical text of its facts
 
@@ -169,7 +169,7 @@ def verdicts(sheet: Given, reports: Iterable[Given]) -> Rows:
 
 
 def sources(sheet: Given, reports: Iterable[Given]) -> Sources:
-    """Returns each fact's reports and its identifiers in them. Raises SheetRefused and MemoryError."""
+    """Returns, for each fact, the reports that contain it and its identifiers there. Raises SheetRefused and MemoryError."""
     answer = _library.sources(_bytes(sheet), _each(reports))
     text = _text(answer)
     return Sources(map(_source, _lines(text)), text, _refusals(answer))

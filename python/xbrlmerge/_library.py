@@ -54,7 +54,7 @@ Row = Tuple[int, int, int]
 
 
 class Answer(NamedTuple):
-    """The result of a call: its status, the text, the number returned instead of a text, and the refused reports."""
+    """The result of a call: its status, the text or the number returned instead of it, and the refused reports."""
 
     status: int
     text: bytes
@@ -68,8 +68,8 @@ def _row(fields: Tuple[Any, ...]) -> Row:
 
 
 def _room(size: int) -> Tuple[bytearray, ctypes.c_char]:
-    """Returns a buffer of at least one byte, since no pointer may be null, and its first byte, which keeps the buffer in
-    place."""
+    """Returns a buffer and its first byte, which keeps the buffer in place. It has at least one byte, since no pointer may be
+    null."""
     held = bytearray(max(size, 1))
     return held, ctypes.c_char.from_buffer(held)
 

@@ -41,7 +41,6 @@ class Inputs:
 
 
 def inputs_named(options: argparse.Namespace) -> Inputs:
-    """Returns the inputs that --from names."""
     (merged, listed, verdicts), sources = options.texts, None
     sheet, text = sheet_at(listed), Text(merged)
     if options.sources:
@@ -88,7 +87,6 @@ class Run:
         return path
 
     def normalised(self) -> list[str]:
-        """Returns the paths of the normalised reports."""
         made = Normalised(self.program, self.options, self.folder)
         for number, report in enumerate(self.reports, 1):
             self.progress.show(f"normalising {printable(report.path)} ({number} of {len(self.reports)})")
@@ -104,7 +102,6 @@ class Run:
         return self.program.read_reports(command, paths)
 
     def refusals(self, found: dict[int, str], paths: list[str]) -> Refusals:
-        """Returns the refused reports with their faults."""
         refusals = Refusals("" if self.options.taxonomy else ADVICE)
         for number, refusal in sorted(found.items()):
             path = self.reports[number - 1].path

@@ -1,4 +1,4 @@
-"""Finds pairs of rows that are not duplicates but may be a mistake."""
+"""Finds pairs of rows that may differ only by mistake."""
 from __future__ import annotations
 
 import datetime
@@ -12,7 +12,7 @@ from names import Name
 
 COLUMNS = ["pair", "differs", "row", "fact", *DIMENSIONS, *"value decimals low high providers label".split()]
 MOST_PAIRS = 1_000  # pairs compared for each set of rows that differ only in the same dimension
-MOST_FACTS = 10_000  # the most facts in these pairs; one more pair may exceed it
+MOST_FACTS = 10_000  # the most facts in these pairs; the last pair may exceed it
 WORD = (1 << 64) - 1
 
 Axis = Union[str, Name]
@@ -102,7 +102,6 @@ class Near:
         return axes[0] if shared else None
 
     def notes(self) -> list[str]:
-        """Returns the message about the pairs that were not compared."""
         told = f"{self.cut} pairs of rows were not compared: of rows that differ in the same dimension alone, at most"
         return [f"--near: {told} {MOST_PAIRS} pairs, or about {MOST_FACTS} facts, are"] if self.cut else []
 
@@ -127,7 +126,7 @@ def items_of(dimensions: Dimensions) -> Items:
 
 
 def buckets(axis: Axis, value: object) -> list[object]:
-    """Returns keys. Two values share a key if they may differ by mistake."""
+    """Returns the keys of a value. Two values share a key if they may differ by mistake."""
     of = value[0] if isinstance(axis, Name) and isinstance(value, tuple) else value
     if axis == "period":
         days = [datetime.date.fromisoformat(moment[:10]).toordinal() for moment in str(of).split("/")]

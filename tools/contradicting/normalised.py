@@ -55,7 +55,6 @@ class Normalised:
         return sum(change["loss"] for change in changes)
 
     def pieces(self) -> Iterator[str]:
-        """Yields the pieces of the table."""
         yield from lines_of([COLUMNS])
         if os.path.exists(self.table):
             yield from pieces_of_file(self.table)

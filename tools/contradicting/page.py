@@ -1,7 +1,7 @@
 """The page of contradictions. It begins with the largest differences; an index by concept and groups with the other rows
 follow.
 
-It shows at most 80 characters of an identifier, a URI or a text, because it repeats them. The table has them in full.
+It shows at most 80 characters of an identifier, a URI or a text, because it repeats them. The table contains them in full.
 """
 from __future__ import annotations
 
@@ -79,7 +79,7 @@ def refused(refusals: Refusals) -> Iterator[str]:
 
 
 def order(row: Row) -> tuple[int, Decimal, int]:
-    """Returns the sort key: rows with a text or nil come first, then the difference as a share of the larger value decides."""
+    """Returns the sort key. Rows with a text or nil come first, then the largest differences, as shares of the larger value."""
     share = row.share()
     return (0, Decimal(0), row.number) if share is None else (1, -share, row.number)
 
@@ -138,7 +138,6 @@ def heading(concept: Name, labels: Labels, tag: str) -> str:
 
 
 def section(row: Row, reader: Reader, labels: Labels) -> Iterator[str]:
-    """Yields the pieces of the page that show a row."""
     dimensions, line = dimensions_of(row), number_line(row)
     terms = dict(details(row))
     kind = "number" if "Unit" in terms else "text"

@@ -61,7 +61,6 @@ class Refusals:
 
 
 def line_of(fault: Mapping[str, Any]) -> str:
-    """Returns a fault as a line."""
     identifier = fault["identifier"]
     fact = "" if identifier is None else f"fact {json.dumps(shortened(identifier), ensure_ascii=False)}: "
     number = "" if fault["number"] is None else f"{fault['number']} {fault['name']}: "

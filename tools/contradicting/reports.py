@@ -35,7 +35,7 @@ def reports_of(words: Iterable[str]) -> list[Report]:
 
 
 def report_of(word: str) -> tuple[bool, Report]:
-    """Returns whether an argument names a provider, and its report. An argument with a / before the first = is a path."""
+    """Returns whether an argument names a provider, and the report. An argument with a / before the first = is a path."""
     name, sign, path = word.partition("=")
     is_named = bool(sign) and "/" not in name
     if is_named and not (name and path):
@@ -50,7 +50,7 @@ def written(name: str) -> str:
 
 
 def check_files(paths: Iterable[str]) -> None:
-    """Raises an error for files that the program could not read more than once. Errors: NotDone, OSError."""
+    """Raises an error for a file that can be read only once. Errors: NotDone, OSError."""
     for path in paths:
         if not stat.S_ISREG(os.stat(path).st_mode):
             raise NotDone(f"{path} is not a regular file")

@@ -248,7 +248,7 @@ def is_common(said: re.Match[str], facts: Mapping[str, Tree]) -> bool:
 
 
 def day(moment: str, is_end: bool) -> str:
-    """Returns a moment as people write it: midnight is the day that begins or, at an end, the day before."""
+    """Returns a moment as people write it. Midnight at a start is the day that begins; at an end it is the day before."""
     read = datetime.datetime.fromisoformat(moment)
     is_midnight = read.time() == datetime.time() and (not is_end or read > datetime.datetime.min)
     return str(read.date() - datetime.timedelta(days=is_end)) if is_midnight else moment.replace("T", " ")

@@ -31,7 +31,6 @@ class Line(list[str]):
 
 
 def lines_of(table: Iterable[Sequence[str]]) -> Iterator[str]:
-    """Yields the lines of a table of cells."""
     made = Line()
     writer = csv.writer(made)
     yield "\ufeff"
@@ -41,7 +40,6 @@ def lines_of(table: Iterable[Sequence[str]]) -> Iterator[str]:
 
 
 def cell(value: Cell) -> str:
-    """Returns the text of a cell."""
     if isinstance(value, (int, Decimal)):
         return plain(value)
     text = "nil" if value is None else f"{{{value.uri}}}{value.local}" if isinstance(value, Name) else value
@@ -86,7 +84,6 @@ def length_of(dimensions: Dimensions) -> int:
 
 
 def dimension_cells(of: Dimensions) -> list[str]:
-    """Returns the cells for the dimensions of a row."""
     unit = "/".join("*".join(map(cell, side)) for side in of.unit)
     members = "; ".join(f"{cell(axis)}={cell(member)}" for axis, member in of.members)
     return [*map(cell, (of.concept, of.entity or "", of.period, unit, of.language, members))]

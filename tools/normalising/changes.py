@@ -34,7 +34,6 @@ class Log:
         self.add(path, told, rule, loss, is_long(path) or told != values)
 
     def tell_moved(self, path: Path, name: str, rule: str, was: Tree) -> None:
-        """Adds the line for a renamed member."""
         told = {"was": brief_of(was), "moved": pointer_of((*path[:-1], name))}
         self.add(path, told, rule, False, is_long(path) or told["was"] != was)
 
@@ -56,7 +55,6 @@ class Log:
         self.is_lossy |= loss
 
     def take(self, other: Log) -> None:
-        """Adds the lines of another log."""
         self.lines += other.lines
         self.left += other.left
         self.is_lossy |= other.is_lossy

@@ -32,7 +32,6 @@ class Twins(NamedTuple):
 
 
 def read_json(path: str) -> Tree:
-    """Returns the tree of a file."""
     return read_json_of_length(path)[0]
 
 
@@ -75,7 +74,6 @@ def no_constant(word: str) -> None:
 
 
 def twins_in(pairs: list[tuple[str, Tree]], made: dict[str, Tree]) -> Twins:
-    """Returns the first two members with the same name."""
     seen: dict[str, Tree] = {}
     for key, value in pairs:
         if key in seen:
@@ -123,12 +121,10 @@ WORDS = {None: "null", True: "true", False: "false"}
 
 
 def text_of(tree: Tree) -> str:
-    """Returns the compact text of a tree."""
     return "".join(pieces_of(tree))
 
 
 def pieces_of(tree: Tree) -> list[str]:
-    """Returns the pieces of the compact text of a tree."""
     pieces: list[str] = []
     put(tree, pieces.append)
     return pieces

@@ -26,7 +26,7 @@ SCIENTIFIC = re.compile(r"[+-]?(?P<mantissa>\d+(\.\d*)?|\.\d+)[eE][+-]?\d+", re.
 WHOLE = re.compile(r"[+-]?\d{1,18}", re.ASCII)
 DIGITS = 18  # the most digits of a number that is written without its exponent
 
-GROWTH, SMALL = 16, 1_000_000  # the names of sets may add this many times the report's length plus this many characters
+GROWTH, SMALL = 16, 1_000_000  # the names of sets may add GROWTH times the report's length plus SMALL characters
 
 
 class Normaliser:
@@ -71,7 +71,7 @@ def drop_unknown_members(part: Part, kind: str) -> None:
 
 
 class FactReader:
-    """The rules for the facts of one report. `room` is how many characters the names of sets may still add to it."""
+    """The rules for the facts of one report. `room` is the number of characters that the names of sets may still add."""
 
     def __init__(self, sheet: Sheet, options: argparse.Namespace, uris: Uris, room: int) -> None:
         self.sheet, self.options, self.uris, self.room = sheet, options, uris, room

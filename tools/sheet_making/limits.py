@@ -22,7 +22,7 @@ class Limits:
 
     @property
     def again(self) -> int:
-        """The most bytes of schemas without a namespace that are read again for further namespaces."""
+        """How many bytes of schemas without a namespace may be read again for further namespaces."""
         return self.file // 16
 
 

@@ -12,7 +12,6 @@ from sheets import SETS, TABLES, Sheet
 
 
 def union(paths: Iterable[str], limits: Limits) -> Kinds:
-    """Returns the kinds of the concepts and dimensions of several sheets."""
     kinds: Kinds = {table: {} for table in TABLES}
     for path in paths:
         with reading(path):

@@ -54,11 +54,9 @@ class Element:
         self.name, self.attributes, self.bindings = bindings.expanded(tag), attributes, bindings
 
     def get(self, local: str) -> Optional[str]:
-        """Returns an attribute without a prefix."""
         return self.attributes.get(local)
 
     def get_in(self, uri: str, local: str) -> Optional[str]:
-        """Returns an attribute in a namespace."""
         keys = (key for key in self.attributes if key.endswith(":" + local))
         return next((self.attributes[key] for key in keys if self.bindings.expanded(key) == (uri, local)), None)
 
