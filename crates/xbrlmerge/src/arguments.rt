@@ -26,7 +26,7 @@ pub(crate) fn output_argument<'w>(alloc: Global) -> Arg<'w> {
         .short('o')
         .long(OUTPUT)
         .value_name("FILE")
-        .help("Write to FILE, whole or not at all")
+        .help("Write the complete output to FILE, or nothing")
 }
 
 /// Returns a command with this name and help, and the option for a sheet.
@@ -69,7 +69,7 @@ pub(crate) fn with_reports<'w>(
 
 fn list_argument<'w>(alloc: Global) -> Arg<'w> {
     Arg::new(alloc, LIST).long(LIST).value_name("FILE").help(
-        "Also read the reports named in FILE, one a line; - is standard input",
+        "Also read the reports named in FILE, one per line; - is standard input",
     )
 }
 
@@ -78,7 +78,7 @@ fn null_argument<'w>(alloc: Global) -> Result<Arg<'w>, AllocError> {
         .short('0')
         .long(NULL)
         .action(ArgAction::SetTrue)
-        .help("Names in FILE end with NUL, not with a line end")
+        .help("Names in FILE end with NUL instead of a line end")
         .requires_arg(LIST)
 }
 
@@ -86,7 +86,7 @@ fn quiet_argument<'w>(alloc: Global) -> Arg<'w> {
     Arg::new(alloc, QUIET)
         .long(QUIET)
         .action(ArgAction::SetTrue)
-        .help("Do not show on a terminal how many reports were read")
+        .help("Do not show progress on a terminal")
 }
 
 /// Returns the argument that takes any number of reports.

@@ -17,7 +17,7 @@ pub(crate) fn format_argument<'w>(alloc: Global) -> Arg<'w> {
         .value_name("FORMAT")
         .value_parser(ValueParser::Names(FORMATS.as_slice()))
         .default_value(TEXT)
-        .help("How faults are printed")
+        .help("The output format")
 }
 
 /// Returns the format given by the arguments.

@@ -29,11 +29,11 @@ pub(crate) fn with_format<'w>(
         .value_name("FORMAT")
         .value_parser(ValueParser::Names(FORMATS.as_slice()))
         .default_value("lines")
-        .help("How rows are printed");
+        .help("The output format");
     let spreadsheet = Arg::new(alloc, SPREADSHEET)
         .long(SPREADSHEET)
         .action(ArgAction::SetTrue)
-        .help("In CSV, put a ' before a text that a spreadsheet would take for a formula")
+        .help("In CSV, put a ' before each text that a spreadsheet would read as a formula")
         .requires_arg(FORMAT)?;
     command.arg(format)?.arg(spreadsheet)
 }

@@ -26,11 +26,11 @@ other line that is not empty is a report.
 Example:
   cat examples/sheet.json examples/issuer.json examples/statfeed.json | xbrlmerge
 
-Status of each command, the highest that applies:
+Status of each command; if several apply, the highest:
   0  done
-  1  a report was refused, and standard error says why; or `explain` found a fault
+  1  a report was refused, and standard error shows why; or `explain` found a fault
   2  `merge` wrote nothing, because a row exceeds --allow
-  3  not done, or not to the end: invalid arguments, a refused sheet or event, a file or device
+  3  not done, or not completed: invalid arguments, a refused sheet or event, a file or device
      that failed, or out of memory";
 
 /// The commands, in the order of the help.

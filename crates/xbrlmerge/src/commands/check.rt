@@ -23,23 +23,23 @@ const MORE: &str = "The line of an accepted report is one of
   accepted FACTS LEVEL canonical
   accepted FACTS LEVEL other
 
-  FACTS       how many facts it has, repeats included
-  LEVEL       the duplicates among them (facts with the same dimensions):
+  FACTS       the number of its facts, repeats included
+  LEVEL       its duplicates, which are facts with the same dimensions:
   none        there are none
   complete    duplicates are equal
   consistent  duplicates are equal, or numbers that agree within rounding
   all         some duplicates contradict each other
-  canonical   the file is, byte for byte, what `merge` writes of it
-  other       it is not, for example because it was written before levels were declared
+  canonical   the file is, byte for byte, what `merge` would write for it
+  other       it is not, for example because an older version wrote it, without a level
 
-To compare the two, `check` keeps the report and the output of `merge` in memory.
+To compare the two, `check` may keep the report and the output of `merge` in memory.
 
 Example:
   xbrlmerge check --sheet examples/sheet.json examples/ledgerline.json
 
 Status:
   0  the report is accepted
-  1  it is refused, and standard error says why and where; `explain` says more
+  1  it is refused, and standard error shows why and where; `explain` describes its faults
   3  not checked: invalid arguments, a refused sheet, a file or device that failed, or out of
      memory";
 

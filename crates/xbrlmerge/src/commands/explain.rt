@@ -23,27 +23,27 @@ the name of the refusal, and what is wrong, with the text at fault. At most 80 c
 identifier or a text are shown.
 
 The other commands name only the first fault of a report. `explain` lists all faults of the
-document. If there are none, it lists those of the facts, and if there are none, that of the
-duplicates. If several names or members in one place share a fault, only the first is shown. Some
+document. If the document has none, it lists the faults of all facts. If the facts have none, it
+lists the fault of the duplicates. If several names or members in one place share a fault, only the first is shown. Some
 faults appear only after others are corrected.
 
 It also lists repeated members of a report or of the sheet, such as two facts with the same
 identifier. Only the last one is read, here and by `merge`, which accepts such a file. Run `explain`
 first on files from untrusted sources.
 
-The last line counts the reports, those with a fault, and the faults.
+The last line contains the numbers of reports, of reports with a fault, and of faults.
 
 With --format json each fault is a JSON object on one line, and there is no last line. Its members:
   report      the number of the report, from 1; null for the sheet
   file        the name of the file
-  place       where the refusal lies: \"document\" or \"fact N\"
+  place       the location of the fault: \"document\" or \"fact N\"
   number      the number of the refusal
   name        its name
-  identifier  the identifier of the fact, whole; null for the document
-  part        what is at fault, whole: a text, another value, an object of one member, or an array
+  identifier  the whole identifier of the fact; null for the document
+  part        the whole part at fault: a text, another value, an object of one member, or an array
               of two texts; null if the sentence shows none
   sentence    what is wrong, as in the text
-For a member that stands twice, place, number, name and identifier are null.
+For a repeated member, place, number, name and identifier are null.
 
 Example:
   xbrlmerge explain --sheet examples/sheet.json examples/issuer.json examples/statfeed.json

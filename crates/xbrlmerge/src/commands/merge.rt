@@ -22,8 +22,8 @@ static LEVELS: [&str; 4] = ["none", "complete", "consistent", "all"];
 const ABOUT: &str = "Writes one canonical report with the facts of all reports";
 
 const MORE: &str =
-    "Equal facts become one, whoever reports them. The output does not depend on the order of the
-reports or on how often a report is named. A report with a fault is skipped as a whole.
+    "Equal facts become one, even if several reports contain them. The output does not depend on the
+order of the reports or on how often a report is named. A report with a fault is skipped as a whole.
 
 A row is all facts with the same dimensions. LEVEL allows these rows:
   none, complete  rows with one fact
@@ -36,10 +36,10 @@ Example:
 
 Status:
   0  every report was merged
-  1  a report was refused, and standard error says why; the others were merged
+  1  a report was refused, and standard error shows why; the others were merged
   2  a row exceeds LEVEL: nothing was written, and standard error has the number of the first
      such row, as `verdicts` counts rows
-  3  not done, or not to the end: invalid arguments, a refused sheet, a file or device that
+  3  not done, or not completed: invalid arguments, a refused sheet, a file or device that
      failed, or out of memory";
 
 /// Returns the arguments of this command, with its help.
@@ -49,7 +49,7 @@ pub(crate) fn words<'w>(alloc: Global) -> Result<Command<'w>, AllocError> {
         .value_name("LEVEL")
         .value_parser(ValueParser::Names(LEVELS.as_slice()))
         .default_value("all")
-        .help("The loosest rows that the output may have");
+        .help("The loosest level that a row may have");
     with_reports(alloc, command(alloc, NAME, ABOUT, MORE)?.arg(allow)?)
 }
 

@@ -27,18 +27,19 @@ const MOST_REPLICAS: i64 = 64;
 const ABOUT: &str = "Runs a schedule on replicas that exchange merged reports";
 
 const MORE: &str =
-    "A replica is like an office: it merges the reports that reach it, and sends what it has merged to
-others. Each of the N replicas begins empty. EVENTS has one event on each line. Replicas, reports
+    "A replica is like an office: it merges the reports that reach it, and sends its merged report to
+others. Each of the N replicas begins empty. EVENTS contains one event per line. Replicas, reports
 and messages are counted from 1.
 
   take I R      replica I takes report R
   join I J      replica I takes everything that replica J has
   send I        replica I sends its merged report, which is the next message
-  receive I K   replica I takes message K, however late and however often
+  receive I K   replica I takes message K, at any later time and any number of times
   restart I     replica I loses everything
 
-At the end, the merged report of each replica is written, one a line. It is that of one merge of
-the reports that reached the replica, directly or through others, whatever the schedule was.
+At the end, the merged report of each replica is written, one per line. Whatever the
+schedule, it is the same as from one merge of the reports that reached the replica, directly or
+through others.
 
 Example:
   xbrlmerge replay --sheet examples/sheet.json --replicas 2 \\
@@ -46,10 +47,10 @@ Example:
       examples/ledgerline.json examples/statfeed.json
 
 Status:
-  0  every event happened
-  1  a report that was taken was refused, and standard error says why, one line for each take; the
+  0  every event was run
+  1  a report that was taken was refused, and standard error shows why, one line for each take; the
      others were taken
-  3  not done, or not to the end: invalid arguments, a refused sheet, a line of EVENTS that is not
+  3  not done, or not completed: invalid arguments, a refused sheet, a line of EVENTS that is not
      an event or names something that does not exist, a file or device that failed, or out of
      memory";
 

@@ -18,8 +18,8 @@ pub(crate) const NAME: &str = "sources";
 const ABOUT: &str = "Lists the report that each fact comes from, and its identifier there";
 
 const MORE: &str =
-    "A merged report contains each fact once, whoever reports it, under a new identifier. Each line
-shows where a fact comes from:
+    "A merged report contains each fact once, under a new identifier, even if several reports contain
+it. Each line shows where a fact comes from:
 
   FACT REPORT IDENTIFIER
 
@@ -30,9 +30,9 @@ shows where a fact comes from:
 Lines are sorted by these three. Each fact object of each accepted report has one line. If several
 lines have the same FACT, several reports agree exactly, or one report repeats the fact.
 
-FORMAT tells how rows are printed:
+FORMAT is one of:
   lines  as above
-  json   an object a line
+  json   a JSON object per line
   csv    a header and a record for each line, quoted as RFC 4180 says
 
 Example:
@@ -40,8 +40,8 @@ Example:
 
 Status:
   0  every report was read
-  1  a report was refused, and standard error says why; the others were read
-  3  not done, or not to the end: invalid arguments, a refused sheet, a file or device that
+  1  a report was refused, and standard error shows why; the others were read
+  3  not done, or not completed: invalid arguments, a refused sheet, a file or device that
      failed, or out of memory";
 
 /// Returns the arguments of this command, with its help.

@@ -17,7 +17,7 @@ pub(crate) const NAME: &str = "verdicts";
 const ABOUT: &str = "Prints a verdict for each set of facts with the same dimensions";
 
 const MORE: &str =
-    "Each line describes a row: all facts with the same dimensions in the output of `merge`. It says
+    "Each line describes a row: all facts with the same dimensions in the output of `merge`. It shows
 whether they agree exactly, agree within rounding, or contradict each other, with the evidence.
 
   ROW FIRST LAST complete
@@ -26,15 +26,15 @@ whether they agree exactly, agree within rounding, or contradict each other, wit
 
   ROW           the number of the row, from 1
   FIRST LAST    its first and last fact, by their identifiers in that output
-  complete      the row has one fact: all who report it agree exactly
+  complete      the row has one fact: all providers that report it agree exactly
   consistent    the row has several numbers, which agree within rounding
   LOW HIGH      the lowest and the highest number that fit all of them
   inconsistent  the row has facts that contradict each other
   I J           two of these
 
-FORMAT tells how rows are printed:
+FORMAT is one of:
   lines  as above
-  json   an object a line, with the dimensions and the facts of the row
+  json   a JSON object per line, with the dimensions and the facts of the row
   csv    a header and a record for each fact, quoted as RFC 4180 says
 
 Example:
@@ -42,8 +42,8 @@ Example:
 
 Status:
   0  every report was judged, whatever the verdicts are
-  1  a report was refused, and standard error says why; the others were judged
-  3  not done, or not to the end: invalid arguments, a refused sheet, a file or device that
+  1  a report was refused, and standard error shows why; the others were judged
+  3  not done, or not completed: invalid arguments, a refused sheet, a file or device that
      failed, or out of memory";
 
 /// Returns the arguments of this command, with its help.
