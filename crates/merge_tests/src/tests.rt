@@ -9,6 +9,7 @@ mod expecting;
 mod io;
 mod refused;
 mod replay;
+mod reports;
 mod round_trip;
 mod rows;
 mod sinks;

@@ -1,6 +1,5 @@
 -- Definitions that only private code cites: how values are stored, and intermediate laws. No public contract uses them.
 pub mod Beside
-pub mod Examples
 pub mod Findings
 pub mod FoundFacts
 pub mod Given

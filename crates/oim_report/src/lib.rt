@@ -15,8 +15,6 @@ mod reader;
 mod refusal;
 mod report;
 mod sheet;
-#[cfg(test)]
-mod tests;
 mod unless_memory;
 
 pub use concept_kind::ConceptKind;

@@ -1,6 +1,7 @@
-use super::{Answer, InDocument, Read, SHEET, is_answer_between, read_sheet};
-use crate::Sheet;
-use crate::tests::{joined, repeated, told};
+use super::{
+    Answer, InDocument, Read, SHEET, is_answer_between, joined, read_sheet, repeated, told,
+};
+use oim_report::Sheet;
 use std::alloc::AllocError;
 use std::test::Fail;
 
@@ -13,7 +14,7 @@ struct Long<'t> {
     counts: &'t [(usize, Answer<'t>)],
 }
 
-const LIMITS: [Long; 4] = [
+const LIMITS: [Long; 5] = [
     // JSON is nested at most 127 levels deep
     Long {
         start: r#"{"documentInfo":{"documentType":"https://xbrl.org/2021/xbrl-json"},"eg:x":"#,
@@ -49,6 +50,14 @@ const LIMITS: [Long; 4] = [
         closing: "",
         end: r#""},"facts":{}}"#,
         counts: &[(65_523, Read), (65_524, InDocument(6))],
+    },
+    // a base counts towards the limit of a kept text
+    Long {
+        start: r#"{"documentInfo":{"documentType":"https://xbrl.org/2021/xbrl-json","baseURL":"http://x.org/r","taxonomy":[""#,
+        piece: "a",
+        closing: "",
+        end: r#""]}}"#,
+        counts: &[(65_523, Read), (65_524, InDocument(7))],
     },
 ];
 

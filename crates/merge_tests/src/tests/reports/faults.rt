@@ -1,5 +1,5 @@
 use super::{SHEET, joined, read_sheet, tell_refused, told};
-use crate::{Faults, Place, Refusal, Sheet, faults};
+use oim_report::{Faults, Place, Refusal, Sheet, faults};
 use std::alloc::AllocError;
 use std::test::Fail;
 

@@ -1,9 +1,9 @@
-use super::fact;
-use crate::Sheet;
-use crate::tests::{PREFIXES, SHEET, aliases_of, read_sheet};
+use super::{END, FACT, SHEET, joined, read, read_sheet};
 use oim_dims::{Dimensions, Fact, Member, Period};
-use oim_names::{Aliases, Name};
+use oim_names::Name;
+use oim_report::Sheet;
 use oim_value::Value;
+use std::alloc::AllocError;
 use std::test::Fail;
 
 // The expected contents of a fact.
@@ -75,11 +75,16 @@ fn says(fact: &Fact, said: &Said) -> bool {
     }
 }
 
-fn is_read_so(rt: &HostRuntime, sheet: &Sheet, aliases: &Aliases, text: &str, said: &Said) -> bool {
-    match fact(rt, sheet, aliases, text) {
-        Ok(fact) => says(&fact, said),
+fn is_read_so(rt: &HostRuntime, sheet: &Sheet, report: &str, said: &Said) -> bool {
+    match read(rt, sheet, report.as_bytes()) {
+        Ok(report) => matches!(report.facts(), [fact] if says(fact, said)),
         Err(_) => false,
     }
+}
+
+fn is_said(rt: &HostRuntime, sheet: &Sheet, fact: &str, said: &Said) -> Result<bool, AllocError> {
+    let report = joined(rt, FACT, fact, END)?;
+    Ok(is_read_so(rt, sheet, &report, said))
 }
 
 const BLUE: &str =
@@ -121,52 +126,8 @@ const READ: [(&str, Said); 7] = [
 #[test]
 fn facts_say_what_is_written(rt: HostRuntime) -> Result<(), Fail> {
     let sheet = read_sheet(&rt, SHEET)?;
-    let aliases = aliases_of(&rt, &PREFIXES)?;
     for (text, said) in &READ {
-        assert!(rt; is_read_so(&rt, &sheet, &aliases, text, said), "{text}");
-    }
-    Ok(())
-}
-
-fn is_text_of(
-    rt: &HostRuntime,
-    sheet: &Sheet,
-    aliases: &Aliases,
-    first: &Fact,
-    text: &str,
-) -> bool {
-    match fact(rt, sheet, aliases, text) {
-        Ok(second) => *first == second,
-        Err(_) => false,
-    }
-}
-
-fn are_one(rt: &HostRuntime, sheet: &Sheet, aliases: &Aliases, text: &str, other: &str) -> bool {
-    match fact(rt, sheet, aliases, text) {
-        Ok(first) => is_text_of(rt, sheet, aliases, &first, other),
-        Err(_) => false,
-    }
-}
-
-const SAME: [(&str, &str); 2] = [
-    // prefixes carry no meaning
-    (
-        r#"{"value":"100","decimals":0,"dimensions":{"concept":"eg:A","unit":"(x:b*x:a)/x:c"}}"#,
-        r#"{"value":"100.0","decimals":0,"eg:note":[],"dimensions":{"concept":"zz:A","unit":"x:a*x:b/x:c"}}"#,
-    ),
-    // the end of a day is the start of the next
-    (
-        BLUE,
-        r#"{"dimensions":{"concept":"zz:T","entity":"x:529900:A1","language":"en-gb","period":"2020-01-01T00:00:00/2021-01-01T00:00:00","zz:Reg":"zz:North","zz:Sku":"a b"},"value":"Blue"}"#,
-    ),
-];
-
-#[test]
-fn spellings_of_one_fact_are_one(rt: HostRuntime) -> Result<(), Fail> {
-    let sheet = read_sheet(&rt, SHEET)?;
-    let aliases = aliases_of(&rt, &PREFIXES)?;
-    for (text, other) in &SAME {
-        assert!(rt; are_one(&rt, &sheet, &aliases, text, other), "{other}");
+        assert!(rt; is_said(&rt, &sheet, text, said)?, "{text}");
     }
     Ok(())
 }

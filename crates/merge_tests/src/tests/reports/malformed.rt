@@ -1,8 +1,7 @@
 use super::documents::no_prefix_is_read;
-use super::{SHEET, read, read_sheet};
-use crate::Sheet;
-use crate::tests::{joined, told};
+use super::{SHEET, joined, read, read_sheet, told};
 use oim_names::Reason;
+use oim_report::Sheet;
 use std::test::Fail;
 
 // A report with parts of every kind is cut at each index, and read with other bytes there.

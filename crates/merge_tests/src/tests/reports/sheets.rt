@@ -1,6 +1,6 @@
-use super::{aliases_of, read_sheet, tell_refused, told};
-use crate::{ConceptKind, DimensionKind, Sheet};
+use super::{read_sheet, tell_refused, told};
 use oim_names::{Aliases, Name, Reason};
+use oim_report::{ConceptKind, DimensionKind, Sheet};
 use std::test::Fail;
 
 // Sheets with the reason for which they are refused, if any.
@@ -100,6 +100,23 @@ fn the_first_fault_of_a_sheet_is_answered(rt: HostRuntime) {
 const SHEET: &str =
     "\u{feff}{\"namespaces\":{\"a\":\"u:z\",\"b\":\"u:m\",\"c\":\"u:z\"},\"concepts\":{\"a:N\":\"numeric\",\"b:N\":\"text\",\"c:M\":\"name\",\"c:N\":\"numeric\"},\"dimensions\":{\"a:D\":\"typed\",\"b:D\":\"explicit\"},\"eg:x\":1}";
 
+fn bind(rt: &HostRuntime, aliases: &mut Aliases, prefix: &str, uri: &str) -> Result<(), Reason> {
+    match aliases.add(prefix, uri) {
+        Err(Reason::OutOfMemory) => {
+            tell_refused(rt);
+            aliases.add(prefix, uri)
+        }
+        answer => answer,
+    }
+}
+
+fn aliases_of(rt: &HostRuntime) -> Result<Aliases, Reason> {
+    let mut aliases = Aliases::new(rt.alloc());
+    bind(rt, &mut aliases, "m", "u:m")?;
+    bind(rt, &mut aliases, "z", "u:z")?;
+    Ok(aliases)
+}
+
 fn read_name(rt: &HostRuntime, aliases: &Aliases, text: &str) -> Result<Name, Reason> {
     match aliases.expand(text) {
         Err(Reason::OutOfMemory) => {
@@ -129,7 +146,7 @@ const KINDS: [(&str, Kinds); 6] = [
 
 #[test]
 fn a_sheet_lists_kinds_by_expanded_name(rt: HostRuntime) -> Result<(), Fail> {
-    let aliases = aliases_of(&rt, &[("m", "u:m"), ("z", "u:z")])?;
+    let aliases = aliases_of(&rt)?;
     let sheet = read_sheet(&rt, SHEET)?;
     for (text, wanted) in &KINDS {
         assert!(rt; kinds(&rt, &sheet, &aliases, text)? == *wanted, "{text}");

@@ -1,16 +1,66 @@
+// Tests `oim_report` by its public calls.
+
 mod accepted;
+mod conditions;
 mod documents;
+mod duplicates;
 mod facts;
+mod faults;
 mod features;
+mod identifiers;
 mod limits;
 mod malformed;
+mod pieces;
+mod references;
+mod said;
+mod sheets;
 
-use super::{SHEET, joined, read_sheet, tell_refused, told};
-use crate::{Place, Refusal, Report, Sheet, read_report};
+use super::asked_again::{SHEET, tell_refused, tell_refused_here};
 use oim_dims::Fact;
 use oim_names::{Reason, Text};
+use oim_report::{Place, Refusal, Report, Sheet, read_report};
 use oim_value::Level;
 use std::alloc::AllocError;
+
+// If a request for memory is refused, the call is repeated once.
+
+/// Returns `holds`, and prints the text if it is false.
+fn told(rt: &HostRuntime, holds: bool, text: &str) -> bool {
+    if !holds {
+        let _ = eprintln!(rt; "otherwise: {text}");
+    }
+    holds
+}
+
+fn read_sheet(rt: &HostRuntime, text: &str) -> Result<Sheet, Reason> {
+    match Sheet::read(rt.alloc(), text.as_bytes()) {
+        Err(Reason::OutOfMemory) => {
+            tell_refused(rt);
+            Sheet::read(rt.alloc(), text.as_bytes())
+        }
+        answer => answer,
+    }
+}
+
+fn joined(rt: &HostRuntime, start: &str, text: &str, end: &str) -> Result<String, AllocError> {
+    match format!(in rt.alloc(); "{start}{text}{end}") {
+        Err(_) => {
+            tell_refused_here(rt);
+            format!(in rt.alloc(); "{start}{text}{end}")
+        }
+        made => made,
+    }
+}
+
+fn repeated(rt: &HostRuntime, piece: &str, count: usize) -> Result<String, AllocError> {
+    match piece.repeat(rt.alloc(), count) {
+        Err(_) => {
+            tell_refused_here(rt);
+            piece.repeat(rt.alloc(), count)
+        }
+        made => made,
+    }
+}
 
 // The start of a report, up to the other members of `documentInfo`.
 const TYPED: &str = r#"{"documentInfo":{"documentType":"https://xbrl.org/2021/xbrl-json""#;
@@ -24,6 +74,13 @@ const NO_FACTS: &str = r#"},"facts":{}}"#;
 // The start of a report up to its facts.
 const FACTS: &str =
     r#"{"documentInfo":{"documentType":"https://xbrl.org/2021/xbrl-json","namespaces":{"eg":"http://example.org/t","x":"http://example.org/u","xbrli":"http://www.xbrl.org/2003/instance","xbrl":"https://xbrl.org/2021"}},"facts":{"#;
+
+// The start of a report up to its one fact object. Two prefixes have one URI.
+const FACT: &str =
+    r#"{"documentInfo":{"documentType":"https://xbrl.org/2021/xbrl-json","namespaces":{"eg":"http://example.org/t","zz":"http://example.org/t","x":"http://example.org/u","xbrli":"http://www.xbrl.org/2003/instance","xbrl":"https://xbrl.org/2021"}},"facts":{"f":"#;
+
+// The end of a report after its facts.
+const END: &str = "}}";
 
 // The expected outcome of a report.
 enum Answer<'t> {
@@ -49,11 +106,7 @@ struct Table<'t> {
     end: &'t str,
 }
 
-pub(super) fn read<'s>(
-    rt: &HostRuntime,
-    sheet: &'s Sheet,
-    bytes: &[u8],
-) -> Result<Report<'s>, Refusal> {
+fn read<'s>(rt: &HostRuntime, sheet: &'s Sheet, bytes: &[u8]) -> Result<Report<'s>, Refusal> {
     match read_report(rt.alloc(), sheet, bytes) {
         Err(
             Refusal {

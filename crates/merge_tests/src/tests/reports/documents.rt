@@ -1,7 +1,7 @@
 use super::{
     BOUND, InDocument, InFact, NO_FACTS, Read, SHEET, TYPED, Table, hold, is_answer, read_sheet,
 };
-use crate::Sheet;
+use oim_report::Sheet;
 use std::test::Fail;
 
 const EMPTY: &str =

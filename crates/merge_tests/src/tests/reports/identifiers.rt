@@ -1,6 +1,6 @@
 use super::{SHEET, read_sheet, tell_refused};
-use crate::{Refusal, Report, Sheet, fact_identifiers, read_identified};
 use oim_names::{Reason, Text};
+use oim_report::{Refusal, Report, Sheet, fact_identifiers, read_identified};
 use oim_value::Value;
 use std::test::Fail;
 

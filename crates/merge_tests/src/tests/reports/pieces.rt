@@ -1,0 +1,68 @@
+use super::{
+    Answer, HasLevel, InDocument, InFact, SHEET, is_answer, read_sheet, repeated, tell_refused_here,
+};
+use oim_report::Sheet;
+use oim_value::Level::{All, Unique};
+use std::alloc::AllocError;
+use std::test::Fail;
+
+// Reports that are long enough to be read in pieces. An `@` stands for 70,000 letters.
+const LONG: [(Answer, &str); 6] = [
+    // members in any order, and with spaces
+    (
+        HasLevel(2, Unique),
+        r#"{"facts":{"a":{"value":"@","dimensions":{"concept":"eg:T"}},"b":{"dimensions":{"concept":"eg:T","language":"en"},"links":{},"value":"@"}},"documentInfo":{"documentType":"https://xbrl.org/2021/xbrl-json","namespaces":{"eg":"http://example.org/t"}},"eg:note":[1,"}"],"eg:more":{"facts":{}}}"#,
+    ),
+    (
+        HasLevel(2, Unique),
+        "\n{ \"documentInfo\" : {\n \"documentType\" : \"https://xbrl.org/2021/xbrl-json\", \"namespaces\" : {\n \"eg\" : \"http://example.org/t\" } },\n \"facts\" : {\n \"a\" : {\n \"value\" : \"@\",\n \"dimensions\" : { \"concept\" : \"eg:T\" }\n },\n \"b\" : { \"value\" : \"@\",\n \"dimensions\" : { \"concept\" : \"eg:T\", \"language\" : \"en\" }\n }\n } }\n",
+    ),
+    // values and identifiers that look like the start or the end of a fact; one fact is repeated
+    (
+        HasLevel(7, All),
+        r#"{"documentInfo":{"documentType":"https://xbrl.org/2021/xbrl-json","namespaces":{"eg":"http://example.org/t"}},"facts":{"f,":{"value":"@},","dimensions":{"concept":"eg:T"}},"f}":{"value":"@\"","dimensions":{"concept":"eg:T"}},"f},":{"value":"@\\","dimensions":{"concept":"eg:T"}},"f\"":{"value":"@},\"","dimensions":{"concept":"eg:T"}},"f}},":{"value":"@\\\"","dimensions":{"concept":"eg:T"}},"f{":{"value":"@:{","dimensions":{"concept":"eg:T"}},"f},\"":{"value":"@[","dimensions":{"concept":"eg:T"}},"f}":{"value":"}},","dimensions":{"concept":"eg:T"}}}}"#,
+    ),
+    // what is refused has the place that it has in the whole report
+    (
+        InFact(2, 2),
+        r#"{"documentInfo":{"documentType":"https://xbrl.org/2021/xbrl-json","namespaces":{"eg":"http://example.org/t"}},"facts":{"b":{"value":"@","dimensions":{"concept":"eg:T"}},"c":{},"a":{"value":"@","dimensions":{"concept":"eg:T"}},"b":{}}}"#,
+    ),
+    (
+        InDocument(1),
+        r#"{"documentInfo":{"documentType":"https://xbrl.org/2021/xbrl-json","namespaces":{"eg":"http://example.org/t"}},"facts":{"a":{"value":"@","dimensions":{"concept":"eg:T"}},"b":{"value":"@","dimensions":{"concept":"eg:T"}},}}"#,
+    ),
+    (
+        InDocument(3),
+        r#"{"documentInfo":{"documentType":"https://xbrl.org/2021/xbrl-json","namespaces":{"eg":"http://example.org/t"}},"facts":{"a":{"value":"@","dimensions":{"concept":"eg:T"}},"b":{"value":"@","dimensions":{"concept":"eg:T"}}},"facets":{}}"#,
+    ),
+];
+
+fn replaced(rt: &HostRuntime, text: &str, letters: &str) -> Result<String, AllocError> {
+    match text.replace(rt.alloc(), "@", letters) {
+        Err(_) => {
+            tell_refused_here(rt);
+            text.replace(rt.alloc(), "@", letters)
+        }
+        made => made,
+    }
+}
+
+fn is_long_answer(
+    rt: &HostRuntime,
+    sheet: &Sheet,
+    letters: &str,
+    row: &(Answer, &str),
+) -> Result<bool, AllocError> {
+    let report = replaced(rt, row.1, letters)?;
+    Ok(is_answer(rt, sheet, report.as_bytes(), &row.0))
+}
+
+#[test]
+fn long_reports_are_read_like_short_ones(rt: HostRuntime) -> Result<(), Fail> {
+    let sheet = read_sheet(&rt, SHEET)?;
+    let letters = repeated(&rt, "x", 70_000)?;
+    for row in &LONG {
+        assert!(rt; is_long_answer(&rt, &sheet, &letters, row)?, "{}", row.1);
+    }
+    Ok(())
+}
