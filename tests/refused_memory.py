@@ -63,7 +63,7 @@ DEVICE_FAILS_TOO = {
     "xbrlmerge tests::run::an_output_that_failed_is_not_flushed",
 }
 # the tests of these crates read reports, so a cache or clap's search for similar words may do without the memory
-READ_REPORTS = {"oim_report", "merge_tests", "xbrlmerge"}
+READ_REPORTS = {"merge_tests", "xbrlmerge"}
 
 # a test, or the program on a command line; the program also has its whole output
 Subject = collections.namedtuple("Subject", "label command given whole")

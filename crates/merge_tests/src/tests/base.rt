@@ -1,9 +1,5 @@
 mod bases;
 mod gathered;
-mod many;
-mod many_refused;
-mod pairs;
-mod refused;
 mod small_reports;
 mod verdicts;
 

@@ -1,4 +1,3 @@
-mod by_hand;
 mod event_lines;
 mod schedules;
 

@@ -67,6 +67,44 @@ fn added<'s>(alloc: Global, sheet: &'s Sheet) -> Result<Consolidation<'s>, Alloc
     Ok(consolidation)
 }
 
+/// Makes a call that takes the reports.
+fn of_reports<S: Sink>(
+    alloc: Global,
+    sheet: &Sheet,
+    call: Call,
+    format: RowFormat,
+    sink: &mut S,
+) -> Result<Refusals, Fault>
+    requires { S.failures sink.old < 2 ^ 64 - 1 }
+{
+    let Ok(reports) = reports(alloc) else {
+        return Err(Fault::OutOfMemory(0));
+    };
+    match call {
+        Call::Sources => source_rows(alloc, sheet, &reports, format, sink),
+        _ => verdict_rows(alloc, sheet, &reports, format, sink),
+    }
+}
+
+/// Makes a call that takes what was added.
+fn of_added<S: Sink>(
+    alloc: Global,
+    sheet: &Sheet,
+    call: Call,
+    format: RowFormat,
+    sink: &mut S,
+) -> Result<Refusals, Fault>
+    requires { S.failures sink.old < 2 ^ 64 - 1 }
+{
+    let Ok(consolidation) = added(alloc, sheet) else {
+        return Err(Fault::OutOfMemory(0));
+    };
+    match call {
+        Call::AddedLast => finish_rows_last(alloc, consolidation, format, sink),
+        _ => finish_rows(alloc, consolidation, format, sink),
+    }
+}
+
 fn asked<S: Sink>(
     alloc: Global,
     call: Call,
@@ -78,17 +116,9 @@ fn asked<S: Sink>(
     let Ok(sheet) = Sheet::read(alloc, SHEET.as_bytes()) else {
         return Err(Fault::OutOfMemory(0));
     };
-    let Ok(reports) = reports(alloc) else {
-        return Err(Fault::OutOfMemory(0));
-    };
-    let Ok(consolidation) = added(alloc, &sheet) else {
-        return Err(Fault::OutOfMemory(0));
-    };
     match call {
-        Call::Verdicts => verdict_rows(alloc, &sheet, &reports, format, sink),
-        Call::Added => finish_rows(alloc, consolidation, format, sink),
-        Call::AddedLast => finish_rows_last(alloc, consolidation, format, sink),
-        Call::Sources => source_rows(alloc, &sheet, &reports, format, sink),
+        Call::Verdicts | Call::Sources => of_reports(alloc, &sheet, call, format, sink),
+        Call::Added | Call::AddedLast => of_added(alloc, &sheet, call, format, sink),
     }
 }
 

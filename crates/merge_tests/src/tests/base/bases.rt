@@ -130,10 +130,10 @@ fn absorb_two(rt: &HostRuntime, base: &mut Base<'_>) -> Option<bool> {
     Some(base.absorb(other).is_ok())
 }
 
-// Absorbs a base with two facts, and repeats this if a request was refused and `base` is unchanged.
-fn absorbs(rt: &HostRuntime, base: &mut Base<'_>, before: &Base<'_>) -> bool {
+// Absorbs a base with two facts, and repeats this if a request was refused.
+fn absorbs(rt: &HostRuntime, base: &mut Base<'_>) -> bool {
     match absorb_two(rt, base) {
-        Some(false) if base.same_as(before) => {
+        Some(false) => {
             tell_refused(rt);
             absorb_two(rt, base) == Some(true)
         }
@@ -141,18 +141,11 @@ fn absorbs(rt: &HostRuntime, base: &mut Base<'_>, before: &Base<'_>) -> bool {
     }
 }
 
-fn counts_once(rt: &HostRuntime, before: &Base<'_>) -> bool {
-    match base_of(rt, before.sheet(), &[NINE, ONE]) {
-        Some(mut base) => {
-            absorbs(rt, &mut base, before) && base.row_count() == 1 && base.fact_count() == 3
-        }
-        None => false,
-    }
-}
-
 fn is_counted_once(rt: &HostRuntime, sheet: &Sheet) -> bool {
     match base_of(rt, sheet, &[NINE, ONE]) {
-        Some(before) => counts_once(rt, &before),
+        Some(mut base) => {
+            absorbs(rt, &mut base) && base.row_count() == 1 && base.fact_count() == 3
+        }
         None => false,
     }
 }
@@ -175,11 +168,10 @@ fn absorb_value(rt: &HostRuntime, base: &mut Base<'_>, value: &str) -> Option<bo
     Some(base.absorb_report(report).is_ok())
 }
 
-// Absorbs a report with one value, and repeats this if a request was refused and `base` is
-// unchanged.
-fn absorbs_value(rt: &HostRuntime, base: &mut Base<'_>, value: &str, before: &Base<'_>) -> bool {
+// Absorbs a report with one value, and repeats this if a request was refused.
+fn absorbs_value(rt: &HostRuntime, base: &mut Base<'_>, value: &str) -> bool {
     match absorb_value(rt, base, value) {
-        Some(false) if base.same_as(before) => {
+        Some(false) => {
             tell_refused(rt);
             absorb_value(rt, base, value) == Some(true)
         }
@@ -189,21 +181,14 @@ fn absorbs_value(rt: &HostRuntime, base: &mut Base<'_>, value: &str, before: &Ba
 
 // Returns whether a base with two values has all values after it absorbs a third value, and after
 // it absorbs that value again.
-fn has_what_is_given_up(rt: &HostRuntime, before: &Base<'_>, all: &Base<'_>) -> bool {
-    match base_of(rt, all.sheet(), &[NINE, ONE]) {
-        Some(mut base) => {
-            absorbs_value(rt, &mut base, TWO, before)
-                && base.same_as(all)
-                && absorbs_value(rt, &mut base, TWO, all)
-                && base.same_as(all)
-        }
-        None => false,
-    }
-}
-
 fn is_given_up(rt: &HostRuntime, all: &Base<'_>) -> bool {
     match base_of(rt, all.sheet(), &[NINE, ONE]) {
-        Some(before) => has_what_is_given_up(rt, &before, all),
+        Some(mut base) => {
+            absorbs_value(rt, &mut base, TWO)
+                && base.same_as(all)
+                && absorbs_value(rt, &mut base, TWO)
+                && base.same_as(all)
+        }
         None => false,
     }
 }

@@ -1,11 +1,11 @@
 // Adds small reports after a large one. Their facts are collected in lists, which are sorted
 // each time their length has doubled.
 
-use super::refused::gather;
-use super::{joined, take_text};
 use crate::tests::asked_again::{read_sheet, tell_refused};
 use fact_base::{Base, Gathering};
-use oim_report::Sheet;
+use oim_names::Reason;
+use oim_report::{Report, Sheet, read_report};
+use std::alloc::AllocError;
 use std::test::Fail;
 
 // A report with ten numbers and no references.
@@ -30,119 +30,97 @@ const TWO_FACTS: &str =
 // the seventh report.
 const NUMBERS: [&str; 8] = ["16", "12", "14", "12", "9", "11", "16", "10"];
 
-fn small(rt: &HostRuntime, number: &str, facts: &str) -> Option<String> {
-    let named = joined(rt, number, VALUE, number).ok()?;
-    joined(rt, REFERENCE, named.as_str(), facts).ok()
+fn small(rt: &HostRuntime, number: &str, facts: &str) -> Result<String, AllocError> {
+    format!(in rt.alloc(); "{REFERENCE}{number}{VALUE}{number}{facts}")
 }
 
-// Adds a small report, and returns whether it was added. If a request is refused, the report is
-// lost.
+fn read<'s>(rt: &HostRuntime, sheet: &'s Sheet, text: &str) -> Result<Report<'s>, Reason> {
+    match read_report(rt.alloc(), sheet, text.as_bytes()) {
+        Ok(report) => Ok(report),
+        Err(refusal) => Err(refusal.reason),
+    }
+}
+
+fn gather(rt: &HostRuntime, gathered: &mut Gathering<'_>, text: &str) -> Result<(), Reason> {
+    let report = read(rt, gathered.sheet(), text)?;
+    if gathered.sheet().same_as(report.sheet()) {
+        gathered.add(report)?;
+    }
+    Ok(())
+}
+
 fn gather_small(
     rt: &HostRuntime,
     gathered: &mut Gathering<'_>,
     number: &str,
     facts: &str,
-) -> Option<bool> {
+) -> Result<(), Reason> {
     let text = small(rt, number, facts)?;
     gather(rt, gathered, text.as_str())
 }
 
-// Adds a small report for each number until a request is refused, and returns the number of added
-// reports.
-fn gather_each(
-    rt: &HostRuntime,
-    gathered: &mut Gathering<'_>,
-    numbers: &[&str],
-    facts: &str,
-) -> Option<usize> {
-    for (added, number) in numbers.iter().enumerate() {
-        if !gather_small(rt, gathered, number, facts)? {
-            return Some(added);
-        }
+// Gathers the large report and a small report for each number.
+fn gather_each(rt: &HostRuntime, gathered: &mut Gathering<'_>, facts: &str) -> Result<(), Reason> {
+    gather(rt, gathered, LARGE)?;
+    for number in &NUMBERS {
+        gather_small(rt, gathered, number, facts)?;
     }
-    Some(numbers.len())
+    Ok(())
 }
 
-fn gather_large(rt: &HostRuntime, gathered: &mut Gathering<'_>) -> bool {
-    match gather(rt, gathered, LARGE) {
-        Some(false) => {
-            tell_refused(rt);
-            gather(rt, gathered, LARGE) == Some(true)
-        }
-        added => added == Some(true),
-    }
-}
-
-fn take_small(rt: &HostRuntime, base: &mut Base<'_>, number: &str, facts: &str) -> bool {
-    match small(rt, number, facts) {
-        Some(text) => take_text(rt, base, text.as_str()),
-        None => false,
-    }
-}
-
-// Returns the base that takes the large report and a small report for each number.
-fn taken<'s>(
-    rt: &HostRuntime,
-    sheet: &'s Sheet,
-    numbers: &[&str],
-    facts: &str,
-) -> Option<Base<'s>> {
-    let mut base = Base::new(rt.alloc(), sheet);
-    if !take_text(rt, &mut base, LARGE) {
-        return None;
-    }
-    for number in numbers {
-        if !take_small(rt, &mut base, number, facts) {
-            return None;
-        }
-    }
-    Some(base)
-}
-
-fn is_taken(rt: &HostRuntime, base: &Base<'_>, numbers: &[&str], facts: &str) -> bool {
-    match taken(rt, base.sheet(), numbers, facts) {
-        Some(all) => base.same_as(&all),
-        None => false,
-    }
-}
-
-// Returns whether the gathering becomes the base that takes these reports, or None if a request is
-// refused.
-fn becomes_taken(
-    rt: &HostRuntime,
-    gathered: Gathering<'_>,
-    numbers: &[&str],
-    facts: &str,
-) -> Option<bool> {
-    match gathered.into_base() {
-        Ok(base) => Some(is_taken(rt, &base, numbers, facts)),
-        Err(_) => None,
-    }
-}
-
-// Gathers the large report and a small report for each number, and returns whether all were added.
-// Returns None if the base does not have exactly the added reports, even after a refused request.
-fn gather_all(rt: &HostRuntime, sheet: &Sheet, facts: &str) -> Option<bool> {
+fn gathered<'s>(rt: &HostRuntime, sheet: &'s Sheet, facts: &str) -> Result<Base<'s>, Reason> {
     let mut gathered = Gathering::new(rt.alloc(), sheet);
-    if !gather_large(rt, &mut gathered) {
-        return None;
-    }
-    let added = gather_each(rt, &mut gathered, &NUMBERS, facts)?;
-    let numbers = NUMBERS.get(..added)?;
-    match becomes_taken(rt, gathered, numbers, facts) {
-        Some(false) => None,
-        whole => Some(whole.is_some() && added == NUMBERS.len()),
-    }
+    gather_each(rt, &mut gathered, facts)?;
+    Ok(gathered.into_base()?)
 }
 
-// Gathers all reports, and starts again if a request is refused.
+fn take(rt: &HostRuntime, base: &mut Base<'_>, text: &str) -> Result<(), Reason> {
+    let report = read(rt, base.sheet(), text)?;
+    if base.same_sheet(report.sheet()) {
+        base.take(&report)?;
+    }
+    Ok(())
+}
+
+fn take_small(
+    rt: &HostRuntime,
+    base: &mut Base<'_>,
+    number: &str,
+    facts: &str,
+) -> Result<(), Reason> {
+    let text = small(rt, number, facts)?;
+    take(rt, base, text.as_str())
+}
+
+// Returns whether a base with the large report has the same facts and references as the other after
+// it takes the small reports.
+fn takes_each(
+    rt: &HostRuntime,
+    base: &mut Base<'_>,
+    other: &Base<'_>,
+    facts: &str,
+) -> Result<bool, Reason> {
+    take(rt, base, LARGE)?;
+    for number in &NUMBERS {
+        take_small(rt, base, number, facts)?;
+    }
+    Ok(base.same_as(other))
+}
+
+fn are_gathered_once(rt: &HostRuntime, sheet: &Sheet, facts: &str) -> Result<bool, Reason> {
+    let other = gathered(rt, sheet, facts)?;
+    takes_each(rt, &mut Base::new(rt.alloc(), sheet), &other, facts)
+}
+
+// Returns whether the reports are gathered as they are taken one by one. If a request for memory is
+// refused, all starts again.
 fn are_gathered(rt: &HostRuntime, sheet: &Sheet, facts: &str) -> bool {
-    match gather_all(rt, sheet, facts) {
-        Some(false) => {
+    match are_gathered_once(rt, sheet, facts) {
+        Err(Reason::OutOfMemory) => {
             tell_refused(rt);
-            gather_all(rt, sheet, facts) == Some(true)
+            are_gathered_once(rt, sheet, facts) == Ok(true)
         }
-        all => all == Some(true),
+        all => all == Ok(true),
     }
 }
 
