@@ -9,9 +9,8 @@ use oim_dims::{
 use oim_names::{Aliases, Copied, Name, Reason, Text};
 use std::alloc::AllocError;
 
-// If a request for memory is refused, the call is repeated, and the next request succeeds. A
-// refused call must not have changed anything. `tests/refused_memory` counts the lines on standard
-// error.
+// If a request for memory is refused, the call is repeated, and the next request succeeds.
+// `tests/refused_memory` counts the lines on standard error.
 
 fn tell_refused(rt: &HostRuntime) {
     let _ = eprintln!(rt; "refused");

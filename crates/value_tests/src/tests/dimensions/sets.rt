@@ -30,8 +30,7 @@ pub(super) fn member(rt: &HostRuntime, aliases: &Aliases, kind: &Kind) -> Result
     })
 }
 
-// Adds a member. The call consumes name and member, so they are made again when it is repeated.
-fn add_made(
+fn add_once(
     rt: &HostRuntime,
     set: &mut Dimensions,
     aliases: &Aliases,
@@ -42,7 +41,7 @@ fn add_made(
     set.add(name, member(rt, aliases, kind)?)
 }
 
-// Adds a member. A call that is refused memory must not change the dimensions.
+// Adds a member. The call consumes name and member, so they are made again when it is repeated.
 fn add(
     rt: &HostRuntime,
     set: &mut Dimensions,
@@ -50,11 +49,10 @@ fn add(
     spelled: &str,
     kind: &Kind,
 ) -> Result<(), Reason> {
-    let before = copied(rt, set)?;
-    match add_made(rt, set, aliases, spelled, kind) {
-        Err(Reason::OutOfMemory) if *set == before => {
+    match add_once(rt, set, aliases, spelled, kind) {
+        Err(Reason::OutOfMemory) => {
             tell_refused(rt);
-            add_made(rt, set, aliases, spelled, kind)
+            add_once(rt, set, aliases, spelled, kind)
         }
         answer => answer,
     }
@@ -221,22 +219,25 @@ fn a_dimension_stands_once(rt: HostRuntime) -> Result<(), Fail> {
     Ok(())
 }
 
+fn push_nil(
+    rt: &HostRuntime,
+    aliases: &Aliases,
+    members: &mut Vec<(Name, Member)>,
+    spelled: &str,
+) -> Result<(), Reason> {
+    let name = name(rt, aliases, spelled)?;
+    Ok(members.push((name, Member::Nil))?)
+}
+
 // Returns nil members with these names, in the given order.
 fn listed(
     rt: &HostRuntime,
     aliases: &Aliases,
     names: &[&str],
 ) -> Result<Vec<(Name, Member)>, Reason> {
-    let Ok(mut members) = room(rt) else {
-        return Err(Reason::OutOfMemory);
-    };
+    let mut members = room(rt)?;
     for spelled in names {
-        if members
-            .push((name(rt, aliases, spelled)?, Member::Nil))
-            .is_err()
-        {
-            return Err(Reason::OutOfMemory);
-        }
+        push_nil(rt, aliases, &mut members, spelled)?;
     }
     Ok(members)
 }

@@ -1,5 +1,5 @@
-use super::again::{absorb, merge, tell_refused};
-use super::{finite, rounded};
+use super::summaries::{finite, rounded};
+use super::{merge, tell_refused};
 use merge_laws::{SortedMap, Summary};
 use oim_value::Decimals;
 use std::alloc::AllocError;
@@ -18,33 +18,10 @@ fn digits(number: i64) -> (Decimals, Decimals) {
     (finite(number / 25 % 25 - 12), finite(number % 25 - 12))
 }
 
-fn has_value(map: &Many, at: usize, number: i64) -> bool {
-    match map.at(at) {
-        Some((key, value)) => *key == place(number) && *value == rounded("1"),
-        None => false,
-    }
-}
-
-// Returns whether the map has the value at exactly the multiples of `step` below `end`.
-fn has_multiples(map: &Many, step: i64, end: i64) -> bool {
-    let mut seen = 0usize;
-    for number in 0..end {
-        if number.checked_rem(step) == Some(0) {
-            if !has_value(map, seen, number) {
-                return false;
-            }
-            seen = seen.saturating_add(1);
-        }
-    }
-    map.len() == seen
-}
-
-// Puts a value at the next multiple of a step. After a refusal, the expected map is computed from
-// the number, since copying the map before each call would take too long.
-fn put_next(rt: &HostRuntime, map: &mut Many, step: i64, number: i64) -> Result<(), AllocError> {
-    let value = rounded("1");
+fn put(rt: &HostRuntime, map: &mut Many, number: i64) -> Result<(), AllocError> {
+    let value = rounded("1", 0);
     match map.put(&place(number), &value) {
-        Err(_) if has_multiples(map, step, number) => {
+        Err(_) => {
             tell_refused(rt);
             map.put(&place(number), &value)
         }
@@ -56,7 +33,7 @@ fn put_all(rt: &HostRuntime, step: i64) -> Result<Many, AllocError> {
     let mut map = SortedMap::new(rt.alloc());
     for number in 0..200_000i64 {
         if number.checked_rem(step) == Some(0) {
-            put_next(rt, &mut map, step, number)?;
+            put(rt, &mut map, number)?;
         }
     }
     Ok(map)
@@ -90,31 +67,16 @@ fn has_all_keys(map: &Many) -> bool {
     map.len() == 133_333 && are_keys_right(map) && has_last(map)
 }
 
-// Merges the multiples of two, and returns whether all keys are then in the map.
-fn merges_halves(rt: &HostRuntime, map: &mut Many) -> bool {
-    match put_all(rt, 2) {
-        Ok(halves) => {
-            merge(rt, map, &halves).is_ok() && halves.len() == 100_000 && has_all_keys(map)
-        }
-        Err(_) => false,
-    }
+fn merge_halves(rt: &HostRuntime, map: &mut Many) -> Result<(), AllocError> {
+    let halves = put_all(rt, 2)?;
+    merge(rt, map, &halves)
 }
 
 #[test]
 fn many_keys_are_kept_in_order(rt: HostRuntime) -> Result<(), Fail> {
     let mut map = put_all(&rt, 3)?;
-    assert!(rt; map.len() == 66_667 && merges_halves(&rt, &mut map));
-    Ok(())
-}
-
-fn absorb_halves(rt: &HostRuntime, map: &mut Many) -> Result<(), AllocError> {
-    let halves = put_all(rt, 2)?;
-    absorb(rt, map, halves)
-}
-
-#[test]
-fn many_keys_are_absorbed_in_order(rt: HostRuntime) -> Result<(), Fail> {
-    let mut map = put_all(&rt, 3)?;
-    assert!(rt; absorb_halves(&rt, &mut map).is_ok() && has_all_keys(&map));
+    assert!(rt; map.len() == 66_667);
+    merge_halves(&rt, &mut map)?;
+    assert!(rt; has_all_keys(&map));
     Ok(())
 }

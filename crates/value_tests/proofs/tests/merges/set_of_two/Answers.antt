@@ -5,7 +5,7 @@ use Rattle.std.specs.declared.cmp.Ordering.TheVariants.{Less, Equal, Greater}
 use mathlib.Core.Bool.{true≢false}
 use Rattle.merge_laws.specs.Sorted.{IsSet, itself}
 use Rattle.merge_laws.proofs.Rising.{none_rise, one_rises, rises_behind}
-use Rattle.value_tests.proofs.tests.merges.absorbing.set_of_two.Goals as goal
+use Rattle.value_tests.proofs.tests.merges.set_of_two.Goals as goal
 
 lesser : (r : Ordering) → is_ge r ≡ false → r ≡ Less
 lesser Less t = refl

@@ -1,0 +1,162 @@
+use super::{Items, copied, has_just, merge, room, set_of, tell_refused, text};
+use merge_laws::SortedMap;
+use oim_names::Text;
+use std::alloc::AllocError;
+use std::test::Fail;
+
+type ItemsAt = SortedMap<Text, Items>;
+
+fn put(rt: &HostRuntime, map: &mut ItemsAt, key: &Text, items: &Items) -> Result<(), AllocError> {
+    match map.put(key, items) {
+        Err(_) => {
+            tell_refused(rt);
+            map.put(key, items)
+        }
+        done => done,
+    }
+}
+
+fn put_item(rt: &HostRuntime, map: &mut ItemsAt, key: &str, item: &str) -> Result<(), AllocError> {
+    let key = text(rt, key)?;
+    put(rt, map, &key, &set_of(rt, &[item])?)
+}
+
+// A key and an item.
+type Row = (&'static str, &'static str);
+
+// Returns a map to which each row's item was added at the row's key.
+fn map_of(rt: &HostRuntime, rows: &[Row]) -> Result<ItemsAt, AllocError> {
+    let mut map = SortedMap::new(rt.alloc());
+    for (key, item) in rows {
+        put_item(rt, &mut map, key, item)?;
+    }
+    Ok(map)
+}
+
+fn has_items(map: &ItemsAt, key: &Text, items: &[&str]) -> bool {
+    match map.get(key) {
+        Some(set) => has_just(set, items),
+        None => items.is_empty(),
+    }
+}
+
+// Returns whether a map has exactly these items at a key, or does not have the key if there are none.
+fn has_at(rt: &HostRuntime, map: &ItemsAt, key: &str, items: &[&str]) -> Result<bool, AllocError> {
+    let key = text(rt, key)?;
+    Ok(has_items(map, &key, items))
+}
+
+fn is_entry(map: &ItemsAt, index: usize, key: &str, items: &[&str]) -> bool {
+    match map.at(index) {
+        Some((found, set)) => found.as_str() == key && has_just(set, items),
+        None => false,
+    }
+}
+
+// Returns whether a map has the items a and b at the key k, the item c at the key m, and no more.
+fn is_merged(rt: &HostRuntime, map: &ItemsAt) -> Result<bool, AllocError> {
+    if map.len() != 2 || !is_entry(map, 0, "k", &["a", "b"]) || !is_entry(map, 1, "m", &["c"]) {
+        return Ok(false);
+    }
+    Ok(map.at(2).is_none() && has_at(rt, map, "k", &["a", "b"])? && has_at(rt, map, "l", &[])?)
+}
+
+fn merge_rows(rt: &HostRuntime, map: &mut ItemsAt, rows: &[Row]) -> Result<(), AllocError> {
+    let other = map_of(rt, rows)?;
+    merge(rt, map, &other)
+}
+
+fn absorb_rows(rt: &HostRuntime, map: &mut ItemsAt, rows: &[Row]) -> Result<(), AllocError> {
+    match map.absorb(map_of(rt, rows)?) {
+        Err(_) => {
+            tell_refused(rt);
+            map.absorb(map_of(rt, rows)?)
+        }
+        absorbed => absorbed,
+    }
+}
+
+fn merges_rows(rt: &HostRuntime, rows: &[Row], others: &[Row]) -> Result<bool, AllocError> {
+    let mut map = map_of(rt, rows)?;
+    merge_rows(rt, &mut map, others)?;
+    is_merged(rt, &map)
+}
+
+fn absorbs_rows(rt: &HostRuntime, rows: &[Row], others: &[Row]) -> Result<bool, AllocError> {
+    let mut map = map_of(rt, rows)?;
+    absorb_rows(rt, &mut map, others)?;
+    is_merged(rt, &map)
+}
+
+// Rows of two maps.
+const MAPS: [(&[Row], &[Row]); 4] = [
+    (&[("k", "a")], &[("m", "c"), ("k", "b")]),
+    (&[("m", "c"), ("k", "b")], &[("k", "a")]),
+    (&[], &[("k", "b"), ("m", "c"), ("k", "a"), ("k", "b")]),
+    (&[("k", "a"), ("k", "b"), ("m", "c")], &[]),
+];
+
+#[test]
+fn maps_merge_key_by_key(rt: HostRuntime) -> Result<(), Fail> {
+    for (rows, others) in &MAPS {
+        assert!(rt; merges_rows(&rt, rows, others)? && absorbs_rows(&rt, rows, others)?);
+    }
+    Ok(())
+}
+
+fn copy_is_merged(rt: &HostRuntime, map: &ItemsAt) -> Result<bool, AllocError> {
+    is_merged(rt, &copied(rt, map)?)
+}
+
+#[test]
+fn a_copy_has_the_entries(rt: HostRuntime) -> Result<(), Fail> {
+    let map = map_of(&rt, MAPS[2].1)?;
+    assert!(rt; copy_is_merged(&rt, &map)?);
+    Ok(())
+}
+
+type Pair = (Items, Items);
+
+type PairsAt = SortedMap<Text, Pair>;
+
+// Returns two sets of one item each.
+fn pair(rt: &HostRuntime, left: &str, right: &str) -> Result<Pair, AllocError> {
+    let first = set_of(rt, &[left])?;
+    Ok((first, set_of(rt, &[right])?))
+}
+
+fn keyed_pair(rt: &HostRuntime, left: &str, right: &str) -> Result<(Text, Pair), AllocError> {
+    let key = text(rt, "k")?;
+    Ok((key, pair(rt, left, right)?))
+}
+
+// Returns a map with one entry, whose value is a pair of sets with one item each.
+fn pair_at(rt: &HostRuntime, left: &str, right: &str) -> Result<PairsAt, AllocError> {
+    let mut entries = room(rt)?;
+    entries.push_reserved(keyed_pair(rt, left, right)?);
+    Ok(SortedMap::of_rising(entries))
+}
+
+fn merge_pair(rt: &HostRuntime, map: &mut PairsAt) -> Result<(), AllocError> {
+    let other = pair_at(rt, "b", "w")?;
+    merge(rt, map, &other)
+}
+
+fn has_pair(map: &PairsAt) -> bool {
+    match map.at(0) {
+        Some((_, pair)) => has_just(&pair.0, &["a", "b"]) && has_just(&pair.1, &["w", "x"]),
+        None => false,
+    }
+}
+
+fn copy_has_pair(rt: &HostRuntime, map: &PairsAt) -> Result<bool, AllocError> {
+    Ok(has_pair(&copied(rt, map)?))
+}
+
+#[test]
+fn pairs_merge_part_by_part(rt: HostRuntime) -> Result<(), Fail> {
+    let mut map = pair_at(&rt, "a", "x")?;
+    merge_pair(&rt, &mut map)?;
+    assert!(rt; map.len() == 1 && copy_has_pair(&rt, &map)?);
+    Ok(())
+}
