@@ -1,4 +1,4 @@
-use crate::arguments::{LIST, NULL, REPORT};
+use crate::arguments::{LIST, NULL, REPORTS};
 use crate::error::Error;
 use clap::ArgMatches;
 use oim_merge::ReadFault;
@@ -30,12 +30,16 @@ impl<'w> ReportNames<'w> {
         alloc: Global,
         matches: &ArgMatches<'w>,
     ) -> Result<ReportNames<'w>, AllocError> {
-        let words = match matches.get_strs(REPORT) {
+        let words = match matches.get_strs(REPORTS.name) {
             Some(names) => Vec::from_slice(alloc, names)?,
             None => Vec::new(alloc),
         };
-        let end = if matches.get_flag(NULL) { '\0' } else { '\n' };
-        let list = matches.get_str(LIST);
+        let end = if matches.get_flag(NULL.name) {
+            '\0'
+        } else {
+            '\n'
+        };
+        let list = matches.get_str(LIST.name);
         Ok(ReportNames { words, list, end })
     }
 

@@ -1,7 +1,6 @@
-use crate::arguments::{OUTPUT, QUIET, SHEET};
+use crate::arguments::{CommandWords, OUTPUT, QUIET, SHEET, command};
 use crate::commands::{check, explain, merge, replay, sources, verdicts};
 use crate::error::Error;
-use crate::fault_format::format_of;
 use crate::report_names::ReportNames;
 use crate::request::{Args, Request, Subcommand};
 use crate::row_format::print_format_of;
@@ -34,13 +33,13 @@ Status of each command; if several apply, the highest:
      that failed, or out of memory";
 
 /// The commands, in the order of the help.
-const COMMANDS: [&str; 6] = [
-    merge::NAME,
-    verdicts::NAME,
-    sources::NAME,
-    check::NAME,
-    explain::NAME,
-    replay::NAME,
+const COMMANDS: [CommandWords; 6] = [
+    merge::WORDS,
+    verdicts::WORDS,
+    sources::WORDS,
+    check::WORDS,
+    explain::WORDS,
+    replay::WORDS,
 ];
 
 /// Parses the arguments after the program's name.
@@ -123,20 +122,20 @@ fn args_of<'w>(alloc: Global, matches: &ArgMatches<'w>) -> Result<Option<Args<'w
     Ok(Some(Args {
         request,
         reports: ReportNames::of(alloc, matches)?,
-        output: matches.get_str(OUTPUT),
-        is_quiet: matches.get_flag(QUIET),
+        output: matches.get_str(OUTPUT.name),
+        is_quiet: matches.get_flag(QUIET.name),
     }))
 }
 
 /// Returns the request for a command, or None if there is no such command.
 fn request_of<'w>(name: &str, matches: &ArgMatches<'w>) -> Option<Request<'w>> {
-    let sheet = matches.get_str(SHEET)?;
+    let sheet = matches.get_str(SHEET.name)?;
     let subcommand = match name {
         merge::NAME => merge::of(matches)?,
         verdicts::NAME => Subcommand::Verdicts(print_format_of(matches)?),
         sources::NAME => Subcommand::Sources(print_format_of(matches)?),
         check::NAME => check::of(matches)?,
-        explain::NAME => return Some(Request::Explain(sheet, format_of(matches))),
+        explain::NAME => return Some(Request::Explain(sheet, explain::format_of(matches))),
         replay::NAME => replay::of(matches)?,
         _ => return None,
     };
@@ -156,20 +155,8 @@ fn described<'w>(alloc: Global) -> Result<Command<'w>, AllocError> {
 /// Returns the program with its commands and their help.
 fn program<'w>(alloc: Global) -> Result<Command<'w>, AllocError> {
     let mut program = described(alloc)?;
-    for name in COMMANDS {
-        program = program.subcommand(words_of(alloc, name)?)?;
+    for words in &COMMANDS {
+        program = program.subcommand(command(alloc, words)?)?;
     }
     Ok(program)
-}
-
-/// Returns the arguments of the command with this name.
-fn words_of<'w>(alloc: Global, name: &str) -> Result<Command<'w>, AllocError> {
-    match name {
-        merge::NAME => merge::words(alloc),
-        verdicts::NAME => verdicts::words(alloc),
-        sources::NAME => sources::words(alloc),
-        check::NAME => check::words(alloc),
-        explain::NAME => explain::words(alloc),
-        _ => replay::words(alloc),
-    }
 }
