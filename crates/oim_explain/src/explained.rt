@@ -5,8 +5,8 @@ use super::lines::{Explained, Input, Lines};
 use super::repeated::{Role, push_repeated};
 use oim_names::Reason;
 use oim_report::{
-    Part, Place, Refusal, Sheet, after_mark, document_part, fact_part, facts_apart, report_aliases,
-    tree_faults,
+    Part, Place, Refusal, Sheet, after_mark, document_part, fact_part, facts_apart, read_report,
+    report_aliases, tree_faults,
 };
 use serde_json::{Error, Value};
 use std::alloc::{AllocError, Global};
@@ -28,16 +28,28 @@ pub fn explain(
     bytes: &[u8],
 ) -> Result<Explained, AllocError> {
     let mut lines = Lines::new(alloc, input);
-    match Value::from_slice(alloc, after_mark(bytes)) {
-        Ok(tree) => push_faults(&mut lines, sheet, tree)?,
-        Err(error) => {
-            let message = message_of(alloc, &error)?;
-            lines.push(&unread(Subject::Report, message.as_str(), bytes))?;
-            return Ok(lines.explained);
+    if !is_accepted(alloc, sheet, bytes)? {
+        match Value::from_slice(alloc, after_mark(bytes)) {
+            Ok(tree) => push_faults(&mut lines, sheet, &tree)?,
+            Err(error) => {
+                let message = message_of(alloc, &error)?;
+                lines.push(&unread(Subject::Report, message.as_str(), bytes))?;
+                return Ok(lines.explained);
+            }
         }
     }
     push_repeated(&mut lines, Role::Report, bytes)?;
     Ok(lines.explained)
+}
+
+// Returns whether a report is accepted, and so has no faults. This is much faster than the search
+// for faults, and needs less memory.
+fn is_accepted(alloc: Global, sheet: &Sheet, bytes: &[u8]) -> Result<bool, AllocError> {
+    match read_report(alloc, sheet, bytes) {
+        Ok(_report) => Ok(true),
+        Err(refusal) if refusal.reason == Reason::OutOfMemory => Err(AllocError),
+        Err(_) => Ok(false),
+    }
 }
 
 /// Returns the message of `serde_json` for a file that is not JSON.
@@ -58,13 +70,13 @@ pub(crate) fn unread<'m>(subject: Subject<'m>, message: &'m str, bytes: &[u8]) -
     }
 }
 
-fn push_faults(lines: &mut Lines<'_>, sheet: &Sheet, tree: Value) -> Result<(), AllocError> {
-    let faults = tree_faults(lines.alloc, sheet, &tree)?;
+fn push_faults(lines: &mut Lines<'_>, sheet: &Sheet, tree: &Value) -> Result<(), AllocError> {
+    let faults = tree_faults(lines.alloc, sheet, tree)?;
     let found = faults.as_slice();
     match found.first().map(|first| first.place) {
         None => Ok(()),
-        Some(Place::Document) => push_of_document(lines, sheet, &tree, found),
-        Some(Place::Fact(_)) => push_of_facts(lines, sheet, &tree, found),
+        Some(Place::Document) => push_of_document(lines, sheet, tree, found),
+        Some(Place::Fact(_)) => push_of_facts(lines, sheet, tree, found),
     }
 }
 

@@ -1,5 +1,5 @@
 use super::escaped::{Escaped, front_of};
-use super::sentence::{alone_of, around};
+use super::sentence::{around, push_alone, push_limit};
 use oim_names::Reason;
 use oim_report::Part;
 use serde_json::Value;
@@ -60,7 +60,7 @@ impl<'a> Finding<'a> {
 
     fn push_said(&self, alloc: Global, line: &mut String) -> Result<(), AllocError> {
         match self.part {
-            Part::Nothing => line.push_str(alone_of(self.reason)),
+            Part::Nothing => push_alone(line, self.reason),
             Part::Whole => line.push_str(self.whole()),
             Part::Missing(key) => write!(line, "\"{key}\" is missing"),
             Part::NoObject(key) => write!(line, "\"{key}\" is not an object"),
@@ -70,7 +70,8 @@ impl<'a> Finding<'a> {
                 let (before, behind) = around(self.subject, self.reason, part);
                 line.push_str(before)?;
                 push_part(alloc, line, part)?;
-                line.push_str(behind)
+                line.push_str(behind)?;
+                push_limit(line, self.reason)
             }
         }
     }

@@ -3,6 +3,7 @@ use super::lines::Lines;
 use json::{Error, Scratch, Value};
 use oim_report::after_mark;
 use std::alloc::{AllocError, Global};
+use std::str;
 
 /// The kind of document that a file is read as.
 #[derive(Clone, Copy)]
@@ -17,8 +18,20 @@ pub(crate) fn push_repeated(
     role: Role,
     bytes: &[u8],
 ) -> Result<(), AllocError> {
+    let Ok(text) = str::from_utf8(after_mark(bytes)) else {
+        return Ok(());
+    };
+    // most files have no repeated members at all
+    match Value::parse_strict(lines.alloc, text, &mut Scratch::new(lines.alloc)) {
+        Err(Error::DuplicateKey) => push_of_text(lines, role, text),
+        Err(Error::OutOfMemory) => Err(AllocError),
+        _ => Ok(()),
+    }
+}
+
+fn push_of_text(lines: &mut Lines<'_>, role: Role, text: &str) -> Result<(), AllocError> {
     let mut scratch = Scratch::new(lines.alloc);
-    match Value::from_slice(lines.alloc, after_mark(bytes), &mut scratch) {
+    match Value::parse(lines.alloc, text, &mut scratch) {
         Ok(tree) => match role {
             Role::Report => push_report(lines, &tree),
             Role::Sheet => push_sheet(lines, &tree),

@@ -1,6 +1,9 @@
 use super::finding::Subject;
 use oim_names::Reason;
-use oim_report::Part;
+use oim_report::{MOST_LEVELS, MOST_REFERENCE_BYTES, Part};
+use oim_value::{MOST_DECIMALS, MOST_DIGITS};
+use std::alloc::AllocError;
+use std::fmt;
 
 /// Returns the words before and after the part at fault.
 pub(crate) fn around(
@@ -24,10 +27,21 @@ pub(crate) fn around(
     }
 }
 
-/// Returns the whole sentence if no part is shown.
-pub(crate) fn alone_of(reason: Reason) -> &'static str {
+/// Appends the whole sentence if no part is shown.
+pub(crate) fn push_alone(line: &mut String, reason: Reason) -> Result<(), AllocError> {
     match reason {
-        Reason::NotJson => "the file is not JSON, or nests deeper than 127 levels",
+        Reason::NotJson => {
+            write!(
+                line,
+                "the file is not JSON, or nests deeper than {MOST_LEVELS} levels"
+            )
+        }
+        _ => line.push_str(alone_of(reason)),
+    }
+}
+
+fn alone_of(reason: Reason) -> &'static str {
+    match reason {
         Reason::DocumentType => {
             "\"documentType\" is missing; it must be \"https://xbrl.org/2021/xbrl-json\""
         }
@@ -39,6 +53,34 @@ pub(crate) fn alone_of(reason: Reason) -> &'static str {
             "\"decimals\" is only for concepts that are numeric in the sheet"
         }
         _ => "the part at fault cannot be shown",
+    }
+}
+
+/// Appends the last words of a sentence that contains a limit.
+pub(crate) fn push_limit(line: &mut String, reason: Reason) -> Result<(), AllocError> {
+    let bytes = Grouped(MOST_REFERENCE_BYTES);
+    match reason {
+        Reason::BaseUrl => write!(
+            line,
+            " is not an http or https URL of at most {bytes} bytes"
+        ),
+        Reason::TaxonomyUrl => write!(
+            line,
+            " of \"taxonomy\" is not a string, is longer than {bytes} bytes as written or as a URL, or is not an http or https URL when resolved against \"baseURL\""
+        ),
+        Reason::NumberDigits => write!(line, " has more than {MOST_DIGITS} digits"),
+        Reason::DecimalsRange => write!(line, " is not from -{MOST_DECIMALS} to {MOST_DECIMALS}"),
+        _ => Ok(()),
+    }
+}
+
+/// A number below a million, printed with a separator of thousands.
+#[derive(Clone, Copy)]
+struct Grouped(usize);
+
+impl fmt::Display for Grouped {
+    fn fmt<W: fmt::Write>(&self, f: &mut fmt::Formatter<W>) -> fmt::Result {
+        write!(f, "{},{:03}", self.0 / 1000, self.0 % 1000)
     }
 }
 
@@ -76,10 +118,6 @@ fn behind(reason: Reason) -> &'static str {
         Reason::Namespace => {
             " of \"namespaces\" is not a prefix and a URI: neither may be empty, and a prefix has no colon or white space"
         }
-        Reason::BaseUrl => " is not an http or https URL of at most 65,536 bytes",
-        Reason::TaxonomyUrl => {
-            " of \"taxonomy\" is not a string, is longer than 65,536 bytes as written or as a URL, or is not an http or https URL when resolved against \"baseURL\""
-        }
         Reason::Links | Reason::Notes => " cannot be merged",
         Reason::NameForm => {
             " is not a name such as prefix:local, without white space or a second colon"
@@ -105,9 +143,7 @@ fn behind_content(reason: Reason) -> &'static str {
         Reason::NumberForm => {
             " is not a plain number such as -1234.5, without exponent, thousands separator or white space; in the sheet, the concept is numeric"
         }
-        Reason::NumberDigits => " has more than 18 digits",
         Reason::DecimalsForm => " is not an integer without quotes",
-        Reason::DecimalsRange => " is not from -18 to 18",
         Reason::UnitOnOther | Reason::DecimalsOnOther => {
             " is only for concepts that are numeric in the sheet"
         }

@@ -53,7 +53,7 @@ module _ {K : Type 0} where
   pub there : (m : FinMap name_cmp K) (n : QName) (ns : List QName) → map.contains_key m n ≡ true → again_after m (n ∷ ns) ≡ true
   there m n ns h = ap (λ b. (b || list_any (λ n. map.contains_key m n) ns) || comes_again (n ∷ ns)) h
 
-  some_or : (b : Bool) (v : K) (o : Option K) → is_some (cond b (Some v) o) ≡ (b || is_some o)
+  pub some_or : (b : Bool) (v : K) (o : Option K) → is_some (cond b (Some v) o) ≡ (b || is_some o)
   some_or true v o = refl
   some_or false v o = refl
 
@@ -64,7 +64,7 @@ module _ {K : Type 0} where
       (λ i. (ap is_some (get-insert name_total m n k q) ∙ some_or (is_eq (name_cmp q n)) k (map.get m q) ∙ ap (λ b. b || map.contains_key m q) (turned q n)) i || with_name m n k qs i)
       ∙ mixed (is_eq (name_cmp n q)) (map.contains_key m q) (list_any (λ q. is_eq (name_cmp n q)) qs) (list_any (λ q. map.contains_key m q) qs)
 
-  put_as : (m : FinMap name_cmp K) (n : QName) (k : K) → map.contains_key m n ≡ false → (if map.contains_key m n then m else map.insert m n k) ≡ map.insert m n k
+  pub put_as : (m : FinMap name_cmp K) (n : QName) (k : K) → map.contains_key m n ≡ false → (if map.contains_key m n then m else map.insert m n k) ≡ map.insert m n k
   put_as m n k new = ap (λ b. if b then m else map.insert m n k) new
 
   -- if a name is new, only the names after it remain to be tested

@@ -1,12 +1,12 @@
 -- The members of `dimensions` that a row of the table tests, one after another.
 use Rattle.std.proofs.Common.{◌≡◌, ◌≢◌, ◌⊎◌, ℕ, List, [], ◌∷◌, ◌++◌, map, Bool, true, false, cond, ◌||◌, ◌&&◌, Result, Ok, Err, refl, sym, ap, ◌∙◌}
-use Rattle.std.specs.Prelude.{Option, Some, None, IfOk, IfErr, codes, if◌then◌else◌, option_and_then}
-use Rattle.std.specs.Option.{option_map_or, option_to_list}
-use Rattle.std.specs.List.{cons_option, filter, filter_map, flat_map, list_any}
+use Rattle.std.specs.Prelude.{Option, Some, None, IfOk, IfErr, codes, if◌then◌else◌, is_some, option_and_then, option_map}
+use Rattle.std.specs.Option.{option_map_or, option_or, option_to_list}
+use Rattle.std.specs.List.{filter_map, find, flat_map, list_any}
 use Rattle.std.specs.FinMap as map
 use Rattle.std.specs.Result.{result_ok}
 use Rattle.std.specs.Str.{IsUtf8, is_utf8}
-use Rattle.std.proofs.lemmas.List.Folds.{list_any-append}
+use Rattle.std.proofs.lemmas.List.Folds.{find-append}
 use Rattle.std.proofs.lemmas.Str.{is_utf8-from_IsUtf8}
 use Rattle.oim_names.specs.QName.{QName, is_name}
 use Rattle.oim_names.specs.Bindings.{Binding}
@@ -17,35 +17,47 @@ use Rattle.serde_json.specs.Data.{Data, Members, no_members, member}
 use Rattle.oim_report.specs.declared.concept_kind.ConceptKind.TheVariants.{Name}
 use Rattle.oim_report.specs.Holds.{concept, entries, explicit_text, is_some_and, names, pieces, text_at, value_text}
 use Rattle.oim_report.specs.Json.{has_colon}
-use Rattle.oim_report.specs.Names.{named, refuses_some}
-use Rattle.oim_report.specs.code.Rows.{any_defined, defined_name, defined_names, is_defined, refuses_in}
+use Rattle.oim_report.specs.Names.{comes_again, named}
+use Rattle.oim_report.specs.Shown.{Shown, beside_first, entry, name, nothing, repeated, when}
+use Rattle.oim_report.specs.code.Rows.{defined_members, defined_name, first_defined, is_defined, is_misfit, names_at, names_in}
 use Rattle.oim_report.specs.Sheet.{Sheet, same_concept_kind}
 use Rattle.oim_report.proofs.ComesAgain.{read_none}
 use Rattle.oim_report.proofs.Naming.{expanded}
+use Rattle.oim_report.proofs.Repeated.{repeated_some}
+use Rattle.oim_report.proofs.ShownParts.{find_filter, found_any, shown_found}
 
--- the members whose keys have a colon and are UTF-8
-abbrev pub listed : Members → List (List ℕ × Data)
-listed ms = filter (λ m. has_colon m.0 && is_utf8 m.0) (entries ms)
+-- the first dimension that the sheet does not list
+pub unlisted_shown : (test : List ℕ → Data → Bool) (ms : Members) → let first = find (λ m. test m.0 m.1) (defined_members ms) in
+    option_map (λ m. name (a_name m.0)) (first_defined test ms) ≡ when (list_any (λ m. test m.0 m.1) (defined_members ms)) (option_map_or (λ m. name (a_name m.0)) first nothing)
+unlisted_shown test ms =
+    let first = find (λ m. test m.0 m.1) (defined_members ms) in
+    ap (option_map (λ m. name (a_name m.0))) (find_filter (λ m. is_defined m.0) (λ m. test m.0 m.1) (entries ms))
+    ∙ shown_found (λ m. name (a_name m.0)) first
+    ∙ ap (λ b. when b (option_map_or (λ m. name (a_name m.0)) first nothing)) (found_any (λ m. test m.0 m.1) (defined_members ms))
 
-kept : (p : Bool) (test : List ℕ × Data → Bool) (m : List ℕ × Data) (ms : List (List ℕ × Data)) → ((p && test m) || list_any test ms) ≡ list_any test (cond p (m ∷ ms) ms)
-kept true test m ms = refl
-kept false test m ms = refl
+-- the first member that passes a test, or else another one
+pub either_shown : (o p : Option (List ℕ × Data)) (a b : Bool) (f g : List ℕ × Data → Shown) → is_some o ≡ a → is_some p ≡ b → option_or (option_map f o) (option_map g p) ≡ when (a || b) (option_map_or f o (option_map_or g p nothing))
+either_shown None None true b f g h k = absurd (cc)
+either_shown None None false true f g h k = absurd (cc)
+either_shown None None false false f g h k = refl
+either_shown None (Some q) true b f g h k = absurd (cc)
+either_shown None (Some q) false true f g h k = refl
+either_shown None (Some q) false false f g h k = absurd (cc)
+either_shown (Some m) p true b f g h k = refl
+either_shown (Some m) p false b f g h k = absurd (cc)
 
-pub any_of : (test : List ℕ → Data → Bool) (ms : Members) → any_defined test ms ≡ list_any (λ m. test m.0 m.1) (listed ms)
-any_of test no_members = refl
-any_of test (member key d ms) = ap (λ b. (is_defined key && test key d) || b) (any_of test ms) ∙ kept (is_defined key) (λ m. test m.0 m.1) (key, d) (listed ms)
+module _ (sheet : Sheet) (bs : List Binding) (ms : Members) where
+  abbrev misfit : List ℕ × Data → Bool
+  misfit m = is_misfit sheet bs m.0 m.1
 
-some_name : (p : Bool) (o : Option QName) (f : List ℕ × Data → Option QName) (m : List ℕ × Data) (ms : List (List ℕ × Data)) → o ≡ f m → cons_option (if p then o else None) (filter_map f ms) ≡ filter_map f (cond p (m ∷ ms) ms)
-some_name true o f m ms is = ap (λ x. cons_option x (filter_map f ms)) is
-some_name false o f m ms is = refl
+  abbrev two_of : List ℕ × Data → Shown
+  two_of m = beside_first bs (entries ms) m.0
 
-pub names_of : (bs : List Binding) (ms : Members) → defined_names bs ms ≡ filter_map (λ m. named bs m.0) (listed ms)
-names_of bs no_members = refl
-names_of bs (member key d ms) = ap (cons_option (defined_name bs key)) (names_of bs ms) ∙ some_name (is_defined key) (named bs key) (λ m. named bs m.0) (key, d) (listed ms) refl
-
-any_flat : {A B : Type 0} (test : B → Bool) (each : A → List B) (xs : List A) → list_any test (flat_map each xs) ≡ list_any (λ x. list_any test (each x)) xs
-any_flat test each [] = refl
-any_flat test each (x ∷ xs) = list_any-append test (each x) (flat_map each xs) ∙ ap (λ b. list_any test (each x) || b) (any_flat test each xs)
+  pub misfit_shown : option_or (option_map entry (first_defined (is_misfit sheet bs) ms)) (option_map two_of (repeated bs [] (defined_members ms)))
+      ≡ when (list_any misfit (defined_members ms) || comes_again (filter_map (λ m. named bs m.0) (defined_members ms))) (option_map_or entry (find misfit (defined_members ms)) (option_map_or two_of (repeated bs [] (defined_members ms)) nothing))
+  misfit_shown =
+      ap (λ o. option_or (option_map entry o) (option_map two_of (repeated bs [] (defined_members ms)))) (find_filter (λ m. is_defined m.0) misfit (entries ms))
+      ∙ either_shown (find misfit (defined_members ms)) (repeated bs [] (defined_members ms)) _ _ entry two_of (found_any misfit (defined_members ms)) (repeated_some bs (defined_members ms))
 
 -- ---- keys
 
@@ -66,17 +78,25 @@ pub read_name : {E : Type 0} (bs : List Binding) (t : List ℕ) (read : Result Q
 read_name bs t read there e refused (Ok o) h = h.0 ∙ as_read bs t read e refused h.1 ∙ ap (λ b. if b then named bs t else None) (sym there)
 read_name bs t read there e refused (Err x) h = h
 
--- ---- a name of a fact is refused if it is refused in some part
+-- ---- the first name of a fact that is refused
+
+same_names : (p : Bool) (each : List ℕ × Data → List Spelled) (m : List ℕ × Data) (ms : List (List ℕ × Data)) (ns : List Spelled) → ns ≡ flat_map each ms → ((if p then each m else []) ++ ns) ≡ flat_map each (cond p (m ∷ ms) ms)
+same_names true each m ms ns is = ap (λ l. each m ++ l) is
+same_names false each m ms ns is = is
 
 module _ (sheet : Sheet) (bs : List Binding) (fact : Data) (ms : Members) (r : Reason) where
-  abbrev pub refused : List Spelled → Bool
-  refused ns = refuses_some r bs ns
+  abbrev first : List Spelled → Option Spelled
+  first ns = find (refuses r bs) ns
 
-  abbrev pub of_value : List Spelled
+  abbrev each : List ℕ × Data → List Spelled
+  each m = a_name m.0 ∷ map a_name (option_to_list (explicit_text sheet bs fact ms m))
+
+  in_defined : (xs : Members) → names_in sheet bs xs ≡ flat_map each (defined_members xs)
+  in_defined no_members = refl
+  in_defined (member key d xs) = same_names (is_defined key) each (key, d) (defined_members xs) (names_in sheet bs xs) (in_defined xs)
+
+  abbrev of_value : List Spelled
   of_value = map a_name (if is_some_and (same_concept_kind Name) (option_and_then (map.get sheet.concepts) (concept sheet bs fact ms)) then option_to_list (value_text sheet bs fact ms) else [])
-
-  abbrev test : Spelled → Bool
-  test = refuses r bs
 
   abbrev of_concept : List Spelled
   of_concept = map a_name (option_to_list (text_at sheet bs fact ms (codes "concept")))
@@ -85,21 +105,63 @@ module _ (sheet : Sheet) (bs : List Binding) (fact : Data) (ms : Members) (r : R
   of_entity = map an_entity (option_to_list (text_at sheet bs fact ms (codes "entity")))
 
   abbrev of_dimensions : List Spelled
-  of_dimensions = flat_map (λ m. a_name m.0 ∷ map a_name (option_to_list (explicit_text sheet bs fact ms m))) (listed ms)
+  of_dimensions = flat_map each (defined_members ms)
 
   abbrev of_unit : List Spelled
   of_unit = map a_name (option_map_or pieces (text_at sheet bs fact ms (codes "unit")) [])
 
-  pub names_parts : refused (names sheet bs fact ms) ≡ (refused of_concept || (refused of_entity || (any_defined (refuses_in r sheet bs) ms || (refused of_unit || refused of_value))))
+  pub names_parts : first (names sheet bs fact ms) ≡ option_or (first of_concept) (option_or (first of_entity) (option_or (first (names_in sheet bs ms)) (option_or (first of_unit) (first of_value))))
   names_parts =
-      list_any-append test of_concept (of_entity ++ (of_dimensions ++ (of_unit ++ of_value)))
-      ∙ ap (λ b. refused of_concept || b)
-      (list_any-append test of_entity (of_dimensions ++ (of_unit ++ of_value))
-      ∙ ap (λ b. refused of_entity || b)
-      (list_any-append test of_dimensions (of_unit ++ of_value)
-      ∙ (λ i. (any_flat test (λ m. a_name m.0 ∷ map a_name (option_to_list (explicit_text sheet bs fact ms m))) (listed ms) ∙ sym (any_of (refuses_in r sheet bs) ms)) i || list_any-append test of_unit of_value i)))
+      find-append (refuses r bs) of_concept (of_entity ++ (of_dimensions ++ (of_unit ++ of_value)))
+      ∙ ap (option_or (first of_concept))
+      (find-append (refuses r bs) of_entity (of_dimensions ++ (of_unit ++ of_value))
+      ∙ ap (option_or (first of_entity))
+      (find-append (refuses r bs) of_dimensions (of_unit ++ of_value)
+      ∙ (λ i. option_or (first (sym (in_defined ms) i)) (find-append (refuses r bs) of_unit of_value i))))
 
--- ---- names that are repeated
+  abbrev shown : List Spelled → Option Shown
+  shown ns = option_map name (first ns)
 
-pub first_name : (bs : List Binding) (key : List ℕ) (d : Data) (ms : Members) (o : Option QName) → defined_name bs key ≡ o → defined_names bs (member key d ms) ≡ cons_option o (defined_names bs ms)
-first_name bs key d ms o is = ap (λ x. cons_option x (defined_names bs ms)) is
+  either : (o p : Option Spelled) → option_map name (option_or o p) ≡ option_or (option_map name o) (option_map name p)
+  either None p = refl
+  either (Some n) p = refl
+
+  shown_parts : shown (names sheet bs fact ms) ≡ option_or (shown of_concept) (option_or (shown of_entity) (option_or (shown (names_in sheet bs ms)) (option_or (shown of_unit) (shown of_value))))
+  shown_parts =
+      ap (option_map name) names_parts
+      ∙ either (first of_concept) _ ∙ ap (option_or (shown of_concept))
+      (either (first of_entity) _ ∙ ap (option_or (shown of_entity))
+      (either (first (names_in sheet bs ms)) _ ∙ ap (option_or (shown (names_in sheet bs ms))) (either (first of_unit) (first of_value))))
+
+  -- the first name is in the part that has one, if the parts before have none
+  pub from_entity : (x : Shown) → None ≡ shown of_concept → Some x ≡ shown of_entity → Some x ≡ shown (names sheet bs fact ms)
+  from_entity x c e = (λ i. option_or (c i) (option_or (e i) (option_or (shown (names_in sheet bs ms)) (option_or (shown of_unit) (shown of_value))))) ∙ sym shown_parts
+
+  pub from_dimensions : (x : Shown) → None ≡ shown of_concept → None ≡ shown of_entity → Some x ≡ shown (names_in sheet bs ms) → Some x ≡ shown (names sheet bs fact ms)
+  from_dimensions x c e d = (λ i. option_or (c i) (option_or (e i) (option_or (d i) (option_or (shown of_unit) (shown of_value))))) ∙ sym shown_parts
+
+  pub from_unit : (x : Shown) → None ≡ shown of_concept → None ≡ shown of_entity → None ≡ shown (names_in sheet bs ms) → Some x ≡ shown of_unit → Some x ≡ shown (names sheet bs fact ms)
+  from_unit x c e d u = (λ i. option_or (c i) (option_or (e i) (option_or (d i) (option_or (u i) (shown of_value))))) ∙ sym shown_parts
+
+  pub from_value : (o : Option Shown) → None ≡ shown of_concept → None ≡ shown of_entity → None ≡ shown (names_in sheet bs ms) → None ≡ shown of_unit → o ≡ shown of_value → o ≡ shown (names sheet bs fact ms)
+  from_value o c e d u v = (λ i. option_or (c i) (option_or (e i) (option_or (d i) (option_or (u i) (v i))))) ∙ sym shown_parts
+
+-- ---- the names of one dimension after another
+
+module _ (sheet : Sheet) (bs : List Binding) (test : Spelled → Bool) (key : List ℕ) (d : Data) (ms : Members) where
+  here_or : (x : Shown) (o p : Option Spelled) → Some x ≡ option_map name o → Some x ≡ option_map name (option_or o p)
+  here_or x None p is = absurd (cc)
+  here_or x (Some n) p is = is
+
+  later : (o p : Option Spelled) → None ≡ option_map name o → p ≡ option_or o p
+  later None p is = refl
+  later (Some n) p is = absurd (cc)
+
+  step : find test (names_in sheet bs (member key d ms)) ≡ option_or (find test (names_at sheet bs (key, d))) (find test (names_in sheet bs ms))
+  step = find-append test (names_at sheet bs (key, d)) (names_in sheet bs ms)
+
+  pub found_before : (x : Shown) → Some x ≡ option_map name (find test (names_at sheet bs (key, d))) → Some x ≡ option_map name (find test (names_in sheet bs (member key d ms)))
+  found_before x is = here_or x (find test (names_at sheet bs (key, d))) (find test (names_in sheet bs ms)) is ∙ ap (option_map name) (sym step)
+
+  pub none_before : None ≡ option_map name (find test (names_at sheet bs (key, d))) → find test (names_in sheet bs ms) ≡ find test (names_in sheet bs (member key d ms))
+  none_before is = later (find test (names_at sheet bs (key, d))) (find test (names_in sheet bs ms)) is ∙ sym step

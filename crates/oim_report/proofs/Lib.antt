@@ -62,7 +62,6 @@ pub mod PlainFact
 pub mod GlossaryAdds
 pub mod KeyedFacts
 pub mod FoundWith
-pub mod NameTests
 pub mod ComesAgain
 pub mod EachRefusal
 pub mod FaultLaws
@@ -75,6 +74,8 @@ pub mod SaidWhereFree
 pub mod DocumentParts
 pub mod AnsweredLeast
 pub mod SheetHolds
+pub mod ShownParts
+pub mod Repeated
 pub mod JsonStrings
 pub mod JsonWords
 pub mod JsonLexemes

@@ -29,6 +29,7 @@ pub use findings::faults_reader::{faults, tree_faults};
 pub use findings::part::Part;
 pub use findings::report_aliases::report_aliases;
 pub use findings::sheet_part::sheet_part;
+pub use limits::{MOST_LEVELS, MOST_REFERENCE_BYTES};
 pub use place::Place;
 pub use reader::read_report;
 pub use refusal::Refusal;

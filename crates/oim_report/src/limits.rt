@@ -3,6 +3,9 @@
 /// The greatest length in bytes of a base, a taxonomy reference and its kept text.
 pub const MOST_REFERENCE_BYTES: usize = 65_536;
 
+/// The greatest number of levels of nested arrays and objects: that of `serde_json`.
+pub const MOST_LEVELS: usize = 127;
+
 /// The greatest number of texts in a glossary. Only few texts are repeated often. The limit bounds
 /// the memory, and the time for many texts with the same hash.
 pub const MOST_MEANINGS: usize = 1_024;

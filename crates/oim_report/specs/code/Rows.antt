@@ -1,19 +1,20 @@
 -- Tests from the table of conditions, for one member of `dimensions`.
-use Rattle.std.specs.Prelude.{ℕ, List, ◌∷◌, map, Bool, ◌&&◌, Option, None, if◌then◌else◌, is_none}
-use Rattle.std.specs.Option.{option_to_list}
-use Rattle.std.specs.List.{filter_map}
+use Rattle.std.specs.Prelude.{ℕ, List, [], ◌∷◌, map, Bool, ◌&&◌, Option, None, if◌then◌else◌, codes, is_none}
+use Rattle.std.specs.Option.{option_map_or, option_to_list}
+use Rattle.std.specs.List.{filter, find, flat_map}
 use Rattle.std.specs.FinMap as map
 use Rattle.std.specs.Str.{is_utf8}
 use Rattle.oim_names.specs.QName.{QName}
 use Rattle.oim_names.specs.Bindings.{Binding}
-use Rattle.oim_names.specs.declared.reason.Reason.{Reason}
 use Rattle.serde_json.specs.Data.{Data, Members, null, no_members}
 use Rattle.serde_json.specs.Find.{get_member}
 use Rattle.oim_report.specs.Holds.{dimension_kind, entries, explicit_text, is_some_and, misfits, no_text}
-use Rattle.oim_report.specs.Json.{any_member, has_colon}
-use Rattle.oim_report.specs.Names.{named, refuses_some}
-use Rattle.oim_names.specs.Expansion.{a_name}
+use Rattle.oim_report.specs.Info.{declarations, features_of, info, is_allowed_duplicates, said_level}
+use Rattle.oim_report.specs.Json.{has_colon}
+use Rattle.oim_report.specs.Names.{named}
+use Rattle.oim_names.specs.Expansion.{Spelled, a_name}
 use Rattle.oim_report.specs.Sheet.{Sheet}
+use Rattle.oim_report.specs.Shown.{Shown, declares_no_level, entry, value_or_nothing, when}
 
 -- the value at a key is not a text
 abbrev pub lacks_text : List ℕ → Members → Bool
@@ -23,17 +24,21 @@ lacks_text key ms = is_some_and no_text (get_member key ms)
 abbrev pub is_defined : List ℕ → Bool
 is_defined key = has_colon key && is_utf8 key
 
--- some taxonomy-defined dimension passes a test
-abbrev pub any_defined : (List ℕ → Data → Bool) → Members → Bool
-any_defined test ms = any_member (λ key d. is_defined key && test key d) ms
+-- the first taxonomy-defined dimension that passes a test
+abbrev pub first_defined : (List ℕ → Data → Bool) → Members → Option (List ℕ × Data)
+first_defined test ms = find (λ m. is_defined m.0 && test m.0 m.1) (entries ms)
 
--- the key is refused for this reason, or the member of an explicit dimension is
-abbrev pub refuses_in : Reason → Sheet → List Binding → List ℕ → Data → Bool
-refuses_in r sheet bs key d = refuses_some r bs (a_name key ∷ map a_name (option_to_list (explicit_text sheet bs null no_members (key, d))))
+-- the key of a taxonomy-defined dimension, and the member of an explicit one
+abbrev pub names_at : Sheet → List Binding → List ℕ × Data → List Spelled
+names_at sheet bs m = if is_defined m.0 then a_name m.0 ∷ map a_name (option_to_list (explicit_text sheet bs null no_members m)) else []
+
+-- the names in all taxonomy-defined dimensions
+abbrev pub names_in : Sheet → List Binding → Members → List Spelled
+names_in sheet bs ms = flat_map (names_at sheet bs) (entries ms)
 
 -- the sheet does not list the dimension
-abbrev pub is_unlisted : Sheet → List Binding → List ℕ → Data → Bool
-is_unlisted sheet bs key d = is_some_and (λ n. is_none (map.get sheet.dimensions n)) (named bs key)
+abbrev pub is_unlisted : Sheet → List Binding → List ℕ → Bool
+is_unlisted sheet bs key = is_some_and (λ n. is_none (map.get sheet.dimensions n)) (named bs key)
 
 -- the dimension cannot have this member
 abbrev pub is_misfit : Sheet → List Binding → List ℕ → Data → Bool
@@ -43,6 +48,19 @@ is_misfit sheet bs key d = is_some_and (λ kind. misfits kind d) (dimension_kind
 abbrev pub defined_name : List Binding → List ℕ → Option QName
 defined_name bs key = if is_defined key then named bs key else None
 
--- the names of all taxonomy-defined dimensions
-abbrev pub defined_names : List Binding → Members → List QName
-defined_names bs ms = filter_map (λ m. defined_name bs m.0) (entries ms)
+-- the taxonomy-defined dimensions
+abbrev pub defined_members : Members → List (List ℕ × Data)
+defined_members ms = filter (λ m. is_defined m.0) (entries ms)
+
+-- ---- features
+
+-- the member declares the feature, but no level
+abbrev pub is_misdeclared : List Binding → List ℕ × Data → Bool
+is_misdeclared bs m = is_allowed_duplicates bs m.0 && declares_no_level m
+
+-- the first such member, or else all features
+abbrev pub misdeclared_part : List Binding → Data → Shown
+misdeclared_part bs tree = option_map_or entry (find (is_misdeclared bs) (entries (features_of tree))) (value_or_nothing (info (codes "features") tree))
+
+abbrev pub misdeclared : List Binding → Data → Option Shown
+misdeclared bs tree = when (is_none (said_level (declarations bs (features_of tree)))) (misdeclared_part bs tree)

@@ -1,4 +1,4 @@
-ghost use Rattle.std.specs.Prelude.{◌≡◌, ◌∷◌, [], is_some, option_map};
+ghost use Rattle.std.specs.Prelude.{◌≡◌, ◌∷◌, [], option_map};
 ghost use Rattle.std.specs.Result.{result_err};
 ghost use Rattle.serde_json.specs.View.{view};
 ghost use Rattle.std.specs.List.{find};
@@ -6,6 +6,7 @@ ghost use Rattle.oim_report.specs.Info.{document_type};
 ghost use Rattle.oim_report.specs.Json.{given_of};
 ghost use Rattle.oim_report.specs.code.Findings.{is_text};
 ghost use Rattle.oim_report.specs.Holds.{document_holds};
+ghost use Rattle.oim_report.specs.Shown.{document_part, seen};
 
 use crate::document::json_tree::{is_no_array, is_no_object, object_at, unknown_in, within};
 use crate::fact::given::Given;
@@ -36,15 +37,18 @@ pub(crate) fn check_shape(tree: &Value) -> Result<(), Reason>
 
 /// Returns the whole report if it is not an object, or a member that is missing or has the wrong
 /// kind of value.
-#[tactic(auto, unfolding(crate::specs::Holds::document_holds))]
+#[tactic(auto, unfolding(crate::specs::Holds::document_holds, crate::specs::Shown::document_shown))]
 pub(crate) fn misshapen(tree: &Value) -> Option<Part<'_>>
-    ensures { is_some result ≡ document_holds (view tree.now) Reason.MemberForm }
+    ensures { option_map seen result ≡ document_part (view tree.now) Reason.MemberForm }
 {
     if !tree.is_object() {
         return Some(Part::Whole);
     }
-    if object_at(tree, "documentInfo").is_none() {
-        return Some(no_info(tree));
+    if tree.get("documentInfo").is_none() {
+        return Some(Part::Missing("documentInfo"));
+    }
+    if is_no_object(tree.get("documentInfo")) {
+        return Some(Part::NoObject("documentInfo"));
     }
     if is_no_object(within(tree, "documentInfo", "namespaces")) {
         return Some(Part::NoObject("namespaces"));
@@ -61,17 +65,10 @@ pub(crate) fn misshapen(tree: &Value) -> Option<Part<'_>>
     None
 }
 
-fn no_info(tree: &Value) -> Part<'_> {
-    match tree.get("documentInfo") {
-        Some(_) => Part::NoObject("documentInfo"),
-        None => Part::Missing("documentInfo"),
-    }
-}
-
 /// Returns the first key of the report, or of `documentInfo`, that the format does not define.
-#[tactic(auto, unfolding(crate::specs::Holds::document_holds))]
+#[tactic(auto, unfolding(crate::specs::Holds::document_holds, crate::specs::Shown::document_shown))]
 pub(crate) fn unknown(tree: &Value) -> Option<Part<'_>>
-    ensures { is_some result ≡ document_holds (view tree.now) Reason.UnknownMember }
+    ensures { option_map seen result ≡ document_part (view tree.now) Reason.UnknownMember }
 {
     if let Some(key) = unknown_in(tree.as_object(), &["documentInfo", "facts"]) {
         return Some(Part::Key(key));

@@ -4,6 +4,7 @@ ghost use Rattle.serde_json.specs.Data.{Members, null, object, put};
 ghost use Rattle.oim_report.specs.Pieces.{IsPiece};
 ghost use Rattle.serde_json.specs.View.{view, members_view};
 ghost use Rattle.oim_report.specs.Json.{without_mark, json, object_at, within, any_member, any_in, has_member, has_colon, is_unknown, is_no_object, is_no_array};
+ghost use Rattle.oim_report.specs.Shown.{unknown_in};
 
 use crate::pieces::outline::{Outline, read_outline};
 use oim_names::Reason;
@@ -89,8 +90,11 @@ pub(crate) fn unknown_in<'a>(
     object: Option<&'a Map<String, Value>>,
     known: &[&str],
 ) -> Option<&'a str>
-    ensures { let members = option_map (λ m. members_view m.now.entries) object.entry in
+    ensures any { let members = option_map (λ m. members_view m.now.entries) object.entry in
         is_some result ≡ any_in (is_unknown (map (λ s. s.now) known.now)) members }
+    ensures first { let members = option_map (λ m. members_view m.now.entries) object.entry in
+        let found = unknown_in (map (λ s. s.now) known.now) members in
+        option_map (λ k. k.now) result ≡ option_map (λ m. m.0) found }
 {
     match object {
         Some(members) => unknown_key(members, known),
@@ -99,8 +103,10 @@ pub(crate) fn unknown_in<'a>(
 }
 
 fn unknown_key<'a>(members: &'a Map<String, Value>, known: &[&str]) -> Option<&'a str>
-    ensures { is_some result
+    ensures any { is_some result
         ≡ any_member (is_unknown (map (λ s. s.now) known.now)) (members_view members.now.entries) }
+    ensures first { let found = unknown_in (map (λ s. s.now) known.now) (Some (members_view members.now.entries)) in
+        option_map (λ k. k.now) result ≡ option_map (λ m. m.0) found }
 {
     for (key, _value) in members.iter() {
         if is_unknown_key(key.as_str(), known) {

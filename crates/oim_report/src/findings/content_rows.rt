@@ -1,16 +1,17 @@
 //! Finds the part of a fact object that violates a condition on its concept, its other core
 //! dimensions, its value or its decimals.
 
-ghost use Rattle.std.specs.Prelude.{◌≡◌, ◌&&◌, ◌||◌, List, codes, is_none, is_some, not, option_and_then};
+ghost use Rattle.std.specs.Prelude.{◌≡◌, ◌&&◌, ◌||◌, List, codes, is_none, not, option_and_then, option_map};
 ghost use Rattle.std.specs.FinMap as map;
 ghost use Rattle.oim_names.specs.Bindings.{Binding};
 ghost use Rattle.oim_value.specs.Decimals.{is_finite_decimals};
 ghost use Rattle.oim_value.specs.Number.{is_number, is_short};
 ghost use Rattle.serde_json.specs.View.{view};
-ghost use Rattle.oim_report.specs.Holds.{concept, holds, is_some_and, lacks_moment, runs_backward};
+ghost use Rattle.oim_report.specs.Holds.{concept, is_some_and, lacks_moment, runs_backward};
 ghost use Rattle.oim_report.specs.Json.{members, object_at};
 ghost use Rattle.oim_report.specs.Names.{named};
 ghost use Rattle.oim_report.specs.Sheet.{Sheet, same_concept_kind};
+ghost use Rattle.oim_report.specs.Shown.{fact_part, seen};
 
 use crate::concept_kind::ConceptKind;
 use crate::fact::fact_values::{dimension, is_no_text_or_null, text, whole};
@@ -47,13 +48,13 @@ fn is_other(kind: Option<ConceptKind>) -> bool
     matches!(kind, Some(ConceptKind::Text | ConceptKind::Name))
 }
 
-#[tactic(auto, unfolding(crate::specs::Holds::holds))]
+#[tactic(auto, unfolding(crate::specs::Holds::holds, crate::specs::Shown::fact_shown))]
 pub(crate) fn unlisted_concept<'a>(
     sheet: &Sheet,
     aliases: &Aliases,
     object: &'a Value,
 ) -> Option<Part<'a>>
-    ensures { is_some result ≡ holds sheet.now aliases.now (view object.now) Reason.UnknownConcept }
+    ensures { option_map seen result ≡ fact_part sheet.now aliases.now (view object.now) Reason.UnknownConcept }
 {
     let concept = dimension(object, "concept");
     let is_unlisted = match text(concept) {
@@ -71,10 +72,10 @@ fn is_unlisted(sheet: &Sheet, aliases: &Aliases, name: &str) -> bool
 
 // ---- period, unit, language
 
-#[tactic(auto, unfolding(crate::specs::Holds::holds))]
+#[tactic(auto, unfolding(crate::specs::Holds::holds, crate::specs::Shown::fact_shown))]
 pub(crate) fn formless_period(alloc: Global, object: &Value) -> Option<Part<'_>>
     ensures { (sheet : Sheet) (bs : List Binding) →
-        is_some result ≡ holds sheet bs (view object.now) Reason.PeriodForm }
+        option_map seen result ≡ fact_part sheet bs (view object.now) Reason.PeriodForm }
 {
     let period = dimension(object, "period");
     let is_formless = match text(period) {
@@ -90,10 +91,10 @@ fn lacks_moment(alloc: Global, text: &str) -> bool
     read_period(alloc, text).err() == Some(Reason::PeriodForm)
 }
 
-#[tactic(auto, unfolding(crate::specs::Holds::holds))]
+#[tactic(auto, unfolding(crate::specs::Holds::holds, crate::specs::Shown::fact_shown))]
 pub(crate) fn backward_period(alloc: Global, object: &Value) -> Option<Part<'_>>
     ensures { (sheet : Sheet) (bs : List Binding) →
-        is_some result ≡ holds sheet bs (view object.now) Reason.PeriodOrder }
+        option_map seen result ≡ fact_part sheet bs (view object.now) Reason.PeriodOrder }
 {
     let period = dimension(object, "period");
     let is_backward = match text(period) {
@@ -109,10 +110,10 @@ fn runs_backward(alloc: Global, text: &str) -> bool
     read_period(alloc, text).err() == Some(Reason::PeriodOrder)
 }
 
-#[tactic(auto, unfolding(crate::specs::Holds::holds))]
+#[tactic(auto, unfolding(crate::specs::Holds::holds, crate::specs::Shown::fact_shown))]
 pub(crate) fn formless_unit(object: &Value) -> Option<Part<'_>>
     ensures { (sheet : Sheet) (bs : List Binding) →
-        is_some result ≡ holds sheet bs (view object.now) Reason.UnitForm }
+        option_map seen result ≡ fact_part sheet bs (view object.now) Reason.UnitForm }
 {
     let unit = dimension(object, "unit");
     let is_formless = match text(unit) {
@@ -122,13 +123,13 @@ pub(crate) fn formless_unit(object: &Value) -> Option<Part<'_>>
     value_if(is_formless, unit)
 }
 
-#[tactic(auto, unfolding(crate::specs::Holds::holds))]
+#[tactic(auto, unfolding(crate::specs::Holds::holds, crate::specs::Shown::fact_shown))]
 pub(crate) fn misplaced_unit<'a>(
     sheet: &Sheet,
     aliases: &Aliases,
     object: &'a Value,
 ) -> Option<Part<'a>>
-    ensures { is_some result ≡ holds sheet.now aliases.now (view object.now) Reason.UnitOnOther }
+    ensures { option_map seen result ≡ fact_part sheet.now aliases.now (view object.now) Reason.UnitOnOther }
 {
     let unit = dimension(object, "unit");
     value_if(
@@ -137,10 +138,10 @@ pub(crate) fn misplaced_unit<'a>(
     )
 }
 
-#[tactic(auto, unfolding(crate::specs::Holds::holds))]
+#[tactic(auto, unfolding(crate::specs::Holds::holds, crate::specs::Shown::fact_shown))]
 pub(crate) fn formless_language(object: &Value) -> Option<Part<'_>>
     ensures { (sheet : Sheet) (bs : List Binding) →
-        is_some result ≡ holds sheet bs (view object.now) Reason.LanguageForm }
+        option_map seen result ≡ fact_part sheet bs (view object.now) Reason.LanguageForm }
 {
     let language = dimension(object, "language");
     let is_formless = match text(language) {
@@ -150,14 +151,13 @@ pub(crate) fn formless_language(object: &Value) -> Option<Part<'_>>
     value_if(is_formless, language)
 }
 
-#[tactic(auto, unfolding(crate::specs::Holds::holds))]
+#[tactic(auto, unfolding(crate::specs::Holds::holds, crate::specs::Shown::fact_shown))]
 pub(crate) fn misplaced_language<'a>(
     sheet: &Sheet,
     aliases: &Aliases,
     object: &'a Value,
 ) -> Option<Part<'a>>
-    ensures { is_some result
-        ≡ holds sheet.now aliases.now (view object.now) Reason.LanguageOnNumeric }
+    ensures { option_map seen result ≡ fact_part sheet.now aliases.now (view object.now) Reason.LanguageOnNumeric }
 {
     let language = dimension(object, "language");
     let is_misplaced = language.is_some() && is_numeric(kind_of(sheet, aliases, object));
@@ -166,22 +166,22 @@ pub(crate) fn misplaced_language<'a>(
 
 // ---- value and decimals
 
-#[tactic(auto, unfolding(crate::specs::Holds::holds))]
+#[tactic(auto, unfolding(crate::specs::Holds::holds, crate::specs::Shown::fact_shown))]
 pub(crate) fn formless_value(object: &Value) -> Option<Part<'_>>
     ensures { (sheet : Sheet) (bs : List Binding) →
-        is_some result ≡ holds sheet bs (view object.now) Reason.ValueForm }
+        option_map seen result ≡ fact_part sheet bs (view object.now) Reason.ValueForm }
 {
     let value = object.get("value");
     value_if(is_no_text_or_null(value), value)
 }
 
-#[tactic(auto, unfolding(crate::specs::Holds::holds))]
+#[tactic(auto, unfolding(crate::specs::Holds::holds, crate::specs::Shown::fact_shown))]
 pub(crate) fn formless_number<'a>(
     sheet: &Sheet,
     aliases: &Aliases,
     object: &'a Value,
 ) -> Option<Part<'a>>
-    ensures { is_some result ≡ holds sheet.now aliases.now (view object.now) Reason.NumberForm }
+    ensures { option_map seen result ≡ fact_part sheet.now aliases.now (view object.now) Reason.NumberForm }
 {
     let value = object.get("value");
     let is_formless = match text(value) {
@@ -200,13 +200,13 @@ fn is_no_number(text: &str) -> bool
     read_fixed(text).err() == Some(Reason::NumberForm)
 }
 
-#[tactic(auto, unfolding(crate::specs::Holds::holds))]
+#[tactic(auto, unfolding(crate::specs::Holds::holds, crate::specs::Shown::fact_shown))]
 pub(crate) fn long_number<'a>(
     sheet: &Sheet,
     aliases: &Aliases,
     object: &'a Value,
 ) -> Option<Part<'a>>
-    ensures { is_some result ≡ holds sheet.now aliases.now (view object.now) Reason.NumberDigits }
+    ensures { option_map seen result ≡ fact_part sheet.now aliases.now (view object.now) Reason.NumberDigits }
 {
     let value = object.get("value");
     let is_long = match text(value) {
@@ -225,19 +225,19 @@ fn is_long_number(text: &str) -> bool
     read_fixed(text).err() == Some(Reason::NumberDigits)
 }
 
-#[tactic(auto, unfolding(crate::specs::Holds::holds))]
+#[tactic(auto, unfolding(crate::specs::Holds::holds, crate::specs::Shown::fact_shown))]
 pub(crate) fn formless_decimals(object: &Value) -> Option<Part<'_>>
     ensures { (sheet : Sheet) (bs : List Binding) →
-        is_some result ≡ holds sheet bs (view object.now) Reason.DecimalsForm }
+        option_map seen result ≡ fact_part sheet bs (view object.now) Reason.DecimalsForm }
 {
     let decimals = object.get("decimals");
     value_if(decimals.is_some() && whole(decimals).is_none(), decimals)
 }
 
-#[tactic(auto, unfolding(crate::specs::Holds::holds))]
+#[tactic(auto, unfolding(crate::specs::Holds::holds, crate::specs::Shown::fact_shown))]
 pub(crate) fn decimals_out_of_range(object: &Value) -> Option<Part<'_>>
     ensures { (sheet : Sheet) (bs : List Binding) →
-        is_some result ≡ holds sheet bs (view object.now) Reason.DecimalsRange }
+        option_map seen result ≡ fact_part sheet bs (view object.now) Reason.DecimalsRange }
 {
     let decimals = object.get("decimals");
     let is_out = match whole(decimals) {
@@ -256,13 +256,13 @@ fn is_out_of_range(number: i128) -> bool
     }
 }
 
-#[tactic(auto, unfolding(crate::specs::Holds::holds))]
+#[tactic(auto, unfolding(crate::specs::Holds::holds, crate::specs::Shown::fact_shown))]
 pub(crate) fn misplaced_decimals<'a>(
     sheet: &Sheet,
     aliases: &Aliases,
     object: &'a Value,
 ) -> Option<Part<'a>>
-    ensures { is_some result ≡ holds sheet.now aliases.now (view object.now) Reason.DecimalsOnOther }
+    ensures { option_map seen result ≡ fact_part sheet.now aliases.now (view object.now) Reason.DecimalsOnOther }
 {
     let decimals = object.get("decimals");
     value_if(

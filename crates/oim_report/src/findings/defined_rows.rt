@@ -1,11 +1,13 @@
 //! Finds the taxonomy-defined dimension of a fact object that violates a condition.
 
-ghost use Rattle.std.specs.Prelude.{◌≡◌, ◌&&◌, is_some, IfOk};
-ghost use Rattle.serde_json.specs.Data.{Data};
+ghost use Rattle.std.specs.Prelude.{◌≡◌, ◌&&◌, [], option_map, IfOk};
+ghost use Rattle.std.specs.Ordering.{is_eq};
+ghost use Rattle.oim_names.specs.Expansion.{a_name};
+ghost use Rattle.oim_value.specs.ValueOrder.{name_cmp};
 ghost use Rattle.serde_json.specs.View.{view, members_view};
-ghost use Rattle.oim_report.specs.Holds.{holds};
-ghost use Rattle.oim_report.specs.Names.{comes_again};
-ghost use Rattle.oim_report.specs.code.Rows.{any_defined, defined_name, defined_names, is_defined, is_misfit, is_unlisted};
+ghost use Rattle.oim_report.specs.Holds.{entries};
+ghost use Rattle.oim_report.specs.Shown.{beside_first, entry, fact_part, name, repeated, seen, spell_same};
+ghost use Rattle.oim_report.specs.code.Rows.{defined_members, defined_name, first_defined, is_defined, is_misfit, is_unlisted};
 
 use crate::dimension_kind::DimensionKind;
 use crate::document::json_tree::{has_colon, object_at};
@@ -27,13 +29,13 @@ pub(crate) fn is_defined(key: &str) -> bool
 }
 
 /// Returns the first dimension that the sheet does not list.
-#[tactic(auto, unfolding(crate::specs::Holds::holds), using(crate::proofs::DefinedRows::any_of))]
+#[tactic(auto, unfolding(crate::specs::Holds::holds, crate::specs::Shown::fact_shown), using(crate::proofs::DefinedRows::unlisted_shown))]
 pub(crate) fn unlisted_dimension<'a>(
     sheet: &Sheet,
     aliases: &Aliases,
     object: &'a Value,
 ) -> Option<Part<'a>>
-    ensures { is_some result ≡ holds sheet.now aliases.now (view object.now) Reason.UnknownDimension }
+    ensures { option_map seen result ≡ fact_part sheet.now aliases.now (view object.now) Reason.UnknownDimension }
 {
     unlisted_in(sheet, aliases, object_at(object, "dimensions")?)
 }
@@ -43,8 +45,8 @@ fn unlisted_in<'a>(
     aliases: &Aliases,
     dimensions: &'a Map<String, Value>,
 ) -> Option<Part<'a>>
-    ensures { let unlisted = is_unlisted sheet.now aliases.now in
-        is_some result ≡ any_defined unlisted (members_view dimensions.now.entries) }
+    ensures { let found = first_defined (λ k d. is_unlisted sheet.now aliases.now k) (members_view dimensions.now.entries) in
+        option_map seen result ≡ option_map (λ m. name (a_name m.0)) found }
 {
     for (key, _value) in dimensions.iter() {
         if is_unlisted(sheet, aliases, key.as_str()) {
@@ -55,7 +57,7 @@ fn unlisted_in<'a>(
 }
 
 fn is_unlisted(sheet: &Sheet, aliases: &Aliases, key: &str) -> bool
-    ensures { (d : Data) → result ≡ (is_defined key.now && is_unlisted sheet.now aliases.now key.now d) }
+    ensures { result ≡ (is_defined key.now && is_unlisted sheet.now aliases.now key.now) }
 {
     is_defined(key)
         && aliases.name_refusal(key).is_none()
@@ -66,15 +68,15 @@ fn is_unlisted(sheet: &Sheet, aliases: &Aliases, key: &str) -> bool
 /// dimension.
 ///
 /// Errors: out of memory.
-#[tactic(auto, unfolding(crate::specs::Holds::holds), using(crate::proofs::DefinedRows::any_of, crate::proofs::DefinedRows::names_of))]
+#[tactic(auto, unfolding(crate::specs::Holds::holds, crate::specs::Shown::fact_shown))]
 pub(crate) fn misfit<'a>(
     alloc: Global,
     sheet: &Sheet,
     aliases: &Aliases,
     object: &'a Value,
 ) -> Result<Option<Part<'a>>, AllocError>
-    ensures { IfOk result (λ part. is_some part
-        ≡ holds sheet.now aliases.now (view object.now) Reason.DimensionValue) }
+    ensures { IfOk result (λ part. option_map seen part
+        ≡ fact_part sheet.now aliases.now (view object.now) Reason.DimensionValue) }
 {
     let Some(dimensions) = object_at(object, "dimensions") else {
         return Ok(None);
@@ -90,8 +92,8 @@ fn misfit_in<'a>(
     aliases: &Aliases,
     dimensions: &'a Map<String, Value>,
 ) -> Option<Part<'a>>
-    ensures { let misfit = is_misfit sheet.now aliases.now in
-        is_some result ≡ any_defined misfit (members_view dimensions.now.entries) }
+    ensures { let found = first_defined (is_misfit sheet.now aliases.now) (members_view dimensions.now.entries) in
+        option_map seen result ≡ option_map entry found }
 {
     for (key, value) in dimensions.iter() {
         if is_misfit(sheet, aliases, key.as_str(), value) {
@@ -121,8 +123,9 @@ fn two_keys<'a>(
     aliases: &Aliases,
     dimensions: &'a Map<String, Value>,
 ) -> Result<Option<Part<'a>>, AllocError>
-    ensures { let names = defined_names aliases.now (members_view dimensions.now.entries) in
-        IfOk result (λ part. is_some part ≡ comes_again names) }
+    ensures { let ms = members_view dimensions.now.entries in
+        IfOk result (λ part. option_map seen part ≡ option_map (λ m. beside_first aliases.now (entries ms) m.0)
+        (repeated aliases.now [] (defined_members ms))) }
 {
     let mut before = Gathered::new(alloc);
     for (key, _value) in dimensions.iter() {
@@ -137,19 +140,40 @@ fn two_keys<'a>(
     Ok(None)
 }
 
-/// Returns the key behind the first key with the same name.
+/// Returns the key behind the first key that spells the same name.
 pub(crate) fn beside_first<'a>(
     aliases: &Aliases,
-    entries: &'a Map<String, Value>,
+    members: &'a Map<String, Value>,
     key: &'a str,
-) -> Part<'a> {
-    let name = aliases.resolve(key);
-    for (first, _value) in entries.iter() {
-        if name.is_ok() && aliases.resolve(first.as_str()) == name {
+) -> Part<'a>
+    ensures { seen result ≡ beside_first aliases.now (entries (members_view members.now.entries)) key.now }
+{
+    for (first, _value) in members.iter() {
+        if spell_same(aliases, key, first.as_str()) {
             return Part::Two(first.as_str(), key);
         }
     }
-    Part::Name(key)
+    Part::Two(key, key)
+}
+
+// Returns whether two keys spell the same name.
+fn spell_same(aliases: &Aliases, key: &str, other: &str) -> bool
+    ensures { result ≡ spell_same aliases.now key.now other.now }
+{
+    match aliases.resolve(key) {
+        Ok(name) => match aliases.resolve(other) {
+            Ok(found) => is_same_name(name, found),
+            Err(_) => false,
+        },
+        Err(_) => false,
+    }
+}
+
+fn is_same_name(name: (&str, &str), other: (&str, &str)) -> bool
+    ensures { result ≡ is_eq (name_cmp (record { uri = name.entry.0.now; local_part = name.entry.1.now })
+        (record { uri = other.entry.0.now; local_part = other.entry.1.now })) }
+{
+    name.0.cmp(other.0).then(name.1.cmp(other.1)).is_eq()
 }
 
 // Returns the name of a taxonomy-defined dimension.

@@ -1,7 +1,6 @@
-ghost use Rattle.std.specs.Prelude.{◌≡◌, is_some, IfOk};
+ghost use Rattle.std.specs.Prelude.{◌≡◌, option_map, IfOk};
 ghost use Rattle.serde_json.specs.View.{view};
-ghost use Rattle.oim_report.specs.Holds.{document_holds};
-ghost use Rattle.oim_report.specs.Shown.{is_shown};
+ghost use Rattle.oim_report.specs.Shown.{document_part, seen};
 
 use crate::document::document_form::{has_other_type, misshapen, unknown};
 use crate::document::json_tree::within;
@@ -17,13 +16,13 @@ use std::alloc::{AllocError, Global};
 /// returned.
 ///
 /// Errors: out of memory.
-#[tactic(auto, unfolding(crate::specs::Holds::document_holds))]
+#[tactic(auto, unfolding(crate::specs::Holds::document_holds, crate::specs::Shown::document_shown))]
 pub fn document_part(
     alloc: Global,
     tree: &Value,
     reason: Reason,
 ) -> Result<Option<Part<'_>>, AllocError>
-    ensures { IfOk result (λ part. is_some part ≡ is_shown (document_holds (view tree.now)) reason) }
+    ensures { IfOk result (λ part. option_map seen part ≡ document_part (view tree.now) reason) }
 {
     match reason {
         Reason::MemberForm => Ok(misshapen(tree)),
@@ -38,8 +37,9 @@ pub fn document_part(
 }
 
 // Returns the document type if it is another one.
+#[tactic(auto, unfolding(crate::specs::Holds::document_holds, crate::specs::Shown::document_shown))]
 fn other_type(tree: &Value) -> Option<Part<'_>>
-    ensures { is_some result ≡ document_holds (view tree.now) Reason.DocumentType }
+    ensures { option_map seen result ≡ document_part (view tree.now) Reason.DocumentType }
 {
     value_if(
         has_other_type(tree),
@@ -48,9 +48,9 @@ fn other_type(tree: &Value) -> Option<Part<'_>>
 }
 
 // Returns the first entry of `namespaces` that binds nothing.
-#[tactic(auto, unfolding(crate::specs::Holds::document_holds))]
+#[tactic(auto, unfolding(crate::specs::Holds::document_holds, crate::specs::Shown::document_shown), using(crate::proofs::ShownParts::entry_shown))]
 fn refused_entry(alloc: Global, tree: &Value) -> Result<Option<Part<'_>>, AllocError>
-    ensures { IfOk result (λ part. is_some part ≡ document_holds (view tree.now) Reason.Namespace) }
+    ensures { IfOk result (λ part. option_map seen part ≡ document_part (view tree.now) Reason.Namespace) }
 {
     let namespaces = within(tree, "documentInfo", "namespaces").and_then(Value::as_object);
     unbound(alloc, namespaces)

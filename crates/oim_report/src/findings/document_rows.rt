@@ -1,13 +1,15 @@
 //! Finds the part of a document that violates a condition on its base, its references or its
 //! features.
 
-ghost use Rattle.std.specs.Prelude.{◌≡◌, true, false, if◌then◌else◌, Some, None, is_none, is_some, IfOk};
+ghost use Rattle.std.specs.Prelude.{◌≡◌, true, option_and_then, option_map, IfOk};
+ghost use Rattle.std.specs.List.{find};
 ghost use Rattle.std.specs.Option.{option_copied, option_map_or};
-ghost use Rattle.serde_json.specs.View.{view, items_view};
-ghost use Rattle.oim_report.specs.Holds.{any_item, as_text, document_holds};
-ghost use Rattle.oim_report.specs.Info.{base_said, declarations, features_of, said_level, taxonomy_of};
+ghost use Rattle.serde_json.specs.View.{view, items_view, members_view};
+ghost use Rattle.oim_report.specs.Holds.{as_text, entries};
+ghost use Rattle.oim_report.specs.Info.{base_said, taxonomy_of};
 ghost use Rattle.oim_report.specs.Kept.{is_reference_refused};
-ghost use Rattle.oim_report.specs.Shown.{is_shown};
+ghost use Rattle.oim_report.specs.Shown.{document_part, entry, first_item, seen, value};
+ghost use Rattle.oim_report.specs.code.Rows.{is_misdeclared, misdeclared, misdeclared_part};
 
 use crate::document::base::Base;
 use crate::document::base_url::read_base_url;
@@ -20,14 +22,14 @@ use crate::findings::report_aliases::report_aliases;
 use crate::unless_memory::unless_memory;
 use oim_names::{Aliases, Reason};
 use oim_value::Level;
-use serde_json::Value;
+use serde_json::{Map, Value};
 use std::alloc::{AllocError, Global};
 
 /// Returns the `baseURL` if it is refused.
 ///
 /// Errors: out of memory.
 pub(crate) fn refused_base(alloc: Global, tree: &Value) -> Result<Option<Part<'_>>, AllocError>
-    ensures { IfOk result (λ part. is_some part ≡ document_holds (view tree.now) Reason.BaseUrl) }
+    ensures { IfOk result (λ part. option_map seen part ≡ document_part (view tree.now) Reason.BaseUrl) }
 {
     let base = said_base(alloc, tree)?;
     Ok(value_if(base.is_none(), within(tree, "documentInfo", "baseURL")))
@@ -44,7 +46,7 @@ fn said_base(alloc: Global, tree: &Value) -> Result<Option<Option<Base>>, AllocE
 ///
 /// Errors: out of memory.
 pub(crate) fn refused_reference(alloc: Global, tree: &Value) -> Result<Option<Part<'_>>, AllocError>
-    ensures { IfOk result (λ part. is_some part ≡ document_holds (view tree.now) Reason.TaxonomyUrl) }
+    ensures { IfOk result (λ part. option_map seen part ≡ document_part (view tree.now) Reason.TaxonomyUrl) }
 {
     let base = said_base(alloc, tree)?;
     reference_under(alloc, base.flatten(), tree)
@@ -57,7 +59,7 @@ fn reference_under(
 ) -> Result<Option<Part<'_>>, AllocError>
     ensures { let refused = is_reference_refused base in
         let all = taxonomy_of (view tree.now) in
-        IfOk result (λ part. is_some part ≡ any_item (λ v. option_map_or refused (as_text v) true) all) }
+        IfOk result (λ part. option_map seen part ≡ option_map value (first_item (λ v. option_map_or refused (as_text v) true) all)) }
 {
     match within(tree, "documentInfo", "taxonomy").and_then(Value::as_array) {
         Some(references) => first_refused(alloc, base.as_ref(), references),
@@ -72,7 +74,7 @@ fn first_refused<'a>(
 ) -> Result<Option<Part<'a>>, AllocError>
     ensures { let refused = is_reference_refused (option_copied base.entry) in
         let all = items_view references.now.items in
-        IfOk result (λ part. is_some part ≡ any_item (λ v. option_map_or refused (as_text v) true) all) }
+        IfOk result (λ part. option_map seen part ≡ option_map value (first_item (λ v. option_map_or refused (as_text v) true) all)) }
 {
     for reference in references {
         if is_refused(alloc, base, reference)? {
@@ -95,14 +97,14 @@ fn is_refused(alloc: Global, base: Option<&Base>, reference: &Value) -> Result<b
 ///
 /// Errors: out of memory.
 pub(crate) fn refused_feature(alloc: Global, tree: &Value) -> Result<Option<Part<'_>>, AllocError>
-    ensures { IfOk result (λ part. is_some part ≡ is_shown (document_holds (view tree.now)) Reason.Feature) }
+    ensures { IfOk result (λ part. option_map seen part ≡ document_part (view tree.now) Reason.Feature) }
 {
     let aliases = report_aliases(alloc, tree)?;
     Ok(feature_under(&aliases, tree))
 }
 
 fn feature_under<'a>(aliases: &Option<Aliases>, tree: &'a Value) -> Option<Part<'a>>
-    ensures { is_some result ≡ option_map_or (λ bs. is_none (said_level (declarations bs (features_of (view tree.now))))) aliases.now false }
+    ensures { option_map seen result ≡ option_and_then (λ bs. misdeclared bs (view tree.now)) aliases.now }
 {
     match aliases {
         Some(aliases) => feature_with(aliases, tree),
@@ -111,7 +113,7 @@ fn feature_under<'a>(aliases: &Option<Aliases>, tree: &'a Value) -> Option<Part<
 }
 
 fn feature_with<'a>(aliases: &Aliases, tree: &'a Value) -> Option<Part<'a>>
-    ensures { is_some result ≡ is_none (said_level (declarations aliases.now (features_of (view tree.now)))) }
+    ensures { option_map seen result ≡ misdeclared aliases.now (view tree.now) }
 {
     if read_level(aliases, tree).is_ok() {
         return None;
@@ -119,19 +121,36 @@ fn feature_with<'a>(aliases: &Aliases, tree: &'a Value) -> Option<Part<'a>>
     Some(misdeclared(aliases, tree))
 }
 
-fn misdeclared<'a>(aliases: &Aliases, tree: &'a Value) -> Part<'a> {
+fn misdeclared<'a>(aliases: &Aliases, tree: &'a Value) -> Part<'a>
+    ensures { seen result ≡ misdeclared_part aliases.now (view tree.now) }
+{
     let Some(features) = within(tree, "documentInfo", "features") else {
         return Part::Nothing;
     };
-    let Some(members) = features.as_object() else {
-        return Part::Nothing;
-    };
-    for (key, value) in members.iter() {
-        if is_allowed_duplicates(aliases, key.as_str())
-            && text(Some(value)).and_then(Level::read).is_none()
-        {
-            return Part::Member(key.as_str(), value);
+    match features
+        .as_object()
+        .and_then(|members| first_misdeclared(aliases, members))
+    {
+        Some(part) => part,
+        None => Part::Value(features),
+    }
+}
+
+fn first_misdeclared<'a>(aliases: &Aliases, features: &'a Map<String, Value>) -> Option<Part<'a>>
+    ensures { option_map seen result ≡ option_map entry
+        (find (is_misdeclared aliases.now) (entries (members_view features.now.entries))) }
+{
+    for (key, value) in features.iter() {
+        if is_misdeclared(aliases, key.as_str(), value) {
+            return Some(Part::Member(key.as_str(), value));
         }
     }
-    Part::Value(features)
+    None
+}
+
+// Returns whether a member declares the feature, but no level.
+fn is_misdeclared(aliases: &Aliases, key: &str, value: &Value) -> bool
+    ensures { result ≡ is_misdeclared aliases.now (key.now, view value.now) }
+{
+    is_allowed_duplicates(aliases, key) && text(Some(value)).and_then(Level::read).is_none()
 }

@@ -1,6 +1,6 @@
-ghost use Rattle.std.specs.Prelude.{◌≡◌, ◌≢◌, is_some, IfOk};
+ghost use Rattle.std.specs.Prelude.{◌≡◌, ◌≢◌, option_map, IfOk};
 ghost use Rattle.serde_json.specs.View.{view};
-ghost use Rattle.oim_report.specs.Holds.{holds};
+ghost use Rattle.oim_report.specs.Shown.{fact_part, seen};
 
 use crate::findings::content_rows::{
     backward_period, decimals_out_of_range, formless_decimals, formless_language, formless_number,
@@ -30,8 +30,8 @@ pub fn fact_part<'a>(
     object: &'a Value,
     reason: Reason,
 ) -> Result<Option<Part<'a>>, AllocError>
-    ensures { IfOk result (λ part. is_some part
-        ≡ holds sheet.now aliases.now (view object.now) reason) }
+    ensures { IfOk result (λ part. option_map seen part
+        ≡ fact_part sheet.now aliases.now (view object.now) reason) }
 {
     match reason {
         Reason::DimensionValue => misfit(alloc, sheet, aliases, object),
@@ -39,7 +39,7 @@ pub fn fact_part<'a>(
     }
 }
 
-#[tactic(auto, unfolding(crate::specs::Holds::holds))]
+#[tactic(auto, unfolding(crate::specs::Holds::holds, crate::specs::Shown::fact_shown))]
 fn plain_part<'a>(
     alloc: Global,
     sheet: &Sheet,
@@ -48,7 +48,7 @@ fn plain_part<'a>(
     reason: Reason,
 ) -> Option<Part<'a>>
     requires { reason ≢ Reason.DimensionValue }
-    ensures { is_some result ≡ holds sheet.now aliases.now (view object.now) reason }
+    ensures { option_map seen result ≡ fact_part sheet.now aliases.now (view object.now) reason }
 {
     match reason {
         Reason::MemberForm => misshapen(object),

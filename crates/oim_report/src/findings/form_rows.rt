@@ -1,12 +1,12 @@
 //! Finds the part of a fact object that violates a condition on its form.
 
-ghost use Rattle.std.specs.Prelude.{◌≡◌, ◌||◌, List, codes, is_some};
+ghost use Rattle.std.specs.Prelude.{◌≡◌, ◌||◌, List, codes, option_map};
 ghost use Rattle.oim_names.specs.Bindings.{Binding};
 ghost use Rattle.serde_json.specs.View.{view};
-ghost use Rattle.oim_report.specs.Holds.{holds};
 ghost use Rattle.oim_report.specs.Json.{members, object_at};
 ghost use Rattle.oim_report.specs.code.Rows.{lacks_text};
 ghost use Rattle.oim_report.specs.Sheet.{Sheet};
+ghost use Rattle.oim_report.specs.Shown.{fact_part, seen, textless, when};
 
 use crate::document::json_tree::{has_member, is_no_object, object_at, unknown_in};
 use crate::fact::fact_values::{dimension, is_no_text};
@@ -16,10 +16,10 @@ use serde_json::Value;
 
 /// Returns the whole fact if it is not an object, or a member that is missing or has the wrong
 /// kind of value.
-#[tactic(auto, unfolding(crate::specs::Holds::holds))]
+#[tactic(auto, unfolding(crate::specs::Holds::holds, crate::specs::Shown::fact_shown))]
 pub(crate) fn misshapen(object: &Value) -> Option<Part<'_>>
     ensures { (sheet : Sheet) (bs : List Binding) →
-        is_some result ≡ holds sheet bs (view object.now) Reason.MemberForm }
+        option_map seen result ≡ fact_part sheet bs (view object.now) Reason.MemberForm }
 {
     if !object.is_object() {
         return Some(Part::Whole);
@@ -38,9 +38,9 @@ pub(crate) fn misshapen(object: &Value) -> Option<Part<'_>>
 
 fn misshapen_dimension(object: &Value) -> Option<Part<'_>>
     ensures { let found = members (object_at (codes "dimensions") (view object.now)) in
-        is_some result ≡ (lacks_text (codes "concept") found || lacks_text (codes "entity") found
+        option_map seen result ≡ when (lacks_text (codes "concept") found || lacks_text (codes "entity") found
         || lacks_text (codes "period") found || lacks_text (codes "unit") found
-        || lacks_text (codes "language") found) }
+        || lacks_text (codes "language") found) (textless found) }
 {
     if is_no_text(dimension(object, "concept")) {
         return Some(Part::NoText("concept"));
@@ -61,10 +61,10 @@ fn misshapen_dimension(object: &Value) -> Option<Part<'_>>
 }
 
 /// Returns the first key of the fact, or of its dimensions, that the format does not define.
-#[tactic(auto, unfolding(crate::specs::Holds::holds), using(crate::proofs::DimensionAt::any_members))]
+#[tactic(auto, unfolding(crate::specs::Holds::holds, crate::specs::Shown::fact_shown), using(crate::proofs::DimensionAt::any_members))]
 pub(crate) fn unknown(object: &Value) -> Option<Part<'_>>
     ensures { (sheet : Sheet) (bs : List Binding) →
-        is_some result ≡ holds sheet bs (view object.now) Reason.UnknownMember }
+        option_map seen result ≡ fact_part sheet bs (view object.now) Reason.UnknownMember }
 {
     let known = &["value", "decimals", "dimensions", "links"];
     if let Some(key) = unknown_in(object.as_object(), known) {
@@ -75,27 +75,27 @@ pub(crate) fn unknown(object: &Value) -> Option<Part<'_>>
     Some(Part::KeyIn(key, "dimensions"))
 }
 
-#[tactic(auto, unfolding(crate::specs::Holds::holds))]
+#[tactic(auto, unfolding(crate::specs::Holds::holds, crate::specs::Shown::fact_shown))]
 pub(crate) fn linked(object: &Value) -> Option<Part<'_>>
     ensures { (sheet : Sheet) (bs : List Binding) →
-        is_some result ≡ holds sheet bs (view object.now) Reason.Links }
+        option_map seen result ≡ fact_part sheet bs (view object.now) Reason.Links }
 {
     value_if(has_member(object_at(object, "links")), object.get("links"))
 }
 
-#[tactic(auto, unfolding(crate::specs::Holds::holds))]
+#[tactic(auto, unfolding(crate::specs::Holds::holds, crate::specs::Shown::fact_shown))]
 pub(crate) fn noted(object: &Value) -> Option<Part<'_>>
     ensures { (sheet : Sheet) (bs : List Binding) →
-        is_some result ≡ holds sheet bs (view object.now) Reason.Notes }
+        option_map seen result ≡ fact_part sheet bs (view object.now) Reason.Notes }
 {
     let note = dimension(object, "noteId")?;
     Some(Part::Value(note))
 }
 
-#[tactic(auto, unfolding(crate::specs::Holds::holds))]
+#[tactic(auto, unfolding(crate::specs::Holds::holds, crate::specs::Shown::fact_shown))]
 pub(crate) fn without_dimensions(object: &Value) -> Option<Part<'_>>
     ensures { (sheet : Sheet) (bs : List Binding) →
-        is_some result ≡ holds sheet bs (view object.now) Reason.DimensionsMissing }
+        option_map seen result ≡ fact_part sheet bs (view object.now) Reason.DimensionsMissing }
 {
     value_if(
         object.is_object() && object.get("dimensions").is_none(),
@@ -103,10 +103,10 @@ pub(crate) fn without_dimensions(object: &Value) -> Option<Part<'_>>
     )
 }
 
-#[tactic(auto, unfolding(crate::specs::Holds::holds))]
+#[tactic(auto, unfolding(crate::specs::Holds::holds, crate::specs::Shown::fact_shown))]
 pub(crate) fn without_concept(object: &Value) -> Option<Part<'_>>
     ensures { (sheet : Sheet) (bs : List Binding) →
-        is_some result ≡ holds sheet bs (view object.now) Reason.MissingConcept }
+        option_map seen result ≡ fact_part sheet bs (view object.now) Reason.MissingConcept }
 {
     let has_dimensions = object_at(object, "dimensions").is_some();
     value_if(

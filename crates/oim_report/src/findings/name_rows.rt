@@ -1,13 +1,14 @@
 //! Finds the name of a fact object that violates a condition on names. The search takes no memory.
 
-ghost use Rattle.std.specs.Prelude.{◌≡◌, ◌&&◌, [], codes, if◌then◌else◌, is_some, map, option_map, option_and_then};
+ghost use Rattle.std.specs.Prelude.{◌≡◌, [], codes, if◌then◌else◌, true, map, option_map, option_and_then};
+ghost use Rattle.std.specs.List.{find};
 ghost use Rattle.std.specs.Option.{option_map_or, option_to_list};
 ghost use Rattle.serde_json.specs.View.{view, members_view};
 ghost use Rattle.oim_report.specs.Holds.{as_text, is_kind, names, pieces, value_text};
 ghost use Rattle.oim_report.specs.Json.{members, object_at};
-ghost use Rattle.oim_report.specs.Names.{refuses_some};
 ghost use Rattle.oim_names.specs.Expansion.{a_name, an_entity, refuses};
-ghost use Rattle.oim_report.specs.code.Rows.{any_defined, is_defined, refuses_in};
+ghost use Rattle.oim_report.specs.Shown.{name, seen};
+ghost use Rattle.oim_report.specs.code.Rows.{is_defined, names_at, names_in};
 
 use crate::concept_kind::ConceptKind;
 use crate::dimension_kind::DimensionKind;
@@ -23,7 +24,6 @@ use oim_names::{Aliases, Reason};
 use serde_json::{Map, Value};
 
 /// Returns the first name that is refused for this reason.
-#[tactic(auto, using(crate::proofs::DefinedRows::names_parts))]
 pub(crate) fn refused_name<'a>(
     sheet: &Sheet,
     aliases: &Aliases,
@@ -32,7 +32,7 @@ pub(crate) fn refused_name<'a>(
 ) -> Option<Part<'a>>
     ensures { let dimensions = members (object_at (codes "dimensions") (view object.now)) in
         let all = names sheet.now aliases.now (view object.now) dimensions in
-        is_some result ≡ refuses_some reason aliases.now all }
+        option_map seen result ≡ option_map name (find (refuses reason aliases.now) all) }
 {
     if let Some(part) = refused_text(aliases, dimension(object, "concept"), reason) {
         return Some(part);
@@ -59,7 +59,8 @@ fn refused_value<'a>(
     ensures { let dimensions = members (object_at (codes "dimensions") (view object.now)) in
         let named = is_kind sheet.now aliases.now (view object.now) dimensions ConceptKind.Name in
         let text = value_text sheet.now aliases.now (view object.now) dimensions in
-        is_some result ≡ refuses_some reason aliases.now (map a_name (if named then option_to_list text else [])) }
+        let all = map a_name (if named then option_to_list text else []) in
+        option_map seen result ≡ option_map name (find (refuses reason aliases.now) all) }
 {
     match kind_of(sheet, aliases, object) {
         Some(ConceptKind::Name) => refused_text(aliases, object.get("value"), reason),
@@ -69,7 +70,8 @@ fn refused_value<'a>(
 
 fn refused_text<'a>(aliases: &Aliases, value: Option<&'a Value>, reason: Reason) -> Option<Part<'a>>
     ensures { let found = option_and_then as_text (option_map (λ v. view v.now) value.entry) in
-        is_some result ≡ refuses_some reason aliases.now (map a_name (option_to_list found)) }
+        let all = map a_name (option_to_list found) in
+        option_map seen result ≡ option_map name (find (refuses reason aliases.now) all) }
 {
     match text(value) {
         Some(text) if is_refused(aliases, text, reason) => Some(Part::Name(text)),
@@ -90,7 +92,8 @@ fn refused_entity<'a>(
     reason: Reason,
 ) -> Option<Part<'a>>
     ensures { let found = option_and_then as_text (option_map (λ v. view v.now) value.entry) in
-        is_some result ≡ refuses_some reason aliases.now (map an_entity (option_to_list found)) }
+        let all = map an_entity (option_to_list found) in
+        option_map seen result ≡ option_map name (find (refuses reason aliases.now) all) }
 {
     match text(value) {
         Some(text) if is_refused_entity(aliases, text, reason) => Some(Part::Entity(text)),
@@ -114,7 +117,8 @@ fn refused_dimension<'a>(
     reason: Reason,
 ) -> Option<Part<'a>>
     ensures { let dimensions = members (object_at (codes "dimensions") (view object.now)) in
-        is_some result ≡ any_defined (refuses_in reason sheet.now aliases.now) dimensions }
+        let all = names_in sheet.now aliases.now dimensions in
+        option_map seen result ≡ option_map name (find (refuses reason aliases.now) all) }
 {
     refused_in(sheet, aliases, object_at(object, "dimensions")?, reason)
 }
@@ -125,8 +129,8 @@ fn refused_in<'a>(
     dimensions: &'a Map<String, Value>,
     reason: Reason,
 ) -> Option<Part<'a>>
-    ensures { let refused = refuses_in reason sheet.now aliases.now in
-        is_some result ≡ any_defined refused (members_view dimensions.now.entries) }
+    ensures { let all = names_in sheet.now aliases.now (members_view dimensions.now.entries) in
+        option_map seen result ≡ option_map name (find (refuses reason aliases.now) all) }
 {
     for (key, value) in dimensions.iter() {
         if let Some(part) = refused_if_defined(sheet, aliases, key.as_str(), value, reason) {
@@ -143,8 +147,8 @@ fn refused_if_defined<'a>(
     value: &'a Value,
     reason: Reason,
 ) -> Option<Part<'a>>
-    ensures { is_some result
-        ≡ (is_defined key.now && refuses_in reason sheet.now aliases.now key.now (view value.now)) }
+    ensures { let all = names_at sheet.now aliases.now (key.now, view value.now) in
+        option_map seen result ≡ option_map name (find (refuses reason aliases.now) all) }
 {
     if is_defined(key) {
         refused_member(sheet, aliases, key, value, reason)
@@ -160,7 +164,9 @@ fn refused_member<'a>(
     value: &'a Value,
     reason: Reason,
 ) -> Option<Part<'a>>
-    ensures { is_some result ≡ refuses_in reason sheet.now aliases.now key.now (view value.now) }
+    requires { is_defined key.now ≡ true }
+    ensures { let all = names_at sheet.now aliases.now (key.now, view value.now) in
+        option_map seen result ≡ option_map name (find (refuses reason aliases.now) all) }
 {
     if is_refused(aliases, key, reason) {
         return Some(Part::Name(key));
@@ -173,7 +179,8 @@ fn refused_member<'a>(
 
 fn refused_unit<'a>(aliases: &Aliases, unit: Option<&'a Value>, reason: Reason) -> Option<Part<'a>>
     ensures { let found = option_and_then as_text (option_map (λ v. view v.now) unit.entry) in
-        is_some result ≡ refuses_some reason aliases.now (map a_name (option_map_or pieces found [])) }
+        let all = map a_name (option_map_or pieces found []) in
+        option_map seen result ≡ option_map name (find (refuses reason aliases.now) all) }
 {
     match text(unit) {
         Some(text) => piece_of(aliases, text, reason),
@@ -184,7 +191,8 @@ fn refused_unit<'a>(aliases: &Aliases, unit: Option<&'a Value>, reason: Reason) 
 // Returns the first piece of a unit's text that is refused for this reason, if the text has the
 // form of a unit.
 fn piece_of<'a>(aliases: &Aliases, text: &'a str, reason: Reason) -> Option<Part<'a>>
-    ensures { is_some result ≡ refuses_some reason aliases.now (map a_name (pieces text.now)) }
+    ensures { let all = map a_name (pieces text.now) in
+        option_map seen result ≡ option_map name (find (refuses reason aliases.now) all) }
 {
     if !is_unit_text(text) {
         return None;

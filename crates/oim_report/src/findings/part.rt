@@ -1,4 +1,6 @@
-ghost use Rattle.std.specs.Prelude.{◌≡◌, is_some};
+ghost use Rattle.std.specs.Prelude.{◌≡◌, option_map};
+ghost use Rattle.serde_json.specs.View.{view};
+ghost use Rattle.oim_report.specs.Shown.{seen, value_or_nothing, when};
 
 use serde_json::Value;
 
@@ -35,7 +37,8 @@ pub enum Part<'a> {
 
 /// If the condition applies, returns the value, or `Nothing` if there is no value.
 pub(crate) fn value_if(holds: bool, value: Option<&Value>) -> Option<Part<'_>>
-    ensures { is_some result ≡ holds }
+    ensures { let found = option_map (λ v. view v.now) value.entry in
+        option_map seen result ≡ when holds (value_or_nothing found) }
 {
     match (holds, value) {
         (true, Some(value)) => Some(Part::Value(value)),

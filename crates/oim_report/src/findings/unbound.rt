@@ -1,8 +1,11 @@
-ghost use Rattle.std.specs.Prelude.{◌≡◌, [], IfOk, is_some, option_map};
+ghost use Rattle.std.specs.Prelude.{◌≡◌, [], IfOk, option_map};
+ghost use Rattle.std.specs.List.{find};
 ghost use Rattle.oim_names.specs.Bindings.{is_refused_binding};
 ghost use Rattle.serde_json.specs.View.{view, members_view};
-ghost use Rattle.oim_report.specs.Json.{any_in, any_member};
+ghost use Rattle.oim_report.specs.Holds.{entries};
+ghost use Rattle.oim_report.specs.Json.{members};
 ghost use Rattle.oim_report.specs.Namespaces.{binds_nothing};
+ghost use Rattle.oim_report.specs.Shown.{entry, seen};
 
 use crate::fact::given::Given;
 use crate::findings::part::Part;
@@ -19,7 +22,8 @@ pub(crate) fn unbound<'a>(
     namespaces: Option<&'a Map<String, Value>>,
 ) -> Result<Option<Part<'a>>, AllocError>
     ensures { let ms = option_map (λ m. members_view m.now.entries) namespaces.entry in
-        IfOk result (λ part. is_some part ≡ any_in binds_nothing ms) }
+        let found = find (λ m. binds_nothing m.0 m.1) (entries (members ms)) in
+        IfOk result (λ part. option_map seen part ≡ option_map entry found) }
 {
     match namespaces {
         Some(entries) => first_unbound(alloc, entries),
@@ -29,12 +33,13 @@ pub(crate) fn unbound<'a>(
 
 fn first_unbound<'a>(
     alloc: Global,
-    entries: &'a Map<String, Value>,
+    namespaces: &'a Map<String, Value>,
 ) -> Result<Option<Part<'a>>, AllocError>
-    ensures { let ms = members_view entries.now.entries in
-        IfOk result (λ part. is_some part ≡ any_member binds_nothing ms) }
+    ensures { let ms = members_view namespaces.now.entries in
+        let found = find (λ m. binds_nothing m.0 m.1) (entries ms) in
+        IfOk result (λ part. option_map seen part ≡ option_map entry found) }
 {
-    for (prefix, uri) in entries.iter() {
+    for (prefix, uri) in namespaces.iter() {
         if binds_nothing(alloc, prefix.as_str(), uri)? {
             return Ok(Some(Part::Member(prefix.as_str(), uri)));
         }

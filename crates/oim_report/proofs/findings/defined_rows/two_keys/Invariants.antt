@@ -1,10 +1,10 @@
-use Rattle.std.proofs.Common.{◌≡◌}
+use Rattle.std.proofs.Common.{◌≡◌, []}
 use Rattle.serde_json.specs.View.{members_view}
-use Rattle.oim_report.specs.Names.{comes_again}
-use Rattle.oim_report.specs.code.Rows.{defined_names}
-use Rattle.oim_report.proofs.ComesAgain.{again_after}
+use Rattle.oim_report.specs.Shown.{repeated}
+use Rattle.oim_report.specs.code.Rows.{defined_members}
+use Rattle.oim_report.proofs.Repeated.{repeated_in}
 use Rattle.oim_report.proofs.findings.defined_rows.two_keys.Given as goal
 
 abbrev pub invariant-loop-key : goal.invariant-loop-key
 invariant-loop-key l =
-    again_after l.before (defined_names l.aliases (members_view l.key-iterator)) ≡ comes_again (defined_names l.aliases (members_view l.dimensions.entries))
+    repeated_in l.aliases l.before (defined_members (members_view l.key-iterator)) ≡ repeated l.aliases [] (defined_members (members_view l.dimensions.entries))

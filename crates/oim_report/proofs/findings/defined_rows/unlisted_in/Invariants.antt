@@ -1,9 +1,9 @@
 use Rattle.std.proofs.Common.{◌≡◌}
 use Rattle.serde_json.specs.View.{members_view}
-use Rattle.oim_report.specs.code.Rows.{any_defined, is_unlisted}
+use Rattle.oim_report.specs.code.Rows.{first_defined, is_unlisted}
 use Rattle.oim_report.proofs.findings.defined_rows.unlisted_in.Given as goal
 
 abbrev pub invariant-loop-key : goal.invariant-loop-key
 invariant-loop-key l =
-    let found = is_unlisted l.sheet l.aliases in
-    any_defined found (members_view l.key-iterator) ≡ any_defined found (members_view l.dimensions.entries)
+    let first = first_defined (λ k d. is_unlisted l.sheet l.aliases k) in
+    first (members_view l.key-iterator) ≡ first (members_view l.dimensions.entries)

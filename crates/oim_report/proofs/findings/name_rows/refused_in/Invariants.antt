@@ -1,9 +1,11 @@
 use Rattle.std.proofs.Common.{◌≡◌}
+use Rattle.std.specs.List.{find}
 use Rattle.serde_json.specs.View.{members_view}
-use Rattle.oim_report.specs.code.Rows.{any_defined, refuses_in}
+use Rattle.oim_names.specs.Expansion.{refuses}
+use Rattle.oim_report.specs.code.Rows.{names_in}
 use Rattle.oim_report.proofs.findings.name_rows.refused_in.Given as goal
 
 abbrev pub invariant-loop-key : goal.invariant-loop-key
 invariant-loop-key l =
-    let refused = refuses_in l.reason l.sheet l.aliases in
-    any_defined refused (members_view l.key-iterator) ≡ any_defined refused (members_view l.dimensions.entries)
+    let first = find (refuses l.reason l.aliases) in
+    first (names_in l.sheet l.aliases (members_view l.key-iterator)) ≡ first (names_in l.sheet l.aliases (members_view l.dimensions.entries))

@@ -1,0 +1,11 @@
+use Rattle.std.proofs.Common.{◌≡◌}
+use Rattle.std.specs.List.{find}
+use Rattle.serde_json.specs.View.{members_view}
+use Rattle.oim_report.specs.Holds.{entries}
+use Rattle.oim_report.specs.code.Rows.{is_misdeclared}
+use Rattle.oim_report.proofs.findings.document_rows.first_misdeclared.Given as goal
+
+abbrev pub invariant-loop-key : goal.invariant-loop-key
+invariant-loop-key l =
+    let first = find (is_misdeclared l.aliases) in
+    first (entries (members_view l.key-iterator)) ≡ first (entries (members_view l.features.entries))
