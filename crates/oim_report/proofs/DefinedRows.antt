@@ -73,10 +73,10 @@ as_read : (bs : List Binding) (t : List ℕ) (read : Result QName Reason) → If
 as_read bs t (Ok n) e refused other = sym (expanded is_name bs t n e)
 as_read bs t (Err r) e refused other = sym (read_none bs t (Err r) refl other refused)
 
-pub read_name : {E : Type 0} (bs : List Binding) (t : List ℕ) (read : Result QName Reason) → is_defined t ≡ true → IfOk read (Expands bs t) → IfErr read (λ r. (r ≡ OutOfMemory) ⊎ (name_refusal bs t ≡ Some r))
-    → (found : Result (Option QName) E) → IfOk found (λ o. (o ≡ result_ok read) × (read ≢ Err OutOfMemory)) → IfOk found (λ o. o ≡ defined_name bs t)
-read_name bs t read there e refused (Ok o) h = h.0 ∙ as_read bs t read e refused h.1 ∙ ap (λ b. if b then named bs t else None) (sym there)
-read_name bs t read there e refused (Err x) h = h
+pub read_name : {E : Type 0} (bs : List Binding) (t : List ℕ) (read : Result QName Reason) → IfOk read (Expands bs t) → IfErr read (λ r. (r ≡ OutOfMemory) ⊎ (name_refusal bs t ≡ Some r))
+    → (found : Result (Option QName) E) → IfOk found (λ o. (o ≡ result_ok read) × (read ≢ Err OutOfMemory)) → IfOk found (λ o. o ≡ named bs t)
+read_name bs t read e refused (Ok o) h = h.0 ∙ as_read bs t read e refused h.1
+read_name bs t read e refused (Err x) h = h
 
 -- ---- the first name of a fact that is refused
 

@@ -76,6 +76,7 @@ pub mod AnsweredLeast
 pub mod SheetHolds
 pub mod ShownParts
 pub mod Repeated
+pub mod SheetParts
 pub mod JsonStrings
 pub mod JsonWords
 pub mod JsonLexemes

@@ -120,7 +120,7 @@ module _ (sheet : Sheet) (bs : List Binding) (fact : Data) (dimensions : Members
       ++ (map a_name (option_map_or pieces (text_at (codes "unit")) [])
       ++ map a_name (if is_kind Name then option_to_list value_text else []))))
 
-  -- the condition applies (own: no links or notes; at most 18 digits; decimals from -18 to 18)
+  -- the condition applies (own: no links or notes, few digits, decimals in a range)
   abbrev pub holds_with : Reason → Bool
   holds_with MemberForm =
       not (is_object fact) || is_none (get (codes "value") fact)

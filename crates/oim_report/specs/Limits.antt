@@ -2,6 +2,7 @@
 use Rattle.std.specs.Prelude.{◌≡◌, ◌↔◌, ℕ, ◌≤◌, IsTrue, List, length, Some}
 use Rattle.serde_json.specs.Data.{Data, object, Members, depth}
 use Rattle.serde_json.specs.Written.{compact_text}
+use Rattle.oim_report.specs.declared.limits.TheConstants.{MOST_LEVELS}
 use Rattle.oim_report.specs.Json.{json}
 use Rattle.oim_report.specs.Kept.{is_within_limit}
 use Rattle.oim_report.specs.PlainJson.{IsPlainJson}
@@ -10,10 +11,10 @@ use Rattle.oim_report.specs.PlainJson.{IsPlainJson}
 abbrev pub TextsAreWithinLimit : Type 0
 TextsAreWithinLimit = (text : List ℕ) → IsTrue (is_within_limit text) ↔ (length text ≤ 65_536)
 
--- a value that was read is at most 127 levels deep
+-- a value that was read is at most `MOST_LEVELS` deep
 abbrev pub NestsWithinLimit : Type 0
-NestsWithinLimit = (bytes : List ℕ) (tree : Data) → json bytes ≡ Some tree → depth tree ≤ 127
+NestsWithinLimit = (bytes : List ℕ) (tree : Data) → json bytes ≡ Some tree → depth tree ≤ MOST_LEVELS
 
--- a plain object that is at most 127 levels deep is read from its compact text
+-- a plain object that is at most `MOST_LEVELS` deep is read from its compact text
 abbrev pub NestedIsRead : Type 0
-NestedIsRead = (ms : Members) → IsPlainJson (object ms) 127 → json (compact_text (object ms)) ≡ Some (object ms)
+NestedIsRead = (ms : Members) → IsPlainJson (object ms) MOST_LEVELS → json (compact_text (object ms)) ≡ Some (object ms)

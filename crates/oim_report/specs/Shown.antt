@@ -1,14 +1,15 @@
 -- The conditions that are told, and the part that is shown for each: the first part for which the condition applies (own).
-use Rattle.std.specs.Prelude.{ℕ, List, [], ◌∷◌, map, Bool, true, not, ◌&&◌, if◌then◌else◌, codes, Option, Some, None, is_none, option_and_then}
+use Rattle.std.specs.Prelude.{ℕ, List, [], ◌∷◌, map, Bool, true, not, ◌&&◌, if◌then◌else◌, codes, Option, Some, None, is_none, option_and_then, option_map}
 use Rattle.std.specs.Option.{option_map_or}
 use Rattle.std.specs.List.{find, list_any}
 use Rattle.std.specs.FinMap as map
+use Rattle.std.specs.FinMap.{FinMap}
 use Rattle.std.specs.Ordering.{is_eq}
 use Rattle.oim_names.specs.QName.{QName}
 use Rattle.oim_names.specs.Bindings.{Binding}
 use Rattle.oim_names.specs.Expansion.{Spelled, a_name, an_entity, refuses}
 use Rattle.oim_names.specs.declared.reason.Reason.{Reason}
-use Rattle.oim_names.specs.declared.reason.Reason.TheVariants.{MemberForm, UnknownMember, DocumentType, Namespace, BaseUrl, TaxonomyUrl, Feature, Links, Notes, NameForm, UnboundPrefix, ReservedNamespace, UnknownConcept, UnknownDimension, DimensionValue, PeriodForm, PeriodOrder, UnitForm, UnitOnOther, LanguageForm, LanguageOnNumeric, ValueForm, NumberForm, NumberDigits, DecimalsForm, DecimalsRange, DecimalsOnOther}
+use Rattle.oim_names.specs.declared.reason.Reason.TheVariants.{MemberForm, UnknownMember, DocumentType, Namespace, BaseUrl, TaxonomyUrl, Feature, Links, Notes, NameForm, UnboundPrefix, ReservedNamespace, UnknownConcept, UnknownDimension, DimensionValue, PeriodForm, PeriodOrder, UnitForm, UnitOnOther, LanguageForm, LanguageOnNumeric, ValueForm, NumberForm, NumberDigits, DecimalsForm, DecimalsRange, DecimalsOnOther, SheetKind}
 use Rattle.oim_value.specs.Level.{level_with}
 use Rattle.oim_value.specs.ValueOrder.{name_cmp}
 use Rattle.serde_json.specs.Data.{Data, Items, no_items, item, Members}
@@ -20,11 +21,11 @@ use Rattle.oim_report.specs.Holds.{as_text, base, declared, defined, dimension_k
 use Rattle.oim_report.specs.Info.{features_of, info, info_keys, namespaces_of, root_keys, taxonomy_of}
 use Rattle.oim_report.specs.Json.{is_no_array, is_no_object, is_object, is_unknown, members, object_at}
 use Rattle.oim_report.specs.Kept.{is_reference_refused}
-use Rattle.oim_report.specs.Least.{hidden_by}
+use Rattle.oim_report.specs.Least.{hidden_by, least}
 use Rattle.oim_report.specs.Names.{named}
 use Rattle.oim_report.specs.Namespaces.{binds_nothing}
 use Rattle.oim_report.specs.Parts.{core_keys, fact_keys}
-use Rattle.oim_report.specs.Sheet.{Sheet}
+use Rattle.oim_report.specs.Sheet.{Sheet, concept_kind_named, dimension_kind_named, has_other_kind, kind_in, names_no_kind, same_concept_kind, same_dimension_kind, sheet_bindings, sheet_concepts, sheet_dimensions, sheet_holds, sheet_keys, sheet_names, sheet_namespaces}
 
 -- the condition applies, and none that hides it does; `told` lists the conditions that are shown
 abbrev pub is_shown : (Reason → Bool) → Reason → Bool
@@ -188,3 +189,60 @@ document_shown tree r = nothing
 -- the part of a document that is shown for a condition, if it applies and is not hidden
 abbrev pub document_part : Data → Reason → Option Shown
 document_part tree r = when (is_shown (document_holds tree) r) (document_shown tree r)
+
+-- ---- sheets
+
+module _ {K : Type 0} (kind_named : List ℕ → Option K) (same : K → K → Bool) where
+  -- the first entry whose value names no kind
+  abbrev pub kindless : Members → Option (List ℕ × Data)
+  kindless ms = find (λ m. names_no_kind kind_named same m.0 m.1) (entries ms)
+
+  -- the name that the key of an entry spells, with the kind that its value names
+  abbrev pub named_kind : List Binding → List ℕ × Data → Option (QName × K)
+  named_kind bs m = option_and_then (λ n. option_map (λ k. (n, k)) (kind_in kind_named same m.1)) (named bs m.0)
+
+  -- the kinds of some names, with one more name if it is new
+  abbrev pub with_kind : FinMap name_cmp K → QName × K → FinMap name_cmp K
+  with_kind kinds e = if map.contains_key kinds e.0 then kinds else map.insert kinds e.0 e.1
+
+  -- the first entry that gives another kind to the name of an earlier one; the map has the kinds of the earlier names
+  abbrev pub other_kind : List Binding → FinMap name_cmp K → List (List ℕ × Data) → Option (List ℕ × Data)
+  other_kind bs kinds [] = None
+  other_kind bs kinds (m ∷ ms) =
+      option_map_or (λ e. if has_other_kind kind_named same (with_kind kinds e) e then Some m else other_kind bs (with_kind kinds e) ms) (named_kind bs m) (other_kind bs kinds ms)
+
+  abbrev pub two_kinds : List Binding → Members → Option Shown
+  two_kinds bs ms = option_map (λ m. beside_first bs (entries ms) m.0) (other_kind bs map.empty (entries ms))
+
+-- the first part that is shown
+abbrev pub first_shown : List (Option Shown) → Shown
+first_shown [] = nothing
+first_shown (o ∷ os) = option_map_or (λ part. part) o (first_shown os)
+
+abbrev pub refused_key : Data → Reason → Shown
+refused_key tree r = option_map_or name (find (refuses r (sheet_bindings tree)) (sheet_names tree)) nothing
+
+-- what is shown if a condition applies to a sheet
+unfoldable pub sheet_shown : Data → Reason → Shown
+sheet_shown tree MemberForm = first_of (
+    (not (is_object tree), whole)
+    ∷ (is_no_object (get (codes "namespaces") tree), no_object (codes "namespaces"))
+    ∷ (is_no_object (get (codes "concepts") tree), no_object (codes "concepts"))
+    ∷ (is_no_object (get (codes "dimensions") tree), no_object (codes "dimensions"))
+    ∷ [])
+sheet_shown tree UnknownMember = option_map_or (λ m. key m.0) (unknown_in sheet_keys (as_object tree)) nothing
+sheet_shown tree Namespace = unbound_entry (sheet_namespaces tree)
+sheet_shown tree SheetKind = first_shown (
+    option_map entry (kindless concept_kind_named same_concept_kind (sheet_concepts tree))
+    ∷ option_map entry (kindless dimension_kind_named same_dimension_kind (sheet_dimensions tree))
+    ∷ two_kinds concept_kind_named same_concept_kind (sheet_bindings tree) (sheet_concepts tree)
+    ∷ two_kinds dimension_kind_named same_dimension_kind (sheet_bindings tree) (sheet_dimensions tree)
+    ∷ [])
+sheet_shown tree NameForm = refused_key tree NameForm
+sheet_shown tree UnboundPrefix = refused_key tree UnboundPrefix
+sheet_shown tree ReservedNamespace = refused_key tree ReservedNamespace
+sheet_shown tree r = nothing
+
+-- the refusal of a sheet, and the part that is shown for it
+abbrev pub sheet_part : Data → Option (Reason × Shown)
+sheet_part tree = option_map (λ r. (r, sheet_shown tree r)) (least (sheet_holds tree))

@@ -14,8 +14,8 @@ use std::str;
 
 /// Parses the bytes as a JSON value, after at most one byte order mark.
 ///
-/// Errors: `NotJson` if `serde_json` rejects the text (UTF-8, RFC 8259, nesting at most 127);
-/// `OutOfMemory`.
+/// Errors: `NotJson` if `serde_json` rejects the text (UTF-8, RFC 8259, nesting at most
+/// `MOST_LEVELS`); `OutOfMemory`.
 pub(crate) fn read_json(alloc: Global, bytes: &[u8]) -> Result<Value, Reason>
     ensures value { IfOk result (λ v. json bytes.now ≡ Some (view v)) }
     ensures refused { IfErr result

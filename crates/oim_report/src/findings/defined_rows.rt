@@ -6,6 +6,7 @@ ghost use Rattle.oim_names.specs.Expansion.{a_name};
 ghost use Rattle.oim_value.specs.ValueOrder.{name_cmp};
 ghost use Rattle.serde_json.specs.View.{view, members_view};
 ghost use Rattle.oim_report.specs.Holds.{entries};
+ghost use Rattle.oim_report.specs.Names.{named};
 ghost use Rattle.oim_report.specs.Shown.{beside_first, entry, fact_part, name, repeated, seen, spell_same};
 ghost use Rattle.oim_report.specs.code.Rows.{defined_members, defined_name, first_defined, is_defined, is_misfit, is_unlisted};
 
@@ -181,8 +182,15 @@ fn dimension_name(aliases: &Aliases, key: &str) -> Result<Option<Name>, AllocErr
     ensures { IfOk result (λ name. name ≡ defined_name aliases.now key.now) }
 {
     if is_defined(key) {
-        unless_memory(aliases.expand(key))
+        name_of(aliases, key)
     } else {
         Ok(None)
     }
+}
+
+/// Returns the name that a key spells, if it spells one.
+pub(crate) fn name_of(aliases: &Aliases, key: &str) -> Result<Option<Name>, AllocError>
+    ensures { IfOk result (λ name. name ≡ named aliases.now key.now) }
+{
+    unless_memory(aliases.expand(key))
 }

@@ -1,22 +1,26 @@
-ghost use Rattle.std.specs.Prelude.{◌≡◌, IfOk, option_map};
-ghost use Rattle.serde_json.specs.View.{view};
+ghost use Rattle.std.specs.Prelude.{◌≡◌, ◌≢◌, Some, IfOk, option_map};
+ghost use Rattle.std.specs.List.{find};
+ghost use Rattle.std.specs.Option.{option_map_or};
+ghost use Rattle.oim_names.specs.Expansion.{refuses};
+ghost use Rattle.serde_json.specs.View.{view, members_view};
+ghost use Rattle.oim_report.specs.Json.{members};
 ghost use Rattle.oim_report.specs.Least.{least};
-ghost use Rattle.oim_report.specs.Sheet.{sheet_holds};
+ghost use Rattle.oim_report.specs.Sheet.{key_names, sheet_bindings, sheet_holds, sheet_names};
+ghost use Rattle.oim_report.specs.Shown.{entry, kindless, name, named_kind, nothing, seen, sheet_part, sheet_shown, two_kinds};
 
 use crate::concept_kind::ConceptKind;
 use crate::dimension_kind::DimensionKind;
 use crate::document::json_tree::{is_no_object, object_at, unknown_in};
-use crate::document::namespaces::read_namespaces;
-use crate::findings::defined_rows::beside_first;
+use crate::findings::defined_rows::{beside_first, name_of};
 use crate::findings::name_rows::is_refused;
 use crate::findings::part::Part;
+use crate::findings::report_aliases::bound_aliases;
 use crate::findings::unbound::unbound;
 use crate::sheet::Sheet;
 use crate::sheet::gathered::Gathered;
 use crate::sheet::kind::Kind;
 use crate::sheet::sheet_kinds::kind_in;
-use crate::unless_memory::unless_memory;
-use oim_names::{Aliases, Reason};
+use oim_names::{Aliases, Name, Reason};
 use serde_json::{Map, Value};
 use std::alloc::{AllocError, Global};
 
@@ -25,7 +29,7 @@ use std::alloc::{AllocError, Global};
 ///
 /// Errors: out of memory.
 pub fn sheet_part(alloc: Global, tree: &Value) -> Result<Option<(Reason, Part<'_>)>, AllocError>
-    ensures { IfOk result (λ found. option_map (λ f. f.0) found ≡ least (sheet_holds (view tree.now))) }
+    ensures { IfOk result (λ found. option_map (λ f. (f.0, seen f.1)) found ≡ sheet_part (view tree.now)) }
 {
     match Sheet::from_tree(alloc, tree) {
         Ok(_) => Ok(None),
@@ -37,7 +41,10 @@ pub fn sheet_part(alloc: Global, tree: &Value) -> Result<Option<(Reason, Part<'_
     }
 }
 
-fn part_at_fault(alloc: Global, tree: &Value, reason: Reason) -> Result<Part<'_>, AllocError> {
+fn part_at_fault(alloc: Global, tree: &Value, reason: Reason) -> Result<Part<'_>, AllocError>
+    requires { least (sheet_holds (view tree.now)) ≡ Some reason }
+    ensures { IfOk result (λ part. seen part ≡ sheet_shown (view tree.now) reason) }
+{
     match reason {
         Reason::MemberForm => Ok(misshapen(tree)),
         Reason::UnknownMember => Ok(unknown(tree)),
@@ -45,64 +52,96 @@ fn part_at_fault(alloc: Global, tree: &Value, reason: Reason) -> Result<Part<'_>
             let entry = unbound(alloc, object_at(tree, "namespaces"))?;
             Ok(entry.unwrap_or(Part::Nothing))
         }
-        _ => match unless_memory(read_namespaces(alloc, object_at(tree, "namespaces")))? {
+        _ => match bound_aliases(alloc, object_at(tree, "namespaces"))? {
             Some(aliases) => entry_at_fault(alloc, tree, &aliases, reason),
             None => Ok(Part::Nothing),
         },
     }
 }
 
-fn misshapen(tree: &Value) -> Part<'_> {
+#[tactic(auto, unfolding(crate::specs::Shown::sheet_shown))]
+fn misshapen(tree: &Value) -> Part<'_>
+    ensures { seen result ≡ sheet_shown (view tree.now) Reason.MemberForm }
+{
     if !tree.is_object() {
         Part::Whole
     } else if is_no_object(tree.get("namespaces")) {
         Part::NoObject("namespaces")
     } else if is_no_object(tree.get("concepts")) {
         Part::NoObject("concepts")
-    } else {
+    } else if is_no_object(tree.get("dimensions")) {
         Part::NoObject("dimensions")
+    } else {
+        Part::Nothing
     }
 }
 
-fn unknown(tree: &Value) -> Part<'_> {
+#[tactic(auto, unfolding(crate::specs::Shown::sheet_shown))]
+fn unknown(tree: &Value) -> Part<'_>
+    ensures { seen result ≡ sheet_shown (view tree.now) Reason.UnknownMember }
+{
     match unknown_in(tree.as_object(), &["namespaces", "concepts", "dimensions"]) {
         Some(key) => Part::Key(key),
         None => Part::Nothing,
     }
 }
 
+#[tactic(auto, unfolding(crate::specs::Shown::sheet_shown))]
 fn entry_at_fault<'a>(
     alloc: Global,
     tree: &'a Value,
     aliases: &Aliases,
     reason: Reason,
-) -> Result<Part<'a>, AllocError> {
-    let (concepts, dimensions) = (object_at(tree, "concepts"), object_at(tree, "dimensions"));
-    let parts = match reason {
-        Reason::SheetKind => [
-            first_without_kind::<ConceptKind>(concepts),
-            first_without_kind::<DimensionKind>(dimensions),
-            two_kinds::<ConceptKind>(alloc, aliases, concepts)?,
-            two_kinds::<DimensionKind>(alloc, aliases, dimensions)?,
-        ],
-        _ => [
-            first_refused(aliases, concepts, reason),
-            first_refused(aliases, dimensions, reason),
-            None,
-            None,
-        ],
-    };
-    let [one, two, three, four] = parts;
-    Ok(one.or(two).or(three).or(four).unwrap_or(Part::Nothing))
+) -> Result<Part<'a>, AllocError>
+    requires form { reason ≢ Reason.MemberForm }
+    requires known { reason ≢ Reason.UnknownMember }
+    requires bound { reason ≢ Reason.Namespace }
+    requires aliases { aliases.now ≡ sheet_bindings (view tree.now) }
+    ensures { IfOk result (λ part. seen part ≡ sheet_shown (view tree.now) reason) }
+{
+    match reason {
+        Reason::NameForm => Ok(name_at_fault(tree, aliases, Reason::NameForm)),
+        Reason::UnboundPrefix => Ok(name_at_fault(tree, aliases, Reason::UnboundPrefix)),
+        Reason::ReservedNamespace => Ok(name_at_fault(tree, aliases, Reason::ReservedNamespace)),
+        Reason::SheetKind => kind_at_fault(alloc, tree, aliases),
+        _ => Ok(Part::Nothing),
+    }
 }
 
 // Returns the first key that is refused as a name for this reason.
+fn name_at_fault<'a>(tree: &'a Value, aliases: &Aliases, reason: Reason) -> Part<'a>
+    ensures { let all = sheet_names (view tree.now) in
+        seen result ≡ option_map_or name (find (refuses reason aliases.now) all) nothing }
+{
+    if let Some(part) = first_refused(aliases, object_at(tree, "concepts"), reason) {
+        return part;
+    }
+    first_refused(aliases, object_at(tree, "dimensions"), reason).unwrap_or(Part::Nothing)
+}
+
 fn first_refused<'a>(
     aliases: &Aliases,
     entries: Option<&'a Map<String, Value>>,
     reason: Reason,
-) -> Option<Part<'a>> {
-    for (key, _kind) in entries?.iter() {
+) -> Option<Part<'a>>
+    ensures { let all = key_names (members (option_map (λ m. members_view m.now.entries) entries.entry)) in
+        option_map seen result ≡ option_map name (find (refuses reason aliases.now) all) }
+{
+    match entries {
+        Some(entries) => refused_key(aliases, entries, reason),
+        None => None,
+    }
+}
+
+fn refused_key<'a>(
+    aliases: &Aliases,
+    names: &'a Map<String, Value>,
+    reason: Reason,
+) -> Option<Part<'a>>
+    ensures { let all = key_names (members_view names.now.entries) in
+        option_map seen result ≡ option_map name (find (refuses reason aliases.now) all) }
+{
+    for (key, _kind) in names.iter() {
         if is_refused(aliases, key.as_str(), reason) {
             return Some(Part::Name(key.as_str()));
         }
@@ -110,9 +149,45 @@ fn first_refused<'a>(
     None
 }
 
-// Returns the first entry whose value names no kind.
-fn first_without_kind<'a, K: Kind>(entries: Option<&'a Map<String, Value>>) -> Option<Part<'a>> {
-    for (key, value) in entries?.iter() {
+// Returns the first entry whose value names no kind, or else the first key that gives a name
+// another kind, behind the first key of that name.
+fn kind_at_fault<'a>(
+    alloc: Global,
+    tree: &'a Value,
+    aliases: &Aliases,
+) -> Result<Part<'a>, AllocError>
+    requires { aliases.now ≡ sheet_bindings (view tree.now) }
+    ensures { IfOk result (λ part. seen part ≡ sheet_shown (view tree.now) Reason.SheetKind) }
+{
+    let (concepts, dimensions) = (object_at(tree, "concepts"), object_at(tree, "dimensions"));
+    if let Some(part) = first_without_kind::<ConceptKind>(concepts) {
+        return Ok(part);
+    }
+    if let Some(part) = first_without_kind::<DimensionKind>(dimensions) {
+        return Ok(part);
+    }
+    if let Some(part) = two_kinds::<ConceptKind>(alloc, aliases, concepts)? {
+        return Ok(part);
+    }
+    let part = two_kinds::<DimensionKind>(alloc, aliases, dimensions)?;
+    Ok(part.unwrap_or(Part::Nothing))
+}
+
+fn first_without_kind<'a, K: Kind>(entries: Option<&'a Map<String, Value>>) -> Option<Part<'a>>
+    ensures { let ms = members (option_map (λ m. members_view m.now.entries) entries.entry) in
+        option_map seen result ≡ option_map entry (kindless K.kind_named K.same_kind ms) }
+{
+    match entries {
+        Some(entries) => kindless_in::<K>(entries),
+        None => None,
+    }
+}
+
+fn kindless_in<'a, K: Kind>(listed: &'a Map<String, Value>) -> Option<Part<'a>>
+    ensures { let ms = members_view listed.now.entries in
+        option_map seen result ≡ option_map entry (kindless K.kind_named K.same_kind ms) }
+{
+    for (key, value) in listed.iter() {
         if kind_in::<K>(value).is_none() {
             return Some(Part::Member(key.as_str(), value));
         }
@@ -120,27 +195,53 @@ fn first_without_kind<'a, K: Kind>(entries: Option<&'a Map<String, Value>>) -> O
     None
 }
 
-// Returns the first key that gives a name another kind, behind the first key of that name.
 fn two_kinds<'a, K: Kind>(
     alloc: Global,
     aliases: &Aliases,
     entries: Option<&'a Map<String, Value>>,
-) -> Result<Option<Part<'a>>, AllocError> {
-    let Some(entries) = entries else {
-        return Ok(None);
-    };
-    let mut gathered = Gathered::new(alloc);
-    for (key, value) in entries.iter() {
-        let Some(name) = unless_memory(aliases.expand(key.as_str()))? else {
-            return Ok(None);
-        };
-        let Some(kind) = kind_in::<K>(value) else {
-            return Ok(None);
-        };
-        let known = gathered.put(name, kind)?;
-        if !kind.is(known) {
-            return Ok(Some(beside_first(aliases, entries, key.as_str())));
+) -> Result<Option<Part<'a>>, AllocError>
+    ensures { let ms = members (option_map (λ m. members_view m.now.entries) entries.entry) in
+        IfOk result (λ part. option_map seen part ≡ two_kinds K.kind_named K.same_kind aliases.now ms) }
+{
+    match entries {
+        Some(entries) => two_kinds_in::<K>(alloc, aliases, entries),
+        None => Ok(None),
+    }
+}
+
+fn two_kinds_in<'a, K: Kind>(
+    alloc: Global,
+    aliases: &Aliases,
+    listed: &'a Map<String, Value>,
+) -> Result<Option<Part<'a>>, AllocError>
+    ensures { let ms = members_view listed.now.entries in
+        IfOk result (λ part. option_map seen part ≡ two_kinds K.kind_named K.same_kind aliases.now ms) }
+{
+    let mut gathered: Gathered<K> = Gathered::new(alloc);
+    for (key, value) in listed.iter() {
+        if let Some((name, kind)) = named_kind::<K>(aliases, key.as_str(), value)? {
+            let known = gathered.put(name, kind)?;
+            if !kind.is(known) {
+                return Ok(Some(beside_first(aliases, listed, key.as_str())));
+            }
         }
     }
     Ok(None)
+}
+
+// Returns the name that the key spells, with the kind that the value names.
+fn named_kind<K: Kind>(
+    aliases: &Aliases,
+    key: &str,
+    value: &Value,
+) -> Result<Option<(Name, K)>, AllocError>
+    ensures { IfOk result (λ e. e ≡ named_kind K.kind_named K.same_kind aliases.now (key.now, view value.now)) }
+{
+    let Some(name) = name_of(aliases, key)? else {
+        return Ok(None);
+    };
+    match kind_in::<K>(value) {
+        Some(kind) => Ok(Some((name, kind))),
+        None => Ok(None),
+    }
 }

@@ -1,0 +1,11 @@
+use Rattle.std.proofs.Common.{◌≡◌}
+use Rattle.std.specs.List.{find}
+use Rattle.serde_json.specs.View.{members_view}
+use Rattle.oim_names.specs.Expansion.{refuses}
+use Rattle.oim_report.specs.Sheet.{key_names}
+use Rattle.oim_report.proofs.findings.sheet_part.refused_key.Given as goal
+
+abbrev pub invariant-loop-key : goal.invariant-loop-key
+invariant-loop-key l =
+    let first = find (refuses l.reason l.aliases) in
+    first (key_names (members_view l.key-iterator)) ≡ first (key_names (members_view l.names.entries))
