@@ -5,7 +5,7 @@ use Rattle.std.specs.Option.{option_map_or, option_or, option_to_list}
 use Rattle.std.specs.List.{filter_map, find, flat_map, list_any}
 use Rattle.std.specs.FinMap as map
 use Rattle.std.specs.Result.{result_ok}
-use Rattle.std.specs.Str.{IsUtf8, is_utf8}
+use Rattle.std.specs.Str.{IsUtf8}
 use Rattle.std.proofs.lemmas.List.Folds.{find-append}
 use Rattle.std.proofs.lemmas.Str.{is_utf8-from_IsUtf8}
 use Rattle.oim_names.specs.QName.{QName, is_name}
@@ -15,11 +15,11 @@ use Rattle.oim_names.specs.declared.reason.Reason.{Reason}
 use Rattle.oim_names.specs.declared.reason.Reason.TheVariants.{OutOfMemory}
 use Rattle.serde_json.specs.Data.{Data, Members, no_members, member}
 use Rattle.oim_report.specs.declared.concept_kind.ConceptKind.TheVariants.{Name}
-use Rattle.oim_report.specs.Holds.{concept, entries, explicit_text, is_some_and, names, pieces, text_at, value_text}
-use Rattle.oim_report.specs.Json.{has_colon}
+use Rattle.oim_report.specs.Holds.{concept, explicit_text, is_some_and, names, pieces, text_at, value_text}
+use Rattle.oim_report.specs.Json.{entries, has_colon}
 use Rattle.oim_report.specs.Names.{comes_again, named}
 use Rattle.oim_report.specs.Shown.{Shown, beside_first, entry, name, nothing, repeated, when}
-use Rattle.oim_report.specs.code.Rows.{defined_members, defined_name, first_defined, is_defined, is_misfit, names_at, names_in}
+use Rattle.oim_report.specs.code.Rows.{defined_members, first_defined, is_defined, is_misfit, names_at, names_in}
 use Rattle.oim_report.specs.Sheet.{Sheet, same_concept_kind}
 use Rattle.oim_report.proofs.ComesAgain.{read_none}
 use Rattle.oim_report.proofs.Naming.{expanded}

@@ -13,11 +13,11 @@ use Rattle.serde_json.specs.Find.{as_object, get}
 use Rattle.serde_json.specs.Data.{Data, Items, no_items, item, Members, no_members, member}
 use Rattle.url.specs.Parts.{Parts}
 use Rattle.oim_report.specs.Info.{accepted_reference, base_said, bindings_of, declarations, document_type, features_of, info, is_allowed_duplicates, level_said, namespaces_of, references_said, said_base, said_level, said_reference, said_references, taxonomy_of, info_keys, root_keys}
-use Rattle.oim_report.specs.Json.{Given, any_in, given, given_of, is_no_array, is_no_object, is_object, is_unknown, object_at, text_of}
+use Rattle.oim_report.specs.Json.{Given, any_in, entries, given, given_of, is_no_array, is_no_object, is_object, is_unknown, object_at, text_of}
 use Rattle.oim_report.specs.code.Findings.{is_text}
 use Rattle.oim_report.specs.Kept.{base_url, is_reference_refused, is_text_within_limit, is_within_limit, kept}
 use Rattle.oim_report.specs.Namespaces.{binds_nothing}
-use Rattle.oim_report.specs.Holds.{any_item, as_text, base, declared, document_holds, document_refusal, entries, is_some_and}
+use Rattle.oim_report.specs.Holds.{any_item, as_text, base, declared, document_holds, document_refusal, is_some_and}
 use Rattle.oim_report.specs.Least.{least}
 use Rattle.oim_report.proofs.EachRefusal.{behind_test, first_holding, first_refusal, or_refusal}
 use Rattle.oim_report.proofs.ValueWords.{by_given, text_same}

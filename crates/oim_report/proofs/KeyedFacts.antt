@@ -6,20 +6,20 @@ use Rattle.oim_dims.specs.declared.fact.Fact.{Fact}
 use Rattle.serde_json.specs.Data.{Members, no_members, member}
 use Rattle.oim_report.specs.Document.{Document, ObjectSays, SaysDocument}
 use Rattle.oim_report.specs.Identifiers.{EachFactHasAnIdentifier, Identify, IdentifierSays, identifiers, identifiers_in}
-use Rattle.oim_report.specs.Json.{keyed, values}
+use Rattle.oim_report.specs.Json.{entries, values}
 use Rattle.oim_report.specs.Info.{bindings_of, facts_of}
 use Rattle.oim_report.specs.Sheet.{Sheet}
 use Rattle.oim_report.proofs.Documents.{outcomes_are_said}
 
 -- if the objects say the facts, so do the members with their keys
-keyed_say : (sheet : Sheet) (bs : List Binding) (ms : Members) (fs : List Fact) → AllZip (ObjectSays sheet bs) (values ms) fs → AllZip (IdentifierSays sheet bs) (keyed ms) fs
+keyed_say : (sheet : Sheet) (bs : List Binding) (ms : Members) (fs : List Fact) → AllZip (ObjectSays sheet bs) (values ms) fs → AllZip (IdentifierSays sheet bs) (entries ms) fs
 keyed_say sheet bs no_members fs says = says
 keyed_say sheet bs (member key d ms) [] says = says
 keyed_say sheet bs (member key d ms) (f ∷ fs) says = (says.0, keyed_say sheet bs ms fs says.1)
 
 identified : (sheet : Sheet) (bytes : List ℕ) (d : Document) → SaysDocument sheet bytes d → (is : List (List ℕ)) × (identifiers bytes ≡ Some is) × Identify sheet bytes d is
 identified sheet bytes d says =
-    let objects = keyed (facts_of says.tree) in (
+    let objects = entries (facts_of says.tree) in (
       identifiers_in objects,
       rw says.read refl,
       record { tree = says.tree; read = says.read; are = refl; say = keyed_say sheet (bindings_of says.tree) (facts_of says.tree) d.facts says.facts },

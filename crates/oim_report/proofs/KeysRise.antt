@@ -12,7 +12,7 @@ use Rattle.serde_json.specs.Data.{Data, null, boolean, number, string, array, ob
 use Rattle.serde_json.specs.Find.{get_member, as_object}
 use Rattle.serde_json.specs.Read.{of_json, of_items, of_members, number_of, read, max_depth}
 use Rattle.oim_report.specs.Identifiers.{identifiers_in, IdentifiersRise}
-use Rattle.oim_report.specs.Json.{keyed, json_text, members, without_mark}
+use Rattle.oim_report.specs.Json.{entries, json_text, members, without_mark}
 use Rattle.oim_report.specs.Info.{facts_of}
 use Rattle.oim_report.specs.PlainJson.{IsBefore}
 use Rattle.oim_report.proofs.PutMembers.{Ascends, ascends_put}
@@ -99,11 +99,11 @@ facts_ascend (string s) h = tt
 facts_ascend (array ds) h = tt
 facts_ascend (object ms) h = or_none _ (has_then ObjectAscends Ascends as_object (λ d x. x) (get_member (codes "facts") ms) (found_ascends (codes "facts") ms h))
 
-before_keys : (k : List ℕ) (ms : Members) → IsBefore k ms → AllByRecursion (λ l. slice_cmp nat_cmp k l ≡ Less) (identifiers_in (keyed ms))
+before_keys : (k : List ℕ) (ms : Members) → IsBefore k ms → AllByRecursion (λ l. slice_cmp nat_cmp k l ≡ Less) (identifiers_in (entries ms))
 before_keys k no_members h = tt
 before_keys k (member l d ms) h = (h.0, before_keys k ms h.1)
 
-keys_rise : (ms : Members) → Ascends ms → IsStrictlySortedBy (slice_cmp nat_cmp) (identifiers_in (keyed ms))
+keys_rise : (ms : Members) → Ascends ms → IsStrictlySortedBy (slice_cmp nat_cmp) (identifiers_in (entries ms))
 unfolding IsStrictlySortedBy
 keys_rise no_members h = tt
 keys_rise (member k d ms) h = (before_keys k ms h.0, keys_rise ms h.1)

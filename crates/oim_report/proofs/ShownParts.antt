@@ -9,9 +9,9 @@ use Rattle.oim_names.specs.declared.reason.Reason.{Reason}
 use Rattle.oim_names.specs.declared.reason.Reason.TheVariants.{Feature}
 use Rattle.serde_json.specs.Data.{Data, Items, no_items, item, Members, no_members, member}
 use Rattle.oim_report.specs.declared.findings.part.Part.{Part}
-use Rattle.oim_report.specs.Holds.{any_item, document_holds, entries}
+use Rattle.oim_report.specs.Holds.{any_item, document_holds}
 use Rattle.oim_report.specs.Info.{bindings_of, features_of, info, is_allowed_duplicates, namespaces_of}
-use Rattle.oim_report.specs.Json.{any_in, any_member, members}
+use Rattle.oim_report.specs.Json.{any_in, any_member, entries, members}
 use Rattle.oim_report.specs.Names.{refuses_some}
 use Rattle.oim_report.specs.Namespaces.{binds_nothing}
 use Rattle.oim_report.specs.code.Rows.{misdeclared}

@@ -5,9 +5,9 @@ use Rattle.std.specs.List.{filter}
 use Rattle.std.specs.Str.{is_utf8}
 use Rattle.serde_json.specs.Data.{Data, Members, no_members, member, null, boolean, number, string, array, object, unsigned, negative, float}
 use Rattle.serde_json.specs.Find.{as_null}
-use Rattle.oim_report.specs.Json.{Given, absent, nil, text, whole, other, given, given_of, has_colon, is_absent, is_no_text, text_of}
+use Rattle.oim_report.specs.Json.{Given, absent, entries, given, given_of, has_colon, is_absent, is_no_text, nil, other, text, text_of, whole}
 use Rattle.oim_report.specs.Parts.{defined_in}
-use Rattle.oim_report.specs.Holds.{as_text, as_whole, entries, is_some_and, no_text, no_text_or_null}
+use Rattle.oim_report.specs.Holds.{as_text, as_whole, is_some_and, no_text, no_text_or_null}
 
 -- a property of the given value and of the table's words holds for each value if it holds for the four kinds
 pub by_given : (P : Given → Option (List ℕ) → Option ℤ → Option ⊤ → Type 0) → P nil None None (Some tt) → ((t : List ℕ) → P (text t) (Some t) None None) → ((n : ℤ) → P (whole n) None (Some n) None) → P other None None None

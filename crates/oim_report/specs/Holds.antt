@@ -17,7 +17,7 @@ use Rattle.oim_dims.specs.Language.{is_language}
 use Rattle.oim_dims.specs.Period.{end_part, start_part}
 use Rattle.oim_dims.specs.DateTime.{moment_of}
 use Rattle.oim_dims.specs.Unit.{denominator_pieces, is_unit_text, numerator_pieces}
-use Rattle.serde_json.specs.Data.{Data, Items, no_items, item, Members, no_members, member}
+use Rattle.serde_json.specs.Data.{Data, Items, no_items, item, Members}
 use Rattle.serde_json.specs.Find.{as_integer, as_null, as_number, as_object, as_str, get, get_member}
 use Rattle.url.specs.Parts.{Parts}
 use Rattle.oim_report.specs.declared.concept_kind.ConceptKind.{ConceptKind}
@@ -25,7 +25,7 @@ use Rattle.oim_report.specs.declared.concept_kind.ConceptKind.TheVariants.{Numer
 use Rattle.oim_report.specs.declared.dimension_kind.DimensionKind.{DimensionKind}
 use Rattle.oim_report.specs.declared.dimension_kind.DimensionKind.TheVariants.{Explicit, Typed}
 use Rattle.oim_report.specs.Info.{bindings_of, document_type, features_of, info, info_keys, is_allowed_duplicates, namespaces_of, root_keys, taxonomy_of}
-use Rattle.oim_report.specs.Json.{any_in, any_member, has_colon, has_member, is_no_array, is_no_object, is_object, is_unknown, members, object_at}
+use Rattle.oim_report.specs.Json.{any_in, any_member, entries, has_colon, has_member, is_no_array, is_no_object, is_object, is_unknown, members, object_at}
 use Rattle.oim_report.specs.Kept.{base_url, is_reference_refused}
 use Rattle.oim_report.specs.Least.{least}
 use Rattle.oim_report.specs.Names.{comes_again, named}
@@ -51,11 +51,6 @@ no_text d = is_none (as_text d)
 
 abbrev pub no_text_or_null : Data → Bool
 no_text_or_null d = no_text d && is_none (as_null d)
-
--- the members with their keys
-abbrev pub entries : Members → List (List ℕ × Data)
-entries no_members = []
-entries (member key d ms) = (key, d) ∷ entries ms
 
 -- some item passes a test
 abbrev pub any_item : (Data → Bool) → Items → Bool

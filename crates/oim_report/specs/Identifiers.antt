@@ -9,7 +9,7 @@ use Rattle.oim_dims.specs.declared.fact.Fact.{Fact}
 use Rattle.serde_json.specs.Data.{Data}
 use Rattle.oim_report.specs.Document.{Document, ObjectSays}
 use Rattle.oim_report.specs.Info.{bindings_of, facts_of}
-use Rattle.oim_report.specs.Json.{json, keyed}
+use Rattle.oim_report.specs.Json.{json, entries}
 use Rattle.oim_report.specs.Outcome.{outcome}
 use Rattle.oim_report.specs.Sheet.{Sheet}
 
@@ -18,7 +18,7 @@ abbrev pub identifiers_in : List (List ℕ × Data) → List (List ℕ)
 identifiers_in objects = map (λ o. o.0) objects
 
 abbrev pub tree_identifiers : Data → List (List ℕ)
-tree_identifiers tree = identifiers_in (keyed (facts_of tree))
+tree_identifiers tree = identifiers_in (entries (facts_of tree))
 
 -- the identifiers in a file's bytes, or None if they are not JSON
 abbrev pub identifiers : List ℕ → Option (List (List ℕ))
@@ -36,8 +36,8 @@ IdentifierSays sheet bs object said = ObjectSays sheet bs object.1 said
 pub record Identify (sheet : Sheet) (bytes : List ℕ) (document : Document) (is : List (List ℕ)) : Type 0 where
   pub tree : Data
   pub read : json bytes ≡ Some tree
-  pub are : identifiers_in (keyed (facts_of tree)) ≡ is
-  pub say : AllZip (IdentifierSays sheet (bindings_of tree)) (keyed (facts_of tree)) document.facts
+  pub are : identifiers_in (entries (facts_of tree)) ≡ is
+  pub say : AllZip (IdentifierSays sheet (bindings_of tree)) (entries (facts_of tree)) document.facts
 
 -- the identifiers in the bytes of an accepted report identify its facts
 abbrev pub EachFactHasAnIdentifier : Type 0

@@ -84,9 +84,9 @@ abbrev pub members : Option Members → Members
 members ms = unwrap_or ms no_members
 
 -- the values of members with their keys, in byte order of the keys
-abbrev pub keyed : Members → List (List ℕ × Data)
-keyed no_members = []
-keyed (member key d ms) = (key, d) ∷ keyed ms
+abbrev pub entries : Members → List (List ℕ × Data)
+entries no_members = []
+entries (member key d ms) = (key, d) ∷ entries ms
 
 -- the values of members, in byte order of their keys
 abbrev pub values : Members → List Data

@@ -17,9 +17,9 @@ use Rattle.serde_json.specs.Find.{as_object, get, get_member}
 use Rattle.serde_json.specs.View.{view}
 use Rattle.oim_report.specs.declared.findings.part.Part.{Part}
 use Rattle.oim_report.specs.declared.findings.part.Part.TheVariants.{Nothing, Whole, Missing, NoObject, NoArray, NoText, Key, KeyIn, Name, Entity, Value, Member, Two}
-use Rattle.oim_report.specs.Holds.{as_text, base, declared, defined, dimension_kind, document_holds, entries, holds, is_some_and, misfits, names, no_text}
-use Rattle.oim_report.specs.Info.{features_of, info, info_keys, namespaces_of, root_keys, taxonomy_of}
-use Rattle.oim_report.specs.Json.{is_no_array, is_no_object, is_object, is_unknown, members, object_at}
+use Rattle.oim_report.specs.Holds.{as_text, base, declared, defined, dimension_kind, document_holds, holds, is_some_and, misfits, names, no_text}
+use Rattle.oim_report.specs.Info.{info, info_keys, namespaces_of, root_keys, taxonomy_of}
+use Rattle.oim_report.specs.Json.{entries, is_no_array, is_no_object, is_object, is_unknown, members, object_at}
 use Rattle.oim_report.specs.Kept.{is_reference_refused}
 use Rattle.oim_report.specs.Least.{hidden_by, least}
 use Rattle.oim_report.specs.Names.{named}

@@ -1,7 +1,6 @@
 -- Tests in the code that refuses reports, and the refusals that follow from them.
 use Rattle.std.specs.Prelude.{ℕ, List, Bool, false, bytes_eq, is_none, if◌then◌else◌, Option, Some, None}
 use Rattle.std.specs.Option.{option_map_or}
-use Rattle.std.specs.List.{filter_map}
 use Rattle.oim_names.specs.declared.reason.Reason.{Reason}
 use Rattle.oim_report.specs.Json.{Given, text_of}
 use Rattle.oim_report.specs.Kept.{base_url}
@@ -16,7 +15,3 @@ is_base_refused text = is_none (base_url text)
 -- the refusal, if its condition applies
 abbrev pub when : Bool → Reason → Option Reason
 when holds reason = if holds then Some reason else None
-
--- the refusals in a list that are not None
-abbrev pub all_refusals : List (Option Reason) → List Reason
-all_refusals refusals = filter_map (λ r. r) refusals

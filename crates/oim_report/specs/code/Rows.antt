@@ -8,9 +8,9 @@ use Rattle.oim_names.specs.QName.{QName}
 use Rattle.oim_names.specs.Bindings.{Binding}
 use Rattle.serde_json.specs.Data.{Data, Members, null, no_members}
 use Rattle.serde_json.specs.Find.{get_member}
-use Rattle.oim_report.specs.Holds.{dimension_kind, entries, explicit_text, is_some_and, misfits, no_text}
+use Rattle.oim_report.specs.Holds.{dimension_kind, explicit_text, is_some_and, misfits, no_text}
 use Rattle.oim_report.specs.Info.{declarations, features_of, info, is_allowed_duplicates, said_level}
-use Rattle.oim_report.specs.Json.{has_colon}
+use Rattle.oim_report.specs.Json.{entries, has_colon}
 use Rattle.oim_report.specs.Names.{named}
 use Rattle.oim_names.specs.Expansion.{Spelled, a_name}
 use Rattle.oim_report.specs.Sheet.{Sheet}

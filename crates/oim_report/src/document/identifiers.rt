@@ -1,7 +1,7 @@
 ghost use Rattle.std.specs.Prelude.{◌≡◌, ◌⊎◌, Some, None, Ok, Err, IfOk, IfErr};
 ghost use Rattle.serde_json.specs.View.{view, members_view};
 ghost use Rattle.oim_report.specs.Identifiers.{identifiers, identifiers_in, tree_identifiers};
-ghost use Rattle.oim_report.specs.Json.{keyed, json};
+ghost use Rattle.oim_report.specs.Json.{entries, json};
 ghost use Rattle.oim_report.specs.Outcome.{at, outcome};
 
 use crate::document::json_tree::{object_at, read_json};
@@ -62,7 +62,7 @@ fn identifiers_of(alloc: Global, tree: &Value) -> Result<Vec<Text>, Reason>
 
 fn keys_of(alloc: Global, objects: &Map<String, Value>) -> Result<Vec<Text>, Reason>
     ensures ok { IfOk result
-        (λ is. is.items ≡ identifiers_in (keyed (members_view objects.now.entries))) }
+        (λ is. is.items ≡ identifiers_in (entries (members_view objects.now.entries))) }
     ensures errors { IfErr result (λ r. r ≡ Reason.OutOfMemory) }
 {
     let mut keys = Vec::with_capacity(alloc, objects.len())?;

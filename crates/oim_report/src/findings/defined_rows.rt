@@ -5,7 +5,7 @@ ghost use Rattle.std.specs.Ordering.{is_eq};
 ghost use Rattle.oim_names.specs.Expansion.{a_name};
 ghost use Rattle.oim_value.specs.ValueOrder.{name_cmp};
 ghost use Rattle.serde_json.specs.View.{view, members_view};
-ghost use Rattle.oim_report.specs.Holds.{entries};
+ghost use Rattle.oim_report.specs.Json.{entries};
 ghost use Rattle.oim_report.specs.Names.{named};
 ghost use Rattle.oim_report.specs.Shown.{beside_first, entry, fact_part, name, repeated, seen, spell_same};
 ghost use Rattle.oim_report.specs.code.Rows.{defined_members, defined_name, first_defined, is_defined, is_misfit, is_unlisted};

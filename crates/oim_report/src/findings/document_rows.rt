@@ -5,7 +5,8 @@ ghost use Rattle.std.specs.Prelude.{◌≡◌, true, option_and_then, option_map
 ghost use Rattle.std.specs.List.{find};
 ghost use Rattle.std.specs.Option.{option_copied, option_map_or};
 ghost use Rattle.serde_json.specs.View.{view, items_view, members_view};
-ghost use Rattle.oim_report.specs.Holds.{as_text, entries};
+ghost use Rattle.oim_report.specs.Holds.{as_text};
+ghost use Rattle.oim_report.specs.Json.{entries};
 ghost use Rattle.oim_report.specs.Info.{base_said, taxonomy_of};
 ghost use Rattle.oim_report.specs.Kept.{is_reference_refused};
 ghost use Rattle.oim_report.specs.Shown.{document_part, entry, first_item, seen, value};

@@ -2,8 +2,7 @@ ghost use Rattle.std.specs.Prelude.{◌≡◌, [], IfOk, option_map};
 ghost use Rattle.std.specs.List.{find};
 ghost use Rattle.oim_names.specs.Bindings.{is_refused_binding};
 ghost use Rattle.serde_json.specs.View.{view, members_view};
-ghost use Rattle.oim_report.specs.Holds.{entries};
-ghost use Rattle.oim_report.specs.Json.{members};
+ghost use Rattle.oim_report.specs.Json.{entries, members};
 ghost use Rattle.oim_report.specs.Namespaces.{binds_nothing};
 ghost use Rattle.oim_report.specs.Shown.{entry, seen};
 

@@ -1,7 +1,7 @@
 use Rattle.std.proofs.Common.{◌≡◌}
 use Rattle.std.specs.List.{find}
 use Rattle.serde_json.specs.View.{members_view}
-use Rattle.oim_report.specs.Holds.{entries}
+use Rattle.oim_report.specs.Json.{entries}
 use Rattle.oim_report.specs.Shown.{spell_same}
 use Rattle.oim_report.proofs.findings.defined_rows.beside_first.Given as goal
 

@@ -1,5 +1,5 @@
 use Rattle.std.proofs.Common.{ap, ◌∙◌}
-use Rattle.std.specs.Prelude.{codes, is_none, option_map}
+use Rattle.std.specs.Prelude.{codes, is_none}
 use Rattle.serde_json.specs.View.{view}
 use Rattle.oim_report.specs.Holds.{document_holds}
 use Rattle.oim_report.specs.Info.{info}

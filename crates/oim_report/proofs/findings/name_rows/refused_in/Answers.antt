@@ -1,4 +1,4 @@
-use Rattle.std.proofs.Common.{◌≡◌, sym, ap, ◌∙◌, option_map, string_bytes}
+use Rattle.std.proofs.Common.{sym, ap, ◌∙◌, option_map, string_bytes}
 use Rattle.std.specs.List.{find}
 use Rattle.oim_names.specs.Expansion.{refuses}
 use Rattle.serde_json.specs.View.{view, members_view}

@@ -1,4 +1,4 @@
-use Rattle.std.proofs.Common.{◌≡◌, Some, None, sym, ap, ◌∙◌, option_map, map, codes}
+use Rattle.std.proofs.Common.{sym, ap, ◌∙◌, option_map, map, codes}
 use Rattle.std.specs.Prelude.{[], option_and_then}
 use Rattle.std.specs.List.{find}
 use Rattle.std.specs.Option.{option_map_or, option_to_list}

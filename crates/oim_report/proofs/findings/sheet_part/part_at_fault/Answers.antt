@@ -1,8 +1,7 @@
 use Rattle.std.proofs.Common.{◌≡◌, true, sym, ap, ◌∙◌, option_map}
 use Rattle.std.specs.List.{find}
 use Rattle.serde_json.specs.View.{view, members_view}
-use Rattle.oim_report.specs.Holds.{entries}
-use Rattle.oim_report.specs.Json.{any_in, members}
+use Rattle.oim_report.specs.Json.{any_in, entries, members}
 use Rattle.oim_report.specs.Namespaces.{binds_nothing, bindings_in}
 use Rattle.oim_report.specs.Shown.{entry, seen, sheet_shown, unbound_entry}
 use Rattle.oim_report.proofs.SheetParts.{namespaces_first, or_nothing, refused_if}

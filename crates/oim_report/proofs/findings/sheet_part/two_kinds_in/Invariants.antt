@@ -1,7 +1,7 @@
 use Rattle.std.proofs.Common.{◌≡◌}
 use Rattle.std.specs.FinMap as map
 use Rattle.serde_json.specs.View.{members_view}
-use Rattle.oim_report.specs.Holds.{entries}
+use Rattle.oim_report.specs.Json.{entries}
 use Rattle.oim_report.specs.Shown.{other_kind}
 use Rattle.oim_report.proofs.findings.sheet_part.two_kinds_in.Given as goal
 

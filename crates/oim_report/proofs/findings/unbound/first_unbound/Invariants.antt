@@ -1,7 +1,7 @@
 use Rattle.std.proofs.Common.{◌≡◌}
 use Rattle.std.specs.List.{find}
 use Rattle.serde_json.specs.View.{members_view}
-use Rattle.oim_report.specs.Holds.{entries}
+use Rattle.oim_report.specs.Json.{entries}
 use Rattle.oim_report.specs.Namespaces.{binds_nothing}
 use Rattle.oim_report.proofs.findings.unbound.first_unbound.Given as goal
 
