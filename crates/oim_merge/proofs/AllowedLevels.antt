@@ -1,6 +1,6 @@
 -- A body stays within a level if and only if the level of its facts is that level or a stricter one.
-use Rattle.std.proofs.Common.{◌≡◌, ◌≤◌, Bool, true, false, not, ◌&&◌, cond, List, [], ◌∷◌, map, refl, sym, ap, subst, ◌∙◌}
-use Rattle.std.specs.Prelude.{◌↔◌, All, IsTrue}
+use Rattle.std.proofs.Common.{◌≡◌, Bool, true, false, not, ◌&&◌, cond, List, [], ◌∷◌, map, refl, sym, ap, ◌∙◌}
+use Rattle.std.specs.Prelude.{All}
 use Rattle.std.specs.List.{AllByRecursion, list_all}
 use Rattle.std.specs.List.Sorted.{IsStrictlySortedBy}
 use Rattle.std.specs.Ordering.{is_le, ord_max}
@@ -17,14 +17,13 @@ use Rattle.oim_value.specs.declared.value.Value.{Value}
 use Rattle.oim_dims.specs.DimensionSet.{DimensionSet}
 use Rattle.oim_dims.specs.FactOrder.{dimensions_cmp}
 use Rattle.oim_report.specs.Duplicates.{level_of}
-use Rattle.fact_base.specs.Entries.{Entry, facts_of_entries, facts_with}
+use Rattle.fact_base.specs.Entries.{Entry, facts_of_entries}
 use Rattle.fact_base.specs.Rows.{Row, rows_of}
 use Rattle.fact_base.specs.Verdict.{each_meet, verdict_of}
-use Rattle.fact_base.specs.declared.verdict.Verdict.{Verdict}
 use Rattle.fact_base.specs.declared.verdict.Verdict.TheVariants.{Consistent as IsConsistent, Inconsistent as IsInconsistent}
 use Rattle.fact_base.proofs.Levels.{highest, highest_is, level_of_values}
 use Rattle.fact_base.proofs.RowsOf.{facts_are, rows_tell_facts}
-use Rattle.oim_merge.specs.Above.{AllowedIsDeclared, StaysWithin, is_above, row_is_above, some_above}
+use Rattle.oim_merge.specs.Above.{AllowedIsDeclared, is_above, row_is_above, some_above}
 
 -- ---- rows as entries
 

@@ -2,7 +2,7 @@ pub mod Bases
 pub mod Reports
 pub mod Bundles
 pub mod Evidenced
-pub mod LineLists
+pub mod RowLists
 pub mod Filling
 pub mod LinePieces
 pub mod EventNumbers

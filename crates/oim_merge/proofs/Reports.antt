@@ -9,7 +9,7 @@ use Rattle.oim_report.specs.Sheet.{Sheet}
 use Rattle.fact_base.specs.Body.{Body, body, union}
 use Rattle.fact_base.proofs.Bodies.{body_of_both}
 use Rattle.oim_merge.specs.Added.{Added, StepsAreList, added, with_report, with_reports}
-use Rattle.oim_merge.specs.Reports.{document_in, accepted, merged, refusal_in, refused, refused_from}
+use Rattle.oim_merge.specs.Reports.{document_in, accepted, merged, refusal_in, refused_from}
 
 accepted_more : (sheet : Sheet) (reports : List (List ℕ)) (bytes : List ℕ) → accepted sheet (reports ++ bytes ∷ []) ≡ accepted sheet reports ++ document_in (outcome sheet bytes)
 accepted_more sheet reports bytes =

@@ -1,35 +1,45 @@
--- A placed mention has the same line as the mention.
-use Rattle.std.proofs.Common.{◌≡◌, ℕ, suc, ◌+◌, List, [], ◌∷◌, ◌++◌, length, Option, ap, ◌∙◌, arith}
+-- A placed mention has the same text as the mention.
+use Rattle.std.proofs.Common.{◌≡◌, ℕ, suc, ◌+◌, List, ◌∷◌, ◌++◌, length, Option, ap, ◌∙◌, arith}
 use Rattle.std.specs.Prelude.{flat_map}
-use Rattle.std.specs.Fmt.{decimal}
 use Rattle.std.proofs.lemmas.List.Folds.{flat_map-map}
-use Rattle.serde_json.specs.Data.{string}
-use Rattle.serde_json.specs.Written.{compact_text}
 use Rattle.oim_dims.specs.declared.fact.Fact.{Fact}
 use Rattle.oim_report.specs.Sheet.{Sheet}
+use Rattle.fact_base.specs.Contents.{Contents}
 use Rattle.oim_write.specs.Rank.{padded, width}
 use Rattle.oim_write.specs.Sink.{AppendsFront, written_of}
 use Rattle.oim_write.specs.declared.write_fault.WriteFault.{WriteFault}
 use Rattle.oim_write.specs.declared.write_fault.WriteFault.TheVariants.{OutOfMemory, Device}
 use Rattle.oim_merge.specs.Mentions.{all_placed, place, placed}
-use Rattle.oim_merge.specs.code.Listing.{placed_line}
+use Rattle.oim_merge.specs.code.Listing.{placed_text}
+use Rattle.oim_merge.specs.Reports.{merged}
 use Rattle.oim_merge.specs.Run.{fault_of}
-use Rattle.oim_merge.specs.SourceListing.{SourcesStop}
-use Rattle.oim_merge.specs.Sources.{Mention, source_line, sources}
+use Rattle.oim_merge.specs.SourceListing.{AppendingStops}
+use Rattle.oim_merge.specs.Sources.{Mention, SourceText, mention_text, mentions_by_fact, sources_by}
+use Rattle.oim_merge.specs.declared.placed_mention.PlacedMention.{PlacedMention}
 
 add_one : (n : ℕ) → n + 1 ≡ suc n
 add_one n = omega arith
 
-same_line : (facts : List Fact) (m : Mention) → placed_line (length facts) (placed facts m) ≡ source_line facts m
-same_line facts m = ap (λ k. (102 ∷ padded (width (length facts)) k) ++ 32 ∷ (decimal m.report ++ 32 ∷ (compact_text (string m.identifier) ++ 10 ∷ []))) (add_one (place facts m.fact))
+module _ (written : SourceText) where
+  same_text : (facts : List Fact) (m : Mention) → placed_text written (length facts) (placed facts m) ≡ mention_text written facts m
+  same_text facts m = ap (λ k. written (102 ∷ padded (width (length facts)) k) m.report m.identifier) (add_one (place facts m.fact))
 
-pub lines_are : (facts : List Fact) (ms : List Mention) (count : ℕ) → count ≡ length facts → flat_map (placed_line count) (all_placed facts ms) ≡ flat_map (source_line facts) ms
-lines_are facts ms count is =
-    ap (λ n. flat_map (placed_line n) (all_placed facts ms)) is
-    ∙ flat_map-map (placed_line (length facts)) (placed facts) ms
-    ∙ (λ i. flat_map (λ m. same_line facts m i) ms)
+  sources_are : (facts : List Fact) (ms : List Mention) (count : ℕ) → count ≡ length facts → flat_map (placed_text written count) (all_placed facts ms) ≡ flat_map (mention_text written facts) ms
+  sources_are facts ms count is =
+      ap (λ n. flat_map (placed_text written n) (all_placed facts ms)) is
+      ∙ flat_map-map (placed_text written (length facts)) (placed facts) ms
+      ∙ (λ i. flat_map (λ m. same_text facts m i) ms)
 
--- a fault in the lines is a fault of the listing
-pub stops_at : (sheet : Sheet) (reports : List (List ℕ)) (old new : Option (List ℕ)) (fault : WriteFault) → AppendsFront old new (sources sheet reports) (written_of fault) → SourcesStop sheet reports old new (fault_of fault)
-stops_at sheet reports old new (OutOfMemory n) front = front
-stops_at sheet reports old new (Device n) front = front
+  -- the texts of the mentions in a base of these reports
+  pub merged_sources : (sheet : Sheet) (reports : List (List ℕ)) (base : Contents) (count : ℕ) (ms : List PlacedMention) → base ≡ record { sheet = sheet; body = merged sheet reports } → count ≡ length base.body.facts →
+      ms ≡ all_placed base.body.facts (mentions_by_fact base.sheet reports) → flat_map (placed_text written count) ms ≡ sources_by written sheet reports
+  merged_sources sheet reports base count ms is count_is placed_are =
+      ap (flat_map (placed_text written count)) placed_are
+      ∙ sources_are base.body.facts (mentions_by_fact base.sheet reports) count count_is
+      ∙ (λ i. flat_map (mention_text written (is i).body.facts) (mentions_by_fact (is i).sheet reports))
+
+-- a fault in the texts is a fault of the listing
+pub stops_at : (header : List ℕ) (written : SourceText) (sheet : Sheet) (reports : List (List ℕ)) {old new : Option (List ℕ)} (fault : WriteFault) →
+    AppendsFront old new (header ++ sources_by written sheet reports) (written_of fault) → AppendingStops header written sheet reports old new (fault_of fault)
+stops_at header written sheet reports (OutOfMemory n) front = front
+stops_at header written sheet reports (Device n) front = front

@@ -5,6 +5,8 @@ pub mod Above
 pub mod Run
 pub mod Bases
 pub mod Lines
+pub mod Named
+pub mod Judged
 pub mod Listing
 pub mod Sources
 pub mod Mentions

@@ -26,31 +26,44 @@ evidence_text name Alike = codes "complete"
 evidence_text name (Common c) = codes "consistent common " ++ (plain c.low ++ 32 ∷ plain c.high)
 evidence_text name (Apart i j) = codes "inconsistent apart " ++ (name i ++ 32 ∷ name j)
 
--- the line of a dimension set: its number, the identifiers of its first and last fact, and the evidence
-abbrev pub line_text : ℕ → (ℕ → List ℕ) → ℕ → Evidence → List ℕ
-line_text number name count evidence = decimal number ++ 32 ∷ (name 0 ++ 32 ∷ (name (count - 1) ++ 32 ∷ (evidence_text name evidence ++ 10 ∷ [])))
+-- a text for a row, given the identifiers of its facts, its number and its evidence
+abbrev pub RowText : Type 0
+RowText = (ℕ → List ℕ) → ℕ → Row → Evidence → List ℕ
 
-pub record IsLine (facts : List Fact) (number : ℕ) (r : Row) (line : List ℕ) : Type 0 where
+-- the line of a dimension set: its number, the identifiers of its first and last fact, and the evidence
+abbrev pub line_text : RowText
+line_text name number r evidence = decimal number ++ 32 ∷ (name 0 ++ 32 ∷ (name (length r.1 - 1) ++ 32 ∷ (evidence_text name evidence ++ 10 ∷ [])))
+
+-- ---- the rows of a body, in any format
+
+-- the text of the row with this number, with its evidence
+pub record IsRow (written : RowText) (facts : List Fact) (number : ℕ) (r : Row) (row : List ℕ) : Type 0 where
   pub evidence : Evidence
   pub shows : IsEvidence r.1 evidence
-  pub text : line ≡ line_text number (identifier_at facts r) (length r.1) evidence
+  pub text : row ≡ written (identifier_at facts r) number r evidence
 
--- the lines of dimension sets, numbered from n
-abbrev pub AreLinesFrom : List Fact → ℕ → List Row → List ℕ → Type 0
-AreLinesFrom facts n [] text = text ≡ []
-AreLinesFrom facts n (r ∷ rs) text = (line rest : List ℕ) × ((text ≡ line ++ rest) × (IsLine facts n r line × AreLinesFrom facts (suc n) rs rest))
+-- the texts of rows, numbered from n
+abbrev pub AreRowsFrom : RowText → List Fact → ℕ → List Row → List ℕ → Type 0
+AreRowsFrom written facts n [] text = text ≡ []
+AreRowsFrom written facts n (r ∷ rs) text = (row rest : List ℕ) × ((text ≡ row ++ rest) × (IsRow written facts n r row × AreRowsFrom written facts (suc n) rs rest))
+
+abbrev pub AreRowsOf : RowText → Body → List ℕ → Type 0
+AreRowsOf written b = AreRowsFrom written b.facts 1 (rows_of b.facts)
+
+-- exactly one text has this property
+pub record HasOneText (Is : List ℕ → Type 0) : Type 0 where
+  pub text : List ℕ
+  pub is : Is text
+  pub only : (other : List ℕ) → Is other → other ≡ text
+
+-- ---- verdict lines
 
 abbrev pub AreLines : Body → List ℕ → Type 0
-AreLines b = AreLinesFrom b.facts 1 (rows_of b.facts)
+AreLines = AreRowsOf line_text
 
 -- a body that fits a sheet has exactly one list of lines
-pub record HasOneText (b : Body) : Type 0 where
-  pub text : List ℕ
-  pub lines : AreLines b text
-  pub only : (other : List ℕ) → AreLines b other → other ≡ text
-
 abbrev pub LinesAreOne : Type 0
-LinesAreOne = (sheet : Sheet) (b : Body) → Fits sheet b → HasOneText b
+LinesAreOne = (sheet : Sheet) (b : Body) → Fits sheet b → HasOneText (AreLines b)
 
 -- the verdict that evidence shows
 abbrev pub verdict_shown : Evidence → Verdict
@@ -62,7 +75,7 @@ verdict_shown (Apart i j) = Inconsistent
 abbrev pub LinesTellVerdicts : Type 0
 LinesTellVerdicts =
     (sheet : Sheet) (b : Body) → Fits sheet b → (r : Row) → Contains (rows_of b.facts) r →
-    (number : ℕ) (line : List ℕ) (is : IsLine b.facts number r line) → verdict b.facts r.0 ≡ Some (verdict_shown is.evidence)
+    (number : ℕ) (line : List ℕ) (is : IsRow line_text b.facts number r line) → verdict b.facts r.0 ≡ Some (verdict_shown is.evidence)
 
 -- the word for a verdict
 abbrev pub verdict_word : Verdict → List ℕ

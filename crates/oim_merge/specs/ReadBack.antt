@@ -1,5 +1,5 @@
 -- Reading a text gives the facts and references that were written (own; levels: OIM Common 1.0, `xbrl:allowedDuplicates`).
-use Rattle.std.specs.Prelude.{◌≡◌, ◌≢◌, ◌↔◌, ℕ, List, [], ◌∷◌, IsTrue, Option, Some, None, Result, Ok, Err}
+use Rattle.std.specs.Prelude.{◌≡◌, ◌≢◌, ◌↔◌, ℕ, List, [], ◌∷◌, IsTrue, Some, Result, Ok, Err}
 use Rattle.std.specs.Ordering.{is_le, is_lt}
 use Rattle.serde_json.specs.Written.{compact_text}
 use Rattle.oim_names.specs.declared.reason.Reason.TheVariants.{DisallowedDuplicates}

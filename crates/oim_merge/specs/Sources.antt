@@ -56,13 +56,23 @@ by_fact facts ms = flat_map (λ f. filter (is_of f) ms) facts
 abbrev pub mentions_by_fact : Sheet → List (List ℕ) → List Mention
 mentions_by_fact sheet reports = by_fact (merged sheet reports).facts (mentions sheet reports)
 
--- the canonical identifier of the fact, the number of the report, and the object's own identifier as a JSON string
-abbrev pub source_line : List Fact → Mention → List ℕ
-source_line facts m = identifier facts m.fact ++ 32 ∷ (decimal m.report ++ 32 ∷ (compact_text (string m.identifier) ++ 10 ∷ []))
+-- a text for a mention, given the canonical identifier of its fact, the number of the report, and the object's own identifier
+abbrev pub SourceText : Type 0
+SourceText = List ℕ → ℕ → List ℕ → List ℕ
 
--- the lines of all fact objects in accepted reports, in the order of facts, then reports, then identifiers
+-- the line of a mention, with the object's own identifier as a JSON string
+abbrev pub source_line : SourceText
+source_line fact report own = fact ++ 32 ∷ (decimal report ++ 32 ∷ (compact_text (string own) ++ 10 ∷ []))
+
+abbrev pub mention_text : SourceText → List Fact → Mention → List ℕ
+mention_text written facts m = written (identifier facts m.fact) m.report m.identifier
+
+-- the texts of all fact objects in accepted reports, in the order of facts, then reports, then identifiers
+abbrev pub sources_by : SourceText → Sheet → List (List ℕ) → List ℕ
+sources_by written sheet reports = flat_map (mention_text written (merged sheet reports).facts) (mentions_by_fact sheet reports)
+
 abbrev pub sources : Sheet → List (List ℕ) → List ℕ
-sources sheet reports = flat_map (source_line (merged sheet reports).facts) (mentions_by_fact sheet reports)
+sources = sources_by source_line
 
 -- ---- laws
 

@@ -3,4 +3,4 @@ pub mod EventParts
 pub mod Held
 pub mod Kept
 pub mod Listing
-pub mod Named
+pub mod SameLine

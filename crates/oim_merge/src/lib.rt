@@ -11,6 +11,8 @@ mod events;
 mod events_reader;
 mod fact_list;
 mod fault;
+mod identifiers;
+mod judged_row;
 mod kept;
 pub mod laws;
 mod line_cut;
@@ -29,9 +31,12 @@ mod replaying;
 mod replicas;
 mod round_trip;
 mod source;
+mod source_format;
+mod source_line;
 mod source_listing;
 mod source_reader;
 mod std_source;
+mod verdict_format;
 mod verdict_line;
 
 // merging
@@ -43,10 +48,14 @@ pub use merging::Consolidation;
 pub use refusals::Refusals;
 // judging and checking
 pub use checked::{Checked, check_report};
-pub use listing::verdict_lines;
+pub use identifiers::Identifiers;
+pub use judged_row::JudgedRow;
+pub use listing::{verdict_lines, write_verdicts};
 pub use mentions::mentions_by_fact;
 pub use placed_mention::PlacedMention;
-pub use source_listing::source_lines;
+pub use source_format::SourceFormat;
+pub use source_listing::{source_lines, write_sources};
+pub use verdict_format::VerdictFormat;
 // replicas
 pub use event::Event;
 pub use events::Events;

@@ -1,21 +1,22 @@
-ghost use Rattle.std.specs.Prelude.{◌≡◌, ◌+◌, ◌-◌, ◌^◌, ◌<◌, ◌≤◌, Contains, length, string_bytes, IfOk, IfErr, OnOk};
+ghost use Rattle.std.specs.Prelude.{◌≡◌, ◌-◌, ◌^◌, ◌<◌, Contains, IfOk, IfErr, OnOk};
 ghost use Rattle.fact_base.specs.Rows.{rows_of};
 ghost use Rattle.fact_base.specs.Shown.{shown};
 ghost use Rattle.fact_base.specs.Verdict.{IsEvidence};
 ghost use Rattle.oim_write.specs.Sink.{failures_after_write, written_of};
-ghost use Rattle.oim_merge.specs.Listing.{AppendsFrontOfLines, AppendsLines, ListStops, ListingStops, Lists, ListsVerdicts};
-ghost use Rattle.oim_merge.specs.code.Listing.{BreaksLines, PassesLines};
-ghost use Rattle.oim_merge.specs.code.Named.{IsLineBy};
+ghost use Rattle.oim_merge.specs.Listing.{AppendsFrontOfRows, AppendsRows, ListStops, ListingStops, Lists, ListsVerdicts};
+ghost use Rattle.oim_merge.specs.code.Listing.{BreaksRows, PassesRows};
 ghost use Rattle.oim_merge.specs.Run.{failures_after_run};
 
 use crate::fault::Fault;
+use crate::identifiers::Identifiers;
+use crate::judged_row::JudgedRow;
 use crate::merging::Consolidation;
 use crate::refusals::Refusals;
-use crate::verdict_line::{Identifiers, line_of};
+use crate::verdict_format::VerdictFormat;
 use fact_base::{Base, Evidence, Row};
 use oim_report::Sheet;
-use oim_write::{Encoded, Sink, SinkBuffer, WriteFault};
-use std::alloc::{AllocError, Global};
+use oim_write::{Encoded, Scratch, Sink, SinkBuffer, WriteFault};
+use std::alloc::Global;
 
 /// Merges reports under a sheet and appends one line for each dimension set to the sink, in order:
 /// its number from 1, the identifiers of its first and last fact, and the verdict with its evidence
@@ -39,53 +40,68 @@ pub fn verdict_lines<S: Sink>(
     consolidation.finish_lines(out)
 }
 
-/// Appends the lines of the base, and returns the refusals.
-pub(crate) fn write_verdicts<S: Sink>(
+/// Appends the rows of a base to the sink in a format, and returns the refusals.
+///
+/// Errors: `Device` if the sink failed; `OutOfMemory`.
+pub fn write_verdicts<S: Sink, F: VerdictFormat>(
     alloc: Global,
     base: &Base<'_>,
     refusals: Refusals,
+    format: &F,
     out: &mut S,
 ) -> Result<Refusals, Fault>
     requires { S.failures out.old < 2 ^ 64 - 1 }
-    ensures ok { IfOk result (Lists base.now.body refusals (S.told out.old) (S.told out.new)) }
-    ensures err { IfErr result (ListStops base.now.body (S.told out.old) (S.told out.new)) }
+    ensures ok { IfOk result (Lists (F.header format.now) (F.row_text format.now) base.now.body refusals (S.told out.old) (S.told out.new)) }
+    ensures err { IfErr result (ListStops (F.header format.now) (F.row_text format.now) base.now.body (S.told out.old) (S.told out.new)) }
     ensures failures { S.failures out.new ≡ failures_after_run result (S.failures out.old) }
 {
-    match write_lines(alloc, base, out) {
+    match write_all(alloc, base, format, out) {
         Ok(()) => Ok(refusals),
         Err(fault) => Err(Fault::from(fault)),
     }
 }
 
-/// Appends the lines of a base. After a fault the sink has a first part of the lines; the fault
-/// contains its length.
-fn write_lines<S: Sink>(alloc: Global, base: &Base<'_>, out: &mut S) -> Result<(), WriteFault>
+/// Appends the header and the rows of a base. After a fault the sink has a first part of them; the
+/// fault contains its length.
+fn write_all<S: Sink, F: VerdictFormat>(
+    alloc: Global,
+    base: &Base<'_>,
+    format: &F,
+    out: &mut S,
+) -> Result<(), WriteFault>
     requires { S.failures out.old < 2 ^ 64 - 1 }
-    ensures ok { OnOk result (AppendsLines base.now.body (S.told out.old) (S.told out.new)) }
-    ensures err { IfErr result (λ fault. AppendsFrontOfLines base.now.body (S.told out.old) (S.told out.new) (written_of fault)) }
+    ensures ok { OnOk result (AppendsRows (F.header format.now) (F.row_text format.now) base.now.body (S.told out.old) (S.told out.new)) }
+    ensures err { IfErr result (λ fault. AppendsFrontOfRows (F.header format.now) (F.row_text format.now) base.now.body (S.told out.old) (S.told out.new) (written_of fault)) }
     ensures failures { S.failures out.new ≡ failures_after_write result (S.failures out.old) }
 {
     base.known();
     let Ok(mut buffer) = SinkBuffer::new(alloc) else {
         return Err(WriteFault::OutOfMemory(0));
     };
-    push_lines(alloc, &mut buffer, out, base)?;
+    let Ok(header) = format.header(alloc) else {
+        return Err(WriteFault::OutOfMemory(0));
+    };
+    buffer.push(out, header.as_slice())?;
+    push_rows(alloc, &mut buffer, out, base, format)?;
     buffer.flush(out)
 }
 
-fn push_lines<S: Sink>(
+fn push_rows<S: Sink, F: VerdictFormat>(
     alloc: Global,
     buffer: &mut SinkBuffer,
     out: &mut S,
     base: &Base<'_>,
+    format: &F,
 ) -> Result<(), WriteFault>
     requires { S.failures out.old < 2 ^ 64 - 1 }
-    ensures ok { OnOk result (PassesLines base.now.body (S.told out.old) (S.told out.new) buffer.old buffer.new) }
-    ensures err { IfErr result (λ fault. BreaksLines base.now.body (S.told out.old) (S.told out.new) buffer.old (written_of fault)) }
+    ensures ok { OnOk result (PassesRows (F.row_text format.now) base.now.body.facts (rows_of base.now.body.facts) (S.told out.old) (S.told out.new) buffer.old buffer.new) }
+    ensures err { IfErr result (λ fault. BreaksRows (F.row_text format.now) base.now.body.facts (rows_of base.now.body.facts) (S.told out.old) (S.told out.new) buffer.old (written_of fault)) }
     ensures failures { S.failures out.new ≡ failures_after_write result (S.failures out.old) }
 {
     base.known();
+    let mut scratch = Scratch::new(alloc);
     let mut identifiers = Identifiers {
+        alloc,
         before: 0,
         count: base.fact_count(),
     };
@@ -94,30 +110,19 @@ fn push_lines<S: Sink>(
     let mut number = 0;
     for row in base.rows() {
         number += 1;
-        let Ok(line) = row_line(alloc, base, number, &identifiers, row) else {
+        let judged = JudgedRow {
+            number,
+            identifiers,
+            row,
+            evidence: evidence_of(base, row),
+        };
+        let Ok(text) = format.row(&mut scratch, &judged) else {
             return Err(buffer.stop(out));
         };
-        buffer.push(out, line.as_bytes())?;
+        buffer.push(out, text.as_slice())?;
         identifiers.before += row.values.len() as u128;
     }
     Ok(())
-}
-
-/// The line for a row of the base.
-fn row_line(
-    alloc: Global,
-    base: &Base<'_>,
-    number: u64,
-    identifiers: &Identifiers,
-    row: Row<'_>,
-) -> Result<String, AllocError>
-    requires there { Contains (rows_of base.now.body.facts) (shown row) }
-    requires some { 0 < length row.values.now }
-    requires room { identifiers.now.before + length row.values.now ≤ identifiers.now.count }
-    ensures { IfOk result (λ line. IsLineBy number identifiers.now.before identifiers.now.count row.entry.values.now (string_bytes line)) }
-{
-    let evidence = evidence_of(base, row);
-    line_of(alloc, number, identifiers, row.values.len(), &evidence)
 }
 
 /// The evidence for the verdict on a row of the base.

@@ -1,5 +1,6 @@
-ghost use Rattle.std.specs.Prelude.{◌≡◌, ◌+◌, ◌-◌, ◌^◌, ◌<◌, IfOk, IfErr, OnOk, OnErr};
+ghost use Rattle.std.specs.Prelude.{◌≡◌, [], ◌+◌, ◌-◌, ◌^◌, ◌<◌, IfOk, IfErr, OnOk, OnErr};
 ghost use Rattle.oim_merge.specs.Added.{added, begun, with_report};
+ghost use Rattle.oim_merge.specs.Lines.{line_text};
 ghost use Rattle.oim_merge.specs.Listing.{ListStops, Lists};
 ghost use Rattle.oim_merge.specs.Run.{Stops, Writes, failures_after_run};
 
@@ -9,6 +10,7 @@ use crate::listing::write_verdicts;
 use crate::merged::Merged;
 use crate::reading::read;
 use crate::refusals::Refusals;
+use crate::verdict_line::VerdictLines;
 use fact_base::Gathering;
 use oim_report::Sheet;
 use oim_value::Level;
@@ -130,15 +132,15 @@ impl<'s> Consolidation<'s> {
     /// Errors: `Device` if the sink failed; `OutOfMemory`.
     pub fn finish_lines<S: Sink>(self, out: &mut S) -> Result<Refusals, Fault>
         requires { S.failures out.old < 2 ^ 64 - 1 }
-        ensures ok { IfOk result (Lists self.entry.body self.entry.refusals (S.told out.old) (S.told out.new)) }
-        ensures err { IfErr result (ListStops self.entry.body (S.told out.old) (S.told out.new)) }
+        ensures ok { IfOk result (Lists [] line_text self.entry.body self.entry.refusals (S.told out.old) (S.told out.new)) }
+        ensures err { IfErr result (ListStops [] line_text self.entry.body (S.told out.old) (S.told out.new)) }
         ensures failures { S.failures out.new ≡ failures_after_run result (S.failures out.old) }
     {
         let alloc = self.alloc;
         let Ok(Merged { base, refusals }) = self.into_merged() else {
             return Err(Fault::OutOfMemory(0));
         };
-        write_verdicts(alloc, &base, refusals, out)
+        write_verdicts(alloc, &base, refusals, &VerdictLines, out)
     }
 
     /// Does the same as `finish_lines`, but does not free the facts (see `finish_last`).
@@ -146,15 +148,15 @@ impl<'s> Consolidation<'s> {
     /// Errors: the same as `finish_lines`.
     pub fn finish_lines_last<S: Sink>(self, out: &mut S) -> Result<Refusals, Fault>
         requires { S.failures out.old < 2 ^ 64 - 1 }
-        ensures ok { IfOk result (Lists self.entry.body self.entry.refusals (S.told out.old) (S.told out.new)) }
-        ensures err { IfErr result (ListStops self.entry.body (S.told out.old) (S.told out.new)) }
+        ensures ok { IfOk result (Lists [] line_text self.entry.body self.entry.refusals (S.told out.old) (S.told out.new)) }
+        ensures err { IfErr result (ListStops [] line_text self.entry.body (S.told out.old) (S.told out.new)) }
         ensures failures { S.failures out.new ≡ failures_after_run result (S.failures out.old) }
     {
         let alloc = self.alloc;
         let Ok(Merged { base, refusals }) = self.into_merged() else {
             return Err(Fault::OutOfMemory(0));
         };
-        let written = write_verdicts(alloc, &base, refusals, out);
+        let written = write_verdicts(alloc, &base, refusals, &VerdictLines, out);
         mem::forget(base);
         written
     }

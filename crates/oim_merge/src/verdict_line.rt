@@ -1,69 +1,75 @@
-ghost use Rattle.std.specs.Prelude.{◌≡◌, ◌+◌, ◌∷◌, ◌++◌, ◌≤◌, ◌<◌, codes, IfOk, string_bytes};
+ghost use Rattle.std.specs.Prelude.{◌≡◌, ◌+◌, ◌∷◌, ◌++◌, ◌<◌, codes, IfOk, string_bytes};
 ghost use Rattle.oim_value.specs.Plain.{plain};
 ghost use Rattle.oim_merge.specs.Lines.{evidence_text, line_text};
-ghost use Rattle.oim_merge.specs.code.Named.{HasPlaces, named};
+ghost use Rattle.oim_merge.specs.Judged.{IsJudged, judged_text, names_of};
+ghost use Rattle.oim_merge.specs.Named.{named};
 
+use crate::identifiers::Identifiers;
+use crate::judged_row::JudgedRow;
+use crate::verdict_format::VerdictFormat;
 use fact_base::Evidence;
-use oim_names::Text;
 use oim_value::{Interval, write_units};
-use oim_write::identifier;
+use oim_write::Scratch;
 use std::alloc::{AllocError, Global};
 
-/// Gives the identifiers of a dimension set's facts. They follow from the number of facts before
-/// the set and the number of all facts.
+/// The format of verdict lines.
 #[derive(Clone, Copy, Debug)]
-pub(crate) struct Identifiers {
-    pub before: u128,
-    pub count: u128,
+pub(crate) struct VerdictLines;
+
+impl VerdictFormat for VerdictLines {
+    ghost use Rattle.std.specs.Prelude.{[]};
+    ghost use Rattle.oim_merge.specs.Lines.{line_text};
+    ghost use Rattle.oim_merge.specs.code.SameLine.{same_line};
+
+    ghost header = { λ format. [] };
+
+    ghost row_text = { λ format. line_text };
+
+    ghost names = { λ format. same_line };
+
+    fn header(&self, alloc: Global) -> Result<Vec<u8>, AllocError> {
+        Ok(Vec::new(alloc))
+    }
+
+    fn row(&self, _scratch: &mut Scratch, judged: &JudgedRow<'_>) -> Result<Vec<u8>, AllocError> {
+        bytes_of(judged.identifiers.alloc, line_of(judged)?.as_str())
+    }
 }
 
-/// The identifier of the fact at an index, from 0.
-fn name(alloc: Global, identifiers: &Identifiers, place: usize) -> Result<Text, AllocError>
-    requires { identifiers.now.before + place < identifiers.now.count }
-    ensures { IfOk result (λ text. text ≡ named identifiers.now.before identifiers.now.count place) }
+/// Returns a copy of the bytes of a text.
+pub(crate) fn bytes_of(alloc: Global, text: &str) -> Result<Vec<u8>, AllocError>
+    ensures { IfOk result (λ bytes. bytes.items ≡ text.now) }
 {
-    let rank = identifiers.before + place as u128 + 1;
-    identifier(alloc, rank, identifiers.count)
+    let mut bytes = Vec::new(alloc);
+    bytes.extend_from_slice(text.as_bytes())?;
+    Ok(bytes)
 }
 
-/// The line of the dimension set with this number, with a line end.
-pub(crate) fn line_of(
-    alloc: Global,
-    number: u64,
-    identifiers: &Identifiers,
-    values: usize,
-    evidence: &Evidence,
-) -> Result<String, AllocError>
-    requires some { 0 < values }
-    requires room { identifiers.now.before + values ≤ identifiers.now.count }
-    requires places { HasPlaces values evidence.now }
-    ensures { IfOk result (λ line. string_bytes line ≡ line_text number
-        (named identifiers.now.before identifiers.now.count) values evidence.now) }
+/// The line of a row, with a line end.
+fn line_of(judged: &JudgedRow<'_>) -> Result<String, AllocError>
+    requires { IsJudged judged.now }
+    ensures { IfOk result (λ line. string_bytes line ≡ judged_text line_text judged.now) }
 {
-    let first = name(alloc, identifiers, 0)?;
-    let last = name(alloc, identifiers, values - 1)?;
-    let told = evidence_in_words(alloc, identifiers, values, evidence)?;
+    let alloc = judged.identifiers.alloc;
+    let first = judged.identifiers.at(0)?;
+    let last = judged.identifiers.at(judged.row.values.len() - 1)?;
+    let told = evidence_in_words(judged)?;
+    let number = judged.number;
     let first = first.as_str();
     let last = last.as_str();
     format!(in alloc; "{number} {first} {last} {told}\n")
 }
 
 /// The verdict in words, with its evidence.
-fn evidence_in_words(
-    alloc: Global,
-    identifiers: &Identifiers,
-    values: usize,
-    evidence: &Evidence,
-) -> Result<String, AllocError>
-    requires places { HasPlaces values evidence.now }
-    requires room { identifiers.now.before + values ≤ identifiers.now.count }
-    ensures { IfOk result (λ text. string_bytes text ≡
-        evidence_text (named identifiers.now.before identifiers.now.count) evidence.now) }
+fn evidence_in_words(judged: &JudgedRow<'_>) -> Result<String, AllocError>
+    requires { IsJudged judged.now }
+    ensures { IfOk result (λ text. string_bytes text ≡ evidence_text (names_of judged.now) judged.now.evidence) }
 {
-    match evidence {
+    let alloc = judged.identifiers.alloc;
+    match judged.evidence {
         Evidence::Alike => String::from_str(alloc, "complete"),
-        Evidence::Common(common) => common_in_words(alloc, common),
-        Evidence::Apart(first, second) => apart_in_words(alloc, identifiers, *first, *second),
+        Evidence::Common(common) => common_in_words(alloc, &common),
+        Evidence::Apart(first, second) => apart_in_words(&judged.identifiers, first, second),
     }
 }
 
@@ -78,7 +84,6 @@ fn common_in_words(alloc: Global, common: &Interval) -> Result<String, AllocErro
 }
 
 fn apart_in_words(
-    alloc: Global,
     identifiers: &Identifiers,
     first: usize,
     second: usize,
@@ -87,8 +92,9 @@ fn apart_in_words(
     requires second { identifiers.now.before + second < identifiers.now.count }
     ensures { IfOk result (λ text. string_bytes text ≡ codes "inconsistent apart " ++ (named identifiers.now.before identifiers.now.count first ++ 32 ∷ named identifiers.now.before identifiers.now.count second)) }
 {
-    let first = name(alloc, identifiers, first)?;
-    let second = name(alloc, identifiers, second)?;
+    let alloc = identifiers.alloc;
+    let first = identifiers.at(first)?;
+    let second = identifiers.at(second)?;
     let first = first.as_str();
     let second = second.as_str();
     format!(in alloc; "inconsistent apart {first} {second}")

@@ -12,7 +12,7 @@ use Rattle.oim_value.specs.declared.value.Value.TheVariants.{Nil, Number, Text a
 use Rattle.oim_dims.specs.declared.member.Member.{Member}
 use Rattle.fact_base.specs.Passed.{member_data}
 use Rattle.oim_write.specs.Ordered.{decimals_member, defined_members, text_member}
-use Rattle.oim_write.specs.code.Parts.{Adds, AddsValue, AddsMembers, members_tokens}
+use Rattle.oim_write.specs.Tokens.{Adds, AddsValue, AddsMembers, members_tokens}
 
 outlined : (ms : Members) → tree.members_tokens (members_outline ms) ≡ members_tokens ms ++ end_object ∷ []
 outlined no_members = refl

@@ -2,6 +2,7 @@ pub mod Rank
 pub mod Uris
 pub mod Tree
 pub mod Ordered
+pub mod Tokens
 pub mod Bytes
 pub mod Prefixes
 pub mod Sink

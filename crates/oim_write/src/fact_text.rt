@@ -3,40 +3,39 @@ ghost use Rattle.std.specs.Option.{option_copied};
 ghost use Rattle.serde_json.specs.Data.{object, no_members, string};
 ghost use Rattle.fact_base.specs.Passed.{member_data, option_spelled, option_unit_text, value_data};
 ghost use Rattle.oim_write.specs.Ordered.{decimals_member, defined_members, ordered_dimensions, ordered_fact, text_member};
-ghost use Rattle.oim_write.specs.code.Parts.{AddsMembers, AddsValue};
-ghost use Rattle.oim_write.specs.Tree.{name_text};
+ghost use Rattle.oim_write.specs.Tokens.{AddsMembers, AddsValue};
 
-use crate::prefix_table::PrefixTable;
-use crate::room::Room;
-use crate::unit_text::spell_unit;
+use crate::scratch::Scratch;
+use crate::spelling::{Spelling, spell, spell_unit};
 use json::Writer;
 use oim_dims::{Dimensions, Member, Unit};
 use oim_names::{Name, Text};
 use oim_value::{Value, write_fixed};
-use std::alloc::{AllocError, Global};
+use std::alloc::AllocError;
 
 /// Writes a fact as an object (xBRL-JSON 1.0, section 3).
-pub(crate) fn write_fact(
-    alloc: Global,
+pub(crate) fn write_fact<S: Spelling>(
     json: &mut Writer,
-    table: &PrefixTable,
-    room: &mut Room,
+    spelling: &S,
+    scratch: &mut Scratch,
     dimensions: &Dimensions,
     value: &Value,
 ) -> Result<(), AllocError>
-    ensures { OnOk result (AddsValue json.old json.new (ordered_fact (name_text table.now) (record { dimensions = dimensions.now; value = value.now }))) }
+    ensures { OnOk result (AddsValue json.old json.new (ordered_fact (S.spelled spelling.now) (record { dimensions = dimensions.now; value = value.now }))) }
 {
     json.begin_object()?;
     write_decimals(json, value)?;
     json.key("dimensions")?;
-    write_dimensions(alloc, json, table, room, dimensions)?;
+    write_dimensions(json, spelling, scratch, dimensions)?;
     json.key("value")?;
-    write_value(alloc, json, table, &mut room.spelled, value)?;
+    write_value(json, spelling, scratch, value)?;
     json.end_object()
 }
 
-// Decimals are written only if they are finite.
-fn write_decimals(json: &mut Writer, value: &Value) -> Result<(), AllocError>
+/// Writes the decimals of a number as a member if they are finite.
+///
+/// Errors: out of memory.
+pub fn write_decimals(json: &mut Writer, value: &Value) -> Result<(), AllocError>
     ensures { OnOk result (AddsMembers json.old json.new (decimals_member value.now no_members)) }
 {
     let Value::Number(_, decimals) = value else {
@@ -49,43 +48,47 @@ fn write_decimals(json: &mut Writer, value: &Value) -> Result<(), AllocError>
     json.i64(i64::from(places))
 }
 
-fn write_dimensions(
-    alloc: Global,
+/// Writes dimensions as an object. Its members are in the order in which a canonical text has them.
+///
+/// Errors: out of memory.
+pub fn write_dimensions<S: Spelling>(
     json: &mut Writer,
-    table: &PrefixTable,
-    room: &mut Room,
+    spelling: &S,
+    scratch: &mut Scratch,
     dimensions: &Dimensions,
 ) -> Result<(), AllocError>
-    ensures { OnOk result (AddsValue json.old json.new (object (ordered_dimensions (name_text table.now) dimensions.now))) }
+    ensures { OnOk result (AddsValue json.old json.new (object (ordered_dimensions (S.spelled spelling.now) dimensions.now))) }
 {
-    let Room { spelled, periods } = room;
+    let Scratch {
+        alloc,
+        text,
+        periods,
+    } = scratch;
     json.begin_object()?;
     json.key("concept")?;
-    table.spell(spelled, dimensions.concept())?;
-    json.string(spelled.as_str())?;
-    write_entity(json, table, spelled, dimensions.entity())?;
+    write_name(json, spelling, text, dimensions.concept())?;
+    write_entity(json, spelling, text, dimensions.entity())?;
     write_text(json, "language", dimensions.language())?;
-    write_defined(json, table, spelled, dimensions.members())?;
-    let place = periods.spell(alloc, dimensions.period())?;
+    write_defined(json, spelling, text, dimensions.members())?;
+    let place = periods.spell(*alloc, dimensions.period())?;
     write_text(json, "period", periods.text(place))?;
-    write_unit_member(json, table, spelled, dimensions.unit())?;
+    write_unit_member(json, spelling, text, dimensions.unit())?;
     json.end_object()
 }
 
-fn write_entity(
+fn write_entity<S: Spelling>(
     json: &mut Writer,
-    table: &PrefixTable,
-    room: &mut String,
+    spelling: &S,
+    text: &mut String,
     entity: Option<&Name>,
 ) -> Result<(), AllocError>
-    ensures { OnOk result (AddsMembers json.old json.new (text_member (codes "entity") (option_spelled (name_text table.now) (option_copied entity.entry)) no_members)) }
+    ensures { OnOk result (AddsMembers json.old json.new (text_member (codes "entity") (option_spelled (S.spelled spelling.now) (option_copied entity.entry)) no_members)) }
 {
     let Some(entity) = entity else {
         return Ok(());
     };
     json.key("entity")?;
-    table.spell(room, entity)?;
-    json.string(room.as_str())
+    write_name(json, spelling, text, entity)
 }
 
 fn write_text(json: &mut Writer, key: &str, text: Option<&Text>) -> Result<(), AllocError>
@@ -98,78 +101,86 @@ fn write_text(json: &mut Writer, key: &str, text: Option<&Text>) -> Result<(), A
     json.string(text.as_str())
 }
 
-fn write_defined(
+/// Writes taxonomy-defined dimensions as members. Each name is written to the buffer `text` first.
+///
+/// Errors: out of memory.
+pub fn write_defined<S: Spelling>(
     json: &mut Writer,
-    table: &PrefixTable,
-    room: &mut String,
+    spelling: &S,
+    text: &mut String,
     members: &[(Name, Member)],
 ) -> Result<(), AllocError>
-    ensures { OnOk result (AddsMembers json.old json.new (defined_members (name_text table.now) members.now no_members)) }
+    ensures { OnOk result (AddsMembers json.old json.new (defined_members (S.spelled spelling.now) members.now no_members)) }
 {
     for (name, member) in members {
-        table.spell(room, name)?;
-        json.key(room.as_str())?;
-        write_member(json, table, room, member)?;
+        spell(text, spelling, name)?;
+        json.key(text.as_str())?;
+        write_member(json, spelling, text, member)?;
     }
     Ok(())
 }
 
-fn write_member(
+fn write_member<S: Spelling>(
     json: &mut Writer,
-    table: &PrefixTable,
-    room: &mut String,
+    spelling: &S,
+    text: &mut String,
     member: &Member,
 ) -> Result<(), AllocError>
-    ensures { OnOk result (AddsValue json.old json.new (member_data (name_text table.now) member.now)) }
+    ensures { OnOk result (AddsValue json.old json.new (member_data (S.spelled spelling.now) member.now)) }
 {
     match member {
         Member::Nil => json.null(),
         Member::Text(text) => json.string(text.as_str()),
-        Member::Name(name) => write_name(json, table, room, name),
+        Member::Name(name) => write_name(json, spelling, text, name),
     }
 }
 
-fn write_name(
+fn write_name<S: Spelling>(
     json: &mut Writer,
-    table: &PrefixTable,
-    room: &mut String,
+    spelling: &S,
+    text: &mut String,
     name: &Name,
 ) -> Result<(), AllocError>
-    ensures { OnOk result (AddsValue json.old json.new (string (name_text table.now name.now))) }
+    ensures { OnOk result (AddsValue json.old json.new (string (S.spelled spelling.now name.now))) }
 {
-    table.spell(room, name)?;
-    json.string(room.as_str())
+    spell(text, spelling, name)?;
+    json.string(text.as_str())
 }
 
-fn write_unit_member(
+fn write_unit_member<S: Spelling>(
     json: &mut Writer,
-    table: &PrefixTable,
-    room: &mut String,
+    spelling: &S,
+    text: &mut String,
     unit: Option<&Unit>,
 ) -> Result<(), AllocError>
-    ensures { OnOk result (AddsMembers json.old json.new (text_member (codes "unit") (option_unit_text (name_text table.now) (option_copied unit.entry)) no_members)) }
+    ensures { OnOk result (AddsMembers json.old json.new (text_member (codes "unit") (option_unit_text (S.spelled spelling.now) (option_copied unit.entry)) no_members)) }
 {
     let Some(unit) = unit else {
         return Ok(());
     };
     json.key("unit")?;
-    spell_unit(room, table, unit)?;
-    json.string(room.as_str())
+    spell_unit(text, spelling, unit)?;
+    json.string(text.as_str())
 }
 
-fn write_value(
-    alloc: Global,
+/// Writes a value.
+///
+/// Errors: out of memory.
+pub fn write_value<S: Spelling>(
     json: &mut Writer,
-    table: &PrefixTable,
-    room: &mut String,
+    spelling: &S,
+    scratch: &mut Scratch,
     value: &Value,
 ) -> Result<(), AllocError>
-    ensures { OnOk result (AddsValue json.old json.new (value_data (name_text table.now) value.now)) }
+    ensures { OnOk result (AddsValue json.old json.new (value_data (S.spelled spelling.now) value.now)) }
 {
     match value {
         Value::Nil => json.null(),
-        Value::Number(number, _) => json.string(write_fixed(alloc, *number)?.as_str()),
+        Value::Number(number, _) => {
+            let number = write_fixed(scratch.alloc, *number)?;
+            json.string(number.as_str())
+        }
         Value::Text(text) => json.string(text.as_str()),
-        Value::Name(name) => write_name(json, table, room, name),
+        Value::Name(name) => write_name(json, spelling, &mut scratch.text, name),
     }
 }

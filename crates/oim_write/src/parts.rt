@@ -10,7 +10,7 @@ ghost use Rattle.oim_write.specs.Tree.{name_text, prefix};
 use crate::fact_text::write_fact;
 use crate::prefix_table::PrefixTable;
 use crate::ranked::push_label;
-use crate::room::Room;
+use crate::scratch::Scratch;
 use json::Writer;
 use oim_dims::Dimensions;
 use oim_names::Text;
@@ -108,9 +108,8 @@ pub(crate) fn append_reference(
 
 /// Appends one member of `facts`. `before` is the number of facts before it.
 pub(crate) fn append_fact(
-    alloc: Global,
     text: &mut Vec<u8>,
-    room: &mut Room,
+    scratch: &mut Scratch,
     labels: &Labels<'_>,
     before: u128,
     dimensions: &Dimensions,
@@ -122,11 +121,11 @@ pub(crate) fn append_fact(
         (ordered_fact (name_text labels.now.table.now) (record { dimensions = dimensions.now; value = value.now }))) }
 {
     append_comma(text, before > 0)?;
-    let mut json = Writer::new(mem::replace(text, Vec::new(alloc)));
-    room.spelled.clear();
-    push_label(&mut room.spelled, "f", labels.digits, before + 1)?;
-    json.key(room.spelled.as_str())?;
-    write_fact(alloc, &mut json, labels.table, room, dimensions, value)?;
+    let mut json = Writer::new(mem::replace(text, Vec::new(scratch.alloc)));
+    scratch.text.clear();
+    push_label(&mut scratch.text, "f", labels.digits, before + 1)?;
+    json.key(scratch.text.as_str())?;
+    write_fact(&mut json, labels.table, scratch, dimensions, value)?;
     *text = json.into_inner();
     Ok(())
 }

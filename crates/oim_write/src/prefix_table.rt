@@ -1,10 +1,11 @@
-ghost use Rattle.std.specs.Prelude.{◌≡◌, ◌++◌, IfOk, OnOk, string_bytes};
+ghost use Rattle.std.specs.Prelude.{◌≡◌, IfOk, string_bytes};
 ghost use Rattle.fact_base.specs.Body.{text_cmp};
 ghost use Rattle.oim_write.specs.Rank.{rank};
-ghost use Rattle.oim_write.specs.Tree.{name_text, prefix};
+ghost use Rattle.oim_write.specs.Tree.{prefix};
 ghost use Rattle.oim_write.specs.Uris.{uris};
 
 use crate::ranked::{label, push_label, width_of};
+use crate::spelling::Spelling;
 use crate::uri_set::UriSet;
 use fact_base::Base;
 use oim_names::{Name, PositionCache, Text};
@@ -79,22 +80,18 @@ impl PrefixTable {
     {
         1 + self.uris.partition_point(|known| known.as_str() < uri) as u128
     }
+}
 
-    /// Appends the text of a name: the prefix of its URI, a colon and the local part.
-    pub(crate) fn push_name(&self, text: &mut String, name: &Name) -> Result<(), AllocError>
-        ensures { OnOk result (string_bytes text.new ≡ string_bytes text.old ++ name_text self.now name.now) }
-    {
+// The prefix of the name's URI, a colon and the local part.
+impl Spelling for PrefixTable {
+    ghost use Rattle.oim_write.specs.Tree.{name_text};
+
+    ghost spelled = { name_text };
+
+    fn push_name(&self, text: &mut String, name: &Name) -> Result<(), AllocError> {
         push_label(text, "n", self.digits, self.rank(name.uri()))?;
         text.push_str(":")?;
         text.push_str(name.local())
-    }
-
-    /// Replaces the text by the text of a name.
-    pub(crate) fn spell(&self, text: &mut String, name: &Name) -> Result<(), AllocError>
-        ensures { OnOk result (string_bytes text.new ≡ name_text self.now name.now) }
-    {
-        text.clear();
-        self.push_name(text, name)
     }
 }
 

@@ -11,7 +11,7 @@ use crate::memory_sink::MemorySink;
 use crate::parts::{Labels, append_fact, append_reference, head};
 use crate::prefix_table::PrefixTable;
 use crate::ranked::width_of;
-use crate::room::Room;
+use crate::scratch::Scratch;
 use crate::sink::Sink;
 use crate::sink_buffer::SinkBuffer;
 use crate::write_fault::WriteFault;
@@ -126,12 +126,10 @@ fn write_facts<S: Sink>(
     let digits = width_of(base.fact_count());
     let labels = Labels { table, digits };
     let mut part = Vec::new(alloc);
-    let mut room = Room::new(alloc);
+    let mut scratch = Scratch::new(alloc);
     let mut before = 0;
     for row in base.rows() {
-        write_row(
-            alloc, buffer, out, &labels, before, row, &mut part, &mut room,
-        )?;
+        write_row(buffer, out, &labels, before, row, &mut part, &mut scratch)?;
         before += row.values.len() as u128;
     }
     Ok(())
@@ -139,14 +137,13 @@ fn write_facts<S: Sink>(
 
 /// Writes the facts of a row. `before` is the number of facts before it; `part` is a reused buffer.
 fn write_row<S: Sink>(
-    alloc: Global,
     buffer: &mut SinkBuffer,
     out: &mut S,
     labels: &Labels<'_>,
     before: u128,
     row: Row<'_>,
     part: &mut Vec<u8>,
-    room: &mut Room,
+    scratch: &mut Scratch,
 ) -> Result<(), WriteFault>
     requires failures { S.failures out.old < 2 ^ 64 - 1 }
     requires room { before + length row.values.now < 2 ^ 128 }
@@ -158,15 +155,8 @@ fn write_row<S: Sink>(
 {
     for (i, value) in row.values.iter().enumerate() {
         part.clear();
-        let fact = append_fact(
-            alloc,
-            part,
-            room,
-            labels,
-            before + i as u128,
-            row.dimensions,
-            value,
-        );
+        let before = before + i as u128;
+        let fact = append_fact(part, scratch, labels, before, row.dimensions, value);
         if fact.is_err() {
             return Err(buffer.stop(out));
         }

@@ -1,4 +1,3 @@
 pub mod Items
 pub mod Pushed
 pub mod RowTexts
-pub mod SourceTexts

@@ -1,2 +1,3 @@
 -- Definitions that only private code cites: how values are stored, and intermediate laws. No public contract uses them.
-pub mod Listing
+pub mod Items
+pub mod SameRows

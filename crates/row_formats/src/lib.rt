@@ -1,9 +1,8 @@
 //! Verdicts and sources in formats that other programs read: one JSON object per line, and CSV.
 #![tactic(auto)]
 
+mod braced;
 mod csv_record;
-mod dimensions_json;
-mod fact_names;
 mod formulas;
 pub mod laws;
 mod row_csv;
@@ -11,7 +10,6 @@ mod row_format;
 mod row_json;
 mod source_listing;
 mod source_row;
-mod spelling;
 mod verdict_listing;
 
 pub use row_format::RowFormat;

@@ -1,32 +1,32 @@
-ghost use Rattle.std.specs.Prelude.{◌≡◌, ◌+◌, ◌<◌, ◌≤◌, ◌++◌, ◌∷◌, [], length, IfOk, OnOk, string_bytes};
+ghost use Rattle.std.specs.Prelude.{◌≡◌, ◌+◌, ◌<◌, ◌++◌, ◌∷◌, [], length, IfOk, OnOk, string_bytes};
 ghost use Rattle.std.specs.Option.{option_copied};
 ghost use Rattle.csv.specs.Records.{fields_of};
 ghost use Rattle.oim_dims.specs.Period.{period_text};
 ghost use Rattle.fact_base.specs.Passed.{option_spelled, option_unit_text};
-ghost use Rattle.fact_base.specs.Shown.{shown};
 ghost use Rattle.std.specs.Fmt.{decimal};
 ghost use Rattle.serde_json.specs.Data.{no_members, object};
 ghost use Rattle.serde_json.specs.Written.{compact_text};
 ghost use Rattle.oim_value.specs.Plain.{plain};
 ghost use Rattle.oim_write.specs.Ordered.{defined_members};
-ghost use Rattle.oim_write.specs.code.Parts.{AddsValue};
+ghost use Rattle.oim_write.specs.Tokens.{AddsValue};
 ghost use Rattle.oim_merge.specs.Lines.{verdict_shown, verdict_word};
-ghost use Rattle.oim_merge.specs.code.Named.{HasPlaces, named};
+ghost use Rattle.oim_merge.specs.Judged.{IsJudged, judged_text, names_of};
+ghost use Rattle.oim_merge.specs.Named.{named};
 ghost use Rattle.row_formats.specs.CsvRows.{columns, csv_row, decimals_text, defined_text, dimension_fields, evidence_fields, fact_fields, or_empty, record_text, value_fields};
 ghost use Rattle.row_formats.specs.Spelled.{braced};
 
+use crate::braced::Braced;
 use crate::csv_record::{push_three, text_of_record};
-use crate::dimensions_json::write_defined;
-use crate::fact_names::FactNames;
 use crate::formulas::guard;
 use crate::row_json::{high_text, low_text, word_of};
-use crate::spelling::{spell, spell_unit};
 use csv::StringRecord;
-use fact_base::{Evidence, Row};
+use fact_base::Evidence;
 use json::Writer;
 use oim_dims::{Dimensions, Member, Period, Unit, write_period};
+use oim_merge::{Identifiers, JudgedRow};
 use oim_names::{Name, Text};
 use oim_value::{Decimals, Fixed, Interval, Value, write_fixed};
+use oim_write::{spell, spell_unit, write_defined};
 use std::alloc::{AllocError, Global};
 use std::str;
 
@@ -54,60 +54,43 @@ pub(crate) fn csv_header(alloc: Global) -> Result<Vec<u8>, AllocError>
     text_of_record(alloc, &record)
 }
 
-/// Returns the records of a row with this number and this evidence.
-pub(crate) fn csv_row(
-    alloc: Global,
-    spreadsheet: bool,
-    number: u64,
-    names: &FactNames,
-    row: Row<'_>,
-    evidence: &Evidence,
-) -> Result<Vec<u8>, AllocError>
-    requires room { names.now.before + length row.values.now ≤ names.now.count }
-    requires places { HasPlaces (length row.values.now) evidence.now }
-    ensures { IfOk result (λ text. text.items ≡ csv_row spreadsheet
-        (named names.now.before names.now.count) number (shown row.entry) evidence.now) }
+/// Returns the records of a row.
+pub(crate) fn csv_row(spreadsheet: bool, judged: &JudgedRow<'_>) -> Result<Vec<u8>, AllocError>
+    requires { IsJudged judged.now }
+    ensures { IfOk result (λ text. text.items ≡ judged_text (csv_row spreadsheet) judged.now) }
 {
-    let mut text = Vec::new(alloc);
-    for (place, value) in row.values.iter().enumerate() {
-        push_record(
-            alloc,
-            &mut text,
-            spreadsheet,
-            number,
-            names,
-            row,
-            evidence,
-            place,
-            value,
-        )?;
+    let mut text = Vec::new(judged.identifiers.alloc);
+    for (place, value) in judged.row.values.iter().enumerate() {
+        push_record(&mut text, spreadsheet, judged, place, value)?;
     }
     Ok(text)
 }
 
 fn push_record(
-    alloc: Global,
     text: &mut Vec<u8>,
     spreadsheet: bool,
-    number: u64,
-    names: &FactNames,
-    row: Row<'_>,
-    evidence: &Evidence,
+    judged: &JudgedRow<'_>,
     place: usize,
     value: &Value,
 ) -> Result<(), AllocError>
-    requires place { place < length row.values.now }
-    requires room { names.now.before + length row.values.now ≤ names.now.count }
-    requires places { HasPlaces (length row.values.now) evidence.now }
+    requires judged { IsJudged judged.now }
+    requires place { place < length judged.now.row.values.now }
     ensures { OnOk result (text.new.items ≡ text.old.items ++ record_text
-        (fact_fields spreadsheet number row.entry.dimensions.now evidence.now
-        (evidence_fields (named names.now.before names.now.count) evidence.now)
-        (named names.now.before names.now.count place) value.now)) }
+        (fact_fields spreadsheet judged.now.number judged.now.row.dimensions.now judged.now.evidence
+        (evidence_fields (names_of judged.now) judged.now.evidence)
+        (names_of judged.now place) value.now)) }
 {
+    let alloc = judged.identifiers.alloc;
     let mut record = StringRecord::with_capacity(alloc, RECORD, FIELDS)?;
-    push_front(alloc, &mut record, number, names, place, evidence)?;
-    push_fact(alloc, &mut record, spreadsheet, row.dimensions, value)?;
-    push_evidence(alloc, &mut record, names, row.values.len(), evidence)?;
+    push_front(&mut record, judged, place)?;
+    push_fact(
+        alloc,
+        &mut record,
+        spreadsheet,
+        judged.row.dimensions,
+        value,
+    )?;
+    push_evidence(&mut record, judged)?;
     let line = text_of_record(alloc, &record)?;
     text.extend_from_slice(line.as_slice())?;
     Ok(())
@@ -116,26 +99,20 @@ fn push_record(
 /// Appends the number of the row, the word for its verdict, and the identifier of the fact at an
 /// index.
 fn push_front(
-    alloc: Global,
     fields: &mut StringRecord,
-    number: u64,
-    names: &FactNames,
+    judged: &JudgedRow<'_>,
     place: usize,
-    evidence: &Evidence,
 ) -> Result<(), AllocError>
-    requires { names.now.before + place < names.now.count }
-    ensures { OnOk result (fields_of fields.new ≡ fields_of fields.old ++ decimal number
-        ∷ verdict_word (verdict_shown evidence.now)
-        ∷ named names.now.before names.now.count place ∷ []) }
+    requires { judged.now.identifiers.before + place < judged.now.identifiers.count }
+    ensures { OnOk result (fields_of fields.new ≡ fields_of fields.old ++ decimal judged.now.number
+        ∷ verdict_word (verdict_shown judged.now.evidence)
+        ∷ names_of judged.now place ∷ []) }
 {
-    let number = format!(in alloc; "{number}")?;
-    let identifier = names.at(alloc, place)?;
-    push_three(
-        fields,
-        number.as_str(),
-        word_of(evidence),
-        identifier.as_str(),
-    )
+    let number = judged.number;
+    let number = format!(in judged.identifiers.alloc; "{number}")?;
+    let identifier = judged.identifiers.at(place)?;
+    let word = word_of(&judged.evidence);
+    push_three(fields, number.as_str(), word, identifier.as_str())
 }
 
 /// Appends the dimensions and the value of the fact.
@@ -162,7 +139,7 @@ fn push_fact(
 fn push_name(fields: &mut StringRecord, room: &mut String, name: &Name) -> Result<(), AllocError>
     ensures { OnOk result (fields_of fields.new ≡ fields_of fields.old ++ braced name.now ∷ []) }
 {
-    spell(room, name)?;
+    spell(room, &Braced, name)?;
     fields.push_field(room.as_str())
 }
 
@@ -207,7 +184,7 @@ fn push_unit(
     let Some(unit) = unit else {
         return fields.push_field("");
     };
-    spell_unit(room, unit)?;
+    spell_unit(room, &Braced, unit)?;
     fields.push_field(room.as_str())
 }
 
@@ -247,7 +224,7 @@ fn push_value(
             push_three(fields, room.as_str(), "", "")
         }
         Value::Name(name) => {
-            spell(room, name)?;
+            spell(room, &Braced, name)?;
             push_three(fields, room.as_str(), "", "")
         }
     }
@@ -277,22 +254,16 @@ fn decimals_text(alloc: Global, decimals: Decimals) -> Result<String, AllocError
 }
 
 /// Appends the evidence for the verdict on the row.
-fn push_evidence(
-    alloc: Global,
-    fields: &mut StringRecord,
-    names: &FactNames,
-    values: usize,
-    evidence: &Evidence,
-) -> Result<(), AllocError>
-    requires room { names.now.before + values ≤ names.now.count }
-    requires places { HasPlaces values evidence.now }
+fn push_evidence(fields: &mut StringRecord, judged: &JudgedRow<'_>) -> Result<(), AllocError>
+    requires { IsJudged judged.now }
     ensures { OnOk result (fields_of fields.new ≡ fields_of fields.old
-        ++ evidence_fields (named names.now.before names.now.count) evidence.now) }
+        ++ evidence_fields (names_of judged.now) judged.now.evidence) }
 {
-    match evidence {
+    let identifiers = &judged.identifiers;
+    match judged.evidence {
         Evidence::Alike => push_four(fields, "", "", "", ""),
-        Evidence::Common(common) => push_common(alloc, fields, common),
-        Evidence::Apart(first, second) => push_apart(alloc, fields, names, *first, *second),
+        Evidence::Common(common) => push_common(identifiers.alloc, fields, &common),
+        Evidence::Apart(first, second) => push_apart(fields, identifiers, first, second),
     }
 }
 
@@ -310,20 +281,19 @@ fn push_common(
 }
 
 fn push_apart(
-    alloc: Global,
     fields: &mut StringRecord,
-    names: &FactNames,
+    identifiers: &Identifiers,
     first: usize,
     second: usize,
 ) -> Result<(), AllocError>
-    requires first { names.now.before + first < names.now.count }
-    requires second { names.now.before + second < names.now.count }
+    requires first { identifiers.now.before + first < identifiers.now.count }
+    requires second { identifiers.now.before + second < identifiers.now.count }
     ensures { OnOk result (fields_of fields.new ≡ fields_of fields.old ++ [] ∷ []
-        ∷ named names.now.before names.now.count first
-        ∷ named names.now.before names.now.count second ∷ []) }
+        ∷ named identifiers.now.before identifiers.now.count first
+        ∷ named identifiers.now.before identifiers.now.count second ∷ []) }
 {
-    let first = names.at(alloc, first)?;
-    let second = names.at(alloc, second)?;
+    let first = identifiers.at(first)?;
+    let second = identifiers.at(second)?;
     push_four(fields, "", "", first.as_str(), second.as_str())
 }
 
@@ -361,6 +331,6 @@ fn write_object(
     ensures { OnOk result (AddsValue json.old json.new (object (defined_members braced members.now no_members))) }
 {
     json.begin_object()?;
-    write_defined(json, room, members)?;
+    write_defined(json, &Braced, room, members)?;
     json.end_object()
 }

@@ -2,67 +2,56 @@ ghost use Rattle.std.specs.Prelude.{◌≡◌, ◌+◌, ◌<◌, ◌≤◌, code
 ghost use Rattle.serde_json.specs.Data.{array};
 ghost use Rattle.oim_value.specs.Plain.{plain};
 ghost use Rattle.fact_base.specs.Shown.{shown};
-ghost use Rattle.oim_write.specs.code.Parts.{Adds, AddsMembers, AddsValue};
+ghost use Rattle.oim_write.specs.Tokens.{Adds, AddsMembers, AddsValue};
 ghost use Rattle.oim_merge.specs.Lines.{verdict_shown, verdict_word};
-ghost use Rattle.oim_merge.specs.code.Named.{HasPlaces, named};
+ghost use Rattle.oim_merge.specs.Judged.{IsJudged, judged_text, names_of};
+ghost use Rattle.oim_merge.specs.Named.{named};
 ghost use Rattle.row_formats.specs.JsonRows.{apart_data, common_data, evidence_member, evidence_members, fact_data, fact_items, json_row, row_data};
-ghost use Rattle.row_formats.specs.code.Listing.{item_tokens};
+ghost use Rattle.row_formats.specs.code.Items.{item_tokens};
 
-use crate::dimensions_json::{write_decimals, write_dimensions, write_value};
-use crate::fact_names::FactNames;
-use fact_base::{Evidence, Row};
+use crate::braced::Braced;
+use fact_base::Evidence;
 use json::Writer;
+use oim_merge::{Identifiers, JudgedRow};
 use oim_names::Text;
 use oim_value::{Interval, Value, write_units};
+use oim_write::{Scratch, write_decimals, write_dimensions, write_value};
 use std::alloc::{AllocError, Global};
 
 /// The initial capacity of a line; few lines are longer.
 const LINE: usize = 1 << 9;
 
-/// Returns the line of a row with this number and this evidence.
-pub(crate) fn json_row(
-    alloc: Global,
-    number: u64,
-    names: &FactNames,
-    row: Row<'_>,
-    evidence: &Evidence,
-) -> Result<Vec<u8>, AllocError>
-    requires room { names.now.before + length row.values.now ≤ names.now.count }
-    requires places { HasPlaces (length row.values.now) evidence.now }
-    ensures { IfOk result (λ line. line.items
-        ≡ json_row (named names.now.before names.now.count) number (shown row.entry) evidence.now) }
+/// Returns the line of a row.
+pub(crate) fn json_row(scratch: &mut Scratch, judged: &JudgedRow<'_>) -> Result<Vec<u8>, AllocError>
+    requires { IsJudged judged.now }
+    ensures { IfOk result (λ line. line.items ≡ judged_text json_row judged.now) }
 {
-    let mut json = Writer::new(Vec::with_capacity(alloc, LINE)?);
-    write_row(alloc, &mut json, number, names, row, evidence)?;
+    let mut json = Writer::new(Vec::with_capacity(judged.identifiers.alloc, LINE)?);
+    write_row(&mut json, scratch, judged)?;
     let mut line = json.into_inner();
     line.push(b'\n')?;
     Ok(line)
 }
 
 fn write_row(
-    alloc: Global,
     json: &mut Writer,
-    number: u64,
-    names: &FactNames,
-    row: Row<'_>,
-    evidence: &Evidence,
+    scratch: &mut Scratch,
+    judged: &JudgedRow<'_>,
 ) -> Result<(), AllocError>
-    requires room { names.now.before + length row.values.now ≤ names.now.count }
-    requires places { HasPlaces (length row.values.now) evidence.now }
+    requires { IsJudged judged.now }
     ensures { OnOk result (AddsValue json.old json.new
-        (row_data (named names.now.before names.now.count) number (shown row.entry) evidence.now)) }
+        (row_data (names_of judged.now) judged.now.number (shown judged.now.row) judged.now.evidence)) }
 {
-    let mut room = String::new(alloc);
     json.begin_object()?;
     json.key("row")?;
-    json.u64(number)?;
+    json.u64(judged.number)?;
     json.key("verdict")?;
-    json.string(word_of(evidence))?;
+    json.string(word_of(&judged.evidence))?;
     json.key("dimensions")?;
-    write_dimensions(alloc, json, &mut room, row.dimensions)?;
+    write_dimensions(json, &Braced, scratch, judged.row.dimensions)?;
     json.key("facts")?;
-    write_facts(alloc, json, &mut room, names, row.values)?;
-    write_evidence(alloc, json, names, row.values.len(), evidence)?;
+    write_facts(json, scratch, &judged.identifiers, judged.row.values)?;
+    write_evidence(json, judged)?;
     json.end_object()
 }
 
@@ -78,77 +67,68 @@ pub(crate) fn word_of(evidence: &Evidence) -> &'static str
 }
 
 fn write_facts(
-    alloc: Global,
     json: &mut Writer,
-    room: &mut String,
-    names: &FactNames,
+    scratch: &mut Scratch,
+    identifiers: &Identifiers,
     values: &[Value],
 ) -> Result<(), AllocError>
-    requires { names.now.before + length values.now ≤ names.now.count }
+    requires { identifiers.now.before + length values.now ≤ identifiers.now.count }
     ensures { OnOk result (AddsValue json.old json.new
-        (array (fact_items (named names.now.before names.now.count) 0 values.now))) }
+        (array (fact_items (named identifiers.now.before identifiers.now.count) 0 values.now))) }
 {
     json.begin_array()?;
-    write_items(alloc, json, room, names, values)?;
+    write_items(json, scratch, identifiers, values)?;
     json.end_array()
 }
 
 fn write_items(
-    alloc: Global,
     json: &mut Writer,
-    room: &mut String,
-    names: &FactNames,
+    scratch: &mut Scratch,
+    identifiers: &Identifiers,
     values: &[Value],
 ) -> Result<(), AllocError>
-    requires { names.now.before + length values.now ≤ names.now.count }
+    requires { identifiers.now.before + length values.now ≤ identifiers.now.count }
     ensures { OnOk result (Adds json.old json.new
-        (item_tokens (fact_items (named names.now.before names.now.count) 0 values.now))) }
+        (item_tokens (fact_items (named identifiers.now.before identifiers.now.count) 0 values.now))) }
 {
     for (place, value) in values.iter().enumerate() {
-        write_fact(alloc, json, room, names, place, value)?;
+        write_fact(json, scratch, identifiers, place, value)?;
     }
     Ok(())
 }
 
 fn write_fact(
-    alloc: Global,
     json: &mut Writer,
-    room: &mut String,
-    names: &FactNames,
+    scratch: &mut Scratch,
+    identifiers: &Identifiers,
     place: usize,
     value: &Value,
 ) -> Result<(), AllocError>
-    requires { names.now.before + place < names.now.count }
+    requires { identifiers.now.before + place < identifiers.now.count }
     ensures { OnOk result (AddsValue json.old json.new
-        (fact_data (named names.now.before names.now.count place) value.now)) }
+        (fact_data (named identifiers.now.before identifiers.now.count place) value.now)) }
 {
     json.begin_object()?;
     json.key("identifier")?;
-    let identifier = names.at(alloc, place)?;
+    let identifier = identifiers.at(place)?;
     json.string(identifier.as_str())?;
     json.key("value")?;
-    write_value(alloc, json, room, value)?;
+    write_value(json, &Braced, scratch, value)?;
     write_decimals(json, value)?;
     json.end_object()
 }
 
 // A single fact needs no evidence.
-fn write_evidence(
-    alloc: Global,
-    json: &mut Writer,
-    names: &FactNames,
-    values: usize,
-    evidence: &Evidence,
-) -> Result<(), AllocError>
-    requires room { names.now.before + values ≤ names.now.count }
-    requires places { HasPlaces values evidence.now }
+fn write_evidence(json: &mut Writer, judged: &JudgedRow<'_>) -> Result<(), AllocError>
+    requires { IsJudged judged.now }
     ensures { OnOk result (AddsMembers json.old json.new
-        (evidence_members (named names.now.before names.now.count) evidence.now)) }
+        (evidence_members (names_of judged.now) judged.now.evidence)) }
 {
-    match evidence {
+    let identifiers = &judged.identifiers;
+    match judged.evidence {
         Evidence::Alike => Ok(()),
-        Evidence::Common(common) => write_common(alloc, json, common),
-        Evidence::Apart(first, second) => write_apart(alloc, json, names, *first, *second),
+        Evidence::Common(common) => write_common(identifiers.alloc, json, &common),
+        Evidence::Apart(first, second) => write_apart(json, identifiers, first, second),
     }
 }
 
@@ -164,23 +144,22 @@ fn write_common(alloc: Global, json: &mut Writer, common: &Interval) -> Result<(
 }
 
 fn write_apart(
-    alloc: Global,
     json: &mut Writer,
-    names: &FactNames,
+    identifiers: &Identifiers,
     first: usize,
     second: usize,
 ) -> Result<(), AllocError>
-    requires first { names.now.before + first < names.now.count }
-    requires second { names.now.before + second < names.now.count }
+    requires first { identifiers.now.before + first < identifiers.now.count }
+    requires second { identifiers.now.before + second < identifiers.now.count }
     ensures { OnOk result (AddsMembers json.old json.new
         (evidence_member (codes "apart") (apart_data
-        (named names.now.before names.now.count first)
-        (named names.now.before names.now.count second)))) }
+        (named identifiers.now.before identifiers.now.count first)
+        (named identifiers.now.before identifiers.now.count second)))) }
 {
     json.key("evidence")?;
     json.begin_object()?;
     json.key("apart")?;
-    write_pair(alloc, json, names, first, second)?;
+    write_pair(json, identifiers, first, second)?;
     json.end_object()
 }
 
@@ -212,20 +191,19 @@ pub(crate) fn high_text(alloc: Global, interval: &Interval) -> Result<Text, Allo
 }
 
 fn write_pair(
-    alloc: Global,
     json: &mut Writer,
-    names: &FactNames,
+    identifiers: &Identifiers,
     first: usize,
     second: usize,
 ) -> Result<(), AllocError>
-    requires first { names.now.before + first < names.now.count }
-    requires second { names.now.before + second < names.now.count }
+    requires first { identifiers.now.before + first < identifiers.now.count }
+    requires second { identifiers.now.before + second < identifiers.now.count }
     ensures { OnOk result (AddsValue json.old json.new (apart_data
-        (named names.now.before names.now.count first)
-        (named names.now.before names.now.count second))) }
+        (named identifiers.now.before identifiers.now.count first)
+        (named identifiers.now.before identifiers.now.count second))) }
 {
-    let first = names.at(alloc, first)?;
-    let second = names.at(alloc, second)?;
+    let first = identifiers.at(first)?;
+    let second = identifiers.at(second)?;
     json.begin_array()?;
     json.string(first.as_str())?;
     json.string(second.as_str())?;

@@ -1,5 +1,5 @@
 -- Contracts on bytes follow from contracts on the parsed sheet and the added reports.
-use Rattle.std.proofs.Common.{◌≡◌, ℕ, List, [], ◌++◌, Option, Some, Ok, sym, ap, subst, ◌∙◌}
+use Rattle.std.proofs.Common.{◌≡◌, ℕ, List, [], ◌++◌, Option, Some, Ok, refl, sym, ap, subst, ◌∙◌}
 use Rattle.oim_value.specs.declared.level.Level.{Level}
 use Rattle.oim_report.specs.Sheet.{Sheet, sheet_outcome}
 use Rattle.oim_report.specs.declared.refusal.Refusal.{Refusal}
@@ -44,7 +44,7 @@ module _ (sheet : List ℕ) (reports : List (List ℕ)) (listed : Sheet) (a : Ad
 
 module _ (sheet : Sheet) (reports : List (List ℕ)) (before after : List ℕ) (told : List (ℕ × Refusal)) (none : before ≡ []) where
   pub lists : (listing : Listing) → AppendsListing listing sheet reports (Some before) (Some after) told → IsListing listing sheet reports after × (told ≡ refused sheet reports)
-  lists Verdicts w = (subst (AreLines (merged sheet reports)) (sym (w.lines.appended ∙ ap (λ b. b ++ w.lines.text) none)) w.lines.lines, w.refusals_are)
+  lists Verdicts w = (subst (AreLines (merged sheet reports)) (sym (w.listed.appended ∙ ap (λ b. b ++ w.listed.rows) none)) w.listed.are, w.refusals_are)
   lists Sources w = (w.appended ∙ ap (λ b. b ++ sources sheet reports) none, w.refusals_are)
-  lists VerdictsJson w = (subst (AreRows Json (merged sheet reports)) (sym (w.rows.appended ∙ ap (λ b. b ++ w.rows.text) none)) w.rows.rows, w.refusals_are)
+  lists VerdictsJson w = (subst (AreRows Json (merged sheet reports)) (sym (w.listed.appended ∙ ap (λ b. b ++ w.listed.rows) none)) (record { rows = w.listed.rows; are = w.listed.are; whole = refl }), w.refusals_are)
   lists SourcesJson w = (w.appended ∙ ap (λ b. b ++ sources_in Json sheet reports) none, w.refusals_are)

@@ -1,11 +1,8 @@
 -- The canonical text, part by part as it is written (own).
-use Rattle.std.specs.Prelude.{◌≡◌, ℕ, ◌+◌, nat_lt, List, [], ◌∷◌, ◌++◌, length, codes, Bool, true, false}
+use Rattle.std.specs.Prelude.{ℕ, ◌+◌, nat_lt, List, [], ◌∷◌, ◌++◌, length, codes, Bool, true, false}
 use Rattle.json.specs.Print.{quoted}
-use Rattle.json.specs.Token.{Token, key}
-use Rattle.json.specs.Tree.{json_tokens}
-use Rattle.json.specs.Written.{Written}
 use Rattle.serde_json.specs.Data.{Data, string, Members, no_members, member}
-use Rattle.serde_json.specs.Written.{comma_if, compact_text, outline}
+use Rattle.serde_json.specs.Written.{comma_if, compact_text}
 use Rattle.oim_value.specs.Level.{level_entry}
 use Rattle.oim_value.specs.declared.level.Level.{Level}
 use Rattle.oim_dims.specs.declared.fact.Fact.{Fact}
@@ -13,24 +10,6 @@ use Rattle.fact_base.specs.Body.{Body}
 use Rattle.oim_write.specs.Ordered.{ordered_fact}
 use Rattle.oim_write.specs.Rank.{padded, width}
 use Rattle.oim_write.specs.Tree.{members_by, name_text, prefix}
-
--- the further tokens were appended
-pub record Adds (old new : Written) (further : List Token) : Type 0 where
-  pub tokens : new.tokens ≡ old.tokens ++ further
-  pub before : new.before ≡ old.before
-
--- the tokens of the value were appended
-abbrev pub AddsValue : Written → Written → Data → Type 0
-AddsValue old new d = Adds old new (json_tokens (outline d))
-
--- the tokens of an object's members
-abbrev pub members_tokens : Members → List Token
-members_tokens no_members = []
-members_tokens (member k d ms) = key k ∷ (json_tokens (outline d) ++ members_tokens ms)
-
--- the members were written into an open object
-abbrev pub AddsMembers : Written → Written → Members → Type 0
-AddsMembers old new ms = Adds old new (members_tokens ms)
 
 -- one member of an object, after a comma unless it is the first
 abbrev pub part : Bool → List ℕ → Data → List ℕ

@@ -1,14 +1,13 @@
-use Rattle.std.proofs.Common.{◌≡◌, ℕ, true, false, List, [], ◌∷◌, IsTrue, refl, sym, ap, subst, ◌∙◌}
+use Rattle.std.proofs.Common.{◌≡◌, [], ◌∷◌, sym, ap, subst, ◌∙◌}
 use Rattle.std.proofs.lemmas.Bool.{false≢true}
 use Rattle.std.specs.Str.{bytes_eq}
 use Rattle.oim_names.proofs.Bytes.{bytes_eq-refl, same_bytes}
 use Rattle.merge_laws.specs.Sorted.{IsSet}
 use Rattle.oim_dims.specs.FactOrder.{fact_cmp}
-use Rattle.fact_base.specs.Body.{Body, body, union}
+use Rattle.fact_base.specs.Body.{body, union}
 use Rattle.fact_base.specs.Contents.{Contents}
 use Rattle.fact_base.proofs.Bodies.{body_of_both}
 use Rattle.oim_write.specs.Bytes.{canonical}
-use Rattle.oim_merge.specs.Checked.{IsCanonicalOf}
 use Rattle.oim_merge.proofs.Rising.{canonical_rises}
 use Rattle.oim_merge.proofs.checked.is_canonical.Goals as goal
 

@@ -1,5 +1,4 @@
-use Rattle.std.proofs.Common.{◌≡◌, rules, Bool, true, false, sym, ap, subst, ◌∙◌, arith}
-use Rattle.std.specs.List.{IsAllAdjacentAnswer}
+use Rattle.std.proofs.Common.{rules, Bool}
 use Rattle.std.specs.Ordering.{is_lt}
 use Rattle.std.proofs.lemmas.List.Sorted.{answers_always}
 use Rattle.oim_dims.specs.FactOrder.{fact_cmp}

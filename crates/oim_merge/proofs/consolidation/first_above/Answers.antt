@@ -11,7 +11,7 @@ use Rattle.fact_base.proofs.RowsOf.{rows_tell_facts}
 use Rattle.oim_dims.specs.FactOrder.{fact_cmp}
 use Rattle.oim_value.specs.declared.level.Level.{Level}
 use Rattle.oim_merge.specs.Above.{row_is_above, some_above}
-use Rattle.oim_merge.proofs.LineLists.{row_there}
+use Rattle.oim_merge.proofs.RowLists.{row_there}
 use Rattle.oim_merge.proofs.consolidation.first_above.Goals as goal
 
 -- a row is judged by the verdict on its dimension set

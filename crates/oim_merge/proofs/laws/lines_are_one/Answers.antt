@@ -1,4 +1,4 @@
-use Rattle.oim_merge.proofs.LineLists.{lines_are_one}
+use Rattle.oim_merge.proofs.RowLists.{lines_are_one}
 use Rattle.oim_merge.proofs.laws.lines_are_one.Goals as goal
 
 pub returns : goal.returns

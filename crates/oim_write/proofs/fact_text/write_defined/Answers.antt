@@ -3,14 +3,13 @@ use Rattle.std.proofs.lemmas.List.{take_more}
 use Rattle.json.specs.Token.{key}
 use Rattle.serde_json.specs.Data.{no_members}
 use Rattle.oim_write.specs.Ordered.{defined_members}
-use Rattle.oim_write.specs.code.Parts.{members_tokens}
-use Rattle.oim_write.specs.Tree.{name_text}
+use Rattle.oim_write.specs.Tokens.{members_tokens}
 use Rattle.oim_write.proofs.Tokens.{Adds-is, Adds-one, Adds-trans, defined_next}
 use Rattle.oim_write.proofs.fact_text.write_defined.Goals as goal
 
 pub loop-name-preserved : goal.loop-name-preserved
-loop-name-preserved c =
-    let spelled = name_text c.args.table.now in
+loop-name-preserved g c =
+    let spelled = g.S.Spelling.spelled c.args.spelling.now in
     let es = c.args.members.now in
     let i = c.loop-name.name-index in
     let e = c.loop-name-item.result in

@@ -2,13 +2,12 @@ use Rattle.std.proofs.Common.{codes}
 use Rattle.serde_json.specs.Data.{object, member, no_members}
 use Rattle.fact_base.specs.Passed.{value_data}
 use Rattle.oim_write.specs.Ordered.{ordered_dimensions}
-use Rattle.oim_write.specs.Tree.{name_text}
 use Rattle.oim_write.proofs.Tokens.{Adds-none, Adds-one, closed_object, then_decimals, then_member}
 use Rattle.oim_write.proofs.fact_text.write_fact.Goals as goal
 
 pub returns : goal.returns
-returns c =
-    let spelled = name_text c.args.table.now in
+returns g c =
+    let spelled = g.S.Spelling.spelled c.args.spelling.now in
     let value = member (codes "value") (value_data spelled c.args.value.now) no_members in
     closed_object c.end_object.result _ (Adds-one c.in_ok-begin_object.ensures)
     (then_decimals c.args.value.now _ c.in_ok-write_decimals.ensures

@@ -1,8 +1,8 @@
 use Rattle.std.proofs.Common.{◌≡◌, take}
-use Rattle.oim_merge.specs.code.Named.{named}
+use Rattle.oim_merge.specs.Judged.{names_of}
 use Rattle.row_formats.specs.CsvRows.{csv_facts}
 use Rattle.row_formats.proofs.row_csv.csv_row.Given as goal
 
 -- the facts so far are written
 abbrev pub invariant-loop-place : goal.invariant-loop-place
-invariant-loop-place l = l.text.items ≡ csv_facts l.spreadsheet (named l.names.before l.names.count) l.number l.row.dimensions.now l.evidence 0 (take l.place l.row.values.now)
+invariant-loop-place l = l.text.items ≡ csv_facts l.spreadsheet (names_of l.judged) l.judged.number l.judged.row.dimensions.now l.judged.evidence 0 (take l.place l.judged.row.values.now)

@@ -4,13 +4,13 @@ use Rattle.serde_json.specs.Data.{member, no_members, string}
 use Rattle.fact_base.specs.Passed.{value_data}
 use Rattle.oim_write.specs.Ordered.{decimals_member}
 use Rattle.oim_write.proofs.Tokens.{Adds-is, Adds-one, closed_object, then_member}
-use Rattle.oim_merge.specs.code.Named.{named}
+use Rattle.oim_merge.specs.Named.{named}
 use Rattle.row_formats.specs.Spelled.{braced}
 use Rattle.row_formats.proofs.row_json.write_fact.Goals as goal
 
 pub returns : goal.returns
 returns c =
-    let name = named c.args.names.now.before c.args.names.now.count c.args.place in
+    let name = named c.args.identifiers.now.before c.args.identifiers.now.count c.args.place in
     let v = c.args.value.now in
     let identifier = Adds-is (ap (λ t. Token.string t ∷ []) (c.as_str.ensures.bytes ∙ c.in_ok-identifier.ensures)) (Adds-one c.in_ok-string.ensures) in
     let rest = member (codes "value") (value_data braced v) (decimals_member v no_members) in

@@ -1,16 +1,16 @@
 use Rattle.std.proofs.Common.{[], ◌∷◌, ◌++◌, take, sym, ap, ◌∙◌, arith}
 use Rattle.std.proofs.lemmas.List.{length-take-le, take_more}
 use Rattle.oim_write.proofs.Tokens.{Adds-is, Adds-trans}
-use Rattle.oim_merge.specs.code.Named.{named}
+use Rattle.oim_merge.specs.Named.{named}
 use Rattle.row_formats.specs.JsonRows.{fact_items}
-use Rattle.row_formats.specs.code.Listing.{item_tokens}
+use Rattle.row_formats.specs.code.Items.{item_tokens}
 use Rattle.row_formats.proofs.Items.{next_fact}
 use Rattle.row_formats.proofs.row_json.write_items.Goals as goal
 
 pub loop-place-preserved : goal.loop-place-preserved
 loop-place-preserved c =
     let l = c.loop-place in
-    let name = named c.args.names.now.before c.args.names.now.count in
+    let name = named c.args.identifiers.now.before c.args.identifiers.now.count in
     let vs = c.args.values.now in
     let v = c.index-values-place.result in
     let more = take_more vs l.place v (omega arith) ∙ ap (λ x. take l.place vs ++ x ∷ []) (sym c.index-values-place.is) in

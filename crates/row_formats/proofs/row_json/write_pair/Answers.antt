@@ -2,13 +2,13 @@ use Rattle.std.proofs.Common.{[], ◌∷◌, ap, ◌∙◌}
 use Rattle.json.specs.Token.{Token}
 use Rattle.serde_json.specs.Data.{item, no_items, string}
 use Rattle.oim_write.proofs.Tokens.{Adds-is, Adds-one, Adds-trans}
-use Rattle.oim_merge.specs.code.Named.{named}
+use Rattle.oim_merge.specs.Named.{named}
 use Rattle.row_formats.proofs.Items.{closed_array}
 use Rattle.row_formats.proofs.row_json.write_pair.Goals as goal
 
 pub returns : goal.returns
 returns c =
-    let name = named c.args.names.now.before c.args.names.now.count in
+    let name = named c.args.identifiers.now.before c.args.identifiers.now.count in
     let first = Adds-is (ap (λ t. Token.string t ∷ []) (c.as_str.ensures.bytes ∙ c.in_ok-first.ensures)) (Adds-one c.in_ok-string.ensures) in
     let second = Adds-is (ap (λ t. Token.string t ∷ []) (c.as_str-2.ensures.bytes ∙ c.in_ok-second.ensures)) (Adds-one c.in_ok-string-2.ensures) in
     closed_array c.end_array.result (item (string (name c.args.first)) (item (string (name c.args.second)) no_items))

@@ -1,27 +1,26 @@
 use Rattle.std.proofs.Common.{[], ◌∷◌, codes, ap}
 use Rattle.json.specs.Token.{Token}
 use Rattle.serde_json.specs.Data.{array, member, number, object, string, unsigned}
-use Rattle.fact_base.specs.Shown.{shown}
 use Rattle.oim_write.specs.Ordered.{ordered_dimensions}
 use Rattle.oim_write.proofs.Tokens.{Adds-is, Adds-one, closed_object, then_member}
 use Rattle.oim_merge.specs.Lines.{verdict_shown, verdict_word}
-use Rattle.oim_merge.specs.code.Named.{named}
+use Rattle.oim_merge.specs.Judged.{names_of}
 use Rattle.row_formats.specs.JsonRows.{evidence_members, fact_items}
 use Rattle.row_formats.specs.Spelled.{braced}
 use Rattle.row_formats.proofs.row_json.write_row.Goals as goal
 
 pub returns : goal.returns
 returns c =
-    let name = named c.args.names.now.before c.args.names.now.count in
-    let evidence = evidence_members name c.args.evidence.now in
+    let name = names_of c.args.judged.now in
+    let evidence = evidence_members name c.args.judged.now.evidence in
     let word = Adds-is (ap (λ t. Token.string t ∷ []) c.word_of.ensures) (Adds-one c.in_ok-string.ensures) in
-    let facts = member (codes "facts") (array (fact_items name 0 c.args.row.values.now)) evidence in
-    let dimensions = member (codes "dimensions") (object (ordered_dimensions braced c.args.row.dimensions.now)) facts in
-    let verdict = member (codes "verdict") (string (verdict_word (verdict_shown c.args.evidence.now))) dimensions in
-    closed_object c.end_object.result (member (codes "row") (number (unsigned c.args.number)) verdict) (Adds-one c.in_ok-begin_object.ensures)
-    (then_member (codes "row") (number (unsigned c.args.number)) verdict (Adds-one c.in_ok-key.ensures) (Adds-one c.in_ok-u64.ensures)
-    (then_member (codes "verdict") (string (verdict_word (verdict_shown c.args.evidence.now))) dimensions (Adds-one c.in_ok-key-2.ensures) word
-    (then_member (codes "dimensions") (object (ordered_dimensions braced c.args.row.dimensions.now)) facts (Adds-one c.in_ok-key-3.ensures) c.in_ok-write_dimensions.ensures
-    (then_member (codes "facts") (array (fact_items name 0 c.args.row.values.now)) evidence (Adds-one c.in_ok-key-4.ensures) c.in_ok-write_facts.ensures
+    let facts = member (codes "facts") (array (fact_items name 0 c.args.judged.now.row.values.now)) evidence in
+    let dimensions = member (codes "dimensions") (object (ordered_dimensions braced c.args.judged.now.row.dimensions.now)) facts in
+    let verdict = member (codes "verdict") (string (verdict_word (verdict_shown c.args.judged.now.evidence))) dimensions in
+    closed_object c.end_object.result (member (codes "row") (number (unsigned c.args.judged.now.number)) verdict) (Adds-one c.in_ok-begin_object.ensures)
+    (then_member (codes "row") (number (unsigned c.args.judged.now.number)) verdict (Adds-one c.in_ok-key.ensures) (Adds-one c.in_ok-u64.ensures)
+    (then_member (codes "verdict") (string (verdict_word (verdict_shown c.args.judged.now.evidence))) dimensions (Adds-one c.in_ok-key-2.ensures) word
+    (then_member (codes "dimensions") (object (ordered_dimensions braced c.args.judged.now.row.dimensions.now)) facts (Adds-one c.in_ok-key-3.ensures) c.in_ok-write_dimensions.ensures
+    (then_member (codes "facts") (array (fact_items name 0 c.args.judged.now.row.values.now)) evidence (Adds-one c.in_ok-key-4.ensures) c.in_ok-write_facts.ensures
     c.in_ok-write_evidence.ensures))))
     c.end_object.ensures

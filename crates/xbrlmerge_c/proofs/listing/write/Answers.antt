@@ -1,6 +1,7 @@
-use Rattle.std.proofs.Common.{◌∙◌, subst}
+use Rattle.std.proofs.Common.{[], ◌∙◌, subst}
 use Rattle.std.specs.Prelude.{IfOk}
 use Rattle.oim_merge.specs.Added.{Added}
+use Rattle.oim_merge.specs.Lines.{line_text}
 use Rattle.oim_merge.specs.Listing.{Lists}
 use Rattle.oim_merge.specs.SourceListing.{ListsSources}
 use Rattle.row_formats.specs.Listing.{ListsRows}
@@ -11,7 +12,7 @@ use Rattle.xbrlmerge_c.proofs.listing.write.Goals as goal
 pub returns-in-Ok-clause-ok : goal.returns-in-Ok-clause-ok
 returns-in-Ok-clause-ok g c =
     let told = g.S.Sink.told in
-    rw c.in-Verdicts.is (subst (λ (a : Added). IfOk c.finish_lines.result (Lists a.body a.refusals (told c.args.out.now) (told c.finish_lines.new.out))) c.in-Ok.ensures c.finish_lines.ensures.ok)
+    rw c.in-Verdicts.is (subst (λ (a : Added). IfOk c.finish_lines.result (Lists [] line_text a.body a.refusals (told c.args.out.now) (told c.finish_lines.new.out))) c.in-Ok.ensures c.finish_lines.ensures.ok)
 
 pub returns-in-Ok-add_reports-clause-ok : goal.returns-in-Ok-add_reports-clause-ok
 returns-in-Ok-add_reports-clause-ok g c =

@@ -1,7 +1,6 @@
 use Rattle.std.proofs.Common.{◌≡◌, ◌+◌, [], ◌∷◌, Ok, Err, refl, sym, ap, ◌∙◌}
 use Rattle.oim_report.specs.Outcome.{outcome}
 use Rattle.fact_base.specs.Body.{body, union}
-use Rattle.fact_base.specs.Contents.{Contents}
 use Rattle.fact_base.proofs.Gathers.{with_nothing}
 use Rattle.oim_merge.specs.Added.{with_report}
 use Rattle.oim_merge.proofs.Reports.{accepted_step, refused_step}

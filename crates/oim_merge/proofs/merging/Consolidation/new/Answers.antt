@@ -1,4 +1,3 @@
-use Rattle.std.proofs.Common.{refl}
 use Rattle.oim_merge.proofs.merging.Consolidation.new.Goals as goal
 
 pub returns : goal.returns

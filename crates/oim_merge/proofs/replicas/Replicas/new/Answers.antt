@@ -1,4 +1,4 @@
-use Rattle.std.proofs.Common.{◌≡◌, [], None, sym, subst, replicate}
+use Rattle.std.proofs.Common.{[], sym, subst, replicate}
 use Rattle.std.specs.List.{AllZip}
 use Rattle.oim_merge.specs.Bases.{base_of}
 use Rattle.oim_merge.specs.code.Held.{IsCurrent}

@@ -1,0 +1,143 @@
+-- The rows of a list of dimension sets.
+use Rattle.std.proofs.Common.{◌≡◌, ℕ, suc, ◌+◌, ◌<◌, ◌≤◌, List, [], ◌∷◌, ◌++◌, length, get_or, inr, Option, refl, sym, ap, subst, ◌∙◌, append_assoc, append-nil, arith}
+use Rattle.std.specs.Prelude.{◌≢◌, Contains}
+use Rattle.std.proofs.lemmas.List.{get_or-append-add, get_or-map, get_or_append_left, length-append, length-map}
+use Rattle.std.proofs.lemmas.Grind.{flat_map-append}
+use Rattle.std.proofs.KnownBytes.{Appends-nil}
+use Rattle.oim_dims.specs.declared.fact.Fact.{Fact}
+use Rattle.oim_dims.specs.FactOrder.{fact_cmp}
+use Rattle.oim_dims.proofs.Orders.{fact_cmp_total}
+use Rattle.oim_value.specs.declared.value.Value.{Value}
+use Rattle.oim_value.specs.declared.value.Value.TheVariants.{Nil}
+use Rattle.fact_base.specs.Body.{Body}
+use Rattle.fact_base.specs.Fits.{Fits}
+use Rattle.fact_base.specs.Passed.{IsSet, Sheet}
+use Rattle.fact_base.specs.Rows.{Row, rows_of}
+use Rattle.fact_base.specs.Verdict.{IsEvidence}
+use Rattle.fact_base.specs.declared.evidence.Evidence.{Evidence}
+use Rattle.fact_base.specs.declared.evidence.Evidence.TheVariants.{Alike, Common, Apart}
+use Rattle.fact_base.proofs.Members.{each_there, first_there, in_one_of_both, later_there}
+use Rattle.fact_base.proofs.RowsOf.{rows_tell_facts}
+use Rattle.oim_write.specs.Rank.{padded, width}
+use Rattle.oim_write.specs.Tree.{identifier}
+use Rattle.oim_write.proofs.NumberedFacts.{row_facts, rows_facts, rows_facts_are}
+use Rattle.oim_write.proofs.Ranks.{rank_at}
+use Rattle.oim_merge.specs.Lines.{AreRowsFrom, AreRowsOf, HasOneText, IsRow, LinesAreOne, RowText, identifier_at, line_text}
+use Rattle.oim_merge.specs.Judged.{DependsOnItsNames}
+use Rattle.oim_merge.specs.Listing.{AppendsFrontOfRows}
+use Rattle.oim_merge.specs.Named.{HasPlaces, named}
+use Rattle.oim_merge.proofs.Evidenced.{evidence_exists, one_evidence, slice_within}
+
+-- ---- lists of rows
+
+module _ (written : RowText) (facts : List Fact) where
+  -- the rows of two concatenated lists are the rows of the first, then the rows of the second
+  pub rows_both : (n : ℕ) (done rest : List Row) (text more : List ℕ) → AreRowsFrom written facts n done text → AreRowsFrom written facts (n + length done) rest more → AreRowsFrom written facts n (done ++ rest) (text ++ more)
+  rows_both n [] rest text more none further =
+      subst (λ t. AreRowsFrom written facts n rest (t ++ more)) (sym none) (subst (λ k. AreRowsFrom written facts k rest more) (omega arith) further)
+  rows_both n (x ∷ xs) rest text more h further =
+      (h.0, h.1 ++ more, (ap (λ t. t ++ more) h.2.0 ∙ append_assoc h.0 h.1 more, (h.2.1.0, rows_both (suc n) xs rest h.1 more h.2.1.1 (subst (λ k. AreRowsFrom written facts k rest more) (omega arith) further))))
+
+  pub one_row : (n : ℕ) (r : Row) (row : List ℕ) → IsRow written facts n r row → AreRowsFrom written facts n (r ∷ []) row
+  one_row n r row is = (row, [], (sym (append-nil row), (is, refl)))
+
+  -- rows exist if each dimension set has evidence
+  pub rows_exist : (n : ℕ) (rows : List Row) → ((r : Row) → Contains rows r → (e : Evidence) × IsEvidence r.1 e) → (text : List ℕ) × AreRowsFrom written facts n rows text
+  rows_exist n [] shown = ([], refl)
+  rows_exist n (r ∷ rs) shown =
+      let this = shown r (first_there r rs) in
+      let row = written (identifier_at facts r) n r this.0 in
+      let rest = rows_exist (suc n) rs (λ q at. shown q (later_there r rs q at)) in
+      (row ++ rest.0, (row, rest.0, (refl, (record { evidence = this.0; shows = this.1; text = refl }, rest.1))))
+
+  -- the rows are unique
+  rows_agree : (n : ℕ) (rows : List Row) (s t : List ℕ) → AreRowsFrom written facts n rows s → AreRowsFrom written facts n rows t → s ≡ t
+  rows_agree n [] s t h g = h ∙ sym g
+  rows_agree n (r ∷ rs) s t h g =
+      let same = one_evidence r.1 h.2.1.0.evidence g.2.1.0.evidence h.2.1.0.shows g.2.1.0.shows in
+      let row : h.0 ≡ g.0 = h.2.1.0.text ∙ ap (written (identifier_at facts r) n r) same ∙ sym g.2.1.0.text in
+      let rest : h.1 ≡ g.1 = rows_agree (suc n) rs h.1 g.1 h.2.1.1 g.2.1.1 in
+      h.2.0 ∙ (λ i. row i ++ rest i) ∙ sym g.2.0
+
+module _ (written : RowText) (sheet : Sheet) (b : Body) (fits : Fits sheet b) where
+  -- the rows that are not pushed yet have a text
+  pub left_exist : (done left : List Row) → done ++ left ≡ rows_of b.facts → (n : ℕ) → (text : List ℕ) × AreRowsFrom written b.facts n left text
+  left_exist done left all n = rows_exist written b.facts n left (λ q at. evidence_exists sheet b fits q (subst (λ rs. Contains rs q) all ((in_one_of_both done left q).1 (inr at))))
+
+  pub all_exist : (text : List ℕ) × AreRowsOf written b text
+  all_exist = left_exist [] (rows_of b.facts) refl 1
+
+  -- nothing is a first part of the rows
+  pub none_written : (header : List ℕ) {old : Option (List ℕ)} → AppendsFrontOfRows header written b old old 0
+  none_written header {old} = record { rows = all_exist.0; are = all_exist.1; front = record { front = []; rest = _; whole = refl; appended = Appends-nil old; count = refl } }
+
+  pub rows_are_one : HasOneText (AreRowsOf written b)
+  rows_are_one = record { text = all_exist.0; is = all_exist.1; only = λ other rows. rows_agree written b.facts 1 (rows_of b.facts) other all_exist.0 rows all_exist.1 }
+
+pub lines_are_one : LinesAreOne
+lines_are_one = rows_are_one line_text
+
+-- ---- identifiers of facts
+
+-- the identifier of a fact in a dimension set follows from the facts before it
+module _ (facts : List Fact) (rises : IsSet fact_cmp facts) (before : List Fact) (r : Row) (behind : List Fact) (split : facts ≡ before ++ (row_facts r ++ behind)) where
+  any_fact : Fact
+  any_fact = record { dimensions = r.0; value = Nil }
+
+  pub named_is : (i : ℕ) → i < length r.1 → named (length before) (length facts) i ≡ identifier_at facts r i
+  named_is i within =
+      let long : length (row_facts r) ≡ length r.1 = length-map r.1 (λ v. record { dimensions = r.0; value = v }) in
+      let all : length facts ≡ length before + (length (row_facts r) + length behind) = ap length split ∙ length-append before (row_facts r ++ behind) ∙ ap (λ k. length before + k) (length-append (row_facts r) behind) in
+      let place : length before + i < length facts = omega (arith, long, all, within) in
+      let there : get_or facts (length before + i) any_fact ≡ get_or (row_facts r) i any_fact =
+      ap (λ fs. get_or fs (length before + i) any_fact) split
+      ∙ get_or-append-add before (row_facts r ++ behind) i any_fact
+      ∙ get_or_append_left (row_facts r) behind any_fact i (omega (arith, long, within)) in
+      sym (get_or-map (identifier facts) (row_facts r) i any_fact [] (omega (arith, long, within))
+      ∙ ap (identifier facts) (sym there)
+      ∙ ap (λ k. 102 ∷ padded (width (length facts)) k) (rank_at fact_cmp_total facts (length before + i) any_fact rises place))
+
+-- ---- the next row
+
+pub places_within : (vs : List Value) (e : Evidence) → IsEvidence vs e → HasPlaces (length vs) e
+places_within vs Alike is = tt
+places_within vs (Common c) is = tt
+places_within vs (Apart i j) is = (slice_within vs i is.apart.first is.apart.first_there, slice_within vs j is.apart.second is.apart.second_there)
+
+module _ (b : Body) (rises : IsSet fact_cmp b.facts) (done rest : List Row) (r : Row) (all : done ++ (r ∷ rest) ≡ rows_of b.facts) where
+  facts_split : b.facts ≡ rows_facts done ++ (row_facts r ++ rows_facts rest)
+  facts_split = sym (rows_facts_are b.facts) ∙ ap rows_facts (sym all) ∙ flat_map-append row_facts done (r ∷ rest)
+
+  pub row_there : Contains (rows_of b.facts) r
+  row_there = subst (λ rs. Contains rs r) all ((in_one_of_both done (r ∷ rest) r).1 (inr (first_there r rest)))
+
+  pub row_filled : 0 < length r.1
+  row_filled = filled r.1 (each_there (λ q. q.1 ≢ []) (rows_of b.facts) r (rows_tell_facts b.facts rises).some row_there)
+    where
+      filled : (vs : List Value) → vs ≢ [] → 0 < length vs
+      filled [] some = absurd (some refl)
+      filled (v ∷ vs) some = omega arith
+
+  -- the row is part of all facts, so the count of facts does not overflow
+  pub row_within : length (rows_facts done) + length r.1 ≤ length b.facts
+  row_within =
+      let long : length (row_facts r) ≡ length r.1 = length-map r.1 (λ v. record { dimensions = r.0; value = v }) in
+      omega (arith, long, ap length facts_split, length-append (rows_facts done) (row_facts r ++ rows_facts rest), length-append (row_facts r) (rows_facts rest))
+
+  -- the text by counts of facts is the text by the facts
+  pub row_is : (written : RowText) → DependsOnItsNames written → (number before count : ℕ) (e : Evidence) (row : List ℕ) → before ≡ length (rows_facts done) → count ≡ length b.facts → IsEvidence r.1 e →
+      row ≡ written (named before count) number r e → IsRow written b.facts number r row
+  row_is written names number before count e row before_is count_is shows is = record {
+    evidence = e;
+    shows = shows;
+    text = is
+        ∙ (λ i. written (named (before_is i) (count_is i)) number r e)
+        ∙ names (named (length (rows_facts done)) (length b.facts)) (identifier_at b.facts r) number r e row_filled (places_within r.1 e shows)
+        (named_is b.facts rises (rows_facts done) r (rows_facts rest) facts_split);
+  }
+
+  -- the count of facts after the row includes its facts
+  pub count_with_row : length (rows_facts done) + length r.1 ≡ length (rows_facts (done ++ r ∷ []))
+  count_with_row =
+      let long : length (row_facts r) ≡ length r.1 = length-map r.1 (λ v. record { dimensions = r.0; value = v }) in
+      omega (arith, long, ap length (flat_map-append row_facts done (r ∷ [])), length-append (rows_facts done) (row_facts r ++ []), length-append (row_facts r) [])

@@ -1,0 +1,28 @@
+-- A row with its number, its evidence and the identifiers of its facts (own).
+use Rattle.std.specs.Prelude.{◌≡◌, ℕ, ◌+◌, ◌<◌, ◌≤◌, List, length}
+use Rattle.fact_base.specs.Rows.{Row}
+use Rattle.fact_base.specs.Shown.{shown}
+use Rattle.fact_base.specs.declared.evidence.Evidence.{Evidence}
+use Rattle.oim_merge.specs.Lines.{RowText}
+use Rattle.oim_merge.specs.Named.{HasPlaces, named}
+use Rattle.oim_merge.specs.declared.judged_row.JudgedRow.{JudgedRow}
+
+-- the row has values, its facts are among all facts, and the indices in its evidence are within the row
+pub record IsJudged (j : JudgedRow) : Type 0 where
+  pub some : 0 < length j.row.values.now
+  pub room : j.identifiers.before + length j.row.values.now ≤ j.identifiers.count
+  pub places : HasPlaces (length j.row.values.now) j.evidence
+
+-- the identifiers of its facts
+abbrev pub names_of : JudgedRow → ℕ → List ℕ
+names_of j = named j.identifiers.before j.identifiers.count
+
+-- its text in a format
+abbrev pub judged_text : RowText → JudgedRow → List ℕ
+judged_text written j = written (names_of j) j.number (shown j.row) j.evidence
+
+-- the text of a row is the same if the identifiers of its facts are
+abbrev pub DependsOnItsNames : RowText → Type 0
+DependsOnItsNames written =
+    (name other : ℕ → List ℕ) (number : ℕ) (r : Row) (e : Evidence) → 0 < length r.1 → HasPlaces (length r.1) e →
+    ((i : ℕ) → i < length r.1 → name i ≡ other i) → written name number r e ≡ written other number r e

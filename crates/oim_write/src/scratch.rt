@@ -1,0 +1,22 @@
+use crate::period_texts::PeriodTexts;
+use std::alloc::Global;
+
+/// Buffers that are reused for each fact, so that less memory is requested: one for a name, a unit
+/// or a label, and a cache of period texts.
+#[derive(Drop)]
+pub struct Scratch {
+    pub(crate) alloc: Global,
+    pub(crate) text: String,
+    pub(crate) periods: PeriodTexts,
+}
+
+impl Scratch {
+    /// Empty buffers. Later calls take their memory from `alloc`.
+    pub fn new(alloc: Global) -> Scratch {
+        Scratch {
+            alloc,
+            text: String::new(alloc),
+            periods: PeriodTexts::new(alloc),
+        }
+    }
+}

@@ -1,0 +1,86 @@
+ghost use Rattle.std.specs.Prelude.{◌≡◌, ◌++◌, ℕ, List, OnOk, string_bytes};
+ghost use Rattle.oim_dims.specs.Unit.{product_text, side_text, unit_text};
+ghost use Rattle.oim_names.specs.QName.{QName};
+
+use oim_dims::Unit;
+use oim_names::Name;
+use std::alloc::AllocError;
+
+/// A way to write names.
+pub trait Spelling {
+    /// The text of a name.
+    ghost spelled: { Self → QName → List ℕ };
+
+    /// Appends the text of a name.
+    ///
+    /// Errors: out of memory.
+    fn push_name(&self, text: &mut String, name: &Name) -> Result<(), AllocError>
+        ensures { OnOk result (string_bytes text.new ≡ string_bytes text.old ++ spelled self.now name.now) };
+}
+
+/// Replaces the text by the text of a name.
+///
+/// Errors: out of memory.
+pub fn spell<S: Spelling>(text: &mut String, spelling: &S, name: &Name) -> Result<(), AllocError>
+    ensures { OnOk result (string_bytes text.new ≡ S.spelled spelling.now name.now) }
+{
+    text.clear();
+    spelling.push_name(text, name)
+}
+
+/// Replaces the text by the text of a unit (xBRL-JSON 1.0). The names on each side are in order.
+///
+/// Errors: out of memory.
+pub fn spell_unit<S: Spelling>(
+    text: &mut String,
+    spelling: &S,
+    unit: &Unit,
+) -> Result<(), AllocError>
+    ensures { OnOk result (string_bytes text.new ≡ unit_text (S.spelled spelling.now) unit.now) }
+{
+    text.clear();
+    push_unit(text, spelling, unit)
+}
+
+#[tactic(auto, unfolding(oim_dims::specs::Unit::unit_text))]
+fn push_unit<S: Spelling>(text: &mut String, spelling: &S, unit: &Unit) -> Result<(), AllocError>
+    ensures { OnOk result (string_bytes text.new ≡ string_bytes text.old ++ unit_text (S.spelled spelling.now) unit.now) }
+{
+    if unit.denominators().is_empty() {
+        return push_product(text, spelling, unit.numerators());
+    }
+    push_side(text, spelling, unit.numerators())?;
+    text.push_str("/")?;
+    push_side(text, spelling, unit.denominators())
+}
+
+// Appends one side of a unit that has two sides.
+fn push_side<S: Spelling>(text: &mut String, spelling: &S, names: &[Name]) -> Result<(), AllocError>
+    ensures { OnOk result (string_bytes text.new ≡ string_bytes text.old ++ side_text (S.spelled spelling.now) names.now) }
+{
+    if names.len() == 1 {
+        return push_product(text, spelling, names);
+    }
+    text.push_str("(")?;
+    push_product(text, spelling, names)?;
+    text.push_str(")")
+}
+
+// Appends measures with `*` between them.
+fn push_product<S: Spelling>(
+    text: &mut String,
+    spelling: &S,
+    names: &[Name],
+) -> Result<(), AllocError>
+    ensures { OnOk result (string_bytes text.new ≡ string_bytes text.old ++ product_text (S.spelled spelling.now) names.now) }
+{
+    let Some((first, others)) = names.split_first() else {
+        return Ok(());
+    };
+    spelling.push_name(text, first)?;
+    for name in others {
+        text.push_str("*")?;
+        spelling.push_name(text, name)?;
+    }
+    Ok(())
+}

@@ -1,9 +1,0 @@
-use Rattle.std.proofs.Common.{◌≡◌, ◌∷◌, ◌++◌, take, string_bytes}
-use Rattle.oim_names.specs.QName.{QName}
-use Rattle.oim_dims.specs.Unit.{product_text}
-use Rattle.row_formats.specs.Spelled.{braced}
-use Rattle.row_formats.proofs.spelling.push_product.Given as goal
-
--- the measures so far are written
-abbrev pub invariant-loop-name : goal.invariant-loop-name
-invariant-loop-name l = (m : QName) → l.names ≡ m ∷ l.others → string_bytes l.text ≡ string_bytes l.fn.text ++ product_text braced (m ∷ take l.name-index l.others)
