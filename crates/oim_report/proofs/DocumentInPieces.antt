@@ -142,23 +142,3 @@ pub json_outline : {A : Type 0} (r : Option A) (t : A → Data) (f : A → List 
     → IfSome r (λ o. (before : Members) × (t o ≡ object before) × ((found : Members) → IsPiece (f o) found → json bytes ≡ Some (object (put (codes "facts") (object found) before))))
 json_outline None t f bytes text h utf8 e = tt
 json_outline (Some o) t f bytes text h utf8 e = (h.0, h.1, λ found p. ap json_text (sym e) ∙ passes text (read text) utf8 ∙ h.2 found p)
-
--- ---- the derived order of levels
-
-pub derived_lt : (x y : Level) → partial_lt derived.it x y ≡ is_lt (level_cmp x y)
-derived_lt Unique Unique = refl
-derived_lt Unique Complete = refl
-derived_lt Unique Consistent = refl
-derived_lt Unique AllLevel = refl
-derived_lt Complete Unique = refl
-derived_lt Complete Complete = refl
-derived_lt Complete Consistent = refl
-derived_lt Complete AllLevel = refl
-derived_lt Consistent Unique = refl
-derived_lt Consistent Complete = refl
-derived_lt Consistent Consistent = refl
-derived_lt Consistent AllLevel = refl
-derived_lt AllLevel Unique = refl
-derived_lt AllLevel Complete = refl
-derived_lt AllLevel Consistent = refl
-derived_lt AllLevel AllLevel = refl

@@ -3,7 +3,7 @@ ghost use Rattle.serde_json.specs.View.{view};
 ghost use Rattle.oim_report.specs.Document.{SaysDocument};
 ghost use Rattle.oim_report.specs.Outcome.{at, outcome, tree_outcome};
 
-use crate::document::duplicates::level_of;
+use crate::document::duplicates::is_above;
 use crate::document::info::read_info;
 use crate::document::json_tree::{read_json, read_json_outline};
 use crate::fact::facts_reader::read_facts;
@@ -54,11 +54,10 @@ pub(crate) fn read_document<'s>(
     let info = read_info(alloc, tree)?;
     let facts = read_facts(alloc, sheet, &info.aliases, tree)?;
     let order = order_of(alloc, facts.as_slice())?;
-    let level = level_of(facts.as_slice(), order.as_slice());
-    if info.level < level {
+    if is_above(info.level, facts.as_slice(), order.as_slice()) {
         return Err(Refusal::from(Reason::DisallowedDuplicates));
     }
-    Ok(Report::new(sheet, facts, info.references, info.level, level, order))
+    Ok(Report::new(sheet, facts, info.references, info.level, order))
 }
 
 /// Does the same as `read_report`, but reads the facts in pieces of `size` bytes or more, with one
@@ -77,9 +76,8 @@ pub(crate) fn read_in_pieces<'s>(
     let info = read_info(alloc, &outline.tree).ok()?;
     let facts = read_facts_in_pieces(alloc, sheet, &info.aliases, outline.facts, size)?;
     let order = order_of(alloc, facts.as_slice()).ok()?;
-    let level = level_of(facts.as_slice(), order.as_slice());
-    if info.level < level {
+    if is_above(info.level, facts.as_slice(), order.as_slice()) {
         return None;
     }
-    Some(Report::new(sheet, facts, info.references, info.level, level, order))
+    Some(Report::new(sheet, facts, info.references, info.level, order))
 }

@@ -4,6 +4,7 @@ ghost use Rattle.oim_report.specs.FactFits.{FactFits};
 ghost use Rattle.oim_report.specs.Kept.{IsKeptReference};
 ghost use Rattle.oim_report.specs.Report.{IsOrderOf, IsReading};
 
+use crate::document::duplicates::level_of;
 use crate::sheet::Sheet;
 use oim_dims::Fact;
 use oim_names::Text;
@@ -18,13 +19,10 @@ pub struct Report<'s> {
     facts: Vec<Fact>,
     references: Vec<Text>,
     declared: Level,
-    level: Level,
     order: Vec<usize>,
 }
 
 impl<'s> Model for Report<'s> {
-    ghost use Rattle.std.specs.Prelude.{◌≡◌};
-    ghost use Rattle.oim_report.specs.Duplicates.{level_of};
     ghost use Rattle.oim_report.specs.Report.{IsReading, Reading};
     ghost use Rattle.std.specs.Coded.{codes};
     ghost use Rattle.oim_report.specs.code.SheetCode.{sheet_code};
@@ -35,7 +33,7 @@ impl<'s> Model for Report<'s> {
 
     ghost view = { λ a. record { sheet = a.sheet.now; document = record { facts = a.facts.items; references = a.references.items; level = a.declared }; order = a.order.items } };
 
-    ghost invariant = { λ a. IsReading (record { sheet = a.sheet.now; document = record { facts = a.facts.items; references = a.references.items; level = a.declared }; order = a.order.items }) × (a.level ≡ level_of a.facts.items) };
+    ghost invariant = { λ a. IsReading (record { sheet = a.sheet.now; document = record { facts = a.facts.items; references = a.references.items; level = a.declared }; order = a.order.items }) };
 }
 
 impl<'s> Report<'s> {
@@ -44,13 +42,11 @@ impl<'s> Report<'s> {
         facts: Vec<Fact>,
         references: Vec<Text>,
         declared: Level,
-        level: Level,
         order: Vec<usize>,
     ) -> Report<'s>
         requires facts { All (FactFits sheet.now) facts.items }
         requires references { All IsKeptReference references.items }
         requires order { IsOrderOf facts.items order.items }
-        requires level { level ≡ level_of facts.items }
         ensures sheet { result.sheet ≡ sheet.now }
         ensures document { result.document ≡ record { facts = facts.items; references = references.items; level = declared } }
         ensures order { result.order ≡ order.items }
@@ -60,7 +56,6 @@ impl<'s> Report<'s> {
             facts,
             references,
             declared,
-            level,
             order,
         }
     }
@@ -91,7 +86,7 @@ impl<'s> Report<'s> {
     pub fn level(&self) -> Level
         ensures { result ≡ level_of self.now.document.facts }
     {
-        self.level
+        level_of(self.facts.as_slice(), self.order.as_slice())
     }
 
     /// Returns the sheet under which it was read.

@@ -1,10 +1,21 @@
 ghost use Rattle.std.specs.Prelude.{◌≡◌};
+ghost use Rattle.std.specs.Ordering.{is_lt};
+ghost use Rattle.oim_value.specs.Level.{level_cmp};
 ghost use Rattle.oim_report.specs.code.Beside.{both_common, both_meet, interval_at, level_beside};
 ghost use Rattle.oim_report.specs.Duplicates.{level_of};
 ghost use Rattle.oim_report.specs.Report.{IsOrderOf};
 
 use oim_dims::Fact;
 use oim_value::{Interval, Level, Value, common, interval_of, meets};
+
+/// Returns whether the facts have duplicates above this level. `All` allows any facts, so their
+/// level is not determined.
+pub(crate) fn is_above(declared: Level, facts: &[Fact], order: &[usize]) -> bool
+    requires { IsOrderOf facts.now order.now }
+    ensures { result ≡ is_lt (level_cmp declared (level_of facts.now)) }
+{
+    declared != Level::All && declared < level_of(facts, order)
+}
 
 /// Returns the strictest level of duplicates that allows the facts with their repeats
 /// (`xbrl:allowedDuplicates` of OIM Common 1.0). `order` is the result of `order_of`. The function

@@ -9,7 +9,7 @@ use Rattle.oim_report.specs.Report.{IsOrderOf}
 use Rattle.oim_report.specs.Outcome.{facts_said}
 use Rattle.oim_report.proofs.AcceptedFacts.{facts_fit}
 use Rattle.oim_report.proofs.Documents.{bindings_are_namespaces}
-use Rattle.oim_report.proofs.DocumentInPieces.{taken, whole_outcome, derived_lt}
+use Rattle.oim_report.proofs.DocumentInPieces.{taken, whole_outcome}
 use Rattle.oim_report.proofs.KeptReferences.{references_kept}
 use Rattle.oim_report.proofs.reader.read_in_pieces.Goals as goal
 
@@ -40,6 +40,6 @@ returns-clause-ok c =
     let references = taken c.read_info.result c.in_ok-info.info (λ info. references_said tree ≡ Some info.references.items) c.read_info.ensures.references c.in_ok-info.ensures.value in
     let level = taken c.read_info.result c.in_ok-info.info (λ info. level_said tree ≡ Some info.level) c.read_info.ensures.level c.in_ok-info.ensures.value in
     let said = c.in_ok-facts.ensures in
-    let above : is_lt (level_cmp c.in_ok-info.info.level (level_of c.in_ok-facts.facts.items)) ≡ false = ap (λ l. is_lt (level_cmp c.in_ok-info.info.level l)) (ap level_of (sym c.as_slice-2.ensures.value) ∙ sym c.level_of-level.ensures) ∙ sym (derived_lt c.in_ok-info.info.level c.level_of-level.result) ∙ sym c.lt.ensures ∙ c.if-lt.false in
+    let above : is_lt (level_cmp c.in_ok-info.info.level (level_of c.in_ok-facts.facts.items)) ≡ false = ap (λ fs. is_lt (level_cmp c.in_ok-info.info.level (level_of fs))) (sym c.as_slice-2.ensures.value) ∙ sym c.is_above.ensures ∙ c.if-is_above.false in
     whole_outcome sheet c.args.bytes.now tree o.0 said.0 c.in_ok-facts.facts.items c.in_ok-info.info.references.items c.in_ok-info.info.level o.1 (o.2 said.0 said.1)
     accepted (ap (λ bs. facts_said sheet bs said.0) (sym aliases) ∙ said.2) references level above ∙ ap Ok (sym c.new.ensures.document)
