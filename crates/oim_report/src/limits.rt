@@ -10,6 +10,11 @@ pub const MOST_LEVELS: usize = 127;
 /// the memory, and the time for many texts with the same hash.
 pub const MOST_MEANINGS: usize = 1_024;
 
+/// The number of texts for which the glossaries of a report in pieces have room at first. They grow
+/// when they need more. Most reports repeat few texts, and room for `MOST_MEANINGS` in each glossary
+/// costs two to three million instructions.
+pub const FIRST_MEANINGS: usize = 64;
+
 /// The least size in bytes of a piece of a report. For each piece the reader fills 16 kB with
 /// zeros, so small pieces are slow. Larger pieces cause more page faults.
 pub const PIECE_BYTES: usize = 65_536;

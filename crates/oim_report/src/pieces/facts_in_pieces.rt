@@ -9,7 +9,7 @@ ghost use Rattle.oim_report.specs.Pieces.{IsPiece};
 use crate::document::found_facts::FoundFacts;
 use crate::fact::fact_reader::read_fact;
 use crate::fact::glossaries::Glossaries;
-use crate::limits::MOST_MEANINGS;
+use crate::limits::FIRST_MEANINGS;
 use crate::pieces::next_piece::read_next;
 use crate::sheet::Sheet;
 use oim_dims::Fact;
@@ -33,7 +33,7 @@ pub(crate) fn read_facts_in_pieces(
     let mut buffer = String::new(alloc);
     let mut identifiers = Vec::new(alloc);
     let mut facts = Vec::new(alloc);
-    let mut glossaries = Glossaries::with_room(alloc, MOST_MEANINGS).ok()?;
+    let mut glossaries = Glossaries::with_room(alloc, FIRST_MEANINGS).ok()?;
     let mut left = text;
     for _ in 0..text.len() {
         let (objects, rest) = read_next(alloc, &mut buffer, left, size)?;
