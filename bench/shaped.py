@@ -134,6 +134,30 @@ def measures_beside_a_long_uri(n):
     return merging(sheet(), report(numbered([numeric("1", unit="*".join(f"u:m{n - place:07}" for place in range(n)))]), names))
 
 
+def long_uri(names, size):
+    """A sheet and a report with this number of names, of one namespace whose URI has `size` bytes."""
+    bound = {"u": f"{URI}/{'u' * size}"}
+    concepts = [f"u:c{place:07}" for place in range(names)]
+    return sheet(dict.fromkeys(concepts, "text"), namespaces=bound), report(numbered(fact(concept=name) for name in concepts), bound)
+
+
+def names_of_a_long_uri(n):
+    return merging(*long_uri(n, 50_000))
+
+
+def bytes_of_a_uri_of_many_names(n):
+    return merging(*long_uri(2_000, n))
+
+
+def names_of_a_long_uri_in_a_sheet(n):
+    return merging(long_uri(n, 50_000)[0], report({}))
+
+
+def names_and_bytes_of_a_uri_in_a_sheet(n):
+    """n names of a URI of 20 n bytes: a comparison of URIs for each name would take sixteen times."""
+    return merging(long_uri(n, 20 * n)[0], report({}))
+
+
 def text_of_one_value(n):
     return merging(sheet(), report(numbered([fact("ab\"\\\u00e9\n" * n)])))
 
@@ -342,6 +366,10 @@ SHAPES = {
     dimensions_whose_names_fall: 5_000,
     measures_of_a_unit: 5_000,
     measures_beside_a_long_uri: 1_000,
+    names_of_a_long_uri: 2_000,
+    bytes_of_a_uri_of_many_names: 50_000,
+    names_of_a_long_uri_in_a_sheet: 2_000,
+    names_and_bytes_of_a_uri_in_a_sheet: 2_000,
     text_of_one_value: 100_000,
     identifier_of_an_entity: 500_000,
     name_of_a_member: 500_000,
