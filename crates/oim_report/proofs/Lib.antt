@@ -35,6 +35,9 @@ pub mod AcceptedFacts
 pub mod Documents
 pub mod RisingNames
 pub mod SheetEntries
+pub mod Grouped
+pub mod Gatherings
+pub mod SameNames
 pub mod OneMembers
 pub mod InTurn
 pub mod OneDocument

@@ -20,11 +20,11 @@ use Rattle.oim_report.proofs.NameRefusals.{first_free}
 use Rattle.oim_report.proofs.RisingNames.{name_total}
 
 -- the first of two values, if it exists, otherwise the second
-abbrev first_of : {A : Type 0} → Option A → Option A → Option A
+abbrev pub first_of : {A : Type 0} → Option A → Option A → Option A
 first_of None b = b
 first_of (Some a) b = Some a
 
-first_of-none : {A : Type 0} (a : Option A) → first_of a None ≡ a
+pub first_of-none : {A : Type 0} (a : Option A) → first_of a None ≡ a
 first_of-none None = refl
 first_of-none (Some a) = refl
 

@@ -5,7 +5,9 @@ pub mod FoundFacts
 pub mod Given
 pub mod Glossaries
 pub mod Glossary
+pub mod Groups
 pub mod KindLaws
+pub mod NameCache
 pub mod Pieces
 pub mod Rows
 pub mod SeenParts

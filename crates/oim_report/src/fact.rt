@@ -11,5 +11,6 @@ pub(crate) mod given;
 pub(crate) mod glossaries;
 pub(crate) mod glossary;
 pub(crate) mod members_reader;
+pub(crate) mod name_cache;
 pub(crate) mod parts;
 pub(crate) mod recall;

@@ -5,7 +5,7 @@ pub(crate) mod listing;
 pub(crate) mod sheet_form;
 pub(crate) mod sheet_kinds;
 
-ghost use Rattle.std.specs.Prelude.{◌≡◌, ◌⊎◌, ◌↔◌, Some, Ok, Err, IsTrue, IfOk, IfErr, IfSome, option_map};
+ghost use Rattle.std.specs.Prelude.{◌≡◌, ◌⊎◌, ◌↔◌, Some, Ok, Err, IsTrue, IfOk, IfErr};
 ghost use Rattle.std.specs.FinMap as map;
 ghost use Rattle.serde_json.specs.View.{view};
 ghost use Rattle.oim_report.specs.Sheet.{sheet_of, sheet_outcome};
@@ -93,24 +93,18 @@ impl Sheet {
         Some(kind)
     }
 
-    /// Returns the concept with this URI and local part, and the kind of its values.
-    pub(crate) fn concept_of(&self, uri: &str, local: &str) -> Option<(&Name, ConceptKind)>
-        ensures kind { option_map (λ c. c.1) result
-            ≡ map.get self.now.concepts (record { uri = uri.now; local_part = local.now }) }
-        ensures name { IfSome result
-            (λ c. c.0.now ≡ record { uri = uri.now; local_part = local.now }) }
+    /// Returns the concepts.
+    pub(crate) fn concepts(&self) -> &Listing<ConceptKind>
+        ensures { result.now ≡ self.now.concepts }
     {
-        self.concepts.find(uri, local)
+        &self.concepts
     }
 
-    /// Returns the dimension with this URI and local part, and the kind of its members.
-    pub(crate) fn dimension_of(&self, uri: &str, local: &str) -> Option<(&Name, DimensionKind)>
-        ensures kind { option_map (λ d. d.1) result
-            ≡ map.get self.now.dimensions (record { uri = uri.now; local_part = local.now }) }
-        ensures name { IfSome result
-            (λ d. d.0.now ≡ record { uri = uri.now; local_part = local.now }) }
+    /// Returns the taxonomy-defined dimensions.
+    pub(crate) fn dimensions(&self) -> &Listing<DimensionKind>
+        ensures { result.now ≡ self.now.dimensions }
     {
-        self.dimensions.find(uri, local)
+        &self.dimensions
     }
 
     /// Returns whether both list the same names with the same kinds.

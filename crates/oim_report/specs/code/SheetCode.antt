@@ -47,3 +47,11 @@ sheet_code =
     code_by (FinMap name_cmp ConceptKind × FinMap name_cmp DimensionKind)
     (coded× (listing_code (code_by ℕ coded_ℕ concept_number concept_of_number concept_back)) (listing_code (code_by ℕ coded_ℕ dimension_number dimension_of_number dimension_back)))
     (λ s. (s.concepts, s.dimensions)) (λ m. record { concepts = m.0; dimensions = m.1 }) (λ _. refl)
+
+-- the names of a sheet while it is read, and the URI of the current namespace
+pub record Gathering (K : Type 0) : Type 0 where
+  pub uri : List ℕ
+  pub names : FinMap name_cmp K
+
+abbrev pub gathering_code : {K : Type 0} → Coded K → Coded (Gathering K)
+gathering_code {K} kinds = code_by (List ℕ × FinMap name_cmp K) (coded× (coded_list coded_ℕ) (listing_code kinds)) (λ g. (g.uri, g.names)) (λ p. record { uri = p.0; names = p.1 }) (λ _. refl)

@@ -64,7 +64,8 @@ pub(crate) fn is_allowed_duplicates(aliases: &Aliases, key: &str) -> bool
     aliases.uri(prefix) == Some(RESERVED) && local == "allowedDuplicates"
 }
 
-fn split(key: &str) -> (&str, &str)
+/// Splits a text at its first colon.
+pub(crate) fn split(key: &str) -> (&str, &str)
     ensures prefix { result.0.now ≡ prefix_part key.now }
     ensures local { result.1.now ≡ local_part key.now }
 {

@@ -1,22 +1,26 @@
-ghost use Rattle.std.specs.Prelude.{◌≡◌, ◌⊎◌, Ok, Err, Some, IfOk, IfErr, OnOk};
+ghost use Rattle.std.specs.Prelude.{◌≡◌, ◌⊎◌, Ok, Err, Some, IfOk, IfErr, IfSome, OnOk, option_map};
 ghost use Rattle.serde_json.specs.View.{view};
+ghost use Rattle.oim_report.specs.code.Given.{seen};
 ghost use Rattle.oim_report.specs.code.Glossaries.{AreGlossaries};
+ghost use Rattle.oim_report.specs.code.NameCache.{IsNameCache};
 ghost use Rattle.oim_report.specs.Outcome.{fact_outcome};
-ghost use Rattle.oim_report.specs.Said.{fact_of};
+ghost use Rattle.oim_report.specs.Said.{concept_kind, fact_of, said_concept};
 ghost use Rattle.oim_report.specs.code.SeenParts.{seen_dimensions, seen_parts};
 
+use crate::concept_kind::ConceptKind;
 use crate::fact::dimensions_reader::read_dimensions;
 use crate::fact::fact_form::well_formed;
 use crate::fact::fact_value::read_value;
+use crate::fact::given::Given;
 use crate::fact::glossaries::Glossaries;
+use crate::fact::name_cache::NameCache;
 use crate::fact::parts::{DimensionParts, FactParts};
 use crate::findings::fact_faults::add_fact_faults;
 use crate::findings::fault_list::Faults;
 use crate::place::Place;
 use crate::sheet::Sheet;
-use crate::sheet::listed::find_concept;
 use oim_dims::Fact;
-use oim_names::{Aliases, Copied, Reason};
+use oim_names::{Aliases, Copied, Name, Reason};
 use serde_json::Value;
 use std::alloc::Global;
 
@@ -109,4 +113,20 @@ fn read_content<'s>(
         dimensions: read,
         value,
     })
+}
+
+// Returns the concept that a part names, as the sheet lists it, and the kind of its values.
+fn find_concept<'s>(
+    sheet: &'s Sheet,
+    aliases: &Aliases,
+    concepts: &mut NameCache<'s, ConceptKind>,
+    concept: Given<'_>,
+) -> Option<(&'s Name, ConceptKind)>
+    requires known { IsNameCache sheet.now.concepts aliases.now concepts.old }
+    ensures kind { option_map (λ c. c.1) result
+        ≡ concept_kind sheet.now aliases.now (seen concept.entry) }
+    ensures name { IfSome result (λ c. said_concept aliases.now (seen concept.entry) ≡ Some c.0.now) }
+    ensures known { IsNameCache sheet.now.concepts aliases.now concepts.new }
+{
+    concepts.find(sheet.concepts(), aliases, concept.text()?)
 }

@@ -6,6 +6,7 @@ ghost use Rattle.oim_report.specs.Sheet.{Sheet};
 use crate::concept_kind::ConceptKind;
 use crate::dimension_kind::DimensionKind;
 use crate::fact::glossary::Glossary;
+use crate::fact::name_cache::NameCache;
 use oim_dims::{Period, Unit};
 use oim_names::{Name, Text};
 use std::alloc::{AllocError, Global};
@@ -14,9 +15,9 @@ use std::alloc::{AllocError, Global};
 #[derive(Drop)]
 pub(crate) struct Glossaries<'s> {
     /// The concepts that the sheet lists.
-    pub(crate) concepts: Glossary<(&'s Name, ConceptKind)>,
+    pub(crate) concepts: NameCache<'s, ConceptKind>,
     /// The taxonomy-defined dimensions that the sheet lists.
-    pub(crate) dimensions: Glossary<(&'s Name, DimensionKind)>,
+    pub(crate) dimensions: NameCache<'s, DimensionKind>,
     pub(crate) entities: Glossary<Name>,
     pub(crate) periods: Glossary<Period>,
     pub(crate) units: Glossary<Option<Unit>>,
@@ -33,8 +34,8 @@ impl<'s> Glossaries<'s> {
     pub(crate) fn with_room(alloc: Global, texts: usize) -> Result<Self, AllocError>
         ensures { IfOk result (λ gs. (sheet : Sheet) (bs : List Binding) → AreGlossaries sheet bs gs) }
     {
-        let concepts = Glossary::with_room(alloc, texts)?;
-        let dimensions = Glossary::with_room(alloc, texts)?;
+        let concepts = NameCache::with_room(alloc, texts)?;
+        let dimensions = NameCache::with_room(alloc, texts)?;
         let entities = Glossary::with_room(alloc, texts)?;
         let periods = Glossary::with_room(alloc, texts)?;
         let units = Glossary::with_room(alloc, texts)?;

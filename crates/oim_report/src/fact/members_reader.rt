@@ -10,7 +10,7 @@ use crate::dimension_kind::DimensionKind;
 use crate::fact::given::Given;
 use crate::fact::glossaries::Glossaries;
 use crate::fact::glossary::Glossary;
-use crate::fact::recall::{recall_dimension, recall_name};
+use crate::fact::recall::recall_name;
 use crate::sheet::Sheet;
 use oim_dims::{Dimensions, Member};
 use oim_names::{Aliases, Copied, Name, Reason, Text};
@@ -36,7 +36,9 @@ pub(crate) fn read_members<'s>(
 {
     let mut found = Vec::with_capacity(alloc, defined.len())?;
     for (key, member) in defined {
-        let Some((name, kind)) = recall_dimension(sheet, aliases, &mut glossaries.dimensions, *key)
+        let Some((name, kind)) = glossaries
+            .dimensions
+            .find(sheet.dimensions(), aliases, *key)
         else {
             return Err(Reason::UnknownDimension);
         };

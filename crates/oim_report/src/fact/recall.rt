@@ -2,67 +2,19 @@
 //! Tests that also depend on something else, such as the kind of a unit's concept, are repeated
 //! each time.
 
-ghost use Rattle.std.specs.Prelude.{◌≡◌, ◌⊎◌, Some, IsTrue, IfOk, IfErr, IfSome, OnOk, option_map};
+ghost use Rattle.std.specs.Prelude.{◌≡◌, ◌⊎◌, Some, IsTrue, IfOk, IfErr, IfSome, OnOk};
 ghost use Rattle.std.specs.Str.{str_to_ascii_lowercase};
 ghost use Rattle.oim_names.specs.Expansion.{Expands, ExpandsEntity, entity_refusal, name_refusal};
 ghost use Rattle.oim_dims.specs.Language.{is_language};
 ghost use Rattle.oim_dims.specs.Period.{period_of};
 ghost use Rattle.oim_dims.specs.Unit.{IsUnit, UnitOf, unit_refusal};
 ghost use Rattle.oim_report.specs.code.Glossary.{IsGlossary};
-ghost use Rattle.oim_report.specs.code.Glossaries.{NamesConcept, NamesDimension, TextSaysLanguage, TextSaysPeriod, TextSaysUnit};
-ghost use Rattle.oim_report.specs.Json.{text as a_text};
-ghost use Rattle.oim_report.specs.Names.{named};
-ghost use Rattle.oim_report.specs.Said.{concept_kind, dimension_kind};
+ghost use Rattle.oim_report.specs.code.Glossaries.{TextSaysLanguage, TextSaysPeriod, TextSaysUnit};
 
-use crate::concept_kind::ConceptKind;
-use crate::dimension_kind::DimensionKind;
 use crate::fact::glossary::Glossary;
-use crate::sheet::Sheet;
-use crate::sheet::listed::{find_dimension, find_named_concept};
 use oim_dims::{Period, Unit, read_language, read_period, read_unit};
 use oim_names::{Aliases, Copied, Name, Reason, Text};
 use std::alloc::Global;
-
-/// Returns the concept that the text names, as the sheet lists it, and the kind of its values.
-pub(crate) fn recall_concept<'s>(
-    sheet: &'s Sheet,
-    aliases: &Aliases,
-    concepts: &mut Glossary<(&'s Name, ConceptKind)>,
-    text: &str,
-) -> Option<(&'s Name, ConceptKind)>
-    requires known { IsGlossary (NamesConcept sheet.now aliases.now) concepts.old }
-    ensures kind { option_map (λ c. c.1) result
-        ≡ concept_kind sheet.now aliases.now (a_text text.now) }
-    ensures name { IfSome result (λ c. named aliases.now text.now ≡ Some c.0.now) }
-    ensures known { IsGlossary (NamesConcept sheet.now aliases.now) concepts.new }
-{
-    if let Some(known) = concepts.find(text) {
-        return Some(*known);
-    }
-    let found = find_named_concept(sheet, aliases, text)?;
-    concepts.add(text, found);
-    Some(found)
-}
-
-/// Returns the dimension that the text names, as the sheet lists it, and the kind of its members.
-pub(crate) fn recall_dimension<'s>(
-    sheet: &'s Sheet,
-    aliases: &Aliases,
-    dimensions: &mut Glossary<(&'s Name, DimensionKind)>,
-    text: &str,
-) -> Option<(&'s Name, DimensionKind)>
-    requires known { IsGlossary (NamesDimension sheet.now aliases.now) dimensions.old }
-    ensures kind { option_map (λ d. d.1) result ≡ dimension_kind sheet.now aliases.now text.now }
-    ensures name { IfSome result (λ d. named aliases.now text.now ≡ Some d.0.now) }
-    ensures known { IsGlossary (NamesDimension sheet.now aliases.now) dimensions.new }
-{
-    if let Some(known) = dimensions.find(text) {
-        return Some(*known);
-    }
-    let found = find_dimension(sheet, aliases, text)?;
-    dimensions.add(text, found);
-    Some(found)
-}
 
 /// Returns the expanded name that the text spells.
 ///

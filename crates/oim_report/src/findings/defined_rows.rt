@@ -131,6 +131,7 @@ fn two_keys<'a>(
     let mut before = Gathered::new(alloc);
     for (key, _value) in dimensions.iter() {
         if let Some(name) = dimension_name(aliases, key.as_str())? {
+            before.turn_to(name.uri())?;
             if before.has(&name) {
                 return Ok(Some(beside_first(aliases, dimensions, key.as_str())));
             }

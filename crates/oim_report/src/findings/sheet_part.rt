@@ -220,6 +220,7 @@ fn two_kinds_in<'a, K: Kind>(
     let mut gathered: Gathered<K> = Gathered::new(alloc);
     for (key, value) in listed.iter() {
         if let Some((name, kind)) = named_kind::<K>(aliases, key.as_str(), value)? {
+            gathered.turn_to(name.uri())?;
             let known = gathered.put(name, kind)?;
             if !kind.is(known) {
                 return Ok(Some(beside_first(aliases, listed, key.as_str())));

@@ -1,83 +1,111 @@
-ghost use Rattle.std.specs.Prelude.{◌≡◌, Some, if◌then◌else◌, IfOk, OnOk, OnErr};
+ghost use Rattle.std.specs.Prelude.{◌≡◌, ◌⊎◌, [], Some, if◌then◌else◌, IfOk, OnOk, OnErr};
 ghost use Rattle.std.specs.FinMap as map;
+ghost use Rattle.oim_report.specs.code.SheetCode.{Gathering};
 
 use crate::sheet::kind::Kind;
-use crate::sheet::listing::Listing;
+use crate::sheet::listing::{Group, Listing};
 use oim_names::Name;
 use std::alloc::{AllocError, Global};
 use std::collections::BTreeMap;
 use std::marker::Model;
+use std::mem::replace;
 
-/// The names of a sheet with their kinds, while the sheet is read. Keys are sorted by prefix, and
-/// names by URI, so the names do not arrive in order. Inserting each one into the middle of a list
-/// would take quadratic time, so this is an ordered map.
+/// The names of a sheet with their kinds, while the sheet is read. The group of one namespace is
+/// apart, so names of this namespace are added without a comparison of URIs.
 #[derive(Drop)]
 pub(crate) struct Gathered<K: Kind> {
-    kinds: BTreeMap<Name, K>,
+    alloc: Global,
+    uri: String,
+    group: Group<K>,
+    others: Listing<K>,
 }
 
 impl<K: Kind> Model for Gathered<K> {
-    ghost use Rattle.std.specs.Prelude.{◌≡◌, true};
+    ghost use Rattle.std.specs.Prelude.{◌≡◌, ℕ, List, None, string_bytes};
     ghost use Rattle.std.specs.FinMap as map;
-    ghost use Rattle.std.specs.FinMap.{FinMap, is_sorted};
-    ghost use Rattle.oim_value.specs.ValueOrder.{name_cmp};
-    ghost use Rattle.oim_report.specs.code.SheetCode.{listing_code};
+    ghost use Rattle.oim_report.specs.code.Groups.{IsGroup, with_group};
+    ghost use Rattle.oim_report.specs.code.SheetCode.{Gathering, gathering_code};
 
-    ghost Value = { FinMap name_cmp K };
+    ghost Value = { Gathering K };
 
-    ghost coded = { listing_code K.code };
+    ghost coded = { gathering_code K.code };
 
-    ghost view = { λ g. map.from_sorted g.kinds.entries };
+    ghost view = { λ g. record { uri = string_bytes g.uri; names = with_group g.group g.others } };
 
-    ghost invariant = { λ g. is_sorted name_cmp g.kinds.entries ≡ true };
+    ghost invariant = { λ g. IsGroup (string_bytes g.uri) g.group
+        × ((l : List ℕ) → map.get g.others (record { uri = string_bytes g.uri; local_part = l }) ≡ None) };
 }
 
 impl<K: Kind> Gathered<K> {
     /// Returns a map without names. Later calls take their memory from `alloc`.
     pub(crate) fn new(alloc: Global) -> Self
-        ensures { result ≡ map.empty }
+        ensures { result ≡ record { uri = []; names = map.empty } }
     {
         Gathered {
-            kinds: BTreeMap::new(alloc),
+            alloc,
+            uri: String::new(alloc),
+            group: BTreeMap::new(alloc),
+            others: Listing::new(alloc),
         }
     }
 
-    /// Returns whether the map has the name.
-    pub(crate) fn has(&self, name: &Name) -> bool
-        ensures { result ≡ map.contains_key self.now name.now }
+    /// Turns to the namespace with this URI.
+    ///
+    /// Errors: out of memory.
+    pub(crate) fn turn_to(&mut self, uri: &str) -> Result<(), AllocError>
+        ensures { OnOk result (self.new ≡ record { uri = uri.now; names = self.old.names }) }
     {
-        self.kinds.contains_key(name)
+        if self.uri.as_str() == uri {
+            return Ok(());
+        }
+        let next = String::from_str(self.alloc, uri)?;
+        let names = self.others.take(self.alloc, uri);
+        let last = replace(&mut self.uri, next);
+        let group = replace(&mut self.group, names);
+        self.others.set(last, group)
     }
 
-    /// Adds the name with the kind, unless the map has the name. Returns the kind of the name in
-    /// the map.
-    ///
-    /// Errors: out of memory; the map is then unchanged.
-    pub(crate) fn put(&mut self, name: Name, kind: K) -> Result<K, AllocError>
-        ensures ok { OnOk result (self.new
-            ≡ (if map.contains_key self.old name then self.old else map.insert self.old name kind)) }
-        ensures kind { IfOk result (λ k. map.get self.new name ≡ Some k) }
-        ensures err { OnErr result (self.new ≡ self.old) }
+    /// Returns whether the map has the name, which is in the current namespace.
+    pub(crate) fn has(&self, name: &Name) -> bool
+        requires { name.now.uri ≡ self.now.uri }
+        ensures { result ≡ map.contains_key self.now.names name.now }
     {
-        match self.kinds.get(&name) {
-            Some(known) => Ok(*known),
+        self.group.contains_key(name.local())
+    }
+
+    /// Adds the name, which is in the current namespace, with the kind, unless the map has the
+    /// name. Returns the kind of the name in the map.
+    ///
+    /// Errors: out of memory.
+    pub(crate) fn put(&mut self, name: Name, kind: K) -> Result<K, AllocError>
+        requires { name.uri ≡ self.old.uri }
+        ensures ok { OnOk result (self.new
+            ≡ record self.old { names = if map.contains_key self.old.names name then self.old.names else map.insert self.old.names name kind }) }
+        ensures kind { IfOk result (λ k. map.get self.new.names name ≡ Some k) }
+    {
+        match self.group.get(name.local()) {
+            Some((_name, known)) => Ok(*known),
             None => {
-                self.kinds.insert(name, kind)?;
+                let local = String::from_str(self.alloc, name.local())?;
+                self.group.insert(local, (name, kind))?;
                 Ok(kind)
             }
         }
     }
 
-    /// Returns the names in order.
+    /// Returns the names.
     ///
     /// Errors: out of memory.
-    pub(crate) fn into_listing(self, alloc: Global) -> Result<Listing<K>, AllocError>
-        ensures { IfOk result (λ listing. listing ≡ self) }
+    pub(crate) fn into_listing(self) -> Result<Listing<K>, AllocError>
+        ensures { IfOk result (λ listing. listing ≡ self.names) }
     {
-        let mut entries = Vec::with_capacity(alloc, self.kinds.len())?;
-        for entry in self.kinds {
-            entries.push(entry)?;
-        }
-        Ok(Listing::of_rising(entries))
+        let Gathered {
+            uri,
+            group,
+            mut others,
+            ..
+        } = self;
+        others.set(uri, group)?;
+        Ok(others)
     }
 }

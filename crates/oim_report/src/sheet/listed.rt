@@ -1,34 +1,12 @@
 ghost use Rattle.std.specs.Prelude.{◌≡◌, Some, IfSome, option_map};
-ghost use Rattle.oim_report.specs.code.Given.{seen};
-ghost use Rattle.oim_report.specs.code.Glossary.{IsGlossary};
-ghost use Rattle.oim_report.specs.code.Glossaries.{NamesConcept};
 ghost use Rattle.oim_report.specs.Json.{text as a_text};
 ghost use Rattle.oim_report.specs.Names.{named};
-ghost use Rattle.oim_report.specs.Said.{concept_kind, dimension_kind, said_concept};
+ghost use Rattle.oim_report.specs.Said.{concept_kind, dimension_kind};
 
 use crate::concept_kind::ConceptKind;
 use crate::dimension_kind::DimensionKind;
-use crate::fact::given::Given;
-use crate::fact::glossary::Glossary;
-use crate::fact::recall::recall_concept;
 use crate::sheet::Sheet;
 use oim_names::{Aliases, Name};
-
-/// Returns the concept that a text names, as the sheet lists it, and the kind of its values.
-pub(crate) fn find_concept<'s>(
-    sheet: &'s Sheet,
-    aliases: &Aliases,
-    concepts: &mut Glossary<(&'s Name, ConceptKind)>,
-    concept: Given<'_>,
-) -> Option<(&'s Name, ConceptKind)>
-    requires known { IsGlossary (NamesConcept sheet.now aliases.now) concepts.old }
-    ensures kind { option_map (λ c. c.1) result
-        ≡ concept_kind sheet.now aliases.now (seen concept.entry) }
-    ensures name { IfSome result (λ c. said_concept aliases.now (seen concept.entry) ≡ Some c.0.now) }
-    ensures known { IsGlossary (NamesConcept sheet.now aliases.now) concepts.new }
-{
-    recall_concept(sheet, aliases, concepts, concept.text()?)
-}
 
 /// Returns the concept that a text names, as the sheet lists it, and the kind of its values.
 pub(crate) fn find_named_concept<'s>(
@@ -41,7 +19,7 @@ pub(crate) fn find_named_concept<'s>(
     ensures name { IfSome result (λ c. named aliases.now text.now ≡ Some c.0.now) }
 {
     match aliases.resolve(text) {
-        Ok((uri, local)) => sheet.concept_of(uri, local),
+        Ok((uri, local)) => sheet.concepts().find(uri, local),
         Err(_) => None,
     }
 }
@@ -56,7 +34,7 @@ pub(crate) fn find_dimension<'s>(
     ensures name { IfSome result (λ d. named aliases.now text.now ≡ Some d.0.now) }
 {
     match aliases.resolve(text) {
-        Ok((uri, local)) => sheet.dimension_of(uri, local),
+        Ok((uri, local)) => sheet.dimensions().find(uri, local),
         Err(_) => None,
     }
 }

@@ -1,37 +1,40 @@
-ghost use Rattle.std.specs.Prelude.{◌≡◌, ◌<◌, ◌≤◌, ◌↔◌, true, length, Some, IsTrue, IfOk, IfErr, IfSome, option_map, slice_get};
+ghost use Rattle.std.specs.Prelude.{◌≡◌, ◌↔◌, ℕ, List, IsTrue, IfSome, if◌then◌else◌, OnOk, OnErr, Some, None, bytes_eq, option_map, string_bytes};
+ghost use Rattle.std.specs.Option.{option_copied};
+ghost use Rattle.std.specs.BTreeMap.{get_by_text};
 ghost use Rattle.std.specs.FinMap as map;
-ghost use Rattle.std.specs.FinMap.{is_sorted};
-ghost use Rattle.std.specs.List.Sorted.{IsPartitionPoint};
-ghost use Rattle.std.specs.declared.cmp.Ordering.TheVariants.{Less as Below, Greater as Above};
-ghost use Rattle.oim_value.specs.ValueOrder.{name_cmp};
+ghost use Rattle.oim_names.specs.QName.{QName};
+ghost use Rattle.oim_report.specs.code.Groups.{HasEach, IsGroup, IsGroupOf, in_group};
 
 use crate::sheet::kind::Kind;
 use oim_names::Name;
-use std::alloc::Global;
-use std::cmp::Ordering;
+use std::alloc::{AllocError, Global};
+use std::collections::BTreeMap;
 use std::marker::Model;
 
-/// The names of a sheet with their kinds, in order, so a name is found by bisection. The search
-/// takes a URI and a local part, so it allocates no name.
+/// The names of one namespace by their local parts, each with its kind.
+pub(crate) type Group<K> = BTreeMap<String, (Name, K)>;
+
+/// The names of a sheet with their kinds, in one group per namespace, so a search compares URIs
+/// only to find the group.
 #[derive(Debug, Drop)]
 pub(crate) struct Listing<K: Kind> {
-    entries: Vec<(Name, K)>,
+    groups: BTreeMap<String, Group<K>>,
 }
 
 impl<K: Kind> Model for Listing<K> {
-    ghost use Rattle.std.specs.Prelude.{◌≡◌, true};
     ghost use Rattle.std.specs.FinMap as map;
-    ghost use Rattle.std.specs.FinMap.{FinMap, is_sorted};
+    ghost use Rattle.std.specs.FinMap.{FinMap};
     ghost use Rattle.oim_value.specs.ValueOrder.{name_cmp};
+    ghost use Rattle.oim_report.specs.code.Groups.{AreGroups, grouped_entries};
     ghost use Rattle.oim_report.specs.code.SheetCode.{listing_code};
 
     ghost Value = { FinMap name_cmp K };
 
     ghost coded = { listing_code K.code };
 
-    ghost view = { λ a. map.from_sorted a.entries.items };
+    ghost view = { λ a. map.from_entries (grouped_entries a.groups.entries) };
 
-    ghost invariant = { λ a. is_sorted name_cmp a.entries.items ≡ true };
+    ghost invariant = { λ a. AreGroups a.groups };
 }
 
 impl<K: Kind> Listing<K> {
@@ -40,16 +43,41 @@ impl<K: Kind> Listing<K> {
         ensures { result ≡ map.empty }
     {
         Listing {
-            entries: Vec::new(alloc),
+            groups: BTreeMap::new(alloc),
         }
     }
 
-    /// Returns the listing of names that are distinct and already in order.
-    pub(crate) fn of_rising(entries: Vec<(Name, K)>) -> Self
-        requires { is_sorted name_cmp entries.items ≡ true }
-        ensures { result ≡ map.from_sorted entries.items }
+    /// Returns the group of the namespace with this URI.
+    pub(crate) fn group(&self, uri: &str) -> Option<&Group<K>>
+        ensures { IsGroupOf self.now uri.now (option_copied result) }
     {
-        Listing { entries }
+        self.groups.get(uri)
+    }
+
+    /// Removes the group of the namespace with this URI, and returns it. If there is none, it
+    /// returns an empty group.
+    pub(crate) fn take(&mut self, alloc: Global, uri: &str) -> Group<K>
+        ensures names { IsGroup uri.now result }
+        ensures kinds { (l : List ℕ) → option_map (λ e. e.1) (get_by_text result l)
+            ≡ map.get self.old (record { uri = uri.now; local_part = l }) }
+        ensures others { (u l : List ℕ) → map.get self.new (record { uri = u; local_part = l })
+            ≡ (if bytes_eq uri.now u then None else map.get self.old (record { uri = u; local_part = l })) }
+    {
+        self.groups.remove(uri).unwrap_or(BTreeMap::new(alloc))
+    }
+
+    /// Sets the group of the namespace with this URI.
+    ///
+    /// Errors: out of memory; the listing is then unchanged.
+    pub(crate) fn set(&mut self, uri: String, group: Group<K>) -> Result<(), AllocError>
+        requires { IsGroup (string_bytes uri) group }
+        ensures ok { OnOk result ((u l : List ℕ) → map.get self.new (record { uri = u; local_part = l })
+            ≡ (if bytes_eq (string_bytes uri) u then option_map (λ e. e.1) (get_by_text group l)
+            else map.get self.old (record { uri = u; local_part = l }))) }
+        ensures err { OnErr result (self.new ≡ self.old) }
+    {
+        self.groups.insert(uri, group)?;
+        Ok(())
     }
 
     /// Returns the name with this URI and local part, and its kind. It takes no memory.
@@ -59,74 +87,59 @@ impl<K: Kind> Listing<K> {
         ensures name { IfSome result
             (λ e. e.0.now ≡ record { uri = uri.now; local_part = local.now }) }
     {
-        match halve(self.entries.as_slice(), uri, local) {
-            Ok(place) => {
-                let (name, kind) = &self.entries[place];
-                Some((name, *kind))
-            }
-            Err(_) => None,
-        }
+        find_in(self.group(uri), local)
     }
 
     /// Returns whether both have the same names with the same kinds.
     pub(crate) fn same_as(&self, other: &Self) -> bool
         ensures { IsTrue result ↔ (self.now ≡ other.now) }
     {
-        are_same(self.entries.as_slice(), other.entries.as_slice())
+        self.is_within(other) && other.is_within(self)
+    }
+
+    // Returns whether the other listing has each of these names, with the same kind.
+    fn is_within(&self, other: &Self) -> bool
+        ensures { IsTrue result ↔ ((q : QName) (k : K) → map.get self.now q ≡ Some k → map.get other.now q ≡ Some k) }
+    {
+        for (uri, group) in self.groups.iter() {
+            if !has_each(other.group(uri.as_str()), group) {
+                return false;
+            }
+        }
+        true
     }
 }
 
-fn are_same<K: Kind>(one: &[(Name, K)], other: &[(Name, K)]) -> bool
-    ensures { IsTrue result ↔ (one.now ≡ other.now) }
+/// Returns the name with this local part in a group, and its kind. It takes no memory.
+pub(crate) fn find_in<'s, K: Kind>(
+    group: Option<&'s Group<K>>,
+    local: &str,
+) -> Option<(&'s Name, K)>
+    ensures { option_map (λ e. (e.0.now, e.1)) result ≡ in_group (option_copied group.entry) local.now }
 {
-    if one.len() != other.len() {
-        return false;
-    }
-    for (place, entry) in one.iter().enumerate() {
-        if !is_same_entry(entry, &other[place]) {
+    let (name, kind) = group?.get(local)?;
+    Some((name, *kind))
+}
+
+// Returns whether a group has each name of the other, with the same kind.
+fn has_each<K: Kind>(group: Option<&Group<K>>, other: &Group<K>) -> bool
+    ensures { IsTrue result ↔ HasEach (option_copied group.entry) other.now }
+{
+    for (local, entry) in other.iter() {
+        if !has_kind(group, local.as_str(), entry.1) {
             return false;
         }
     }
     true
 }
 
-fn is_same_entry<K: Kind>(one: &(Name, K), other: &(Name, K)) -> bool
-    ensures { IsTrue result ↔ (one.now ≡ other.now) }
+// Returns whether a group has the name with this local part, with this kind.
+fn has_kind<K: Kind>(group: Option<&Group<K>>, local: &str, kind: K) -> bool
+    ensures { IsTrue result
+        ↔ (option_map (λ e. e.1) (in_group (option_copied group.entry) local.now) ≡ Some kind) }
 {
-    one.0 == other.0 && one.1.is(other.1)
-}
-
-/// Returns the index of a name, or the index at which to insert it.
-fn halve<K: Kind>(entries: &[(Name, K)], uri: &str, local: &str) -> Result<usize, usize>
-    requires { is_sorted name_cmp entries.now ≡ true }
-    ensures found { IfOk result (λ i. i < length entries.now) }
-    ensures here { IfOk result (λ i. option_map (λ e. e.0) (slice_get entries.now i)
-        ≡ Some (record { uri = uri.now; local_part = local.now })) }
-    ensures within { IfErr result (λ i. i ≤ length entries.now) }
-    ensures gap { IfErr result (IsPartitionPoint
-        (λ e. name_cmp e.0 (record { uri = uri.now; local_part = local.now }) ≡ Below)
-        (λ e. name_cmp e.0 (record { uri = uri.now; local_part = local.now }) ≡ Above)
-        entries.now) }
-{
-    let mut low = 0;
-    let mut high = entries.len();
-    while low < high {
-        let middle = low + (high - low) / 2;
-        match compare(&entries[middle].0, uri, local) {
-            Ordering::Less => low = middle + 1,
-            Ordering::Equal => return Ok(middle),
-            Ordering::Greater => high = middle,
-        }
-    }
-    Err(low)
-}
-
-/// Compares a name with the name that has this URI and local part.
-fn compare(name: &Name, uri: &str, local: &str) -> Ordering
-    ensures { result ≡ name_cmp name.now (record { uri = uri.now; local_part = local.now }) }
-{
-    match name.uri().cmp(uri) {
-        Ordering::Equal => name.local().cmp(local),
-        apart => apart,
+    match find_in(group, local) {
+        Some((_name, known)) => known.is(kind),
+        None => false,
     }
 }

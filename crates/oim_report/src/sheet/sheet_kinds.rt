@@ -1,16 +1,17 @@
-ghost use Rattle.std.specs.Prelude.{◌≡◌, ◌⊎◌, true, false, None, IfOk, IfErr, option_map};
+ghost use Rattle.std.specs.Prelude.{◌≡◌, ◌⊎◌, true, false, None, IfOk, IfErr, IfSome, OnOk, option_map};
 ghost use Rattle.serde_json.specs.View.{view, members_view};
 ghost use Rattle.oim_report.specs.Json.{members};
 ghost use Rattle.oim_report.specs.Names.{names_refusal};
 ghost use Rattle.oim_report.specs.Sheet.{has_bad_kind, key_names, kind_in, listed};
 
+use crate::document::features::split;
 use crate::fact::given::Given;
 use crate::sheet::gathered::Gathered;
 use crate::sheet::kind::Kind;
 use crate::sheet::listing::Listing;
 use oim_names::{Aliases, Reason};
 use serde_json::{Map, Value};
-use std::alloc::Global;
+use std::alloc::{AllocError, Global};
 
 /// Returns the names that the keys of an object spell, with the kinds that its values name. If
 /// there is no object, there are no names.
@@ -52,17 +53,38 @@ fn list_all<K: Kind>(
         × (has_bad_kind K.kind_named K.same_kind aliases.now ms ≡ true))) }
 {
     let mut gathered = Gathered::new(alloc);
+    let mut last = None;
     for (key, value) in members.iter() {
         let Some(kind) = kind_in::<K>(value) else {
             return Err(Reason::SheetKind);
         };
         let name = aliases.expand(key.as_str())?;
+        let (prefix, _local) = split(key.as_str());
+        turn(&mut gathered, last, prefix, name.uri())?;
+        last = Some(prefix);
         let known = gathered.put(name, kind)?;
         if !kind.is(known) {
             return Err(Reason::SheetKind);
         }
     }
-    Ok(gathered.into_listing(alloc)?)
+    Ok(gathered.into_listing()?)
+}
+
+// Turns to the namespace with this URI, unless the last name had the same prefix. Keys are sorted by
+// prefix, so this compares URIs once per prefix.
+fn turn<K: Kind>(
+    gathered: &mut Gathered<K>,
+    last: Option<&str>,
+    prefix: &str,
+    uri: &str,
+) -> Result<(), AllocError>
+    requires { IfSome last (λ p. p.now ≡ prefix.now → gathered.old.uri ≡ uri.now) }
+    ensures { OnOk result (gathered.new ≡ record { uri = uri.now; names = gathered.old.names }) }
+{
+    if last == Some(prefix) {
+        return Ok(());
+    }
+    gathered.turn_to(uri)
 }
 
 /// Returns the kind that a value names.

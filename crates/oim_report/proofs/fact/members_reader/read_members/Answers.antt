@@ -1,6 +1,7 @@
-use Rattle.std.proofs.Common.{◌≡◌, ◌+◌, get_or, Some, option_map, sym, ap, ◌∙◌}
+use Rattle.std.proofs.Common.{◌≡◌, ◌+◌, get_or, Some, option_map, sym, ap, subst, ◌∙◌}
 use Rattle.std.proofs.lemmas.Bool.{false_from_ne_true}
 use Rattle.oim_dims.specs.DimensionSet.{repeats}
+use Rattle.oim_report.specs.code.NameCache.{IsNameCache, kind_of}
 use Rattle.oim_report.specs.Names.{named}
 use Rattle.oim_report.specs.Said.{dimension_kind}
 use Rattle.oim_report.proofs.InTurn.{found_more, put_in_order}
@@ -15,12 +16,12 @@ loop-key-preserved c =
     let xs = c.args.defined.now in
     let d = seen_item (get_or xs l.key-index _) in
     let kind = c.in-Some.kind in
-    let known : dimension_kind sheet bs d.0 ≡ Some kind = sym c.recall_dimension.ensures.kind ∙ ap (option_map (λ f. f.1)) c.in-Some.is in
+    let known : dimension_kind sheet bs d.0 ≡ Some kind = ap (λ m. kind_of m bs d.0) (sym c.dimensions.ensures) ∙ sym c.find.ensures.kind ∙ ap (option_map (λ f. f.1)) c.in-Some.is in
     let names : named bs d.0 ≡ Some c.in_ok-copied.field-0 = c.in-Some.ensures.name ∙ ap Some (sym c.in_ok-copied.ensures) in
     record {
       known = record {
         concepts = l.invariant.known.concepts;
-        dimensions = c.recall_dimension.ensures.known;
+        dimensions = subst (λ m. IsNameCache m bs c.find.new.self) c.dimensions.ensures c.find.ensures.known;
         entities = l.invariant.known.entities;
         periods = l.invariant.known.periods;
         units = l.invariant.known.units;

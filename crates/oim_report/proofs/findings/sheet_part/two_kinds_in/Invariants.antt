@@ -8,4 +8,4 @@ use Rattle.oim_report.proofs.findings.sheet_part.two_kinds_in.Given as goal
 abbrev pub invariant-loop-key : goal.invariant-loop-key
 invariant-loop-key g l =
     let other = other_kind g.K.Kind.kind_named g.K.Kind.same_kind l.aliases in
-    other l.gathered (entries (members_view l.key-iterator)) ≡ other map.empty (entries (members_view l.listed.entries))
+    other l.gathered.names (entries (members_view l.key-iterator)) ≡ other map.empty (entries (members_view l.listed.entries))

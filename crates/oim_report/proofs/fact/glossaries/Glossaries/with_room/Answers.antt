@@ -1,12 +1,12 @@
 use Rattle.oim_names.specs.Expansion.{Expands, ExpandsEntity}
-use Rattle.oim_report.specs.code.Glossaries.{NamesConcept, NamesDimension, TextSaysLanguage, TextSaysPeriod, TextSaysUnit}
+use Rattle.oim_report.specs.code.Glossaries.{TextSaysLanguage, TextSaysPeriod, TextSaysUnit}
 use Rattle.oim_report.proofs.GlossaryAdds.{none_wrong}
 use Rattle.oim_report.proofs.fact.glossaries.Glossaries.with_room.Goals as goal
 
 pub returns : goal.returns
 returns c = λ sheet bs. record {
-  concepts = none_wrong (NamesConcept sheet bs) c.in_ok-concepts.concepts c.in_ok-concepts.ensures;
-  dimensions = none_wrong (NamesDimension sheet bs) c.in_ok-dimensions.dimensions c.in_ok-dimensions.ensures;
+  concepts = c.in_ok-concepts.ensures sheet.concepts bs;
+  dimensions = c.in_ok-dimensions.ensures sheet.dimensions bs;
   entities = none_wrong (ExpandsEntity bs) c.in_ok-entities.entities c.in_ok-entities.ensures;
   periods = none_wrong TextSaysPeriod c.in_ok-periods.periods c.in_ok-periods.ensures;
   units = none_wrong (TextSaysUnit bs) c.in_ok-units.units c.in_ok-units.ensures;

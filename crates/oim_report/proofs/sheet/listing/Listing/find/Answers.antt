@@ -1,25 +1,11 @@
-use Rattle.std.proofs.Common.{sym, ap, ◌∙◌}
-use Rattle.std.specs.FinMap as map
-use Rattle.oim_names.specs.QName.{QName}
-use Rattle.oim_report.proofs.RisingNames.{stands_here, stands_nowhere}
+use Rattle.std.proofs.Common.{◌∙◌}
+use Rattle.std.specs.Option.{option_copied}
+use Rattle.oim_report.specs.code.Groups.{in_group}
+use Rattle.oim_report.proofs.Grouped.{found_kind, found_name}
 use Rattle.oim_report.proofs.sheet.listing.Listing.find.Goals as goal
 
-pub returns-in-Ok-clause-kind : goal.returns-in-Ok-clause-kind
-returns-in-Ok-clause-kind g c =
-    let q : QName = record { uri = c.args.uri.now; local_part = c.args.local.now } in
-    let found = rw c.as_slice.ensures.value at c.in-Ok.ensures.found in
-    let here = rw c.as_slice.ensures.value at c.in-Ok.ensures.here in
-    sym (stands_here c.self.inside.entries.items q c.in-Ok.place c.index.result.now c.self.invariant found c.index.ensures here).1 ∙ ap (λ m. map.get m q) c.self.view_is
+pub returns-clause-kind : goal.returns-clause-kind
+returns-clause-kind g c = found_kind c.find_in.result (in_group (option_copied c.group.result) c.args.local.now) c.find_in.ensures ∙ (c.group.ensures c.args.local.now).0
 
-pub returns-in-Ok-clause-name : goal.returns-in-Ok-clause-name
-returns-in-Ok-clause-name g c =
-    let q : QName = record { uri = c.args.uri.now; local_part = c.args.local.now } in
-    let found = rw c.as_slice.ensures.value at c.in-Ok.ensures.found in
-    let here = rw c.as_slice.ensures.value at c.in-Ok.ensures.here in
-    (stands_here c.self.inside.entries.items q c.in-Ok.place c.index.result.now c.self.invariant found c.index.ensures here).0
-
-pub returns-in-Err-clause-kind : goal.returns-in-Err-clause-kind
-returns-in-Err-clause-kind g c =
-    let q : QName = record { uri = c.args.uri.now; local_part = c.args.local.now } in
-    let gap = rw c.as_slice.ensures.value at c.in-Err.ensures.gap in
-    sym (stands_nowhere c.self.inside.entries.items q c.in-Err.field-0 c.self.invariant gap) ∙ ap (λ m. map.get m q) c.self.view_is
+pub returns-clause-name : goal.returns-clause-name
+returns-clause-name g c = found_name c.find_in.result (in_group (option_copied c.group.result) c.args.local.now) _ c.find_in.ensures (c.group.ensures c.args.local.now).1

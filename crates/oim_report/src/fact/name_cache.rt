@@ -1,0 +1,103 @@
+ghost use Rattle.std.specs.Prelude.{◌≡◌, List, Some, IfOk, IfSome, option_map};
+ghost use Rattle.std.specs.FinMap.{FinMap};
+ghost use Rattle.oim_names.specs.Bindings.{Binding};
+ghost use Rattle.oim_value.specs.ValueOrder.{name_cmp};
+ghost use Rattle.oim_report.specs.code.NameCache.{IsNameCache, IsReached, kind_of};
+ghost use Rattle.oim_report.specs.Names.{named};
+
+use crate::document::features::split;
+use crate::fact::glossary::Glossary;
+use crate::sheet::kind::Kind;
+use crate::sheet::listing::{Group, Listing, find_in};
+use oim_names::{Aliases, Name};
+use std::alloc::{AllocError, Global};
+use std::collections::BTreeMap;
+
+/// Finds the names of a sheet that one report's texts name. It finds a group once per prefix, so
+/// the other names with this prefix compare no URIs.
+#[derive(Drop)]
+pub(crate) struct NameCache<'s, K: Kind> {
+    alloc: Global,
+    /// Texts that were found.
+    pub(crate) texts: Glossary<(&'s Name, K)>,
+    /// Prefixes, each with the group of its namespace.
+    pub(crate) groups: BTreeMap<String, Option<&'s Group<K>>>,
+}
+
+impl<'s, K: Kind> NameCache<'s, K> {
+    /// Returns an empty cache with capacity for this number of texts.
+    ///
+    /// Errors: out of memory.
+    pub(crate) fn with_room(alloc: Global, texts: usize) -> Result<Self, AllocError>
+        ensures { IfOk result (λ c. (m : FinMap name_cmp K) (bs : List Binding) → IsNameCache m bs c) }
+    {
+        let texts = Glossary::with_room(alloc, texts)?;
+        Ok(NameCache {
+            alloc,
+            texts,
+            groups: BTreeMap::new(alloc),
+        })
+    }
+
+    /// Returns the name that the text names, if the listing has it, and its kind.
+    pub(crate) fn find(
+        &mut self,
+        listing: &'s Listing<K>,
+        aliases: &Aliases,
+        text: &str,
+    ) -> Option<(&'s Name, K)>
+        requires known { IsNameCache listing.now aliases.now self.old }
+        ensures kind { option_map (λ e. e.1) result ≡ kind_of listing.now aliases.now text.now }
+        ensures name { IfSome result (λ e. named aliases.now text.now ≡ Some e.0.now) }
+        ensures known { IsNameCache listing.now aliases.now self.new }
+    {
+        if let Some(known) = self.texts.find(text) {
+            return Some((known.0, known.1));
+        }
+        let (name, kind) = self.look_up(listing, aliases, text)?;
+        self.texts.add(text, (name, kind));
+        Some((name, kind))
+    }
+
+    // Does the same as `find` for a text that was not found before.
+    fn look_up(
+        &mut self,
+        listing: &'s Listing<K>,
+        aliases: &Aliases,
+        text: &str,
+    ) -> Option<(&'s Name, K)>
+        requires known { IsNameCache listing.now aliases.now self.old }
+        ensures kind { option_map (λ e. e.1) result ≡ kind_of listing.now aliases.now text.now }
+        ensures name { IfSome result (λ e. named aliases.now text.now ≡ Some e.0.now) }
+        ensures known { IsNameCache listing.now aliases.now self.new }
+    {
+        match aliases.resolve(text) {
+            Ok((_uri, local)) => {
+                let (prefix, _local) = split(text);
+                find_in(self.group(listing, aliases, prefix), local)
+            }
+            Err(_) => None,
+        }
+    }
+
+    // Returns the group of the namespace that the prefix is bound to.
+    fn group(
+        &mut self,
+        listing: &'s Listing<K>,
+        aliases: &Aliases,
+        prefix: &str,
+    ) -> Option<&'s Group<K>>
+        requires known { IsNameCache listing.now aliases.now self.old }
+        ensures reached { IsReached listing.now aliases.now prefix.now result }
+        ensures known { IsNameCache listing.now aliases.now self.new }
+    {
+        if let Some(known) = self.groups.get(prefix) {
+            return *known;
+        }
+        let group = listing.group(aliases.uri(prefix)?);
+        if let Ok(key) = String::from_str(self.alloc, prefix) {
+            let _replaced = self.groups.insert(key, group);
+        }
+        group
+    }
+}
