@@ -2,13 +2,12 @@
 use Rattle.std.proofs.Common.{◌≡◌, ℕ, List, [], ◌∷◌, Bool, true, false, Option, Some, None, Result, Ok, Err, refl, sym, ap, ◌∙◌, subst}
 use Rattle.std.specs.Prelude.{codes, not, is_none, option_and_then, if◌then◌else◌, IfOk, IfSome, MatchResult, IsUtf8}
 use Rattle.std.specs.Option.{unwrap_or}
-use Rattle.std.specs.Ordering.{is_lt, partial_lt}
+use Rattle.std.specs.Ordering.{is_lt}
 use Rattle.std.proofs.lemmas.Bool.{or_parts, or_from}
 use Rattle.oim_names.specs.declared.reason.Reason.TheVariants.{MemberForm, UnknownMember, DocumentType, Namespace, BaseUrl, TaxonomyUrl, Feature, DisallowedDuplicates}
 use Rattle.oim_value.specs.Level.{level_cmp}
 use Rattle.oim_value.specs.declared.level.Level.{Level}
-use Rattle.oim_value.specs.declared.level.Level.TheVariants.{Unique, Complete, Consistent, All as AllLevel}
-use Rattle.oim_value.specs.contracts.level.LevelPartialOrd.TheImpl.{partial_cmp-value as derived}
+use Rattle.oim_value.specs.declared.level.Level.TheVariants.{All as AllLevel}
 use Rattle.oim_dims.specs.declared.fact.Fact.{Fact}
 use Rattle.serde_json.specs.Data.{Data, object, Members, no_items, put}
 use Rattle.serde_json.specs.Find.{get, as_array, as_object}

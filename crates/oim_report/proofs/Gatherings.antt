@@ -1,24 +1,23 @@
 -- The names of a sheet while one group is apart from the others.
-use Rattle.std.proofs.Common.{◌≡◌, ◌≢◌, ℕ, List, [], ◌∷◌, ◌++◌, Bool, true, false, cond, Option, Some, None, String, string_bytes, refl, sym, ap, subst, ◌∙◌}
+use Rattle.std.proofs.Common.{◌≡◌, ◌≢◌, ℕ, List, [], ◌∷◌, ◌++◌, true, false, cond, Option, Some, None, String, string_bytes, refl, sym, ap, subst, ◌∙◌}
 use Rattle.std.specs.Prelude.{IfSome, OnOk, Result, Ok, Err, is_some, option_map, bytes_eq}
 use Rattle.std.specs.Borrow.{Bor}
-use Rattle.std.specs.BTreeMap.{BTreeMap, Updates, get_by_text, insert_entry, values}
+use Rattle.std.specs.BTreeMap.{get_by_text, insert_entry, values}
 use Rattle.std.specs.Map.{update, values_of}
-use Rattle.std.specs.Ordering.{eq_by_cmp, match_ordering, nat_cmp}
+use Rattle.std.specs.Ordering.{eq_by_cmp, match_ordering}
 use Rattle.std.specs.declared.cmp.Ordering.TheVariants.{Less, Equal, Greater}
 use Rattle.std.specs.Cmp.{eq_by_cmp_equiv}
-use Rattle.std.specs.Cmp.Lexicographic.{slice_cmp}
 use Rattle.std.specs.String.{string_cmp}
 use Rattle.std.specs.FinMap as map
 use Rattle.std.specs.FinMap.{FinMap, entries, find, get-empty, get-entries, get-from_entries, get-insert, same_map}
 use Rattle.std.proofs.lemmas.Cmp.{nat_list_cmp_total}
 use Rattle.std.proofs.lemmas.Map.Lookups.{exact_bytes}
-use Rattle.std.proofs.lemmas.Map.Text.{btree_map_updates_text, is_eq-slice_cmp}
+use Rattle.std.proofs.lemmas.Map.Text.{is_eq-slice_cmp}
 use Rattle.std.proofs.lemmas.Option.{same_Some}
 use Rattle.oim_names.specs.QName.{QName, name_cmp, exact_name}
 use Rattle.oim_names.specs.Bindings.{Binding, uri_of}
 use Rattle.oim_names.proofs.Bytes.{bytes_eq-refl, bytes_not_eq, other_bytes, same_bytes}
-use Rattle.oim_report.specs.code.Groups.{IsGroup, IsGroupOf, in_group, with_group}
+use Rattle.oim_report.specs.code.Groups.{IsGroup, with_group}
 use Rattle.oim_report.proofs.Grouped.{AreNamed, Group, find_append, find_elsewhere, find_here, name, other_uri, same_uri}
 use Rattle.oim_report.proofs.RisingNames.{name_total}
 use Rattle.oim_report.proofs.SheetEntries.{first_of, first_of-none}

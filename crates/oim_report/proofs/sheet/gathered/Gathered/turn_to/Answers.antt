@@ -1,4 +1,4 @@
-use Rattle.std.proofs.Common.{◌≡◌, ◌≢◌, cond, string_bytes, sym, ap, ◌∙◌}
+use Rattle.std.proofs.Common.{◌≢◌, cond, string_bytes, sym, ap, ◌∙◌}
 use Rattle.std.specs.Prelude.{bytes_eq}
 use Rattle.std.specs.FinMap as map
 use Rattle.oim_names.proofs.Bytes.{other_bytes}
