@@ -27,7 +27,6 @@ use Rattle.oim_write.proofs.WrittenOrder.{facts_are_written_in_order}
 -- ---- the members of facts
 
 module _ (facts : List Fact) (rises : IsSet fact_cmp facts) where
-  -- the identifier of the fact at index i is the letter f and the padded number i + 1
   identifier_at : (i : ℕ) (f : Fact) → i < length facts → get_or facts i f ≡ f → identifier facts f ≡ 102 ∷ padded (width (length facts)) (i + 1)
   identifier_at i f within is = ap (λ n. 102 ∷ padded (width (length facts)) n) (ap (λ g. rank fact_cmp g facts) (sym is) ∙ rank_at fact_cmp_total facts i f rises within)
 
@@ -77,7 +76,6 @@ rejoin : (level names comma bound references facts : List ℕ) →
     ≡ (34 ∷ (level ++ (codes "\"},\"namespaces\":{" ++ (names ++ (comma ++ (bound ++ codes "},\"taxonomy\":[")))))) ++ (references ++ (codes "]},\"facts\":{" ++ (facts ++ codes "}}")))
 rejoin level names comma bound references facts = simp append_assoc
 
--- the text is the head, the references, the facts, and two braces
 pub canonical_is : (sheet : Sheet) (b : Body) → Fits sheet b → canonical b ≡ parts_text (head_text (level_of b.facts) (uris b.facts)) (uris b.facts) b
 unfolding canonical escape_byte
 canonical_is sheet b fits =
@@ -92,7 +90,6 @@ canonical_is sheet b fits =
     ++ (codes ",\"facts\":{" ++ ((ap (members_text false) numbered ∙ members_text-parts false facts) i ++ 125 ∷ [])))
     ∙ rejoin (level_entry level).text (parts false (namespace_members us us)) (comma_if (has_some us)) bound_text (text_parts false b.references) (parts false facts))
 
--- the same text, for a given head, level and list of URIs
 pub canonical_of : (sheet : Sheet) (b : Body) (level : Level) (us : List (List ℕ)) (head : List ℕ) → Fits sheet b → head ≡ head_text level us → level ≡ level_of b.facts → us ≡ uris b.facts → parts_text head us b ≡ canonical b
 canonical_of sheet b level us head fits first declared table =
     ap (λ t. parts_text t us b) first

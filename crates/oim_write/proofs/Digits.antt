@@ -34,7 +34,6 @@ unfolding padded
 padded_more zero n h = absurd (h refl)
 padded_more (suc w) n h = let e : suc w - 1 ≡ w = omega arith in rw e refl
 
--- without its last digit, a number with two or more digits needs one digit fewer
 pub fewer_digits : (room n : ℕ) → 10 ≤ n → n < 10 ^ room → (2 ≤ room) × (n / 10 < 10 ^ (room - 1))
 fewer_digits zero n many fits = absurd (omega (arith, pow-zero 10))
 fewer_digits (suc zero) n many fits = absurd (omega (arith, pow-suc 10 0, pow-zero 10))

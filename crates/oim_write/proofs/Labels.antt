@@ -30,7 +30,6 @@ use Rattle.oim_write.proofs.Ranks.{rank_at}
 -- ---- order
 
 module _ {K : Type 0} {R : K → K → Ordering} (o : IsTotalOrder R) (letter : ℕ) (xs : List K) (rises : IsStrictlySortedBy R xs) where
-  -- labels are in the order of the members that they number
   pub numbered_rise : (i j : ℕ) (d : K) → i < j → j < length xs → slice_cmp nat_cmp (numbered letter R (get_or xs i d) xs) (numbered letter R (get_or xs j d) xs) ≡ Less
   numbered_rise i j d apart within =
       let low : rank R (get_or xs i d) xs ≡ i + 1 = rank_at o xs i d rises (omega arith) in
@@ -39,7 +38,6 @@ module _ {K : Type 0} {R : K → K → Ordering} (o : IsTotalOrder R) (letter : 
       after_front nat_cmp_total (letter ∷ []) (padded (width (length xs)) (rank R (get_or xs i d) xs)) (padded (width (length xs)) (rank R (get_or xs j d) xs))
       ∙ padded_keeps_order (width (length xs)) (rank R (get_or xs i d) xs) (rank R (get_or xs j d) xs) (omega (arith, low, high)) (omega (arith, high, fits))
 
-  -- two members have different labels
   pub apart : (i j : ℕ) (x y : K) → i < j → j < length xs → get_or xs i x ≡ x → get_or xs j y ≡ y → numbered letter R x xs ≢ numbered letter R y xs
   apart i j x y under within here there same =
       let less : slice_cmp nat_cmp (numbered letter R x xs) (numbered letter R y xs) ≡ Less =
@@ -110,11 +108,9 @@ module _ (label : List ℕ → List ℕ) where
         | false ↦ λ other. free_under vs p (λ w there. others w (later_there v vs w there))
       ] refl
 
--- a prefix is bound to its URI
 pub prefix_bound : (us : List (List ℕ)) (u : List ℕ) → IsSet text_cmp us → Contains us u → uri_of (map (binding (prefix us)) us) (prefix us u) ≡ Some u
 prefix_bound us u rises at = found_under (prefix us) us u (λ v there same. one_member nat_list_cmp_total 110 us rises v u there at same) at
 
--- the next URI gets the next prefix
 pub bound_more : (us : List (List ℕ)) (i : ℕ) (u : List ℕ) → IsSet text_cmp us → i < length us → u ≡ get_or us i u
     → bound (map (binding (prefix us)) (take i us)) (prefix us u) u ≡ map (binding (prefix us)) (take (i + 1) us)
 bound_more us i u rises within is =

@@ -26,7 +26,6 @@ module _ (us : List (List ℕ)) (digits : ℕ) where
   abbrev pub fact_part : ℕ → Fact → List ℕ
   fact_part before f = part (nat_lt 0 before) (102 ∷ padded digits (before + 1)) (ordered_fact (name_text us) f)
 
-  -- the text of two lists is the text of the first, followed by the text of the second, which is numbered after it
   pub numbered-append : (before : ℕ) (fs gs : List Fact) → numbered_text us digits before (fs ++ gs) ≡ numbered_text us digits before fs ++ numbered_text us digits (before + length fs) gs
   numbered-append before [] gs = ap (λ n. numbered_text us digits n gs) (sym (add-zero before))
   numbered-append before (f ∷ fs) gs =
@@ -53,7 +52,6 @@ module _ (us : List (List ℕ)) (digits : ℕ) where
     length-so_far within = omega (arith, length-map (take i vs) fact_of, length-take-le i vs (omega arith))
 
     module _ (v : Value) (written : List ℕ) (within : i < length vs) (is : v ≡ get_or vs i v) (this : written ≡ fact_part (before + i) (fact_of v)) where
-      -- the text after the next fact is written
       pub next_fact : so_far ++ written ≡ numbered_text us digits before (facts_with s (take (i + 1) vs))
       next_fact =
           ap (λ t. so_far ++ t) (this ∙ sym (append-nil (fact_part (before + i) (fact_of v))))
@@ -62,7 +60,6 @@ module _ (us : List (List ℕ)) (digits : ℕ) where
           ∙ ap (numbered_text us digits before) (sym (map-append fact_of (take i vs) (v ∷ [])))
           ∙ ap (λ ws. numbered_text us digits before (facts_with s ws)) (ap (λ w. take i vs ++ w ∷ []) is ∙ sym (take_more vs i v within))
 
-      -- the text after all remaining facts are written
       pub left_facts : so_far ++ (written ++ rest_text (before + i) (facts_with s (drop (i + 1) vs))) ≡ numbered_text us digits before (facts_with s vs)
       left_facts =
           let rest = drop (i + 1) vs in
@@ -84,11 +81,9 @@ by_entries : (entry : Row → Entry) → ((r : Row) → facts_of_entry (entry r)
 by_entries entry same [] = refl
 by_entries entry same (r ∷ rs) = (λ i. same r i ++ by_entries entry same rs i)
 
--- the rows contain all facts, in order
 pub rows_facts_are : (fs : List Fact) → rows_facts (rows_of fs) ≡ fs
 rows_facts_are fs = sym (by_entries _ (λ r. refl) (rows_of fs)) ∙ facts_are fs
 
--- `done` are the rows written so far, r is the next row, and `rest` are the rows after it
 module _ (before : ℕ) (fs : List Fact) (done rows rest : List Row) (r : Row) (all : done ++ rows ≡ rows_of fs) (next : rows ≡ r ∷ rest) (count : before ≡ length (rows_facts done)) where
   facts_split : fs ≡ rows_facts done ++ (row_facts r ++ rows_facts rest)
   facts_split = sym (rows_facts_are fs) ∙ ap rows_facts (sym all ∙ ap (λ rs. done ++ rs) next) ∙ flat_map-append row_facts done (r ∷ rest)
@@ -107,14 +102,12 @@ module _ (before : ℕ) (fs : List Fact) (done rows rest : List Row) (r : Row) (
   count_with_row = omega (arith, count, length-row_facts, ap length facts_with_row, length-append (rows_facts done) (row_facts r))
 
   module _ (us : List (List ℕ)) (digits : ℕ) where
-    -- the text after the next row is written
     pub next_row : numbered_text us digits 0 (rows_facts done) ++ numbered_text us digits before (row_facts r) ≡ numbered_text us digits 0 (rows_facts (done ++ r ∷ []))
     next_row =
         ap (λ n. numbered_text us digits 0 (rows_facts done) ++ numbered_text us digits n (row_facts r)) (count ∙ sym (zero-add (length (rows_facts done))))
         ∙ sym (numbered-append us digits 0 (rows_facts done) (row_facts r))
         ∙ ap (numbered_text us digits 0) (sym facts_with_row)
 
-    -- the text after all remaining rows are written
     pub left_rows : numbered_text us digits 0 (rows_facts done) ++ (numbered_text us digits before (row_facts r) ++ numbered_text us digits (before + length r.1) (rows_facts rest)) ≡ numbered_text us digits 0 fs
     left_rows =
         ap (λ n. numbered_text us digits 0 (rows_facts done) ++ (numbered_text us digits before (row_facts r) ++ numbered_text us digits (before + n) (rows_facts rest))) (sym length-row_facts)

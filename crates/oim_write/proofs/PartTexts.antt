@@ -11,7 +11,6 @@ use Rattle.oim_write.specs.Tree.{text_items}
 
 -- ---- written by a JSON writer
 
--- new tokens follow the old ones
 pub behind : (us : List Token) {xs ys zs : List Token} → zs ≡ ys ++ us → ys ≡ xs → zs ≡ xs ++ us
 behind us step so_far = step ∙ ap (λ ts. ts ++ us) so_far
 
@@ -37,7 +36,6 @@ item_is old before later d ts front tokens =
 pub next_part : (text new all part more : List ℕ) → new ≡ text ++ part → text ++ (part ++ more) ≡ all → new ++ more ≡ all
 next_part text new all part more step so_far = ap (λ t. t ++ more) step ∙ append_assoc text part more ∙ so_far
 
--- appending a part to an empty text gives the part
 pub behind_nothing : {old new part : List ℕ} → new ≡ old ++ part → old ≡ [] → new ≡ part
 behind_nothing {part = part} step none = step ∙ ap (λ t. t ++ part) none
 
@@ -46,7 +44,6 @@ behind_nothing {part = part} step none = step ∙ ap (λ t. t ++ part) none
 regroup : (c q t r : List ℕ) → c ++ (q ++ 58 ∷ (t ++ r)) ≡ (c ++ (q ++ 58 ∷ t)) ++ r
 regroup c q t r = simp append_assoc
 
--- the text of an object's members is their parts and a closing brace
 pub members_text-parts : (later : Bool) (ms : Members) → members_text later ms ≡ parts later ms ++ 125 ∷ []
 members_text-parts later no_members = refl
 members_text-parts later (member k d ms) =
@@ -57,7 +54,6 @@ members_text-parts later (member k d ms) =
 regroup_item : (c q t r : List ℕ) → c ++ (q ++ (t ++ r)) ≡ ((c ++ q) ++ t) ++ r
 regroup_item c q t r = simp append_assoc
 
--- the text of an array's items is their parts and a closing bracket
 pub items_text-parts : (later : Bool) (ts : List (List ℕ)) → items_text later (text_items ts) ≡ text_parts later ts ++ 93 ∷ []
 items_text-parts later [] = refl
 items_text-parts later (t ∷ ts) =

@@ -7,12 +7,10 @@ use Rattle.oim_write.specs.Sink.{AppendsFirst, AppendsFront, saturated, written_
 use Rattle.oim_write.specs.SinkBuffer.{Pending, Passes, Breaks, nothing_yet}
 use Rattle.oim_write.specs.declared.write_fault.WriteFault.{WriteFault}
 
--- if a result is not an error, the property for success holds
 pub holds_where_ok : {T E P : Type 0} (r : Result T E) → false ≡ is_err r → OnOk r P → P
 holds_where_ok (Ok x) e p = p
 holds_where_ok (Err x) e p = cc
 
--- pushing an empty text changes nothing
 pub Passes-nil : (a : Option (List ℕ)) (p : Pending) → Passes a a p p []
 Passes-nil a p = record {
   front = [];
@@ -21,7 +19,6 @@ Passes-nil a p = record {
   count = ap saturated (sym (add-zero p.written));
 }
 
--- pushing two texts is pushing them as one
 pub Passes-trans : {a b c : Option (List ℕ)} {p q r : Pending} {xs ys : List ℕ} → Passes a b p q xs → Passes b c q r ys → Passes a c p r (xs ++ ys)
 Passes-trans {a} {b} {c} {p} {q} {r} {xs} {ys} first second = record {
   front = first.front ++ second.front;
@@ -31,12 +28,10 @@ Passes-trans {a} {b} {c} {p} {q} {r} {xs} {ys} first second = record {
   count = omega (arith, first.count, second.count, length-append first.front second.front);
 }
 
--- if nothing was pushed before and nothing waits, the sink took the whole text
 pub Appends-passed : {a b : Option (List ℕ)} {p q : Pending} {text : List ℕ} → p ≡ nothing_yet → Passes a b p q text → q.bytes ≡ [] → Appends a b text
 Appends-passed {text = text} new passed none =
     rw (ap (λ (p : Pending). p.bytes ++ text) (sym new) ∙ passed.whole ∙ ap (λ l. passed.front ++ l) none ∙ append-nil passed.front) passed.appended
 
--- a fault in a text is also a fault in a longer text
 pub Breaks-more : {a b : Option (List ℕ)} {p : Pending} {xs : List ℕ} {written : ℕ} (more : List ℕ) → Breaks a b p xs written → Breaks a b p (xs ++ more) written
 Breaks-more {p = p} {xs = xs} more broken = record {
   front = broken.front;
@@ -46,7 +41,6 @@ Breaks-more {p = p} {xs = xs} more broken = record {
   count = broken.count;
 }
 
--- a fault in the second text is a fault in the two texts as one
 pub Breaks-trans : {a b c : Option (List ℕ)} {p q : Pending} {xs ys : List ℕ} {written : ℕ} → Passes a b p q xs → Breaks b c q ys written → Breaks a c p (xs ++ ys) written
 Breaks-trans {a} {b} {c} {p} {q} {xs} {ys} passed broken = record {
   front = passed.front ++ broken.front;
@@ -57,7 +51,6 @@ Breaks-trans {a} {b} {c} {p} {q} {xs} {ys} passed broken = record {
   count = omega (arith, passed.count, broken.count, length-append passed.front broken.front);
 }
 
--- if nothing was pushed before the text, the sink has a first part of it after a fault
 pub AppendsFront-broken : {a b : Option (List ℕ)} {p : Pending} {text : List ℕ} {written : ℕ} → p ≡ nothing_yet → Breaks a b p text written → AppendsFront a b text written
 AppendsFront-broken {text = text} new broken = record {
   front = broken.front;
@@ -67,14 +60,13 @@ AppendsFront-broken {text = text} new broken = record {
   count = broken.count ∙ ap (λ (p : Pending). saturated (p.written + length broken.front)) new ∙ ap saturated (zero-add (length broken.front));
 }
 
--- the same, if the fault occurs in the flush after the text
+-- a fault in the flush after the text
 pub AppendsFront-flushed : {a b : Option (List ℕ)} {p q : Pending} {text : List ℕ} (c : Option (List ℕ)) (r : Result (Unit {0}) WriteFault) → p ≡ nothing_yet → Passes a b p q text
     → IfErr r (λ fault. Breaks b c q [] (written_of fault)) → IfErr r (λ fault. AppendsFront a c text (written_of fault))
 AppendsFront-flushed c (Ok x) new passed broken = tt
 AppendsFront-flushed c (Err fault) new passed broken =
     let both = AppendsFront-broken new (Breaks-trans passed broken) in rw append-nil at both
 
--- a pushed text may wait completely
 pub Passes-waiting : (a : Option (List ℕ)) (p : Pending) (text : List ℕ) → Passes a a p (record { written = p.written; bytes = p.bytes ++ text }) text
 Passes-waiting a p text = record {
   front = [];
@@ -83,7 +75,6 @@ Passes-waiting a p text = record {
   count = ap saturated (sym (add-zero p.written));
 }
 
--- a fault may occur before the sink took a byte
 pub Breaks-none : (a : Option (List ℕ)) (p : Pending) (text : List ℕ) → p.written ≤ 2 ^ 64 - 1 → Breaks a a p text p.written
 Breaks-none a p text small = record {
   front = [];
@@ -93,7 +84,6 @@ Breaks-none a p text small = record {
   count = omega arith;
 }
 
--- a fault may occur after the sink took the first n waiting bytes
 pub Breaks-first : (a b : Option (List ℕ)) (p : Pending) (n : ℕ) → AppendsFirst a b p.bytes n → Breaks a b p [] (saturated (p.written + n))
 Breaks-first a b p n put = record {
   front = take n p.bytes;

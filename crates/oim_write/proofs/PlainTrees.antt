@@ -94,7 +94,6 @@ level_utf8 Complete = IsUtf8-are_ascii _ refl
 level_utf8 Consistent = IsUtf8-are_ascii _ refl
 level_utf8 AllLevel = IsUtf8-are_ascii _ refl
 
--- the prefixes n1, n2 .. come before `xbrl`
 prefix_before : (declared : Option Level) (us : List (List ℕ)) (u : List ℕ) → IsBefore (prefix us u) (xbrl_member declared)
 prefix_before None us u = tt
 prefix_before (Some l) us u = (refl, tt)

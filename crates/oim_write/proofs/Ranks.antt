@@ -24,7 +24,6 @@ no_more : (b : Bool) (n m : ℕ) → b ≡ false → n ≡ m → cond b 1 0 + n 
 no_more true n m e h = cc
 no_more false n m e h = omega arith
 
--- the partition point is the number of elements that pass the test
 pub count_at : {K : Type 0} (p : K → Bool) (xs : List K) (i : ℕ) → i ≤ length xs → IsPartitionPoint (λ y. p y ≡ true) (λ y. p y ≡ false) xs i → count_by p xs ≡ i
 count_at p [] i h point = omega arith
 count_at p (x ∷ xs) zero h point =
@@ -39,7 +38,6 @@ less Less e = refl
 less Equal e = cc
 less Greater e = cc
 
--- the members that are smaller than x come before the others
 pub parted : {K : Type 0} {R : K → K → Ordering} (o : IsTotalOrder R) (xs : List K) (x : K) → IsStrictlySortedBy R xs → IsPartitionedBy (λ y. is_lt (R y x)) xs
 parted {R = R} o xs x rises i j d h below e = ⊎_elim
     (λ before. let apart : i < j = grind (arith, nat_tests) in
@@ -58,7 +56,6 @@ not_after {R = R} o xs i j d e rises order within = ⊎_elim
     ap is_lt (ap (λ x. R x (get_or xs i d)) (ap (λ k. get_or xs k e) same ∙ get_or_default xs i e d (omega arith)) ∙ tied_itself o (get_or xs i d)))
     (cases_Bool (nat_lt i j))
 
--- the member at an index has the rank index + 1
 pub rank_at : {K : Type 0} {R : K → K → Ordering} (o : IsTotalOrder R) (xs : List K) (i : ℕ) (d : K) → IsStrictlySortedBy R xs → i < length xs → rank R (get_or xs i d) xs ≡ i + 1
 rank_at {R = R} o xs i d rises h =
     let place : count_by (λ y. is_lt (R y (get_or xs i d))) xs ≡ i = count_at (λ y. is_lt (R y (get_or xs i d))) xs i (omega arith)

@@ -53,7 +53,6 @@ module _ {A : Type 0} where
     by_part xs zs x (on_left xs ys x) (λ h. on_right xs ys x ((same x).1 h)),
   )
 
--- a row with one value has the names of its fact
 alone : (f : Fact) → row_names (f.dimensions, f.value ∷ []) ≡ fact_names f
 alone f = ap (λ ns. dimension_names f.dimensions ++ ns) (append-nil (value_names f.value))
 
@@ -86,7 +85,6 @@ uris_of_rows fs u = (
   same_uris (flat_map fact_names fs) (flat_map row_names (rows_of fs)) u (λ n. (names_of_rows fs n).1),
 )
 
--- a set that gained the names of all rows contains exactly the URIs of the facts
 pub uris_gained : (fs : List Fact) (set : List (List ℕ)) → IsSet text_cmp set → Gains [] (flat_map row_names (rows_of fs)) set → set ≡ uris fs
 uris_gained fs set rises gained = is_set_of text_cmp_total text_cmp_exact set (uris_of_names (flat_map fact_names fs)) rises (λ u. (
   λ h. (uris_of_rows fs u).0 (⊎_elim (none_there u) (λ of_rows. of_rows) ((gained.members u).0 h)),

@@ -30,7 +30,6 @@ list_all-behind p (x ∷ xs) c all one =
     let both = and_parts (p x) (list_all p xs) all in
     and_from (p x) (list_all p (xs ++ c ∷ [])) both.0 (list_all-behind p xs c both.1 one)
 
--- padded numbers pass a test that each digit passes
 digits_pass : (p : ℕ → Bool) → ((n : ℕ) → p (48 + n % 10) ≡ true) → (w n : ℕ) → list_all p (padded w n) ≡ true
 unfolding padded
 digits_pass p each zero n = refl
@@ -42,7 +41,6 @@ name_digit n = let small : n % 10 < 10 = omega arith in grind (arith, nat_tests)
 not_none : (n : ℕ) → not (suc n == 0) ≡ true
 not_none n = grind (arith, nat_tests)
 
--- a prefix is well-formed
 pub prefix_is_part : (us : List (List ℕ)) (u : List ℕ) → is_part (prefix us u) ≡ true
 prefix_is_part us u = and_from _ _ (digits_pass is_name_byte name_digit (width (length us)) (rank text_cmp u us)) (not_none _)
 

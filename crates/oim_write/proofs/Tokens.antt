@@ -18,7 +18,6 @@ outlined : (ms : Members) → tree.members_tokens (members_outline ms) ≡ membe
 outlined no_members = refl
 outlined (member k d ms) = ap (λ ts. key k ∷ (tree.json_tokens (outline d) ++ ts)) (outlined ms) ∙ ap (λ ts. key k ∷ ts) (sym (append_assoc (tree.json_tokens (outline d)) (members_tokens ms) (end_object ∷ [])))
 
--- an object's tokens are its members' tokens between the two braces
 pub object_tokens : (ms : Members) → tree.json_tokens (outline (object ms)) ≡ begin_object ∷ (members_tokens ms ++ end_object ∷ [])
 object_tokens ms = ap (λ ts. begin_object ∷ ts) (outlined ms)
 
@@ -40,7 +39,6 @@ module _ (spelled : QName → List ℕ) where
       ap (λ ts. key (spelled e.0) ∷ (tree.json_tokens (outline (member_data spelled e.1)) ++ ts)) (defined_tokens es ms)
       ∙ ap (λ ts. key (spelled e.0) ∷ ts) (sym (append_assoc (tree.json_tokens (outline (member_data spelled e.1))) (members_tokens (defined_members spelled es no_members)) (members_tokens ms)))
 
-  -- appending a dimension appends its tokens
   pub defined_next : (es : List (QName × Member)) (e : QName × Member) →
       members_tokens (defined_members spelled (es ++ e ∷ []) no_members)
       ≡ members_tokens (defined_members spelled es no_members) ++ key (spelled e.0) ∷ tree.json_tokens (outline (member_data spelled e.1))
@@ -78,7 +76,6 @@ then_decimals v ms decimals rest = Adds-is (sym (decimals_tokens v ms)) (Adds-tr
 pub then_defined : {a b c : Written} (spelled : QName → List ℕ) {es fs : List (QName × Member)} (ms : Members) → es ≡ fs → AddsMembers a b (defined_members spelled es no_members) → AddsMembers b c ms → AddsMembers a c (defined_members spelled fs ms)
 then_defined spelled {es} ms is defined rest = Adds-is (sym (defined_tokens spelled es ms) ∙ ap (λ ds. members_tokens (defined_members spelled ds ms)) is) (Adds-trans defined rest)
 
--- a closing brace completes the object
 pub closed_object : {E : Type 0} {a b c d : Written} (r : Result (Unit {0}) E) (ms : Members) → Adds a b (begin_object ∷ []) → AddsMembers b c ms → Writes r c d end_object → OnOk r (AddsValue a d (object ms))
 closed_object (Ok done) ms begun members closed = Adds-is (sym (object_tokens ms)) (Adds-trans begun (Adds-trans members (Adds-one closed)))
 closed_object (Err e) ms begun members closed = tt

@@ -21,13 +21,11 @@ use Rattle.oim_write.specs.code.Table.{Gains}
 pub gains_none : (us : List (List ℕ)) → Gains us [] us
 gains_none us = record { members = λ u. (λ old. inl old, ⊎_elim (λ old. old) (none_there u)) }
 
--- a known URI adds nothing
 pub gains_known : (us : List (List ℕ)) (n : QName) → Contains us n.uri → Gains us (n ∷ []) us
 gains_known us n there = record {
   members = λ u. (λ old. inl old, ⊎_elim (λ old. old) (λ one. ⊎_elim (λ is. subst (Contains us) is there) (none_there u) (first_or_later n.uri [] u one)));
 }
 
--- two additions together add the names of both
 pub gains_both : {a b c : List (List ℕ)} {ns ms : List QName} → Gains a ns b → Gains b ms c → Gains a (ns ++ ms) c
 gains_both {a} {b} {c} {ns} {ms} first second = record {
   members = λ u.
@@ -46,7 +44,7 @@ gains_both {a} {b} {c} {ns} {ms} first second = record {
       );
 }
 
--- a loop over a list adds the names of the next item
+-- one loop step adds the names of the next item
 pub gains_more : {A : Type 0} (names : A → List QName) {a b c : List (List ℕ)} (xs : List A) (i : ℕ) (x : A) → i < length xs → x ≡ get_or xs i x
     → Gains a (flat_map names (take i xs)) b → Gains b (names x) c → Gains a (flat_map names (take (i + 1) xs)) c
 gains_more names {a} {b} {c} xs i x within is first second =
@@ -63,7 +61,6 @@ gains_name {a} {b} {c} ns i n within is first second =
 
 -- ---- the set of a list of URIs
 
--- one more URI in the list adds that URI to the set
 pub gains_one : (us : List (List ℕ)) (n : QName) → Gains (set_of text_cmp us) (n ∷ []) (set_of text_cmp (us ++ n.uri ∷ []))
 gains_one us n =
     let old = set_of_is_set text_cmp_total text_cmp_exact us in
@@ -87,7 +84,6 @@ told_there us i known u false is within there = tt
 pub set_rises : (us : List (List ℕ)) → IsSet text_cmp (set_of text_cmp us)
 set_rises us = (set_of_is_set text_cmp_total text_cmp_exact us).rises
 
--- sorting the list does not change the set
 pub set_of_set : (us : List (List ℕ)) → set_of text_cmp (set_of text_cmp us) ≡ set_of text_cmp us
 set_of_set us = same_sets text_cmp_total text_cmp_exact (set_of text_cmp us) us (set_of_is_set text_cmp_total text_cmp_exact us).members
 

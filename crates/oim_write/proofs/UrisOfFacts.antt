@@ -30,7 +30,6 @@ own_name (n, Nil) = first_there n []
 own_name (n, Text t) = first_there n []
 own_name (n, Name m) = first_there n (m ∷ [])
 
--- the names of a fact include the names of its taxonomy-defined dimensions
 pub defined_there : (f : Fact) (e : QName × Member) → Contains f.dimensions.members e → Contains (fact_names f) e.0
 defined_there f e at =
     let d = f.dimensions in

@@ -22,7 +22,7 @@ earlier b = compact_text (earlier_tree b)
 abbrev pub BytesIgnoreOrder : Type 0
 BytesIgnoreOrder = (ds es : List Document) → SameMembers ds es → canonical (body ds) ≡ canonical (body es)
 
--- the tree of a body that fits a sheet has UTF-8 texts and no float, the keys of its objects are distinct and in byte order, and it nests
--- at most four deep; that holds for each declared level
+-- The tree of a body that fits a sheet has UTF-8 texts and no float, and it nests at most four deep. The keys of its objects are distinct
+-- and in byte order. This holds for each declared level.
 abbrev pub TreesArePlain : Type 0
 TreesArePlain = (sheet : Sheet) (b : Body) (declared : Option Level) → Fits sheet b → IsPlainJson (tree_declaring declared b) 4

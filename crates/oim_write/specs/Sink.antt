@@ -30,7 +30,7 @@ abbrev pub failures_after_fault : WriteFault → ℕ → ℕ
 failures_after_fault (OutOfMemory w) n = n
 failures_after_fault (Device w) n = n + 1
 
--- the same, for any result of a call
+-- the failures after a call with any result
 abbrev pub failures_after_write : {T : Type 0} → Result T WriteFault → ℕ → ℕ
 failures_after_write (Ok x) n = n
 failures_after_write (Err fault) n = failures_after_fault fault n

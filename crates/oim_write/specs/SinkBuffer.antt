@@ -19,7 +19,7 @@ pub record Passes (old new : Option (List ℕ)) (before after : Pending) (text :
   pub appended : Appends old new front
   pub count : saturated after.written ≡ saturated (before.written + length front)
 
--- a fault while the text was pushed: the sink took a first part of the waiting bytes and the text; `written` counts all its bytes
+-- a fault during a push: the sink took a first part of the waiting bytes and the text, and `written` is the number of all bytes that it took
 pub record Breaks (old new : Option (List ℕ)) (before : Pending) (text : List ℕ) (written : ℕ) : Type 0 where
   pub front : List ℕ
   pub rest : List ℕ

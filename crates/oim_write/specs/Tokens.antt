@@ -6,7 +6,7 @@ use Rattle.json.specs.Written.{Written}
 use Rattle.serde_json.specs.Data.{Data, Members, no_members, member}
 use Rattle.serde_json.specs.Written.{outline}
 
--- the further tokens were appended
+-- these tokens were appended
 pub record Adds (old new : Written) (further : List Token) : Type 0 where
   pub tokens : new.tokens ≡ old.tokens ++ further
   pub before : new.before ≡ old.before

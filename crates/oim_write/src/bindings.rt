@@ -9,8 +9,8 @@ use fact_base::Base;
 use oim_names::Aliases;
 use std::alloc::{AllocError, Global};
 
-/// The prefixes of a base's text. The URIs of its names, in byte order, get `n1`, `n2` and so on.
-/// All numbers are padded with zeros to the same width (own).
+/// Returns the prefixes of a base's text: `n1`, `n2` and so on for the URIs of its names, in byte
+/// order. All numbers are padded with zeros to the same width (own).
 ///
 /// Errors: out of memory.
 pub fn prefixes(alloc: Global, base: &Base<'_>) -> Result<Aliases, AllocError>

@@ -32,7 +32,7 @@ pub(crate) fn write_fact<S: Spelling>(
     json.end_object()
 }
 
-/// Writes the decimals of a number as a member if they are finite.
+/// Writes the member `decimals` if the value is a number with finite decimals.
 ///
 /// Errors: out of memory.
 pub fn write_decimals(json: &mut Writer, value: &Value) -> Result<(), AllocError>
@@ -48,7 +48,7 @@ pub fn write_decimals(json: &mut Writer, value: &Value) -> Result<(), AllocError
     json.i64(i64::from(places))
 }
 
-/// Writes dimensions as an object. Its members are in the order in which a canonical text has them.
+/// Writes dimensions as an object, with its members in the order of a canonical text.
 ///
 /// Errors: out of memory.
 pub fn write_dimensions<S: Spelling>(
@@ -101,7 +101,7 @@ fn write_text(json: &mut Writer, key: &str, text: Option<&Text>) -> Result<(), A
     json.string(text.as_str())
 }
 
-/// Writes taxonomy-defined dimensions as members. Each name is written to the buffer `text` first.
+/// Writes taxonomy-defined dimensions as members. `text` is a reused buffer.
 ///
 /// Errors: out of memory.
 pub fn write_defined<S: Spelling>(
@@ -163,7 +163,7 @@ fn write_unit_member<S: Spelling>(
     json.string(text.as_str())
 }
 
-/// Writes a value.
+/// Writes a value: null for nil, otherwise a string (xBRL-JSON 1.0).
 ///
 /// Errors: out of memory.
 pub fn write_value<S: Spelling>(

@@ -31,7 +31,6 @@ pub(crate) struct Labels<'t> {
     pub digits: usize,
 }
 
-/// The text before the first reference.
 pub(crate) fn head(alloc: Global, level: Level, table: &PrefixTable) -> Result<Vec<u8>, AllocError>
     ensures { IfOk result (λ text. text.items ≡ head_text level table.now) }
 {
@@ -70,7 +69,6 @@ fn append_namespaces(
     Ok(())
 }
 
-// Appends one member of `namespaces`.
 fn append_namespace(
     alloc: Global,
     text: &mut Vec<u8>,
@@ -89,7 +87,6 @@ fn append_namespace(
     Ok(())
 }
 
-/// Appends one item of `taxonomy`.
 pub(crate) fn append_reference(
     alloc: Global,
     text: &mut Vec<u8>,
@@ -106,7 +103,7 @@ pub(crate) fn append_reference(
     Ok(())
 }
 
-/// Appends one member of `facts`. `before` is the number of facts before it.
+/// `before` is the number of facts before this one.
 pub(crate) fn append_fact(
     text: &mut Vec<u8>,
     scratch: &mut Scratch,

@@ -8,7 +8,7 @@ use oim_names::Text;
 use std::alloc::{AllocError, Global};
 use std::marker::Model;
 
-/// The number of classes. It is a prime, so that days spread over all classes.
+/// The number of classes. It is prime, so that days spread over all classes.
 const CLASSES: u64 = 251;
 
 /// A period with its text; `Period::Forever` has none.
@@ -99,7 +99,6 @@ impl PeriodTexts {
     }
 }
 
-// Extends the cache until it has an entry for the class.
 fn reach(texts: &mut Vec<PeriodText>, class: usize) -> Result<(), AllocError>
     ensures { OnOk result (class < length texts.new.items) }
 {

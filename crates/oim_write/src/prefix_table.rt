@@ -32,7 +32,6 @@ impl Model for PrefixTable {
 }
 
 impl PrefixTable {
-    /// Collects the URIs of the facts' names in one pass over the rows.
     pub(crate) fn of(alloc: Global, base: &Base<'_>) -> Result<PrefixTable, AllocError>
         ensures { IfOk result (λ table. table ≡ uris base.now.body.facts) }
     {
@@ -50,21 +49,19 @@ impl PrefixTable {
         })
     }
 
-    /// The URIs, distinct and in order.
     pub(crate) fn uris(&self) -> &[Text]
         ensures { result.now ≡ self.now }
     {
         self.uris.as_slice()
     }
 
-    /// The prefix of a URI: the letter n and its rank.
     pub(crate) fn prefix(&self, alloc: Global, uri: &str) -> Result<String, AllocError>
         ensures { IfOk result (λ text. string_bytes text ≡ prefix self.now uri.now) }
     {
         label(alloc, "n", self.digits, self.rank(uri))
     }
 
-    // Few classes have several URIs, so the cache usually has the index.
+    // Few URIs share a class, so the cache usually has the index.
     fn rank(&self, uri: &str) -> u128
         ensures { result ≡ rank text_cmp uri.now self.now }
     {
@@ -82,7 +79,6 @@ impl PrefixTable {
     }
 }
 
-// The prefix of the name's URI, a colon and the local part.
 impl Spelling for PrefixTable {
     ghost use Rattle.oim_write.specs.Tree.{name_text};
 
@@ -95,7 +91,7 @@ impl Spelling for PrefixTable {
     }
 }
 
-// Caches the index of each URI. If several URIs have one class, the last is cached.
+// Caches the index of each URI. If several URIs share a class, the last is cached.
 fn places_of(uris: &[Text]) -> PositionCache {
     let mut cache = PositionCache::new();
     for (place, uri) in uris.iter().enumerate() {

@@ -18,7 +18,6 @@ pub fn identifier(alloc: Global, rank: u128, count: u128) -> Result<Text, AllocE
     Text::new(alloc, text.as_str())
 }
 
-/// The number of digits of a number.
 #[tactic(auto, unfolding(crate::specs::Rank::digits_up_to))]
 pub(crate) fn width_of(number: u128) -> usize
     ensures { result ≡ width number }
@@ -32,7 +31,6 @@ pub(crate) fn width_of(number: u128) -> usize
     digits
 }
 
-/// A text followed by the last `digits` digits of a number.
 pub(crate) fn label(
     alloc: Global,
     front: &str,
@@ -46,7 +44,6 @@ pub(crate) fn label(
     Ok(text)
 }
 
-/// Appends a text and the last `digits` digits of a number.
 pub(crate) fn push_label(
     text: &mut String,
     front: &str,

@@ -15,8 +15,8 @@ pub trait Sink {
     /// The number of failures so far.
     ghost failures: { Self → ℕ };
 
-    /// Appends the first of these bytes and returns their number: at least 1, unless no bytes were
-    /// given. On an error it appends none and counts one more failure.
+    /// Appends a first part of these bytes and returns its length, which is at least 1 unless no
+    /// bytes are given. On an error, it appends nothing and counts one more failure.
     fn put(&mut self, bytes: &[u8]) -> Result<usize, SinkError>
         requires { failures self.old < 2 ^ 64 - 1 }
         ensures bytes { WriteAppends (told self.old) (told self.new) result bytes.now }
@@ -29,7 +29,9 @@ pub trait Sink {
         ensures { result ≡ failures self.now };
 }
 
-/// Writes all these bytes to the sink, or returns how many the sink took before it failed.
+/// Writes all these bytes to the sink.
+///
+/// Errors: the number of bytes that the sink took before it failed.
 pub fn put_all<S: Sink>(sink: &mut S, bytes: &[u8]) -> Result<(), usize>
     requires { S.failures sink.old < 2 ^ 64 - 1 }
     ensures ok { OnOk result (Appends (S.told sink.old) (S.told sink.new) bytes.now) }

@@ -10,8 +10,8 @@ use std::marker::Model;
 /// Once this many bytes wait, they are written to the sink.
 const CHUNK: usize = 1 << 16;
 
-/// A text on its way to a sink. It counts the bytes that the sink took, and keeps the rest until
-/// they fill a chunk or are flushed. It must not be used after a fault.
+/// A text on its way to a sink. It counts the bytes that the sink took and stores the waiting bytes
+/// until they fill a chunk or are flushed. It must not be used after a fault.
 #[derive(Drop)]
 pub struct SinkBuffer {
     buffer: Vec<u8>,
@@ -31,6 +31,8 @@ impl Model for SinkBuffer {
 
 impl SinkBuffer {
     /// Starts an empty text and requests the memory for one chunk.
+    ///
+    /// Errors: out of memory.
     pub fn new(alloc: Global) -> Result<SinkBuffer, AllocError>
         ensures { IfOk result (λ made. made ≡ nothing_yet) }
     {
@@ -40,7 +42,9 @@ impl SinkBuffer {
         })
     }
 
-    /// Appends bytes. Once they fill a chunk, all waiting bytes are written to the sink.
+    /// Appends bytes. Once a chunk is full, all waiting bytes are written to the sink.
+    ///
+    /// Errors: `Device` if the sink failed; `OutOfMemory`.
     pub fn push<S: Sink>(&mut self, sink: &mut S, bytes: &[u8]) -> Result<(), WriteFault>
         requires { S.failures sink.old < 2 ^ 64 - 1 }
         ensures ok { OnOk result
@@ -59,6 +63,8 @@ impl SinkBuffer {
     }
 
     /// Writes all waiting bytes to the sink.
+    ///
+    /// Errors: `Device` if the sink failed.
     pub fn flush<S: Sink>(&mut self, sink: &mut S) -> Result<(), WriteFault>
         requires { S.failures sink.old < 2 ^ 64 - 1 }
         ensures ok { OnOk result (Passes (S.told sink.old) (S.told sink.new) self.old self.new []) }

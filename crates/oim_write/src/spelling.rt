@@ -54,7 +54,7 @@ fn push_unit<S: Spelling>(text: &mut String, spelling: &S, unit: &Unit) -> Resul
     push_side(text, spelling, unit.denominators())
 }
 
-// Appends one side of a unit that has two sides.
+// Only a unit with two sides has parentheses, around a side with several measures.
 fn push_side<S: Spelling>(text: &mut String, spelling: &S, names: &[Name]) -> Result<(), AllocError>
     ensures { OnOk result (string_bytes text.new ≡ string_bytes text.old ++ side_text (S.spelled spelling.now) names.now) }
 {
@@ -66,7 +66,6 @@ fn push_side<S: Spelling>(text: &mut String, spelling: &S, names: &[Name]) -> Re
     text.push_str(")")
 }
 
-// Appends measures with `*` between them.
 fn push_product<S: Spelling>(
     text: &mut String,
     spelling: &S,

@@ -47,7 +47,6 @@ impl UriSet {
         }
     }
 
-    /// The URIs in order.
     pub(crate) fn into_uris(self) -> Vec<Text>
         ensures uris { result.items ≡ self }
         ensures rises { IsSet text_cmp result.items }
@@ -57,7 +56,6 @@ impl UriSet {
         uris
     }
 
-    /// Adds the URIs of a row's names.
     pub(crate) fn add_row(&mut self, alloc: Global, row: Row<'_>) -> Result<(), AllocError>
         ensures { OnOk result (Gains self.old (row_names (shown row.entry)) self.new) }
     {
@@ -113,7 +111,6 @@ impl UriSet {
         Ok(())
     }
 
-    // Adds the URI of a dimension, and of its member if that is a name.
     fn add_defined(&mut self, alloc: Global, defined: &(Name, Member)) -> Result<(), AllocError>
         ensures { OnOk result (Gains self.old (defined_names defined.now) self.new) }
     {
@@ -156,7 +153,6 @@ impl UriSet {
         Ok(())
     }
 
-    // True if the URI is at this index.
     fn is_at(&self, place: usize, uri: &str) -> bool
         ensures { OnTrue result (Contains self.now uri.now) }
     {
@@ -183,7 +179,6 @@ impl UriSet {
         Ok(place)
     }
 
-    // Sorts all URIs. Contracts see no change.
     fn put_in_order(&mut self)
         ensures { self.new ≡ self.old }
     {
@@ -192,7 +187,6 @@ impl UriSet {
     }
 }
 
-// Sorts the texts in byte order and drops repetitions.
 fn put_in_order(texts: &mut Vec<Text>)
     ensures { texts.new.items ≡ set_of text_cmp texts.old.items }
 {

@@ -135,7 +135,7 @@ fn write_facts<S: Sink>(
     Ok(())
 }
 
-/// Writes the facts of a row. `before` is the number of facts before it; `part` is a reused buffer.
+// `before` is the number of facts before the row; `part` is a reused buffer.
 fn write_row<S: Sink>(
     buffer: &mut SinkBuffer,
     out: &mut S,
