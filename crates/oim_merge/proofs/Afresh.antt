@@ -19,7 +19,6 @@ numbered_map : {A B : Type 0} (f : A → B) (xs : List A) (i : ℕ) → numbered
 numbered_map f xs zero = refl
 numbered_map f xs (suc k) = slice_get-map f xs k
 
--- a replica is the base of the documents that reached it
 module _ (sheet : Sheet) (writers : List Writer) (reports : List (List ℕ)) (n : ℕ) (events : List Event) where
   base_is : (i : ℕ) (numbers : Numbers) (base : Contents) →
       numbered (world_after (reached sheet reports) n events).replicas i ≡ Some numbers →

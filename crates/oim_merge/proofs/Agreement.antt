@@ -80,7 +80,6 @@ module _ (sheet : Sheet) (writers : List Writer) (reports : List (List ℕ)) whe
     sent = agree.sent;
   }
 
-  -- a replica takes a report
   says_taken : (r : ℕ) (numbers : Numbers) (base : Contents) → base ≡ says numbers →
       with_outcome (outcome sheet (report reports r)) base ≡ says (with_accepted (outcome sheet (report reports r)) r numbers)
   says_taken r numbers base is = by_outcome (outcome sheet (report reports r)) refl
@@ -91,7 +90,6 @@ module _ (sheet : Sheet) (writers : List Writer) (reports : List (List ℕ)) whe
           (λ t. joined_with (is t) (sym one t)) ∙ sym (base_both sheet reports numbers (r ∷ []))
       by_outcome (Err f) e = is
 
-  -- a replica receives a text
   says_received : (bytes : List ℕ) (message : Numbers) → Says bytes message → (numbers : Numbers) (base : Contents) → base ≡ says numbers →
       with_outcome (outcome sheet bytes) base ≡ says (both numbers message)
   says_received bytes message said numbers base is =
@@ -99,7 +97,6 @@ module _ (sheet : Sheet) (writers : List Writer) (reports : List (List ℕ)) whe
       ∙ (λ t. record { sheet = (is t).sheet; body = union (is t).body (said.same t) })
       ∙ sym (base_both sheet reports numbers message)
 
-  -- a replica sends a text, written by either writer
   says_sent : (numbers : Numbers) (sent : ℕ) (base : Contents) → base ≡ says numbers → Says (text_chosen writers sent base.body) numbers
   says_sent numbers sent base is = subst (λ (c : Contents). Says (text_chosen writers sent c.body) numbers) (sym is) (by_writer (get_or writers sent present))
     where

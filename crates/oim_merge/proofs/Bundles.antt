@@ -12,7 +12,6 @@ use Rattle.oim_merge.specs.declared.fault.Fault.{Fault}
 use Rattle.oim_merge.specs.declared.fault.Fault.TheVariants.{OutOfMemory, Device, TooLoose, Sheet as SheetFault}
 use Rattle.oim_merge.proofs.LinePieces.{report_pieces-filled}
 
--- a fault after the sheet was read is a fault of the bundle
 pub behind_sheet : (bytes : List ℕ) (old new : Option (List ℕ)) (fault : Fault) → StopsBehindSheet bytes old new fault → BundleStops bytes old new fault
 behind_sheet bytes old new (OutOfMemory written) h = inr h
 behind_sheet bytes old new (Device written) h = h

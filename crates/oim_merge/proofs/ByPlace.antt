@@ -70,12 +70,10 @@ none_here : (k : ℕ) (ms : List PlacedMention) → RiseFrom (suc k) ms → filt
 none_here k [] h = refl
 none_here k (m ∷ ms) h = rw (other_place k m.place (omega (arith, h.0))) (none_here k ms (rise_lower (suc k) m.place ms h.0 h.1))
 
--- a mention with an earlier place is in none of the groups
 passed_over : (k n : ℕ) (m : PlacedMention) (ms : List PlacedMention) → m.place < k → groups k n (m ∷ ms) ≡ groups k n ms
 passed_over k zero m ms lt = refl
 passed_over k (suc n) m ms lt = rw (later_place k m.place lt) (ap (λ gs. filter (has_place k) ms ++ gs) (passed_over (suc k) n m ms (omega (arith, lt))))
 
--- the first mention is also the first in the groups
 first_first : (k n : ℕ) (m : PlacedMention) (ms : List PlacedMention) → k ≤ m.place → m.place < k + n → RiseFrom m.place ms → groups k n (m ∷ ms) ≡ m ∷ groups k n ms
 first_first k zero m ms le lt up = absurd (omega (arith, le, lt))
 first_first k (suc n) m ms le lt up = ⊎_elim
@@ -103,7 +101,6 @@ before m n = is_lt (nat_cmp m.place n.place)
 ties_place : (k : ℕ) (m : PlacedMention) → ties before (record { place = k; report = 0; identifier = [] }) m ≡ has_place k m
 ties_place k m = ap (λ o. not (is_lt (nat_cmp k m.place)) && not (is_lt o)) (nat_cmp_total.antisymm m.place k) ∙ tied (nat_cmp k m.place)
 
--- a stable sort keeps the order of mentions that have the same place
 pub same_here : (ms sorted : List PlacedMention) → IsStableByKey (λ (m : PlacedMention). m.place) nat_cmp ms sorted → (k : ℕ) → filter (has_place k) sorted ≡ filter (has_place k) ms
 same_here ms sorted stable k =
     (λ i. filter (λ m. sym (ties_place k m) i) sorted)

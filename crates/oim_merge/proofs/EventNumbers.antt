@@ -1,4 +1,3 @@
--- Numbers in event lines.
 use Rattle.std.proofs.Common.{◌≡◌, ◌≢◌, ℕ, ◌^◌, ◌<◌, List, length, get_or, sym, ap, subst, ◌∙◌, arith}
 use Rattle.std.specs.Prelude.{Result, Ok, Err, MatchOption}
 use Rattle.std.specs.Fmt.{decimal}
@@ -29,7 +28,6 @@ looks_like_number text n is =
 own : IsNumeralModel (AllDigits 10) (digits_value 10)
 own = numerals_by_value _ tells_digits
 
--- digits without a leading zero are the text of their value
 digits_are_text : (text : List ℕ) → AllDigits 10 text → 0 < length text → get_or text 0 0 ≢ 48 → digits_value 10 text < 2 ^ 32 → IsNumberText text (digits_value 10 text)
 digits_are_text text digits some leads small =
     let text_is : decimal (digits_value 10 text) ≡ text = decimal-digits_value own text digits some (λ e. absurd (leads e)) (omega arith) in

@@ -1,4 +1,3 @@
--- Two numbers in an event line, with a space between them.
 use Rattle.std.proofs.Common.{◌≡◌, ℕ, ◌+◌, ◌^◌, ◌<◌, List, ◌∷◌, ◌++◌, length, get_or, take, drop, cond, refl, sym, ap, ◌∙◌, arith}
 use Rattle.std.specs.Prelude.{Some, None, position}
 use Rattle.std.specs.Fmt.{decimal}
@@ -26,7 +25,6 @@ space_behind m rest small =
     let within : position_or_len is_space text < length text = omega (arith, length-append (decimal m) (32 ∷ rest)) in
     ap (λ b. cond b (Some (position_or_len is_space text)) None) (lt-ltb _ _ within) ∙ ap Some first
 
--- the first space in the text of two numbers follows the first number
 space_of_numbers : (text : List ℕ) (m n : ℕ) → AreNumbersText text m n → position is_space text ≡ Some (length (decimal m))
 space_of_numbers text m n are = ap (position is_space) are.0 ∙ space_behind m (decimal n) (omega (arith, are.1.0.1))
 

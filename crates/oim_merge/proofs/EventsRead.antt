@@ -17,7 +17,6 @@ without_empty_last-cons : (line : List ℕ) (lines : List (List ℕ)) → 0 < le
 without_empty_last-cons line [] some = absurd (omega arith)
 without_empty_last-cons line (next ∷ lines) some = refl
 
--- the lines of a file are its first line and the lines after it
 lines_of-first : (bytes : List ℕ) → 0 < length bytes → lines_of bytes ≡ before_first is_line_end bytes ∷ lines_of (after_first is_line_end bytes)
 lines_of-first bytes some =
     elim (cases_lt (position_or_len is_line_end bytes) (length bytes)) [

@@ -87,7 +87,6 @@ slice_within (y ∷ ys) (suc i) x is = omega (arith, slice_within ys i x is)
 stands : (vs : List Value) (i : ℕ) (v : Value) → slice_get vs i ≡ Some v → Contains vs v
 stands vs i v is = (i, slice_within vs i v is, get_or_from_slice_get vs i v v is)
 
--- a value does not contradict itself
 one_not_apart : (vs : List Value) (i j : ℕ) → length vs ≡ 1 → ¬ (AreApart vs i j)
 one_not_apart vs i j one apart =
     let i_first : i ≡ 0 = omega (arith, one, slice_within vs i apart.first apart.first_there) in
@@ -95,7 +94,6 @@ one_not_apart vs i j one apart =
     let same : apart.first ≡ apart.second = ap (λ o. unwrap_or o apart.first) (sym apart.first_there ∙ ap (slice_get vs) (i_first ∙ sym j_first) ∙ apart.second_there) in
     apart.apart (subst (Meets apart.first) same (meets_is_reflexive apart.first))
 
--- values that pairwise meet do not contradict each other
 none_apart : (vs : List Value) (i j : ℕ) → EachTwoValuesMeet vs → ¬ (AreApart vs i j)
 none_apart vs i j each apart =
     apart.apart ((each_two_meet_by_members vs).0 each apart.first apart.second (stands vs i apart.first apart.first_there) (stands vs j apart.second apart.second_there))
@@ -103,7 +101,6 @@ none_apart vs i j each apart =
 one_number : {x y : ℤ} → x ≤ℤ y → y ≤ℤ x → x ≡ y
 one_number p q = omega (arith, ints, p, q)
 
--- the common interval is unique
 low_within : (vs : List Value) (a b : Interval) → IsCommonOf vs a → IsCommonOf vs b → b.low ≤ℤ a.low
 low_within vs a b first second = ((second.within a.low).1 ((first.within a.low).0 (record { above = omega (arith, ints); below = first.points }))).above
 
@@ -124,7 +121,6 @@ some_intervals (Nil ∷ w ∷ vs) is = absurd (true≢false (sym is))
 some_intervals (AText t ∷ w ∷ vs) is = absurd (true≢false (sym is))
 some_intervals (AName n ∷ w ∷ vs) is = absurd (true≢false (sym is))
 
--- the pair that shows the contradiction is unique
 one_pair : (vs : List Value) (b : Bool) → begin_with_numbers vs ≡ b → (i j k l : ℕ) → IsPairOf b vs i j → IsPairOf b vs k l → (i ≡ k) × (j ≡ l)
 one_pair vs false is i j k l first second = (first.0 ∙ sym second.0, first.1 ∙ sym second.1)
 one_pair vs true is i j k l first second =
@@ -160,7 +156,6 @@ unless_inconsistent (v ∷ w ∷ vs) several not = by_test (each_meet (v ∷ w �
     by_test true not = refl
     by_test false not = absurd (not refl)
 
--- evidence shows the verdict
 evidence_shows : (facts : List Fact) (s : DimensionSet) (e : Evidence) → IsEvidence (values_at s facts) e → verdict facts s ≡ Some (verdict_shown e)
 evidence_shows facts s Alike is = alone (values_at s facts) is
 evidence_shows facts s (Common c) is =

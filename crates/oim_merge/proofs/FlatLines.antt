@@ -5,14 +5,12 @@ use Rattle.std.proofs.lemmas.Grind.{flat_map-append}
 use Rattle.std.proofs.lemmas.List.{drop_more, take-append-drop, take_more}
 
 module _ {A : Type 0} (line : A → List ℕ) (xs : List A) (i : ℕ) (x : A) (written : List ℕ) (within : i < length xs) (is : x ≡ get_or xs i x) (this : written ≡ line x) where
-  -- the text after the next line is written
   pub lines_more : flat_map line (take i xs) ++ written ≡ flat_map line (take (i + 1) xs)
   lines_more =
       ap (λ t. flat_map line (take i xs) ++ t) (this ∙ sym (append-nil (line x)))
       ∙ sym (flat_map-append line (take i xs) (x ∷ []))
       ∙ ap (flat_map line) (ap (λ y. take i xs ++ y ∷ []) is ∙ sym (take_more xs i x within))
 
-  -- the text after all remaining lines are written
   pub lines_left : flat_map line (take i xs) ++ (written ++ flat_map line (drop (i + 1) xs)) ≡ flat_map line xs
   lines_left =
       ap (λ t. flat_map line (take i xs) ++ (t ++ flat_map line (drop (i + 1) xs))) this

@@ -42,7 +42,6 @@ levels_are_forgotten h k same = ap (λ (b : Body). level_of b.facts) (same_body 
 pub references_are_forgotten : ReferencesAreForgotten
 references_are_forgotten h k same = ap (λ (b : Body). b.references) (same_body h k same)
 
--- a document with a body's facts and references has that body
 pub body_again : (sheet : Sheet) (b : Body) (d : Document) → Fits sheet b → d.facts ≡ b.facts → d.references ≡ b.references → body (d ∷ []) ≡ b
 body_again sheet b d fits facts references =
     let facts_are : set_of fact_cmp (d.facts ++ []) ≡ b.facts =
@@ -61,7 +60,6 @@ earlier_texts_give_bodies sheet b fits =
     let read_as : Document = document_at AllLevel b in
     record { document = read_as; read = earlier_reads_back sheet b fits; same = body_again sheet b read_as fits refl refl }
 
--- bytes are read as at most one document
 pub one_document : {E : Type 0} (r : Result Document E) (d e : Document) → r ≡ Ok d → r ≡ Ok e → d ≡ e
 one_document (Ok x) d e h k = cc
 one_document (Err x) d e h k = cc
@@ -76,7 +74,6 @@ merged_texts_merge sheet docs some merged accepted among read =
     let both : body (docs ++ some) ≡ body docs = body_ignores_order (docs ++ some) docs (λ x. (λ h. ⊎_elim (λ l. l) (λ r. among x r) ((in_one_of_both docs some x).0 h), λ h. (in_one_of_both docs some x).1 (inl h))) in
     ap canonical (twice ∙ body_of_both (merged ∷ []) some ∙ ap (λ b. union b (body some)) alone ∙ sym (body_of_both docs some) ∙ both)
 
--- a new base that takes the report read from a base's text has the body of that base
 pub taken_back : (sheet : Sheet) (b : Body) (d : Document) → Fits sheet b → outcome sheet (canonical b) ≡ Ok d → union (body []) (body (d ∷ [])) ≡ b
 taken_back sheet b d fits read =
     let is : d ≡ document_at (level_of b.facts) b = one_document _ d _ read (canonical_reads_back sheet b fits) in

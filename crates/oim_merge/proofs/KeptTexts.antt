@@ -22,7 +22,6 @@ use Rattle.oim_merge.proofs.Zips.{zip_at, zip_both, zip_long, zip_push, zip_same
 
 -- ---- cached readings
 
--- taking a cached reading has the same effect as taking the outcome
 pub with_read_is : (sheet : Sheet) (said : Result Document Refusal) (base : Contents) → with_read (read_as sheet said) base ≡ with_outcome said base
 with_read_is sheet (Ok d) base = refl
 with_read_is sheet (Err refusal) base = refl
@@ -39,7 +38,6 @@ module _ (sheet : Sheet) (texts : List (List ℕ)) (kept : List (Option (Result 
   pub kept_there : place < length kept
   kept_there = let long = zip_long (IsReadingOf sheet) texts kept each in omega (arith, there, long)
 
-  -- the cached reading of a text is its outcome
   pub kept_is : (found : Option (Result Contents Refusal)) (read : Result Contents Refusal) → get_or kept place found ≡ Some read → read ≡ read_as sheet (outcome sheet (get_or texts place []))
   kept_is found read is = subst (IsReadingOf sheet (get_or texts place [])) is (zip_at (IsReadingOf sheet) texts kept each place [] found there)
 
@@ -51,7 +49,6 @@ none_is_kept sheet texts = zip_same (IsReadingOf sheet) texts None (λ text. tt)
 
 -- ---- sent texts
 
--- a new stored text does not change the texts at earlier indices
 pub among_more : (texts : List (List ℕ)) (text : List ℕ) (sent : List ℕ) → AreWithin texts sent → texts_at (texts ++ text ∷ []) sent ≡ texts_at texts sent
 among_more texts text [] within = refl
 among_more texts text (place ∷ sent) within =
@@ -60,7 +57,6 @@ among_more texts text (place ∷ sent) within =
     λ i. get_or_append_left texts (text ∷ []) [] place here i ∷ rest i
 
 module _ (texts : List (List ℕ)) (sent : List ℕ) (text : List ℕ) where
-  -- the new text is last
   pub stands_last : IsTextAt (texts ++ text ∷ []) text (length texts)
   stands_last =
       let longer = length-append texts (text ∷ []) in
@@ -90,14 +86,12 @@ current_at texts bases places each k base place within there known =
     subst (λ b. IsCurrent texts b place) (sym there)
     (subst (IsCurrent texts (get_or bases k base)) (sym known) (zip_at (IsCurrent texts) bases places each k base place within))
 
--- the current texts after a replica sent its text
 pub current_after_send : (texts more : List (List ℕ)) (bases : List Contents) (places : List (Option ℕ)) → AllZip (IsCurrent texts) bases places → Stay texts more →
     (k : ℕ) (base : Contents) (place : Option ℕ) → base ≡ get_or bases k base → IsCurrent more base place → AllZip (IsCurrent more) bases (set places k place)
 current_after_send texts more bases places each stay k base place there is =
     zip_set (IsCurrent more) bases places (zip_weaker (IsCurrent texts) (IsCurrent more) (still_current texts more stay) bases places each) k base place
     (subst (λ b. IsCurrent more b place) there is)
 
--- the current texts after the base of a replica changed
 pub current_after_change : (texts : List (List ℕ)) (bases more : List Contents) (places left : List (Option ℕ)) → AllZip (IsCurrent texts) bases places →
     (k : ℕ) (base : Contents) → more ≡ set bases k base → left ≡ set places k None → AllZip (IsCurrent texts) more left
 current_after_change texts bases more places left each k base changed forgotten =

@@ -1,4 +1,3 @@
--- The pieces of a bundle between line ends.
 use Rattle.std.proofs.Common.{◌≡◌, ◌<◌, ◌≤◌, ◌+◌, ℕ, List, [], ◌∷◌, ◌++◌, length, drop, filter, true, false, cond, not, inl, inr, sym, ap, ◌∙◌, arith, length-drop}
 use Rattle.std.specs.Prelude.{◌==◌}
 use Rattle.std.specs.List.{before_first, after_first, position_or_len}
@@ -22,7 +21,6 @@ at_end bytes h = drop_all (position_or_len is_line_end bytes + 1) bytes (omega a
 pub whole : (bytes : List ℕ) → length bytes ≤ position_or_len is_line_end bytes → before_first is_line_end bytes ≡ bytes
 whole bytes h = take_all (position_or_len is_line_end bytes) bytes h
 
--- the reports are the non-empty pieces after the first line end
 pub report_pieces-filled : (bytes : List ℕ) → report_pieces bytes ≡ filled_pieces (after_first is_line_end bytes)
 report_pieces-filled bytes =
     elim (cases_lt (position_or_len is_line_end bytes) (length bytes)) [
@@ -30,7 +28,6 @@ report_pieces-filled bytes =
       | inr more ↦ ap (λ ps. filter is_filled (drop 1 ps)) (no_line_end bytes more) ∙ sym (ap filled_pieces (at_end bytes more))
     ]
 
--- the first piece, unless it is empty, comes before the others
 pub filled_pieces-first : (bytes : List ℕ) → filled_pieces bytes ≡ if_filled (before_first is_line_end bytes) ++ filled_pieces (after_first is_line_end bytes)
 filled_pieces-first bytes =
     elim (cases_lt (position_or_len is_line_end bytes) (length bytes)) [
@@ -40,14 +37,11 @@ filled_pieces-first bytes =
           ∙ sym (ap (λ ps. if_filled (before_first is_line_end bytes) ++ ps) (ap filled_pieces (at_end bytes more)) ∙ append-nil (if_filled (before_first is_line_end bytes)) ∙ ap if_filled (whole bytes more))
     ]
 
--- a non-empty first piece is kept
 pub filled_pieces-filled : (bytes : List ℕ) → (length (before_first is_line_end bytes) == 0) ≡ false → filled_pieces bytes ≡ before_first is_line_end bytes ∷ filled_pieces (after_first is_line_end bytes)
 filled_pieces-filled bytes some = filled_pieces-first bytes ∙ ap (λ b. cond (not b) (before_first is_line_end bytes ∷ []) [] ++ filled_pieces (after_first is_line_end bytes)) some
 
--- an empty first piece is dropped
 pub filled_pieces-empty : (bytes : List ℕ) → (length (before_first is_line_end bytes) == 0) ≡ true → filled_pieces bytes ≡ filled_pieces (after_first is_line_end bytes)
 filled_pieces-empty bytes none = filled_pieces-first bytes ∙ ap (λ b. cond (not b) (before_first is_line_end bytes ∷ []) [] ++ filled_pieces (after_first is_line_end bytes)) none
 
--- each piece leaves fewer bytes
 pub fewer_left : (bytes : List ℕ) → 0 < length bytes → length (after_first is_line_end bytes) < length bytes
 fewer_left bytes some = omega (arith, length-drop (position_or_len is_line_end bytes + 1) bytes)

@@ -1,4 +1,3 @@
--- The base of the reports in a set of report numbers.
 use Rattle.std.proofs.Common.{◌≡◌, ℕ, List, [], ◌++◌, Result, Ok, Err, refl, sym, ap, ◌∙◌, ⊎_elim}
 use Rattle.std.specs.Prelude.{Contains, flat_map}
 use Rattle.std.specs.Cmp.{nat_cmp_total}
@@ -45,7 +44,6 @@ module _ (sheet : Sheet) (reports : List (List ℕ)) where
       ∙ body_of_both (flat_map documents_at a) (flat_map documents_at b)
       ∙ (λ i. union (body (sym (named_is a) i)) (body (sym (named_is b) i)))
 
-  -- the base of a union of two sets is the join of the two bases
   pub base_both : (a b : Numbers) → base_named sheet reports (both a b) ≡ joined_with (base_named sheet reports a) (base_named sheet reports b)
   base_both a b = ap (λ (x : Body). let c : Contents = record { sheet = sheet; body = x } in c) (body_both a b)
 

@@ -31,7 +31,6 @@ agree false true f g = g refl
 agree false false f g = refl
 
 module _ (facts : List Fact) (rise : IsSet fact_cmp facts) where
-  -- the place of a fact in the list is its index
   pub place_at : (i : ℕ) (d : Fact) → i < length facts → place facts (get_or facts i d) ≡ i
   place_at i d within = one_less (place facts (get_or facts i d)) i (rank_at fact_cmp_total facts i d rise within)
 
@@ -54,7 +53,6 @@ module _ (facts : List Fact) (rise : IsSet fact_cmp facts) where
     place_here : place facts f ≡ length done
     place_here = ap (place facts) (sym there) ∙ place_at (length done) f within
 
-    -- only f has the place `length done`
     is_here : (g : Fact) → Contains facts g → length done ≡ place facts g → g ≡ f
     is_here g at same =
         let at_place : place facts g ≡ at.0 = ap (place facts) (sym at.2) ∙ place_at at.0 g at.1 in
@@ -85,7 +83,6 @@ module _ (facts : List Fact) (rise : IsSet fact_cmp facts) where
   pub placed_by_fact : (ms : List Mention) → AreOf facts ms → groups 0 (length facts) (all_placed facts ms) ≡ all_placed facts (by_fact facts ms)
   placed_by_fact ms h = groups_are [] facts refl 0 refl ms h
 
--- a stable sort by place gives the mentions grouped by fact
 pub sorted_are : (facts : List Fact) → IsSet fact_cmp facts → (ms : List Mention) → AreOf facts ms → (sorted : List PlacedMention) → IsNonDecreasingBy (λ (m : PlacedMention). m.place) sorted → IsStableByKey (λ (m : PlacedMention). m.place) nat_cmp (all_placed facts ms) sorted → IsPermutation (all_placed facts ms) sorted → sorted ≡ all_placed facts (by_fact facts ms)
 sorted_are facts rise ms of_facts sorted up stable moved =
     let placed_ms = all_placed facts ms in

@@ -69,7 +69,6 @@ facts_back sheet bs key spelled (f ∷ fs) n fit spell =
     rw (fact_back sheet bs spelled f (All-head (FactFits sheet) f fs fit) (All-head (SpellsFact bs spelled) f fs spell)).outcome
     (ap (map_ok (λ gs. f ∷ gs)) (facts_back sheet bs key spelled fs (n + 1) (All-tail (FactFits sheet) f fs fit) (All-tail (SpellsFact bs spelled) f fs spell)))
 
--- a document is not above the level that it declares
 none_above : (l : Level) → is_lt (level_cmp l l) ≡ false
 none_above Unique = refl
 none_above Complete = refl
@@ -89,7 +88,6 @@ ascii : (t : List ℕ) → list_all (λ c. nat_lt c 128) t ≡ true → IsAscii 
 ascii [] h = IsAscii-nil
 ascii (c ∷ cs) h = let both = and_parts (nat_lt c 128) (list_all (λ d. nat_lt d 128) cs) h in IsAscii-cons c cs (small_byte c both.0) (ascii cs both.1)
 
--- the document type is a valid text
 type_said : is_utf8 document_type ≡ true
 type_said = is_utf8-from_IsUtf8 document_type (IsUtf8-from_ascii document_type (ascii document_type refl))
 
@@ -112,7 +110,6 @@ level_given Complete = ap (λ g. said_level (g ∷ [])) (ascii_given (codes "com
 level_given Consistent = ap (λ g. said_level (g ∷ [])) (ascii_given (codes "consistent") refl)
 level_given AllLevel = ap (λ g. said_level (g ∷ [])) (ascii_given (codes "all") refl)
 
--- the feature is found if its prefix is bound
 level_found : (bs : List Binding) → uri_of bs (codes "xbrl") ≡ Some reserved_uri → (l : Level) → said_level (declarations bs (member (codes "xbrl:allowedDuplicates") (string (level_entry l).text) no_members)) ≡ Some l
 level_found bs bound l = rw bound (level_given l)
 
@@ -191,7 +188,6 @@ bound_all : (declared : Option Level) (us vs : List (List ℕ)) → All IsNamesp
 bound_all declared us [] are = bound_last declared
 bound_all declared us (v ∷ vs) are = rw (text_given v (All-head IsNamespace v vs are).utf8, bound_all declared us vs (All-tail IsNamespace v vs are)) refl
 
--- none of the prefixes n1, n2 .. is `xbrl`
 xbrl_found : (us vs : List (List ℕ)) → uri_of (map (λ u. record { prefix = prefix us u; uri = u }) vs ++ (record { prefix = codes "xbrl"; uri = reserved_uri }) ∷ []) (codes "xbrl") ≡ Some reserved_uri
 xbrl_found us [] = refl
 xbrl_found us (v ∷ vs) = xbrl_found us vs

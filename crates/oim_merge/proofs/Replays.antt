@@ -25,7 +25,6 @@ module _ (sheet : Sheet) (n : ℕ) (reports : List (List ℕ)) (events : List Ev
   sent_are : length sent ≡ sent_by (take k events)
   sent_are = ap (λ (w : World Contents (List ℕ)). length w.sent) h.world ∙ sent_run (wire sheet [] reports) (take k events) (start (wire sheet [] reports) n) ∙ omega arith
 
-  -- all bases belong to the sheet
   pub sheets_are : All (λ base. base.sheet ≡ sheet) bases
   sheets_are =
       let sets = (world_after (reached sheet reports) n (take k events)).replicas in
@@ -36,7 +35,6 @@ module _ (sheet : Sheet) (n : ℕ) (reports : List (List ℕ)) (events : List Ev
   names_are : (event : Event) → names_none (length bases) (length reports) (length sent) event ≡ names_none n (length reports) (sent_by (take k events)) event
   names_are event = λ t. names_none (replicas_are t) (length reports) (sent_are t) event
 
-  -- the state after one more event
   pub run_further : (d : Event) (new : List Contents) (texts : List (List ℕ)) (refusals : List (ℕ × Refusal)) → k < length events →
       names_none (length bases) (length reports) (length sent) (get_or events k d) ≡ false →
       world_of new texts ≡ happens (wire sheet [] reports) (world_of bases sent) (get_or events k d) →
@@ -48,11 +46,9 @@ module _ (sheet : Sheet) (n : ℕ) (reports : List (List ℕ)) (events : List Ev
     earlier = good_next n (length reports) events k d (sym (names_are (get_or events k d)) ∙ good) h.earlier;
   }
 
-  -- if the next event is bad, it is the first bad event
   pub run_ends : (d : Event) → k < length events → names_none (length bases) (length reports) (length sent) (get_or events k d) ≡ true → IsFirstBad n (length reports) events (k + 1)
   run_ends d within bad = first_bad n (length reports) events k d within (sym (names_are (get_or events k d)) ∙ bad) h.earlier
 
-  -- if no event remains, the run is a replay of the whole schedule
   pub run_whole : (replay : Replay) → length events ≤ k → replay.world ≡ world_of bases sent → replay.refused ≡ told → IsReplayOf sheet n reports events replay
   run_whole replay ended world_is refused_is =
       let all : take k events ≡ events = to_the_end events k ended in

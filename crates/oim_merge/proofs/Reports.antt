@@ -33,11 +33,9 @@ refused_more n sheet (b ∷ bs) bytes =
 pub same_added : {sheet : Sheet} {b c : Body} {r s : List (ℕ × Refusal)} {n m : ℕ} → b ≡ c → r ≡ s → n ≡ m → ◌≡◌ {A = Added} (record { sheet = sheet; body = b; refusals = r; reports = n }) (record { sheet = sheet; body = c; refusals = s; reports = m })
 same_added {sheet} p q e = λ i. record { sheet = sheet; body = p i; refusals = q i; reports = e i }
 
--- the state after one more report
 pub added_more : (sheet : Sheet) (reports : List (List ℕ)) (bytes : List ℕ) → with_report (added sheet reports) bytes ≡ added sheet (reports ++ bytes ∷ [])
 added_more sheet reports bytes = same_added (merged_more sheet reports bytes) (refused_more 1 sheet reports bytes) (sym (length_push reports bytes))
 
--- the state after several more reports
 added_then : (sheet : Sheet) (reports others : List (List ℕ)) → with_reports (added sheet reports) others ≡ added sheet (reports ++ others)
 added_then sheet reports [] = sym (ap (added sheet) (append-nil reports))
 added_then sheet reports (bytes ∷ others) =
@@ -64,7 +62,6 @@ has_added_more sheet bytes later left all a new first is before = record {
 pub all_added : (sheet : Sheet) (all : List (List ℕ)) (a : Added) → HasAdded sheet a [] all → a ≡ added sheet all
 all_added sheet all a h = h.is ∙ ap (added sheet) (sym (append-nil h.done) ∙ h.whole)
 
--- one loop step adds the next report of a list
 pub list_step : (sheet : Sheet) (reports : List (List ℕ)) (i : ℕ) (r bytes : List ℕ) (a new : Added) → i < length reports → r ≡ get_or reports i r → bytes ≡ r → new ≡ with_report a bytes → a ≡ added sheet (take i reports) → new ≡ added sheet (take (i + 1) reports)
 list_step sheet reports i r bytes a new within at read stepped is =
     stepped ∙ (λ k. with_report (is k) (read k)) ∙ added_more sheet (take i reports) r

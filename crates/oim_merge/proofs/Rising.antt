@@ -30,7 +30,6 @@ less_is Less h = cc
 less_is Equal h = absurd (false≢true (sym h))
 less_is Greater h = absurd (false≢true (sym h))
 
--- all facts rise if and only if each is below the next one
 pub rise_is : (facts : List Fact) (told : Bool) → IsAllAdjacentAnswer (λ x y b. b ≡ is_lt (fact_cmp x y)) facts told → IsTrue told ↔ IsSet fact_cmp facts
 unfolding IsStrictlySortedBy
 rise_is [] true each = (λ h. tt, λ h. refl)

@@ -1,4 +1,3 @@
--- The rows of a list of dimension sets.
 use Rattle.std.proofs.Common.{◌≡◌, ℕ, suc, ◌+◌, ◌<◌, ◌≤◌, List, [], ◌∷◌, ◌++◌, length, get_or, inr, Option, refl, sym, ap, subst, ◌∙◌, append_assoc, append-nil, arith}
 use Rattle.std.specs.Prelude.{◌≢◌, Contains}
 use Rattle.std.proofs.lemmas.List.{get_or-append-add, get_or-map, get_or_append_left, length-append, length-map}
@@ -31,7 +30,6 @@ use Rattle.oim_merge.proofs.Evidenced.{evidence_exists, one_evidence, slice_with
 -- ---- lists of rows
 
 module _ (written : RowText) (facts : List Fact) where
-  -- the rows of two concatenated lists are the rows of the first, then the rows of the second
   pub rows_both : (n : ℕ) (done rest : List Row) (text more : List ℕ) → AreRowsFrom written facts n done text → AreRowsFrom written facts (n + length done) rest more → AreRowsFrom written facts n (done ++ rest) (text ++ more)
   rows_both n [] rest text more none further =
       subst (λ t. AreRowsFrom written facts n rest (t ++ more)) (sym none) (subst (λ k. AreRowsFrom written facts k rest more) (omega arith) further)
@@ -41,7 +39,6 @@ module _ (written : RowText) (facts : List Fact) where
   pub one_row : (n : ℕ) (r : Row) (row : List ℕ) → IsRow written facts n r row → AreRowsFrom written facts n (r ∷ []) row
   one_row n r row is = (row, [], (sym (append-nil row), (is, refl)))
 
-  -- rows exist if each dimension set has evidence
   pub rows_exist : (n : ℕ) (rows : List Row) → ((r : Row) → Contains rows r → (e : Evidence) × IsEvidence r.1 e) → (text : List ℕ) × AreRowsFrom written facts n rows text
   rows_exist n [] shown = ([], refl)
   rows_exist n (r ∷ rs) shown =
@@ -50,7 +47,6 @@ module _ (written : RowText) (facts : List Fact) where
       let rest = rows_exist (suc n) rs (λ q at. shown q (later_there r rs q at)) in
       (row ++ rest.0, (row, rest.0, (refl, (record { evidence = this.0; shows = this.1; text = refl }, rest.1))))
 
-  -- the rows are unique
   rows_agree : (n : ℕ) (rows : List Row) (s t : List ℕ) → AreRowsFrom written facts n rows s → AreRowsFrom written facts n rows t → s ≡ t
   rows_agree n [] s t h g = h ∙ sym g
   rows_agree n (r ∷ rs) s t h g =
@@ -60,14 +56,12 @@ module _ (written : RowText) (facts : List Fact) where
       h.2.0 ∙ (λ i. row i ++ rest i) ∙ sym g.2.0
 
 module _ (written : RowText) (sheet : Sheet) (b : Body) (fits : Fits sheet b) where
-  -- the rows that are not pushed yet have a text
   pub left_exist : (done left : List Row) → done ++ left ≡ rows_of b.facts → (n : ℕ) → (text : List ℕ) × AreRowsFrom written b.facts n left text
   left_exist done left all n = rows_exist written b.facts n left (λ q at. evidence_exists sheet b fits q (subst (λ rs. Contains rs q) all ((in_one_of_both done left q).1 (inr at))))
 
   pub all_exist : (text : List ℕ) × AreRowsOf written b text
   all_exist = left_exist [] (rows_of b.facts) refl 1
 
-  -- nothing is a first part of the rows
   pub none_written : (header : List ℕ) {old : Option (List ℕ)} → AppendsFrontOfRows header written b old old 0
   none_written header {old} = record { rows = all_exist.0; are = all_exist.1; front = record { front = []; rest = _; whole = refl; appended = Appends-nil old; count = refl } }
 
@@ -124,7 +118,7 @@ module _ (b : Body) (rises : IsSet fact_cmp b.facts) (done rest : List Row) (r :
       let long : length (row_facts r) ≡ length r.1 = length-map r.1 (λ v. record { dimensions = r.0; value = v }) in
       omega (arith, long, ap length facts_split, length-append (rows_facts done) (row_facts r ++ rows_facts rest), length-append (row_facts r) (rows_facts rest))
 
-  -- the text by counts of facts is the text by the facts
+  -- counts of facts give the same text as the facts
   pub row_is : (written : RowText) → DependsOnItsNames written → (number before count : ℕ) (e : Evidence) (row : List ℕ) → before ≡ length (rows_facts done) → count ≡ length b.facts → IsEvidence r.1 e →
       row ≡ written (named before count) number r e → IsRow written b.facts number r row
   row_is written names number before count e row before_is count_is shows is = record {
@@ -136,7 +130,6 @@ module _ (b : Body) (rises : IsSet fact_cmp b.facts) (done rest : List Row) (r :
         (named_is b.facts rises (rows_facts done) r (rows_facts rest) facts_split);
   }
 
-  -- the count of facts after the row includes its facts
   pub count_with_row : length (rows_facts done) + length r.1 ≡ length (rows_facts (done ++ r ∷ []))
   count_with_row =
       let long : length (row_facts r) ≡ length r.1 = length-map r.1 (λ v. record { dimensions = r.0; value = v }) in

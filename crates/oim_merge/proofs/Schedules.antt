@@ -9,7 +9,6 @@ use Rattle.oim_merge.specs.declared.event.Event.{Event}
 use Rattle.oim_merge.specs.declared.event.Event.TheVariants.{Take, Join, Send, Receive, Restart}
 use Rattle.oim_merge.proofs.Evidenced.{slice_within}
 
--- the first k + 1 elements are the first k elements and the next one
 take_suc : {A : Type 0} (xs : List A) (k : ℕ) (d : A) → k < length xs → take (suc k) xs ≡ take k xs ++ get_or xs k d ∷ []
 take_suc [] k d h = absurd (omega (arith, h))
 take_suc (x ∷ xs) zero d h = refl
@@ -78,7 +77,6 @@ module _ (n reports : ℕ) (events : List Event) where
       let is : get_or events k d ≡ bad.event = get_or_from_slice_get events k bad.event d bad.there in
       true≢false (sym bad.bad ∙ ap (names_none n reports (sent_by (take k events))) (sym is) ∙ good)
 
-  -- the first k events and the next one are good
   pub good_next : (k : ℕ) (d : Event) → names_none n reports (sent_by (take k events)) (get_or events k d) ≡ false →
       ((before : ℕ) → before < k → ¬ (IsBadAt n reports events before)) → (before : ℕ) → before < k + 1 → ¬ (IsBadAt n reports events before)
   good_next k d good earlier before within bad =

@@ -44,7 +44,6 @@ same_fact f m e = fact_cmp_exact m.fact f (is_equal (fact_cmp m.fact f) e)
 is_fact : (f : Fact) (m : Mention) → m.fact ≡ f → is_of f m ≡ true
 is_fact f m e = ap (λ g. is_eq (fact_cmp g f)) e ∙ ap is_eq (tied_itself fact_cmp_total f)
 
--- a mention of a fact is not a mention of a greater fact
 not_both : (f g : Fact) (m : Mention) → fact_cmp f g ≡ Less → is_of g m ≡ true → is_other f m ≡ true
 not_both f g m less e = ⊎_elim
     (λ (of_f : is_of f m ≡ true).

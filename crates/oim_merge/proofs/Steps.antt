@@ -37,15 +37,12 @@ union_itself b rises =
 joined_itself : (base : Contents) → IsBody base.body → base ≡ joined_with base base
 joined_itself base rises = λ i. record { sheet = base.sheet; body = union_itself base.body rises i }
 
--- joining a base with the same body changes nothing
 pub joins_same : (base other : Contents) → base.body ≡ other.body → IsBody base.body → base ≡ joined_with base other
 joins_same base other same rises = joined_itself base rises ∙ (λ i. record { sheet = base.sheet; body = union base.body (same i) })
 
--- the element at a valid index does not depend on the default
 pub read_default : {A : Type 0} (xs : List A) (i : ℕ) (x d : A) → i < length xs → x ≡ get_or xs i x → x ≡ get_or xs i d
 read_default xs i x d within is = is ∙ get_or_default xs i x d within
 
--- a base that joins itself does not change
 pub joins_itself : (bases : List Contents) (i j : ℕ) (base fresh : Contents) → i ≡ j → i < length bases → base ≡ get_or bases i base → IsBody base.body →
     bases ≡ set bases i (joined_with (get_or bases i fresh) (get_or bases j fresh))
 joins_itself bases i j base fresh is within read rises =
@@ -71,7 +68,6 @@ number_within : (greatest number : ℕ) → is_outside greatest number ≡ false
 number_within greatest zero inside = absurd (true≢false inside)
 number_within greatest (suc place) inside = let least : suc place ≤ greatest = grind (arith, nat_tests) in omega (arith, least)
 
--- the sending replica exists
 pub sender_within : (replicas reports sent : ℕ) (event : Event) (i : ℕ) → event ≡ Send i → names_none replicas reports sent event ≡ false → i - 1 < replicas
 sender_within replicas reports sent event i is good = number_within replicas i (names_good replicas reports sent event (Send i) is good)
 

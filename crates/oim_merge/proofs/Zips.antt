@@ -41,7 +41,6 @@ zip_set R (x ∷ xs) [] h k d y one = absurd h
 zip_set R (x ∷ xs) (w ∷ ys) h zero d y one = (one, h.1)
 zip_set R (x ∷ xs) (w ∷ ys) h (suc k) d y one = (h.0, zip_set R xs ys h.1 k d y one)
 
--- related elements are replaced in both lists
 pub zip_both : {A B : Type 0} (R : A → B → Type 0) (xs : List A) (ys : List B) → AllZip R xs ys → (k : ℕ) (x : A) (y : B) → R x y → AllZip R (set xs k x) (set ys k y)
 zip_both R [] [] h k x y one = tt
 zip_both R [] (w ∷ ys) h k x y one = absurd h

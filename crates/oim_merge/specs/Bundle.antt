@@ -12,7 +12,7 @@ is_filled piece = not (length piece == 0)
 abbrev pub line_pieces : List ℕ → List (List ℕ)
 line_pieces bytes = slice_split is_line_end bytes
 
--- the first piece, which is the sheet
+-- the sheet: the first piece
 abbrev pub sheet_piece : List ℕ → List ℕ
 sheet_piece bytes = before_first is_line_end bytes
 
@@ -20,6 +20,6 @@ sheet_piece bytes = before_first is_line_end bytes
 abbrev pub filled_pieces : List ℕ → List (List ℕ)
 filled_pieces bytes = filter is_filled (line_pieces bytes)
 
--- the later pieces that are not empty, which are the reports
+-- the reports: the later pieces that are not empty
 abbrev pub report_pieces : List ℕ → List (List ℕ)
 report_pieces bytes = filter is_filled (drop 1 (line_pieces bytes))

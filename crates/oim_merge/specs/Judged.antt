@@ -1,4 +1,4 @@
--- A row with its number, its evidence and the identifiers of its facts (own).
+-- Valid judged rows, and their texts (own).
 use Rattle.std.specs.Prelude.{◌≡◌, ℕ, ◌+◌, ◌<◌, ◌≤◌, List, length}
 use Rattle.fact_base.specs.Rows.{Row}
 use Rattle.fact_base.specs.Shown.{shown}

@@ -1,4 +1,4 @@
--- Mentions before their lines are written (own). In bytes, `f` is 102, a space 32, a line end 10.
+-- Mentions before their lines are written (own).
 use Rattle.std.specs.Prelude.{ℕ, List, map, count_by}
 use Rattle.std.specs.Ordering.{is_lt}
 use Rattle.oim_dims.specs.FactOrder.{fact_cmp}

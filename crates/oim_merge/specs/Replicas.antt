@@ -39,7 +39,7 @@ abbrev pub with_accepted : Result Document Refusal → ℕ → Numbers → Numbe
 with_accepted (Ok d) r numbers = both numbers (r ∷ [])
 with_accepted (Err refusal) r numbers = numbers
 
--- replicas that keep and send sets: the numbers of the reports that reached them
+-- replicas that keep and send the set of reports that reached them, by number
 abbrev pub reached : Sheet → List (List ℕ) → Machine Numbers Numbers
 reached sheet reports = record {
   fresh = [];
@@ -73,7 +73,7 @@ abbrev pub text_by : Writer → Body → List ℕ
 text_by present b = canonical b
 text_by earlier b = earlier_text b
 
--- the list chooses a writer for each sent text; texts after the end of the list are written by the present writer
+-- the list chooses a writer for each sent text; the present writer writes the texts after its end
 abbrev pub text_chosen : List Writer → ℕ → Body → List ℕ
 text_chosen writers sent b = text_by (slice_index_or writers sent present) b
 

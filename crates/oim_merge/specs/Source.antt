@@ -4,7 +4,7 @@ use Rattle.std.specs.Io.KnownBytes.{Consumes}
 use Rattle.oim_merge.specs.declared.read_fault.ReadFault.{ReadFault}
 use Rattle.oim_merge.specs.declared.read_fault.ReadFault.TheVariants.{OutOfMemory, Device, TooLong}
 
--- the source gave the first part of the bytes that it had, and this part has the property
+-- the source gave a first part of its bytes, and this part has the property
 abbrev pub Gives : Option (List ℕ) → Option (List ℕ) → (List ℕ → Type 0) → Type 0
 Gives old new P = (given : List ℕ) × Consumes old new given × P given
 

@@ -41,7 +41,6 @@ pub fn consolidate_bundle<S: Sink>(
     consolidation.finish(Level::All, out)
 }
 
-/// Adds each line that is not empty as a report.
 fn merge_lines<'s>(
     alloc: Global,
     sheet: &'s Sheet,

@@ -48,8 +48,7 @@ pub fn check_report(alloc: Global, sheet: &Sheet, bytes: &[u8]) -> Result<Checke
     })
 }
 
-/// True if the bytes are the canonical text of the report. The facts of a canonical text rise. If
-/// the report's facts do not, no text is written.
+// The facts of a canonical text rise. If the facts of the report do not, no text is written.
 fn is_canonical(
     alloc: Global,
     sheet: &Sheet,
@@ -69,7 +68,6 @@ fn is_canonical(
     Ok(text.as_bytes() == bytes)
 }
 
-/// True if each fact is less than the next one.
 fn rise(facts: &[Fact]) -> bool
     ensures { IsTrue result ↔ IsSet fact_cmp facts.now }
 {

@@ -11,8 +11,8 @@ use oim_value::Level;
 use oim_write::{Encoded, Sink, write_to};
 use std::alloc::Global;
 
-/// Merges reports under a sheet: writes the canonical text of the accepted ones to the sink
-/// (xBRL-JSON 1.0; the choice of prefixes and identifiers is own), and returns the refusals of the
+/// Merges reports under a sheet. Writes the canonical text of the accepted ones to the sink
+/// (xBRL-JSON 1.0; the choice of prefixes and identifiers is own). Returns the refusals of the
 /// others with their numbers, from 1.
 ///
 /// Errors: `TooLoose` if a dimension set has duplicates above `allow`, with nothing written;
@@ -35,7 +35,6 @@ pub fn consolidate<S: Sink>(
     consolidation.finish(allow, out)
 }
 
-/// Writes the base if no dimension set is above the level.
 pub(crate) fn write_within<S: Sink>(
     alloc: Global,
     base: &Base<'_>,
@@ -60,7 +59,6 @@ pub(crate) fn write_within<S: Sink>(
     }
 }
 
-/// The number, from 1, of the first dimension set that is above the level.
 fn first_above(base: &Base<'_>, allow: Level) -> Option<u64>
     ensures { MatchOption result (StaysWithin allow base.now.body) (IsFirstAbove allow base.now.body) }
 {

@@ -5,9 +5,6 @@ ghost use Rattle.oim_merge.specs.code.EventParts.{AreNumbersText, IsNumberText, 
 use crate::event::Event;
 use std::str;
 
-/// Reads an event: `take I R`, `join I J`, `send I`, `receive I K` or `restart I`, without a line
-/// end. Words and numbers are separated by single spaces. Numbers are whole, from 1 to 4294967295,
-/// without leading zeros.
 pub(crate) fn read_event(line: &[u8]) -> Option<Event>
     ensures { MatchOption result (IsBadLine line.now) (IsEventLine line.now) }
 {

@@ -18,7 +18,6 @@ pub(crate) struct LentFact<'b> {
     pub value: &'b Value,
 }
 
-/// The facts of a base, in order.
 pub(crate) fn facts_of<'b>(
     alloc: Global,
     base: &'b Base<'_>,
@@ -45,7 +44,6 @@ fn add_row<'b>(facts: &mut Vec<LentFact<'b>>, row: Row<'b>) -> Result<(), AllocE
     Ok(())
 }
 
-/// The number of facts in a rising list that are less than `fact`.
 pub(crate) fn place_of(facts: &[LentFact<'_>], fact: &Fact) -> usize
     requires { IsSet fact_cmp (map lent facts.now) }
     ensures { result ≡ count_by (λ f. is_lt (fact_cmp f fact.now)) (map lent facts.now) }

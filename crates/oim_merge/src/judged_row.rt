@@ -1,7 +1,7 @@
 use crate::identifiers::Identifiers;
 use fact_base::{Evidence, Row};
 
-/// A row of a base, with what its text shows beside the facts.
+/// A row of a base with its number, its evidence and the identifiers of its facts.
 #[derive(Clone, Copy)]
 pub struct JudgedRow<'b> {
     /// The number of the row, from 1.

@@ -12,11 +12,10 @@ use oim_write::Encoded;
 use std::alloc::{AllocError, Global};
 
 /// The cached result of reading a text under a sheet: none yet, a base, or a refusal. A base is
-/// cached instead of a report, since taking a report copies all its facts, while joining a base
-/// copies only new ones.
+/// cached instead of a report: taking a report copies all its facts, but joining a base copies only
+/// new ones.
 pub(crate) type Kept<'s> = Option<Result<Base<'s>, Refusal>>;
 
-/// An empty cache entry for each text.
 pub(crate) fn none_kept<'s>(alloc: Global, texts: usize) -> Result<Vec<Kept<'s>>, AllocError>
     ensures { IfOk result (λ made. made.items ≡ replicate texts None) }
 {
@@ -28,7 +27,7 @@ pub(crate) fn none_kept<'s>(alloc: Global, texts: usize) -> Result<Vec<Kept<'s>>
 }
 
 /// Adds the text at an index to a base. The text is read the first time, and the result is cached.
-/// A refused text adds nothing, and its refusal is returned.
+/// If the text is refused, the base does not change, and the refusal is returned.
 ///
 /// Errors: out of memory.
 pub(crate) fn take_at<'s>(
@@ -57,7 +56,6 @@ pub(crate) fn take_at<'s>(
     Ok(told)
 }
 
-/// Reads the bytes into a base under the sheet, or returns their refusal.
 fn read_base<'s>(
     alloc: Global,
     sheet: &'s Sheet,
@@ -75,7 +73,6 @@ fn read_base<'s>(
     }
 }
 
-/// Adds the cached result to a base, or returns the refusal.
 fn take_read(
     base: &mut Base<'_>,
     read: &Result<Base<'_>, Refusal>,
@@ -93,7 +90,7 @@ fn take_read(
     }
 }
 
-/// Joins another base. If both are equal, this compares each row once and requests no memory.
+/// Joins another base. If the bases are equal, each row is compared once and no memory is requested.
 pub(crate) fn join_new(base: &mut Base<'_>, other: &Base<'_>) -> Result<(), AllocError>
     requires { other.now.sheet ≡ base.old.sheet }
     ensures { OnOk result (base.new ≡ joined_with base.old other.now) }

@@ -18,8 +18,7 @@ pub fn reports_ignore_order()
     ensures { ReportsIgnoreOrder }
 {}
 
-/// Adding reports one at a time gives the same body and the same refusals as `consolidate` gives
-/// for their list.
+/// Adding reports one at a time gives the same body and the same refusals as merging their list.
 pub fn steps_are_list()
     ensures { StepsAreList }
 {}
@@ -47,8 +46,8 @@ pub fn allowed_is_declared()
     ensures { AllowedIsDeclared }
 {}
 
-/// If a new base takes the report that is read from a body's text, in the present or the earlier
-/// form, the base has that body.
+/// A new base that takes the report read from a body's text has that body. The text may have the
+/// present form or the earlier one.
 pub fn texts_give_bodies()
     ensures present { TextsGiveBodies }
     ensures earlier { EarlierTextsGiveBodies }
@@ -73,8 +72,8 @@ pub fn earlier_is_not_canonical()
 {}
 
 /// A base has the body of the documents that reached it, directly or through bases that it joined.
-/// So bases that the same accepted reports reached, in any order, grouping and repetition, have the
-/// same bytes, verdicts, level and references.
+/// So bases that the same accepted reports reached have the same bytes, verdicts, level and
+/// references, whatever the order, grouping and repetition.
 pub fn histories_are_forgotten()
     ensures body { HistoriesGiveBodies }
     ensures bytes { HistoriesAreForgotten }
@@ -101,15 +100,15 @@ pub fn lines_tell_verdicts()
 {}
 
 /// An accepted report has one mention for each fact object, with the fact that the object reports.
-/// The lines of `sources` list each mention once and nothing else. Each fact of the merged reports
-/// has a line.
+/// `source_lines` lists each mention once and nothing else. Each fact of the merged reports has a
+/// line.
 pub fn sources_are_whole()
     ensures objects { EachObjectIsMentioned }
     ensures told { EachMentionIsTold }
     ensures said { EachFactIsSaid }
 {}
 
-/// If the reports are reordered, only the report numbers in the lines of `sources` differ.
+/// If the reports are reordered, only the report numbers that `source_lines` writes differ.
 pub fn sources_ignore_order()
     ensures { SourcesIgnoreOrder }
 {}

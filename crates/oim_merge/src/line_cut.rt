@@ -2,7 +2,6 @@ ghost use Rattle.std.specs.Prelude.{◌≡◌};
 ghost use Rattle.std.specs.List.{before_first, after_first, position_or_len};
 ghost use Rattle.oim_merge.specs.Bundle.{is_line_end};
 
-/// Returns the bytes before the first line end and the bytes after it.
 pub(crate) fn cut_line(bytes: &[u8]) -> (&[u8], &[u8])
     ensures line { result.0.now ≡ before_first is_line_end bytes.now }
     ensures rest { result.1.now ≡ after_first is_line_end bytes.now }

@@ -18,9 +18,9 @@ use oim_report::Sheet;
 use oim_write::{Encoded, Scratch, Sink, SinkBuffer, WriteFault};
 use std::alloc::Global;
 
-/// Merges reports under a sheet and appends one line for each dimension set to the sink, in order:
-/// its number from 1, the identifiers of its first and last fact, and the verdict with its evidence
-/// (own). Returns the refusals with the numbers of their reports, from 1.
+/// Merges reports under a sheet and appends one line for each dimension set to the sink, in order
+/// (own). A line has the number of the set, from 1, the identifiers of its first and last fact, and
+/// the verdict with its evidence. Returns the refusals with the numbers of their reports, from 1.
 ///
 /// Errors: `Device` if the sink failed; `OutOfMemory`.
 pub fn verdict_lines<S: Sink>(
@@ -40,7 +40,7 @@ pub fn verdict_lines<S: Sink>(
     consolidation.finish_lines(out)
 }
 
-/// Appends the rows of a base to the sink in a format, and returns the refusals.
+/// Appends the rows of a base to the sink in this format, and returns the given refusals.
 ///
 /// Errors: `Device` if the sink failed; `OutOfMemory`.
 pub fn write_verdicts<S: Sink, F: VerdictFormat>(
@@ -61,8 +61,6 @@ pub fn write_verdicts<S: Sink, F: VerdictFormat>(
     }
 }
 
-/// Appends the header and the rows of a base. After a fault the sink has a first part of them; the
-/// fault contains its length.
 fn write_all<S: Sink, F: VerdictFormat>(
     alloc: Global,
     base: &Base<'_>,
@@ -125,7 +123,6 @@ fn push_rows<S: Sink, F: VerdictFormat>(
     Ok(())
 }
 
-/// The evidence for the verdict on a row of the base.
 fn evidence_of(base: &Base<'_>, row: Row<'_>) -> Evidence
     requires { Contains (rows_of base.now.body.facts) (shown row) }
     ensures { IsEvidence row.entry.values.now result }

@@ -38,7 +38,6 @@ pub fn mentions_by_fact(
     Ok(mentions)
 }
 
-/// The mentions of these facts in the reports, sorted by report, then identifier.
 fn mentions_of(
     alloc: Global,
     sheet: &Sheet,
@@ -65,7 +64,6 @@ fn mentions_of(
     Ok(mentions)
 }
 
-/// Adds the mentions in the report with this number. A refused report has none.
 fn add_report(
     alloc: Global,
     sheet: &Sheet,
@@ -91,7 +89,6 @@ fn add_report(
     )
 }
 
-/// Adds the mentions in a report with these identifiers and facts.
 fn add_facts(
     alloc: Global,
     facts: &[LentFact<'_>],

@@ -55,7 +55,6 @@ impl<'s> Consolidation<'s> {
         }
     }
 
-    /// Starts a merge and adds a list of reports.
     pub(crate) fn of(
         alloc: Global,
         sheet: &'s Sheet,
@@ -70,10 +69,10 @@ impl<'s> Consolidation<'s> {
         Ok(consolidation)
     }
 
-    /// Reads one more report under the sheet and takes its facts, or keeps its refusal with the
+    /// Reads one more report under the sheet and takes its facts, or stores its refusal with the
     /// number of the report, from 1.
     ///
-    /// Errors: out of memory; nothing is changed then, so the report can be added again.
+    /// Errors: out of memory; then nothing changes, and the report can be added again.
     pub fn add(&mut self, bytes: &[u8]) -> Result<(), AllocError>
         requires { self.old.reports + 1 < 2 ^ 64 }
         ensures ok { OnOk result (self.new ≡ with_report self.old bytes.now) }

@@ -28,7 +28,6 @@ pub(crate) struct Messages<'s> {
 }
 
 impl<'s> Messages<'s> {
-    /// An empty list. It takes no memory.
     pub(crate) fn new(alloc: Global) -> Messages<'s>
         ensures sent { sent_texts result ≡ [] }
         ensures held { (sheet : SheetSeen) → AreHeld sheet result }
@@ -64,7 +63,6 @@ impl<'s> Messages<'s> {
         Ok(())
     }
 
-    /// The index of a base's text. The text is written unless `current` has its index.
     fn place_of(
         &mut self,
         alloc: Global,
@@ -115,7 +113,6 @@ impl<'s> Messages<'s> {
         }
     }
 
-    /// Compares the text at an index with another, by bytes.
     fn compare(&self, place: usize, text: &Encoded) -> Ordering {
         match self.texts.get(place) {
             Some(known) => known.as_bytes().cmp(text.as_bytes()),

@@ -1,6 +1,6 @@
 use oim_names::Text;
 
-/// A mention: a report reports a fact of a base.
+/// A mention of a base's fact in a report.
 #[derive(Debug, Drop)]
 pub struct PlacedMention {
     /// The number of facts in the base that are less than the fact.

@@ -97,7 +97,7 @@ impl<'s> Replayed<'s> {
     }
 }
 
-/// The sent text with this number, from 1. `places` has the index of each sent text in `texts`.
+// `places` contains the index of each sent text in `texts`. Numbers are from 1.
 fn text_numbered<'t>(texts: &'t [Encoded], places: &[usize], number: usize) -> Option<&'t Encoded>
     requires { AreWithin texts.now places.now }
     ensures { MatchOption result (numbered (texts_at texts.now places.now) number ≡ None)

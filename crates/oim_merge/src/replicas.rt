@@ -29,7 +29,6 @@ pub(crate) struct Replicas<'s> {
 }
 
 impl<'s> Replicas<'s> {
-    /// Creates `n` empty replicas. No text is sent yet, and no report is read.
     pub(crate) fn new(
         alloc: Global,
         sheet: &'s Sheet,
@@ -55,7 +54,6 @@ impl<'s> Replicas<'s> {
         })
     }
 
-    /// True if everything that the event names exists.
     pub(crate) fn has_named(&self, event: Event, reports: usize) -> bool
         ensures { IsTrue result ↔ (names_none (length self.now.bases.items) reports
             (length (sent_texts self.now.messages)) event ≡ false) }
@@ -70,7 +68,6 @@ impl<'s> Replicas<'s> {
         }
     }
 
-    /// Runs an event. Everything that it names must exist.
     pub(crate) fn step(
         &mut self,
         alloc: Global,
@@ -115,7 +112,6 @@ impl<'s> Replicas<'s> {
         Ok(())
     }
 
-    /// Takes the report, or records its refusal.
     fn take(
         &mut self,
         alloc: Global,
@@ -151,7 +147,7 @@ fn is_there(number: u32, greatest: usize) -> bool
     number >= 1 && number as usize <= greatest
 }
 
-/// Forgets the current text of a replica, since its base may change.
+// The base of the replica may change, so its current text is forgotten.
 fn forget(current: &mut Vec<Option<usize>>, place: usize)
     ensures { current.new.items ≡ slice_set current.old.items place None }
 {
@@ -160,7 +156,6 @@ fn forget(current: &mut Vec<Option<usize>>, place: usize)
     }
 }
 
-/// Joins the base at `other` into the base at `place`.
 fn join_at<'s>(
     alloc: Global,
     sheet: &'s Sheet,

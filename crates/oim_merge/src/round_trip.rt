@@ -6,7 +6,7 @@ use oim_write::text;
 use std::alloc::{AllocError, Global};
 
 /// Writes the canonical text of a base, reads it under the base's sheet, and takes the report into
-/// a new base, which is equal to the first (own).
+/// a new base. The new base is equal to the first (own).
 ///
 /// Errors: out of memory.
 pub fn read_back<'s>(alloc: Global, base: &Base<'s>) -> Result<Base<'s>, AllocError>

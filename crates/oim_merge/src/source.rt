@@ -8,7 +8,7 @@ pub struct SourceError;
 
 /// Gives bytes and counts its failures.
 pub trait Source {
-    /// The bytes that it still has to give, if contracts can see them.
+    /// The remaining bytes, if contracts can see them.
     ghost told: { Self → Option (List ℕ) };
 
     /// The number of failures so far.

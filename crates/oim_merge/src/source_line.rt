@@ -36,7 +36,6 @@ impl SourceFormat for SourceLines {
     }
 }
 
-/// The line of a mention with its line end.
 fn line_of(alloc: Global, fact: &str, mention: &PlacedMention) -> Result<String, AllocError>
     ensures { IfOk result (λ line. string_bytes line ≡ source_line fact.now mention.now.report mention.now.identifier) }
 {

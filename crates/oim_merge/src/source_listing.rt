@@ -17,10 +17,10 @@ use oim_report::Sheet;
 use oim_write::{Encoded, Sink, SinkBuffer, WriteFault, identifier};
 use std::alloc::{AllocError, Global};
 
-/// Merges reports under a sheet and appends one line for each fact object in an accepted report to
-/// the sink: the identifier of its fact in the canonical text, the number of the report from 1, and
-/// the object's own identifier as a JSON string (own). The lines are sorted by these three. Returns
-/// the refusals with the numbers of their reports.
+/// Merges reports under a sheet and appends one line to the sink for each fact object in an accepted
+/// report (own). A line has the identifier of the fact in the canonical text, the number of the
+/// report from 1, and the object's own identifier as a JSON string. The lines are sorted by these
+/// three. Returns the refusals with the numbers of their reports.
 ///
 /// Each report is read a second time after the merge, so a plain merge need not store identifiers.
 ///
@@ -66,8 +66,7 @@ pub fn write_sources<S: Sink, F: SourceFormat>(
     }
 }
 
-/// Appends the header and the texts of mentions. `count` is the number of facts in the base. After a
-/// fault the sink has a first part of them; the fault contains its length.
+// `count` is the number of facts in the base.
 fn write_all<S: Sink, F: SourceFormat>(
     alloc: Global,
     count: u128,
@@ -117,7 +116,6 @@ fn push_rows<S: Sink, F: SourceFormat>(
     Ok(())
 }
 
-/// The text of a mention, for a base with `count` facts.
 fn text_of<F: SourceFormat>(
     alloc: Global,
     count: u128,

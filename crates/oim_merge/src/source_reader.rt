@@ -13,8 +13,11 @@ const FEWEST: usize = 1 << 12;
 
 const MOST: usize = 1 << 16;
 
-/// Reads a source to its end, if it gives at most `limit` bytes, and releases unused memory. It
-/// asks the source at most `limit` + 1 times, since each answer but the last has at least one byte.
+/// Reads a source of at most `limit` bytes to its end and releases unused memory. It asks the source
+/// at most `limit` + 1 times, since each answer but the last has at least one byte.
+///
+/// Errors: `TooLong` if the source has more than `limit` bytes; `Device` if it failed;
+/// `OutOfMemory`.
 pub fn read_all<S: Source>(alloc: Global, source: &mut S, limit: u32) -> Result<Encoded, ReadFault>
     requires { S.failures source.old < 2 ^ 64 - 1 }
     ensures ok { IfOk result (λ bytes. Consumes (S.told source.old) (S.told source.new) bytes
@@ -43,7 +46,6 @@ pub fn read_all<S: Source>(alloc: Global, source: &mut S, limit: u32) -> Result<
     Err(ReadFault::TooLong)
 }
 
-/// Extends the buffer by zeros if it is full. The filled bytes do not change.
 fn make_room(bytes: &mut Vec<u8>, filled: usize, most: usize) -> Result<(), AllocError>
     requires filled { filled ≤ vec_len bytes.old }
     requires room { filled < most }
@@ -61,7 +63,6 @@ fn make_room(bytes: &mut Vec<u8>, filled: usize, most: usize) -> Result<(), Allo
     Ok(())
 }
 
-/// Asks the source for bytes that follow the filled ones.
 fn get_behind<S: Source>(
     source: &mut S,
     bytes: &mut [u8],

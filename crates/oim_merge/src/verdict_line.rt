@@ -36,7 +36,6 @@ impl VerdictFormat for VerdictLines {
     }
 }
 
-/// Returns a copy of the bytes of a text.
 pub(crate) fn bytes_of(alloc: Global, text: &str) -> Result<Vec<u8>, AllocError>
     ensures { IfOk result (λ bytes. bytes.items ≡ text.now) }
 {
@@ -45,7 +44,6 @@ pub(crate) fn bytes_of(alloc: Global, text: &str) -> Result<Vec<u8>, AllocError>
     Ok(bytes)
 }
 
-/// The line of a row, with a line end.
 fn line_of(judged: &JudgedRow<'_>) -> Result<String, AllocError>
     requires { IsJudged judged.now }
     ensures { IfOk result (λ line. string_bytes line ≡ judged_text line_text judged.now) }
@@ -60,7 +58,6 @@ fn line_of(judged: &JudgedRow<'_>) -> Result<String, AllocError>
     format!(in alloc; "{number} {first} {last} {told}\n")
 }
 
-/// The verdict in words, with its evidence.
 fn evidence_in_words(judged: &JudgedRow<'_>) -> Result<String, AllocError>
     requires { IsJudged judged.now }
     ensures { IfOk result (λ text. string_bytes text ≡ evidence_text (names_of judged.now) judged.now.evidence) }

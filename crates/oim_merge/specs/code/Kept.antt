@@ -19,7 +19,7 @@ abbrev pub with_read : Result Contents Refusal → Contents → Contents
 with_read (Ok read) base = joined_with base read
 with_read (Err refusal) base = base
 
--- either nothing is cached for these bytes, or the result of reading them is
+-- if something is cached for these bytes, it is the result of reading them
 abbrev pub IsReadingOf : Sheet → List ℕ → Option (Result Contents Refusal) → Type 0
 IsReadingOf sheet bytes None = Unit {0}
 IsReadingOf sheet bytes (Some read) = read ≡ read_as sheet (outcome sheet bytes)
