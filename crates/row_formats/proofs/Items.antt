@@ -1,4 +1,3 @@
--- The tokens of arrays and of evidence.
 use Rattle.std.proofs.Common.{◌≡◌, ℕ, suc, ◌+◌, List, [], ◌∷◌, ◌++◌, length, append_assoc, append-nil, Result, Ok, Err, codes, refl, sym, ap, ◌∙◌, arith}
 use Rattle.std.specs.Prelude.{OnOk}
 use Rattle.std.proofs.lemmas.Result.{on_ok_weaker}
@@ -17,12 +16,10 @@ outlined : (ds : Items) → tree.items_tokens (items_outline ds) ≡ item_tokens
 outlined no_items = refl
 outlined (item d ds) = ap (λ ts. tree.json_tokens (outline d) ++ ts) (outlined ds) ∙ sym (append_assoc (tree.json_tokens (outline d)) (item_tokens ds) (end_array ∷ []))
 
--- the tokens of an array: the opening bracket, the items, the closing bracket
 pub closed_array : {E : Type 0} {a b c d : Written} (r : Result (Unit {0}) E) (ds : Items) → Adds a b (begin_array ∷ []) → Adds b c (item_tokens ds) → Writes r c d end_array → OnOk r (AddsValue a d (array ds))
 closed_array (Ok done) ds begun items closed = Adds-is (ap (λ ts. begin_array ∷ ts) (sym (outlined ds))) (Adds-trans begun (Adds-trans items (Adds-one closed)))
 closed_array (Err e) ds begun items closed = tt
 
--- the items with one more fact
 pub next_fact : (name : ℕ → List ℕ) (k : ℕ) (vs : List Value) (v : Value) (place : ℕ) → k + length vs ≡ place →
     item_tokens (fact_items name k (vs ++ v ∷ [])) ≡ item_tokens (fact_items name k vs) ++ tree.json_tokens (outline (fact_data (name place) v))
 next_fact name k [] v place is = append-nil _ ∙ ap (λ i. tree.json_tokens (outline (fact_data (name i) v))) (omega (arith, is))

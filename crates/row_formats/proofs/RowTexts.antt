@@ -1,4 +1,3 @@
--- The text of a body's rows in a format.
 use Rattle.std.proofs.Common.{◌++◌, refl, ap, ◌∙◌}
 use Rattle.oim_merge.specs.Lines.{identifier_at, line_text}
 use Rattle.oim_merge.proofs.Evidenced.{lines_tell_verdicts}

@@ -68,7 +68,7 @@ dimension_fields d =
     braced d.concept ∷ or_empty (option_spelled braced d.entity) ∷ or_empty (period_text d.period)
     ∷ or_empty (option_unit_text braced d.unit) ∷ or_empty d.language ∷ defined_text d.members ∷ []
 
--- finite decimals; empty if they are infinite
+-- finite decimals as text; empty for infinite decimals
 abbrev pub decimals_text : Option ℤ → List ℕ
 decimals_text None = []
 decimals_text (Some d) = signed_decimal d

@@ -49,6 +49,6 @@ sources_in format sheet reports = source_header format ++ sources_by (source_tex
 abbrev pub ListsSourceRows : RowFormat → Sheet → List (List ℕ) → Option (List ℕ) → Option (List ℕ) → List (ℕ × Refusal) → Type 0
 ListsSourceRows format = AppendsSources (source_header format) (source_text format)
 
--- after a fault, a first part of the rows was appended, and the fault carries the number of its bytes
+-- after a fault, a first part of the rows was appended, and the fault contains the number of its bytes
 abbrev pub SourceRowsStop : RowFormat → Sheet → List (List ℕ) → Option (List ℕ) → Option (List ℕ) → Fault → Type 0
 SourceRowsStop format = AppendingStops (source_header format) (source_text format)

@@ -5,7 +5,6 @@ ghost use Rattle.row_formats.specs.CsvRows.{record_text};
 use csv::{Error, StringRecord, Terminator, WriterBuilder};
 use std::alloc::{AllocError, Global};
 
-/// Returns the text of a record (RFC 4180).
 pub(crate) fn text_of_record(alloc: Global, fields: &StringRecord) -> Result<Vec<u8>, AllocError>
     ensures { IfOk result (λ text. text.items ≡ record_text (fields_of fields.now)) }
 {

@@ -3,8 +3,6 @@ ghost use Rattle.row_formats.specs.CsvRows.{begins_formula, guarded, is_sign, is
 
 use std::alloc::AllocError;
 
-/// Replaces `text` by the given one. For a spreadsheet, a `'` is put before a text that would be read
-/// as a formula.
 pub(crate) fn guard(text: &mut String, spreadsheet: bool, given: &str) -> Result<(), AllocError>
     ensures { OnOk result (string_bytes text.new ≡ guarded spreadsheet given.now) }
 {

@@ -36,7 +36,6 @@ const RECORD: usize = 1 << 9;
 /// The number of fields in a record.
 const FIELDS: usize = 16;
 
-/// Returns the header with the names of the columns.
 pub(crate) fn csv_header(alloc: Global) -> Result<Vec<u8>, AllocError>
     ensures { IfOk result (λ text. text.items ≡ record_text columns) }
 {
@@ -54,7 +53,6 @@ pub(crate) fn csv_header(alloc: Global) -> Result<Vec<u8>, AllocError>
     text_of_record(alloc, &record)
 }
 
-/// Returns the records of a row.
 pub(crate) fn csv_row(spreadsheet: bool, judged: &JudgedRow<'_>) -> Result<Vec<u8>, AllocError>
     requires { IsJudged judged.now }
     ensures { IfOk result (λ text. text.items ≡ judged_text (csv_row spreadsheet) judged.now) }
@@ -96,8 +94,6 @@ fn push_record(
     Ok(())
 }
 
-/// Appends the number of the row, the word for its verdict, and the identifier of the fact at an
-/// index.
 fn push_front(
     fields: &mut StringRecord,
     judged: &JudgedRow<'_>,
@@ -115,7 +111,6 @@ fn push_front(
     push_three(fields, number.as_str(), word, identifier.as_str())
 }
 
-/// Appends the dimensions and the value of the fact.
 fn push_fact(
     alloc: Global,
     fields: &mut StringRecord,
@@ -188,7 +183,6 @@ fn push_unit(
     fields.push_field(room.as_str())
 }
 
-/// Appends the taxonomy-defined dimensions as a JSON object.
 fn push_defined(
     alloc: Global,
     fields: &mut StringRecord,
@@ -243,7 +237,6 @@ fn push_number(
     push_three(fields, number.as_str(), "", decimals.as_str())
 }
 
-/// Returns finite decimals as text; infinite ones have no text.
 fn decimals_text(alloc: Global, decimals: Decimals) -> Result<String, AllocError>
     ensures { IfOk result (λ text. string_bytes text ≡ decimals_text decimals) }
 {
@@ -253,7 +246,6 @@ fn decimals_text(alloc: Global, decimals: Decimals) -> Result<String, AllocError
     }
 }
 
-/// Appends the evidence for the verdict on the row.
 fn push_evidence(fields: &mut StringRecord, judged: &JudgedRow<'_>) -> Result<(), AllocError>
     requires { IsJudged judged.now }
     ensures { OnOk result (fields_of fields.new ≡ fields_of fields.old
@@ -310,7 +302,6 @@ fn push_four(
     fields.push_field(fourth)
 }
 
-/// Returns the taxonomy-defined dimensions as a JSON object.
 fn members_json(
     alloc: Global,
     room: &mut String,

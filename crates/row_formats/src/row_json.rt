@@ -21,7 +21,6 @@ use std::alloc::{AllocError, Global};
 /// The initial capacity of a line; few lines are longer.
 const LINE: usize = 1 << 9;
 
-/// Returns the line of a row.
 pub(crate) fn json_row(scratch: &mut Scratch, judged: &JudgedRow<'_>) -> Result<Vec<u8>, AllocError>
     requires { IsJudged judged.now }
     ensures { IfOk result (λ line. line.items ≡ judged_text json_row judged.now) }
@@ -55,7 +54,6 @@ fn write_row(
     json.end_object()
 }
 
-/// Returns the word for the verdict that the evidence shows.
 pub(crate) fn word_of(evidence: &Evidence) -> &'static str
     ensures { result.now ≡ verdict_word (verdict_shown evidence.now) }
 {
@@ -176,14 +174,12 @@ fn write_interval(alloc: Global, json: &mut Writer, common: &Interval) -> Result
     json.end_object()
 }
 
-/// Returns the low end of an interval.
 pub(crate) fn low_text(alloc: Global, interval: &Interval) -> Result<Text, AllocError>
     ensures { IfOk result (λ text. text ≡ plain interval.now.low) }
 {
     write_units(alloc, interval.low)
 }
 
-/// Returns the high end of an interval.
 pub(crate) fn high_text(alloc: Global, interval: &Interval) -> Result<Text, AllocError>
     ensures { IfOk result (λ text. text ≡ plain interval.now.high) }
 {

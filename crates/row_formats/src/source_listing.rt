@@ -39,8 +39,8 @@ impl SourceFormat for RowFormat {
     }
 }
 
-/// Merges reports under a sheet and appends one row for each fact object in an accepted report to
-/// the sink, in a format. The rows list the same sources as `source_lines` (own). Returns the
+/// Merges reports under a sheet and appends one row in this format to the sink for each fact object
+/// in an accepted report (own). The rows list the same sources as `source_lines`. Returns the
 /// refusals with the numbers of their reports, from 1.
 ///
 /// Errors: `Device` if the sink failed; `OutOfMemory`.

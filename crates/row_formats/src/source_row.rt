@@ -9,7 +9,6 @@ use csv::StringRecord;
 use json::Writer;
 use std::alloc::{AllocError, Global};
 
-/// Returns the header with the names of the columns.
 pub(crate) fn csv_header(alloc: Global) -> Result<Vec<u8>, AllocError>
     ensures { IfOk result (λ text. text.items ≡ record_text source_columns) }
 {
@@ -18,7 +17,6 @@ pub(crate) fn csv_header(alloc: Global) -> Result<Vec<u8>, AllocError>
     text_of_record(alloc, &record)
 }
 
-/// Returns the record of a source.
 pub(crate) fn csv_source(
     alloc: Global,
     spreadsheet: bool,
@@ -36,7 +34,6 @@ pub(crate) fn csv_source(
     text_of_record(alloc, &record)
 }
 
-/// Returns the line of a source.
 pub(crate) fn json_source(
     alloc: Global,
     fact: &str,

@@ -37,10 +37,10 @@ impl VerdictFormat for RowFormat {
     }
 }
 
-/// Merges reports under a sheet and appends one row for each dimension set to the sink, in a
-/// format: its number from 1, the verdict, its dimensions, its facts and the evidence. The verdicts
-/// are the same as in `verdict_lines` (own). Returns the refusals with the numbers of their
-/// reports, from 1.
+/// Merges reports under a sheet and appends one row for each dimension set to the sink, in this
+/// format (own). A row has its number from 1, its verdict, its dimensions, its facts and the
+/// evidence. The verdicts are the same as in `verdict_lines`. Returns the refusals with the numbers
+/// of their reports, from 1.
 ///
 /// Errors: `Device` if the sink failed; `OutOfMemory`.
 pub fn verdict_rows<S: Sink>(
@@ -61,7 +61,7 @@ pub fn verdict_rows<S: Sink>(
     write_verdicts(alloc, &base, refusals, &format, out)
 }
 
-/// Does the same for reports that were added one at a time.
+/// Does the same as `verdict_rows` for reports that were added one at a time.
 ///
 /// Errors: the same as `verdict_rows`.
 pub fn finish_rows<S: Sink>(
@@ -81,7 +81,7 @@ pub fn finish_rows<S: Sink>(
     write_verdicts(alloc, &base, refusals, &format, out)
 }
 
-/// Does the same for a program that exits afterwards, as in `Consolidation::finish_last`.
+/// Does the same as `finish_rows`, but does not free the facts (see `Consolidation::finish_last`).
 ///
 /// Errors: the same as `verdict_rows`.
 pub fn finish_rows_last<S: Sink>(

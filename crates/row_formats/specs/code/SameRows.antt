@@ -29,7 +29,6 @@ module _ (name other : ℕ → List ℕ) (n : ℕ) (same : (i : ℕ) → i < n �
   same_shown (Common c) within = refl
   same_shown (Apart i j) within = λ k. [] ∷ [] ∷ same i within.0 k ∷ same j within.1 k ∷ []
 
-  -- equal identifiers give equal records
   same_records : (spreadsheet : Bool) (number : ℕ) (d : DimensionSet) (e : Evidence) (k : ℕ) (vs : List Value) → k + length vs ≡ n → HasPlaces n e → csv_facts spreadsheet name number d e k vs ≡ csv_facts spreadsheet other number d e k vs
   same_records spreadsheet number d e k [] all within = refl
   same_records spreadsheet number d e k (v ∷ vs) all within =
