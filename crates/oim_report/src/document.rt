@@ -1,4 +1,4 @@
-//! The parts of a report outside its facts.
+//! Reads the parts of a report outside its facts.
 
 pub(crate) mod base;
 pub(crate) mod base_url;

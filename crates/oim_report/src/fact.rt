@@ -1,4 +1,4 @@
-//! A single fact of a report.
+//! Reads the facts of a report.
 
 pub(crate) mod core_dimensions;
 pub(crate) mod dimensions_reader;

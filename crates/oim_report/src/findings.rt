@@ -1,4 +1,4 @@
-//! All conditions that apply to a report.
+//! Finds all conditions that apply to a report.
 
 pub(crate) mod content_rows;
 pub(crate) mod defined_rows;

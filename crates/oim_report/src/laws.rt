@@ -39,8 +39,8 @@ pub fn names_are_expanded()
     ensures entities { (bs : List Binding) (t : List ℕ) (n : QName) → (entity_named bs t ≡ Some n) ↔ ExpandsEntity bs t n }
 {}
 
-/// A kept text stays the same if it is kept again without a base. If a reference is accepted, so
-/// is its kept text; if it is UTF-8, so is its kept text.
+/// Keeping a kept text again without a base URL does not change it. If a reference is accepted, its
+/// kept text is accepted. If a reference is UTF-8, its kept text is UTF-8.
 pub fn kept_is_kept()
     ensures kept { KeptIsKept }
     ensures accepted { KeptIsAccepted }
@@ -68,8 +68,8 @@ pub fn sheet_outcomes_want_no_memory()
     ensures { SheetOutcomesWantNoMemory }
 {}
 
-/// A sheet is refused exactly for the first reason that applies: its bytes are not JSON, or else
-/// the condition with the least number.
+/// A sheet is refused for exactly one reason, the first that applies: its bytes are not JSON; the
+/// condition with the least number.
 pub fn sheet_refused_where_held()
     ensures { SheetRefusedWhereHeld }
 {}
@@ -82,20 +82,20 @@ pub fn sheet_lists_what_it_says()
     ensures dimensions { DimensionsAreListed }
 {}
 
-/// A report's bytes say at most one document under a sheet.
+/// The bytes of a report denote at most one document under a sheet.
 pub fn says_one_document()
     ensures { SaysOneDocument }
 {}
 
-/// An accepted report says its document member by member. Its facts fit the sheet, and each of its
-/// references is a kept text.
+/// If a report is accepted as a document, its bytes denote that document. The facts fit the sheet,
+/// and each reference is a kept text.
 pub fn outcomes_are_said()
     ensures said { OutcomesAreSaid }
     ensures facts { AcceptedFactsFit }
     ensures references { AcceptedReferencesAreKept }
 {}
 
-/// An accepted report has as many identifiers as facts, and the object under each identifier says
+/// An accepted report has as many identifiers as facts. The object under each identifier denotes
 /// the fact with the same index.
 pub fn each_fact_has_an_identifier()
     ensures { EachFactHasAnIdentifier }
@@ -107,16 +107,16 @@ pub fn identifiers_rise()
     ensures { IdentifiersRise }
 {}
 
-/// A report is accepted as a document exactly if its bytes are JSON and say that document, no
+/// A report is accepted as a document exactly if its bytes are JSON and denote that document, no
 /// condition applies to the document or a fact, and the level of its facts is not above the
-/// declared one.
+/// declared level.
 pub fn accepted_where_free()
     ensures { AcceptedWhereFree }
 {}
 
 /// A report is refused for exactly one reason, the first that applies: its bytes are not JSON; the
 /// least condition of the document; the least condition of the first fact that has one, at its
-/// place; the level of its facts is above the declared one.
+/// place; the level of its facts is above the declared level.
 pub fn refused_where_held()
     ensures { RefusedWhereHeld }
 {}
@@ -128,7 +128,7 @@ pub fn faults_begin_with_the_refusal()
     ensures first { FirstFaultIsAnswered }
 {}
 
-/// If no condition applies to a fact object, it says a fact.
+/// If no condition applies to a fact object, it denotes a fact.
 pub fn facts_are_said_unless_refused()
     ensures { FactsAreSaid }
 {}
@@ -143,14 +143,14 @@ pub fn fact_object_has_parts()
     ensures { FactObjectHasParts }
 {}
 
-/// No condition on form or names refuses the object of a written fact.
+/// No condition on form or names applies to the object of a written fact.
 pub fn written_facts_are_accepted()
     ensures form { FormsAreAccepted }
     ensures names { NamesAreAccepted }
 {}
 
 /// Suppose that each name of a fact is spelled with a bound prefix of ASCII letters and digits. If
-/// the fact fits a sheet, its object says it, and no condition applies to the object.
+/// the fact fits a sheet, its object denotes it, and no condition applies to the object.
 pub fn fact_object_reads_back()
     ensures { FactObjectReadsBack }
 {}
@@ -160,30 +160,30 @@ pub fn what_is_read_is_utf8()
     ensures { ReadHasUtf8 }
 {}
 
-/// A base, a reference and a kept text have at most 65,536 bytes. JSON may be nested at most 127
-/// levels deep, which is the limit of `serde_json`.
+/// A base URL, a reference and a kept text have at most 65,536 bytes. JSON may be nested at most
+/// 127 levels deep, which is the limit of `serde_json`.
 pub fn limits_are()
     ensures texts { TextsAreWithinLimit }
     ensures nesting { NestsWithinLimit }
     ensures nested { NestedIsRead }
 {}
 
-/// The compact text of a plain object is read as that object. A plain object has no float, so its
-/// compact text is the one that `serde_json` writes.
+/// The compact text of a plain object is read as that object. A plain object contains no float, so
+/// its compact text is the one that `serde_json` writes.
 pub fn plain_text_reads_back()
     ensures back { PlainTextReadsBack }
     ensures whole { PlainHasNoFloat }
 {}
 
-/// The object of a fact is plain and at most two levels deep, so its compact text is read as the
+/// The object of a fact is plain and at most two levels deep, so its compact text is read as that
 /// object.
 pub fn fact_object_is_plain()
     ensures { FactObjectIsPlain }
 {}
 
 /// `least` returns the condition with the least number that applies. `told` lists the conditions
-/// that apply and are not hidden. Their numbers strictly ascend, and the list begins with the
-/// least.
+/// that apply and are not hidden. Their numbers strictly ascend, and the first is the one that
+/// `least` returns.
 pub fn least_is_answered()
     ensures { LeastIsAnswered }
 {}

@@ -1,4 +1,4 @@
-//! xBRL-JSON reports, read under a sheet of concepts and dimensions.
+//! Reads xBRL-JSON reports under a sheet of concepts and dimensions.
 #![tactic(auto)]
 
 mod concept_kind;

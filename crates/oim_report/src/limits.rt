@@ -1,18 +1,16 @@
-// Limits of the profile and of the reader.
-
-/// The greatest length in bytes of a base, a taxonomy reference and its kept text.
+/// The greatest length in bytes of a base URL, of a taxonomy reference and of its kept text.
 pub const MOST_REFERENCE_BYTES: usize = 65_536;
 
-/// The greatest number of levels of nested arrays and objects: that of `serde_json`.
+/// The greatest number of levels of nested arrays and objects, which is the limit of `serde_json`.
 pub const MOST_LEVELS: usize = 127;
 
-/// The greatest number of texts in a glossary. Only few texts are repeated often. The limit bounds
-/// the memory, and the time for many texts with the same hash.
+/// The greatest number of texts in a glossary. Few texts are repeated often. The limit bounds the
+/// memory, and the time of a search among texts with the same hash.
 pub const MOST_MEANINGS: usize = 1_024;
 
-/// The number of texts for which the glossaries of a report in pieces have room at first. They grow
-/// when they need more. Most reports repeat few texts, and room for `MOST_MEANINGS` in each glossary
-/// costs two to three million instructions.
+/// The initial capacity, in texts, of each glossary of a report that is read in pieces. Glossaries
+/// grow up to `MOST_MEANINGS` texts. Most reports repeat few texts, and a capacity of
+/// `MOST_MEANINGS` texts in each glossary costs two to three million instructions.
 pub const FIRST_MEANINGS: usize = 64;
 
 /// The least size in bytes of a piece of a report. For each piece the reader fills 16 kB with

@@ -5,7 +5,6 @@ use oim_dims::Fact;
 use std::alloc::{AllocError, Global};
 use std::cmp::Ordering;
 
-/// Returns the indices of all facts, sorted by fact.
 pub(crate) fn order_of(alloc: Global, facts: &[Fact]) -> Result<Vec<usize>, AllocError>
     ensures { IfOk result (λ places. IsOrderOf facts.now places.items) }
 {
@@ -16,7 +15,6 @@ pub(crate) fn order_of(alloc: Global, facts: &[Fact]) -> Result<Vec<usize>, Allo
     Ok(places)
 }
 
-// Compares the facts at two indices.
 fn compared(facts: &[Fact], i: usize, j: usize) -> Ordering
     ensures { result ≡ place_cmp facts.now i j }
 {

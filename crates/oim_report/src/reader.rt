@@ -20,9 +20,10 @@ use std::alloc::Global;
 
 /// Reads a report under a sheet (xBRL-JSON 1.0; the profile is own).
 ///
-/// Errors, the first that applies: the least condition of the document; the least condition of the
-/// first fact that has one, in byte order of the identifiers; `DisallowedDuplicates`, at the
-/// document; `OutOfMemory`, at the document.
+/// Errors, the first that applies: `NotJson`; the least condition of the document; the least
+/// condition of the first fact that has one, in byte order of the identifiers;
+/// `DisallowedDuplicates`; `OutOfMemory`. A condition of a fact has that fact as its place. All
+/// other errors have the document as their place.
 #[tactic(auto, unfolding(crate::specs::Outcome::outcome))]
 pub fn read_report<'s>(alloc: Global, sheet: &'s Sheet, bytes: &[u8]) -> Result<Report<'s>, Refusal>
     ensures ok { IfOk result (λ r. outcome sheet.now bytes.now ≡ Ok r.document) }
@@ -40,7 +41,6 @@ pub fn read_report<'s>(alloc: Global, sheet: &'s Sheet, bytes: &[u8]) -> Result<
     read_document(alloc, sheet, &tree)
 }
 
-/// Does the same as `read_report` for a JSON value.
 pub(crate) fn read_document<'s>(
     alloc: Global,
     sheet: &'s Sheet,
@@ -61,8 +61,8 @@ pub(crate) fn read_document<'s>(
 }
 
 /// Does the same as `read_report`, but reads the facts in pieces of `size` bytes or more, with one
-/// piece in memory at a time. It returns `None` if the text cannot be split or anything is
-/// refused. To find out why, read the whole text.
+/// piece in memory at a time. It returns `None` if the text cannot be split, or if the report or a
+/// request for memory is refused. To find out why, read the whole text.
 pub(crate) fn read_in_pieces<'s>(
     alloc: Global,
     sheet: &'s Sheet,

@@ -17,8 +17,6 @@ pub struct Refusal {
 }
 
 impl Refusal {
-    /// Returns the refusal of the fact with the number `place`. `OutOfMemory` is placed at the
-    /// document.
     pub(crate) fn of_fact(reason: Reason, place: u64) -> Refusal
         ensures fact { reason ≢ OutOfMemory → result ≡ at (Fact place) reason }
         ensures memory { reason ≡ OutOfMemory → result ≡ at Document OutOfMemory }

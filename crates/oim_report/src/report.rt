@@ -67,29 +67,30 @@ impl<'s> Report<'s> {
         self.facts.as_slice()
     }
 
-    /// Returns the kept texts of its taxonomy references, in their order and with repeats.
+    /// Returns the kept texts of the taxonomy references, in the order of the report and with
+    /// repeats.
     pub fn taxonomy(&self) -> &[Text]
         ensures { result.now ≡ self.now.document.references }
     {
         self.references.as_slice()
     }
 
-    /// Returns the level of duplicates that it declares (`xbrl:allowedDuplicates`).
+    /// Returns the level of duplicates that the report declares (`xbrl:allowedDuplicates` of OIM
+    /// Common 1.0), or `All` if it declares none.
     pub fn declared(&self) -> Level
         ensures { result ≡ self.now.document.level }
     {
         self.declared
     }
 
-    /// Returns the level of duplicates that its facts have: the strictest level that allows them
-    /// with their repeats.
+    /// Returns the strictest level of duplicates that allows the facts with their repeats.
     pub fn level(&self) -> Level
         ensures { result ≡ level_of self.now.document.facts }
     {
         level_of(self.facts.as_slice(), self.order.as_slice())
     }
 
-    /// Returns the sheet under which it was read.
+    /// Returns the sheet under which the report was read.
     pub fn sheet(&self) -> &'s Sheet
         ensures { result.now ≡ self.now.sheet }
     {
@@ -103,7 +104,7 @@ impl<'s> Report<'s> {
         self.order.as_slice()
     }
 
-    /// Consumes the report, and returns its facts in the order of `facts`, and their `order`.
+    /// Consumes the report. Returns its facts and their order, as `facts` and `order` return them.
     pub fn into_facts(self) -> (Vec<Fact>, Vec<usize>)
         ensures facts { result.0.items ≡ self.entry.document.facts }
         ensures order { result.1.items ≡ self.entry.order }

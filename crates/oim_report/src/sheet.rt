@@ -44,10 +44,11 @@ impl Sheet {
     /// Reads a sheet: a JSON object with the members `namespaces`, `concepts` and `dimensions`,
     /// each an object or absent (own).
     ///
-    /// Errors, the first that applies: `NotJson`; `MemberForm` if the root or a member is not an
-    /// object; `UnknownMember` for another key without a colon; `Namespace`; the first of
-    /// `NameForm`, `UnboundPrefix` and `ReservedNamespace` that applies to any key of `concepts`
-    /// and `dimensions`; `SheetKind` if a kind is invalid, or a name has two kinds; `OutOfMemory`.
+    /// Errors, the first that applies: `NotJson`; `MemberForm` if the root or one of these members
+    /// is not an object; `UnknownMember` for another key without a colon; `Namespace` if an entry
+    /// of `namespaces` binds nothing; the first of `NameForm`, `UnboundPrefix` and
+    /// `ReservedNamespace` that applies to any key of `concepts` and `dimensions`; `SheetKind` if a
+    /// kind is invalid, or a name has two kinds; `OutOfMemory`.
     #[tactic(auto, unfolding(crate::specs::Sheet::sheet_outcome))]
     pub fn read(alloc: Global, bytes: &[u8]) -> Result<Sheet, Reason>
         ensures ok { IfOk result (λ s. sheet_outcome bytes.now ≡ Ok s) }
@@ -58,7 +59,6 @@ impl Sheet {
         Sheet::from_tree(alloc, &tree)
     }
 
-    /// Does the same as `read` for a JSON value.
     pub(crate) fn from_tree(alloc: Global, tree: &Value) -> Result<Sheet, Reason>
         ensures ok { IfOk result (λ s. sheet_of (Some (view tree.now)) ≡ Ok s) }
         ensures errors { IfErr result
@@ -77,7 +77,7 @@ impl Sheet {
         })
     }
 
-    /// Returns the kind of a concept's values, or None if the sheet does not list it.
+    /// Returns the kind of a concept's values, or `None` if the sheet does not list the concept.
     pub fn concept(&self, name: &Name) -> Option<ConceptKind>
         ensures { result ≡ map.get self.now.concepts name.now }
     {
@@ -85,7 +85,8 @@ impl Sheet {
         Some(kind)
     }
 
-    /// Returns the kind of a dimension's members, or None if the sheet does not list it.
+    /// Returns the kind of a dimension's members, or `None` if the sheet does not list the
+    /// dimension.
     pub fn dimension(&self, name: &Name) -> Option<DimensionKind>
         ensures { result ≡ map.get self.now.dimensions name.now }
     {
@@ -93,21 +94,19 @@ impl Sheet {
         Some(kind)
     }
 
-    /// Returns the concepts.
     pub(crate) fn concepts(&self) -> &Listing<ConceptKind>
         ensures { result.now ≡ self.now.concepts }
     {
         &self.concepts
     }
 
-    /// Returns the taxonomy-defined dimensions.
     pub(crate) fn dimensions(&self) -> &Listing<DimensionKind>
         ensures { result.now ≡ self.now.dimensions }
     {
         &self.dimensions
     }
 
-    /// Returns whether both list the same names with the same kinds.
+    /// Returns whether both sheets list the same names with the same kinds.
     pub fn same_as(&self, other: &Sheet) -> bool
         ensures { IsTrue result ↔ (self.now ≡ other.now) }
     {

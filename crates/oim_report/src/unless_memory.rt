@@ -4,9 +4,6 @@ ghost use Rattle.std.specs.Result.{result_ok};
 use oim_names::Reason;
 use std::alloc::AllocError;
 
-/// Returns the value that was read, or None if it was refused.
-///
-/// Errors: out of memory, which is not a refusal here.
 pub(crate) fn unless_memory<T: Drop>(read: Result<T, Reason>) -> Result<Option<T>, AllocError>
     ensures { IfOk result (λ found. (found ≡ result_ok read) × (read ≢ Err Reason.OutOfMemory)) }
 {

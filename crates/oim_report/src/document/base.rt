@@ -9,7 +9,7 @@ use std::alloc::Global;
 use std::marker::Model;
 use url::{ParseError, ParseResult, Url};
 
-/// The URL against which a report's taxonomy references are resolved. Contracts see its parts.
+/// The URL against which a report's taxonomy references are resolved.
 #[derive(Drop)]
 pub(crate) struct Base {
     url: Url,
@@ -26,7 +26,7 @@ impl Model for Base {
 }
 
 impl Base {
-    /// Resolves a reference against this base (URL Standard, section 4.4).
+    /// Resolves a reference against this base URL (URL Standard, section 4.4).
     pub(crate) fn join(&self, reference: &str) -> ParseResult<Url>
         ensures { Gives result (parse_url (Some self.now) reference.now) }
     {
@@ -34,17 +34,14 @@ impl Base {
     }
 }
 
-/// Returns whether the URL is http or https.
 pub(crate) fn is_web(url: &Url) -> bool
     ensures { result ≡ is_web url.now }
 {
     matches!(url.scheme(), "http" | "https")
 }
 
-/// Reads the `baseURL` of a report (xBRL-JSON 1.0).
-///
-/// Errors: `BaseUrl` if the text has more than `MOST_REFERENCE_BYTES` bytes or is not an http or
-/// https URL (own); `OutOfMemory`.
+/// Reads the `baseURL` of a report (xBRL-JSON 1.0). It must be an http or https URL of at most
+/// `MOST_REFERENCE_BYTES` bytes (own).
 pub(crate) fn read_base(alloc: Global, text: &str) -> Result<Base, Reason>
     ensures ok { IfOk result (λ base. base_url text.now ≡ Some base) }
     ensures errors { IfErr result

@@ -9,9 +9,6 @@ use oim_names::Reason;
 use serde_json::Value;
 use std::alloc::Global;
 
-/// Returns the base for a report's relative references, if it has one.
-///
-/// Errors: `BaseUrl`; `OutOfMemory`.
 pub(crate) fn read_base_url(alloc: Global, tree: &Value) -> Result<Option<Base>, Reason>
     ensures ok { IfOk result (λ base. base_said (view tree.now) ≡ Some base) }
     ensures errors { IfErr result

@@ -16,9 +16,6 @@ use serde_json::Value;
 
 const DOCUMENT_TYPE: &str = "https://xbrl.org/2021/xbrl-json";
 
-/// Checks the form of a report: its parts, their keys, and the document type.
-///
-/// Errors, the first that applies: `MemberForm`, `UnknownMember`, `DocumentType`.
 pub(crate) fn check_shape(tree: &Value) -> Result<(), Reason>
     ensures { let form = Reason.MemberForm ∷ Reason.UnknownMember ∷ Reason.DocumentType ∷ [] in
         result_err result ≡ find (document_holds (view tree.now)) form }
@@ -35,8 +32,6 @@ pub(crate) fn check_shape(tree: &Value) -> Result<(), Reason>
     Ok(())
 }
 
-/// Returns the whole report if it is not an object, or a member that is missing or has the wrong
-/// kind of value.
 #[tactic(auto, unfolding(crate::specs::Holds::document_holds, crate::specs::Shown::document_shown))]
 pub(crate) fn misshapen(tree: &Value) -> Option<Part<'_>>
     ensures { option_map seen result ≡ document_part (view tree.now) Reason.MemberForm }
@@ -65,7 +60,6 @@ pub(crate) fn misshapen(tree: &Value) -> Option<Part<'_>>
     None
 }
 
-/// Returns the first key of the report, or of `documentInfo`, that the format does not define.
 #[tactic(auto, unfolding(crate::specs::Holds::document_holds, crate::specs::Shown::document_shown))]
 pub(crate) fn unknown(tree: &Value) -> Option<Part<'_>>
     ensures { option_map seen result ≡ document_part (view tree.now) Reason.UnknownMember }

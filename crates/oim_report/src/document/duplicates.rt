@@ -8,8 +8,7 @@ ghost use Rattle.oim_report.specs.Report.{IsOrderOf};
 use oim_dims::Fact;
 use oim_value::{Interval, Level, Value, common, interval_of, meets};
 
-/// Returns whether the facts have duplicates above this level. `All` allows any facts, so their
-/// level is not determined.
+/// If the declared level is `All`, any facts are allowed, so their level is not computed.
 pub(crate) fn is_above(declared: Level, facts: &[Fact], order: &[usize]) -> bool
     requires { IsOrderOf facts.now order.now }
     ensures { result ≡ is_lt (level_cmp declared (level_of facts.now)) }
@@ -17,10 +16,9 @@ pub(crate) fn is_above(declared: Level, facts: &[Fact], order: &[usize]) -> bool
     declared != Level::All && declared < level_of(facts, order)
 }
 
-/// Returns the strictest level of duplicates that allows the facts with their repeats
-/// (`xbrl:allowedDuplicates` of OIM Common 1.0). `order` is the result of `order_of`. The function
-/// takes no memory and visits each fact once. This suffices: values meet pairwise exactly if all
-/// are equal, or all are numbers whose intervals have a common part.
+/// Finds the strictest level that allows the facts (`xbrl:allowedDuplicates` of OIM Common 1.0).
+/// One visit to each fact suffices: values meet pairwise exactly if all are equal, or all are
+/// numbers whose intervals have a common part.
 pub(crate) fn level_of(facts: &[Fact], order: &[usize]) -> Level
     requires { IsOrderOf facts.now order.now }
     ensures { result ≡ level_of facts.now }
@@ -46,7 +44,7 @@ pub(crate) fn level_of(facts: &[Fact], order: &[usize]) -> Level
 }
 
 // Returns the strictest level that allows `value` after earlier values with the same dimensions.
-// It needs only the last of these and the common part of their intervals.
+// `last` is the last of these, and `shared` is the common part of their intervals.
 fn level_beside(last: &Value, shared: Option<Interval>, value: &Value) -> Level
     ensures { result ≡ level_beside last.now shared value.now }
 {
@@ -59,7 +57,6 @@ fn level_beside(last: &Value, shared: Option<Interval>, value: &Value) -> Level
     }
 }
 
-// Returns the rounding interval of a number.
 fn interval_at(value: &Value) -> Option<Interval>
     ensures { result ≡ interval_at value.now }
 {

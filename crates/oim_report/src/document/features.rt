@@ -13,10 +13,8 @@ use serde_json::{Map, Value};
 
 const RESERVED: &str = "https://xbrl.org/2021";
 
-/// Returns the level of duplicates that a report declares with the feature
-/// `xbrl:allowedDuplicates`. Without the feature all duplicates are allowed.
-///
-/// Errors: `Feature` if the feature is repeated, or its value is not a level.
+/// Reads the feature `xbrl:allowedDuplicates` (OIM Common 1.0). Without it, all duplicates are
+/// allowed.
 pub(crate) fn read_level(aliases: &Aliases, tree: &Value) -> Result<Level, Reason>
     ensures level { result_ok result ≡ said_level (declarations aliases.now (features_of (view tree.now))) }
     ensures refused { IfErr result (λ r. r ≡ Reason.Feature) }
@@ -45,7 +43,6 @@ fn declared_level(aliases: &Aliases, features: &Map<String, Value>) -> Option<Le
     Some(declared.unwrap_or(Level::All))
 }
 
-// Returns the level that the value declares, if none was declared before.
 fn only_level(before: Option<Level>, value: Given<'_>) -> Option<Level>
     ensures first { before ≡ None → result ≡ said_level (seen value.entry ∷ []) }
     ensures again { IsSome before → result ≡ None }
@@ -56,7 +53,6 @@ fn only_level(before: Option<Level>, value: Given<'_>) -> Option<Level>
     }
 }
 
-/// Returns whether a key names the feature `xbrl:allowedDuplicates`.
 pub(crate) fn is_allowed_duplicates(aliases: &Aliases, key: &str) -> bool
     ensures { result ≡ is_allowed_duplicates aliases.now key.now }
 {
@@ -64,7 +60,6 @@ pub(crate) fn is_allowed_duplicates(aliases: &Aliases, key: &str) -> bool
     aliases.uri(prefix) == Some(RESERVED) && local == "allowedDuplicates"
 }
 
-/// Splits a text at its first colon.
 pub(crate) fn split(key: &str) -> (&str, &str)
     ensures prefix { result.0.now ≡ prefix_part key.now }
     ensures local { result.1.now ≡ local_part key.now }

@@ -36,7 +36,6 @@ impl FoundFacts {
     }
 }
 
-// Returns whether the identifiers ascend strictly.
 fn rise(identifiers: &[String]) -> bool
     ensures { result ≡ rise_after None identifiers.now }
 {
@@ -53,7 +52,6 @@ fn rise(identifiers: &[String]) -> bool
     true
 }
 
-// Returns each identifier with its last fact.
 fn by_identifier(
     alloc: Global,
     identifiers: Vec<String>,
@@ -74,7 +72,6 @@ fn by_identifier(
     Some(found)
 }
 
-// Adds a fact under its identifier, and returns whether there was memory for it.
 fn put(found: &mut BTreeMap<String, Fact>, identifier: String, fact: Fact) -> bool
     ensures { result ≡ true → found.new.entries ≡ insert_entry string_cmp found.old.entries identifier fact }
 {

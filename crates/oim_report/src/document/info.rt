@@ -17,7 +17,6 @@ use std::alloc::Global;
 /// The contents of a report outside its facts.
 #[derive(Drop)]
 pub(crate) struct Info {
-    /// The prefixes that the report binds.
     pub(crate) aliases: Aliases,
     /// The kept texts of the references in `taxonomy`.
     pub(crate) references: Vec<Text>,
@@ -25,9 +24,6 @@ pub(crate) struct Info {
     pub(crate) level: Level,
 }
 
-/// Reads the contents of a report outside its facts.
-///
-/// Errors: the least condition of the document that applies; `OutOfMemory`.
 pub(crate) fn read_info(alloc: Global, tree: &Value) -> Result<Info, Reason>
     ensures aliases { IfOk result (λ info. info.aliases ≡ bindings_of (view tree.now)) }
     ensures references { IfOk result (λ info. references_said (view tree.now) ≡ Some info.references.items) }

@@ -12,10 +12,8 @@ use serde_json::{Map, Value};
 use std::alloc::Global;
 use std::str;
 
-/// Parses the bytes as a JSON value, after at most one byte order mark.
-///
-/// Errors: `NotJson` if `serde_json` rejects the text (UTF-8, RFC 8259, nesting at most
-/// `MOST_LEVELS`); `OutOfMemory`.
+/// Parses a JSON value in UTF-8 (RFC 8259) with at most `MOST_LEVELS` levels. One byte order mark
+/// may precede it.
 pub(crate) fn read_json(alloc: Global, bytes: &[u8]) -> Result<Value, Reason>
     ensures value { IfOk result (λ v. json bytes.now ≡ Some (view v)) }
     ensures refused { IfErr result
@@ -28,9 +26,6 @@ pub(crate) fn read_json(alloc: Global, bytes: &[u8]) -> Result<Value, Reason>
     }
 }
 
-/// Returns the document without its member `facts`, and the text of the fact objects. If that text
-/// can be parsed, so can the whole document. It returns `None` if the text cannot be split, or if a
-/// request for memory is refused.
 pub(crate) fn read_json_outline(alloc: Global, bytes: &[u8]) -> Option<Outline<'_>>
     ensures { IfSome result (λ o. (before : Members) × (view o.tree ≡ object before)
         × ((found : Members) → IsPiece o.facts.now found
@@ -40,7 +35,7 @@ pub(crate) fn read_json_outline(alloc: Global, bytes: &[u8]) -> Option<Outline<'
     read_outline(alloc, text)
 }
 
-/// Returns the bytes after at most one byte order mark.
+/// Returns the bytes without the byte order mark of UTF-8 at their start, if there is one.
 pub fn after_mark(bytes: &[u8]) -> &[u8]
     ensures { result.now ≡ without_mark bytes.now }
 {
@@ -50,7 +45,6 @@ pub fn after_mark(bytes: &[u8]) -> &[u8]
     }
 }
 
-/// Returns the object at a key.
 pub(crate) fn object_at<'a>(value: &'a Value, key: &str) -> Option<&'a Map<String, Value>>
     ensures { option_map (λ m. members_view m.now.entries) result
         ≡ object_at key.now (view value.now) }
@@ -58,7 +52,6 @@ pub(crate) fn object_at<'a>(value: &'a Value, key: &str) -> Option<&'a Map<Strin
     value.get(key).and_then(Value::as_object)
 }
 
-/// Returns the member at `key` of the object at `outer`.
 pub(crate) fn within<'a>(value: &'a Value, outer: &str, key: &str) -> Option<&'a Value>
     ensures { option_map (λ v. view v.now) result ≡ within outer.now key.now (view value.now) }
 {
@@ -68,7 +61,6 @@ pub(crate) fn within<'a>(value: &'a Value, outer: &str, key: &str) -> Option<&'a
     }
 }
 
-/// Returns whether there is an object with at least one member.
 pub(crate) fn has_member(object: Option<&Map<String, Value>>) -> bool
     ensures { result ≡ has_member (option_map (λ m. members_view m.now.entries) object.entry) }
 {
@@ -78,14 +70,13 @@ pub(crate) fn has_member(object: Option<&Map<String, Value>>) -> bool
     }
 }
 
-/// Returns whether a key belongs to an extension.
+/// A key with a colon belongs to an extension.
 pub(crate) fn has_colon(key: &str) -> bool
     ensures { result ≡ has_colon key.now }
 {
     key.as_bytes().iter().any(|byte| *byte == b':')
 }
 
-/// Returns the first key of an object that is not known and does not belong to an extension.
 pub(crate) fn unknown_in<'a>(
     object: Option<&'a Map<String, Value>>,
     known: &[&str],
@@ -122,7 +113,6 @@ fn is_unknown_key(key: &str, known: &[&str]) -> bool
     !has_colon(key) && !is_one_of(key, known)
 }
 
-/// Returns whether a key is in a list.
 pub(crate) fn is_one_of(key: &str, known: &[&str]) -> bool
     ensures { result ≡ list_any (λ k. bytes_eq k key.now) (map (λ s. s.now) known.now) }
 {
@@ -134,7 +124,6 @@ pub(crate) fn is_one_of(key: &str, known: &[&str]) -> bool
     false
 }
 
-/// Returns whether there is a value that is not an object.
 pub(crate) fn is_no_object(member: Option<&Value>) -> bool
     ensures { result ≡ is_no_object (option_map (λ v. view v.now) member.entry) }
 {
@@ -144,7 +133,6 @@ pub(crate) fn is_no_object(member: Option<&Value>) -> bool
     }
 }
 
-/// Returns whether there is a value that is not an array.
 pub(crate) fn is_no_array(member: Option<&Value>) -> bool
     ensures { result ≡ is_no_array (option_map (λ v. view v.now) member.entry) }
 {

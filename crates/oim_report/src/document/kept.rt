@@ -9,9 +9,9 @@ use oim_names::{Reason, Text};
 use std::alloc::Global;
 use url::{ParseError, Url};
 
-/// Returns the text under which a taxonomy reference is kept. An http or https URL is kept as the
-/// text of that URL, and another URL as it is spelled. Any other reference is resolved against the
-/// base, or kept as it is spelled if there is no base.
+/// Returns the text under which a taxonomy reference is kept. An http or https URL is kept as its
+/// serialization (URL Standard, section 4.5), and another URL as it is spelled. Any other reference
+/// is resolved against the base URL, or kept as it is spelled if there is no base URL.
 ///
 /// Errors: `TaxonomyUrl` if the reference or its kept text has more than `MOST_REFERENCE_BYTES`
 /// bytes, or if it does not resolve to an http or https URL; `OutOfMemory`.
@@ -36,7 +36,6 @@ pub(crate) fn keep(alloc: Global, base: Option<&Base>, reference: &str) -> Resul
     }
 }
 
-/// Returns the text of an http or https URL, if it is within the limit.
 fn text_of(alloc: Global, url: Url) -> Result<Text, Reason>
     requires { IsTrue (is_web url) }
     ensures ok { IfOk result (λ text. web_text (Some url) ≡ Some text) }
@@ -51,8 +50,6 @@ fn text_of(alloc: Global, url: Url) -> Result<Text, Reason>
     Ok(Text::from_string(alloc, String::from(url))?)
 }
 
-/// Returns the text of the http or https URL to which the reference resolves, if it is within the
-/// limit.
 fn resolved(alloc: Global, base: &Base, reference: &str) -> Result<Text, Reason>
     ensures ok { IfOk result (λ text. web_text (web_url (parse_url (Some base.now) reference.now)) ≡ Some text) }
     ensures limit { IfOk result (λ text. IsTrue (is_within_limit text)) }

@@ -8,9 +8,6 @@ use oim_names::{Aliases, Reason};
 use serde_json::{Map, Value};
 use std::alloc::Global;
 
-/// Returns the bindings of a `namespaces` object, or no bindings if there is none.
-///
-/// Errors: `Namespace` if an entry binds nothing; `OutOfMemory`.
 pub(crate) fn read_namespaces(
     alloc: Global,
     namespaces: Option<&Map<String, Value>>,

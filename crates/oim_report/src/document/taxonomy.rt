@@ -11,9 +11,6 @@ use oim_names::{Reason, Text};
 use serde_json::Value;
 use std::alloc::Global;
 
-/// Returns the kept texts of the references in a report's `taxonomy`, in their order.
-///
-/// Errors: `TaxonomyUrl`; `OutOfMemory`.
 pub(crate) fn read_taxonomy(
     alloc: Global,
     base: Option<&Base>,
@@ -46,9 +43,6 @@ fn keep_all(alloc: Global, base: Option<&Base>, items: &Vec<Value>) -> Result<Ve
     Ok(references)
 }
 
-/// Returns the kept text of a reference.
-///
-/// Errors: `TaxonomyUrl`; `OutOfMemory`.
 pub(crate) fn keep_item(alloc: Global, base: Option<&Base>, item: &Value) -> Result<Text, Reason>
     ensures ok { IfOk result (λ kept. said_reference (option_copied base.entry) (view item.now) ≡ Some kept) }
     ensures errors { let said = said_reference (option_copied base.entry) (view item.now) in

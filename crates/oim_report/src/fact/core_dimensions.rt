@@ -1,5 +1,5 @@
-//! The core dimensions of a fact. An error means that some condition applies, but it need not be
-//! the one with the least number.
+//! Reads the core dimensions of a fact. An error is some condition that applies, not always the one
+//! with the least number.
 
 ghost use Rattle.std.specs.Prelude.{◌≡◌, Some, IfOk, OnOk};
 ghost use Rattle.oim_names.specs.Expansion.{ExpandsEntity};
@@ -16,7 +16,6 @@ use oim_dims::{Period, Unit};
 use oim_names::{Aliases, Name, Reason, Text};
 use std::alloc::Global;
 
-/// Returns the entity, if the fact has one.
 pub(crate) fn read_entity(
     alloc: Global,
     aliases: &Aliases,
@@ -34,7 +33,6 @@ pub(crate) fn read_entity(
     }
 }
 
-/// Returns the period. A fact without one holds forever.
 pub(crate) fn read_period(
     alloc: Global,
     periods: &mut Glossary<Period>,
@@ -51,7 +49,6 @@ pub(crate) fn read_period(
     }
 }
 
-/// Returns the unit of a fact whose concept has this kind, if there is one.
 pub(crate) fn read_unit(
     alloc: Global,
     aliases: &Aliases,
@@ -70,7 +67,6 @@ pub(crate) fn read_unit(
     }
 }
 
-/// Returns the language, in lower case, of a fact whose concept has this kind, if there is one.
 pub(crate) fn read_language(
     alloc: Global,
     languages: &mut Glossary<Text>,

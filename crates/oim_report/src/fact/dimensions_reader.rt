@@ -14,9 +14,6 @@ use oim_dims::Dimensions;
 use oim_names::{Aliases, Name, Reason, Text};
 use std::alloc::Global;
 
-/// Returns the dimensions of a fact with this concept, whose values have this kind.
-///
-/// Errors: some condition that applies; `OutOfMemory`.
 pub(crate) fn read_dimensions<'s>(
     alloc: Global,
     sheet: &'s Sheet,

@@ -4,7 +4,6 @@ ghost use Rattle.oim_report.specs.code.SeenParts.{seen_dimensions, seen_parts};
 
 use crate::fact::parts::{DimensionParts, FactParts};
 
-/// Returns the parts of a fact's dimensions, if the fact has the form of one.
 pub(crate) fn well_formed<'p, 'a>(parts: &'p FactParts<'a>) -> Option<&'p DimensionParts<'a>>
     ensures { let p = seen_parts parts.now in
         IfSome result (λ found. HasForm p (seen_dimensions found.now)) }

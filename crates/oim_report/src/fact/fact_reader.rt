@@ -24,9 +24,6 @@ use oim_names::{Aliases, Copied, Name, Reason};
 use serde_json::Value;
 use std::alloc::Global;
 
-/// Reads a fact object under a sheet and these prefixes.
-///
-/// Errors: the condition with the least number that applies; `OutOfMemory`.
 pub(crate) fn read_fact<'s>(
     alloc: Global,
     sheet: &'s Sheet,
@@ -48,8 +45,6 @@ pub(crate) fn read_fact<'s>(
     }
 }
 
-// Returns the condition with the least number that applies to a fact object, or `OutOfMemory` if
-// none does.
 fn least_fault(alloc: Global, sheet: &Sheet, aliases: &Aliases, object: &Value) -> Reason
     ensures { (result ≡ Reason.OutOfMemory)
         ⊎ (fact_outcome sheet.now aliases.now (view object.now) ≡ Err result) }
@@ -64,9 +59,8 @@ fn least_fault(alloc: Global, sheet: &Sheet, aliases: &Aliases, object: &Value) 
     }
 }
 
-// Returns the fact, unless a condition applies or a request for memory is refused. Most facts are
-// accepted, so this function visits each part once, and does not look for the condition with the
-// least number.
+// Most facts are accepted, so this function visits each part once, and does not look for the
+// condition with the least number.
 fn read_object<'s>(
     alloc: Global,
     sheet: &'s Sheet,
@@ -87,7 +81,6 @@ fn read_object<'s>(
     read_content(alloc, sheet, aliases, glossaries, &parts, dimensions)
 }
 
-// Reads a fact from its parts.
 fn read_content<'s>(
     alloc: Global,
     sheet: &'s Sheet,
@@ -115,7 +108,6 @@ fn read_content<'s>(
     })
 }
 
-// Returns the concept that a part names, as the sheet lists it, and the kind of its values.
 fn find_concept<'s>(
     sheet: &'s Sheet,
     aliases: &Aliases,

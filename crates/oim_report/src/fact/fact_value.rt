@@ -9,9 +9,6 @@ use oim_names::{Aliases, Reason, Text};
 use oim_value::{Decimals, Value, read_fixed};
 use std::alloc::Global;
 
-/// Returns the value of a fact whose concept has this kind.
-///
-/// Errors: some condition that applies; `OutOfMemory`.
 pub(crate) fn read_value(
     alloc: Global,
     aliases: &Aliases,
@@ -46,7 +43,7 @@ fn read_text(
     }
 }
 
-// Returns the decimals of a fact whose concept has this kind. A number without decimals is exact.
+// A number without decimals is exact.
 fn read_decimals(kind: ConceptKind, decimals: Given<'_>) -> Result<Decimals, Reason>
     ensures { IfOk result (λ read. said_decimals kind (seen decimals.entry) ≡ Some read) }
 {

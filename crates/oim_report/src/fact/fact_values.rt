@@ -10,7 +10,6 @@ use crate::document::json_tree::within;
 use crate::fact::given::Given;
 use serde_json::Value;
 
-/// Returns the member of `dimensions` at a key.
 pub(crate) fn dimension<'a>(object: &'a Value, key: &str) -> Option<&'a Value>
     ensures { option_map (λ v. view v.now) result
         ≡ get_member key.now (members (object_at (codes "dimensions") (view object.now))) }
@@ -18,7 +17,6 @@ pub(crate) fn dimension<'a>(object: &'a Value, key: &str) -> Option<&'a Value>
     within(object, "dimensions", key)
 }
 
-/// Returns the text, if the value is one.
 pub(crate) fn text(value: Option<&Value>) -> Option<&str>
     ensures { option_map (λ t. t.now) result
         ≡ option_and_then as_text (option_map (λ v. view v.now) value.entry) }
@@ -26,14 +24,12 @@ pub(crate) fn text(value: Option<&Value>) -> Option<&str>
     Given::of(value).text()
 }
 
-/// Returns whether there is a value that is not a text.
 pub(crate) fn is_no_text(value: Option<&Value>) -> bool
     ensures { result ≡ is_some_and no_text (option_map (λ v. view v.now) value.entry) }
 {
     Given::of(value).is_no_text()
 }
 
-/// Returns whether there is a value that is neither a text nor null.
 pub(crate) fn is_no_text_or_null(value: Option<&Value>) -> bool
     ensures { result ≡ is_some_and no_text_or_null (option_map (λ v. view v.now) value.entry) }
 {
@@ -43,7 +39,6 @@ pub(crate) fn is_no_text_or_null(value: Option<&Value>) -> bool
     }
 }
 
-/// Returns the whole number, if the value is one.
 pub(crate) fn whole(value: Option<&Value>) -> Option<i128>
     ensures { result ≡ option_and_then as_whole (option_map (λ v. view v.now) value.entry) }
 {

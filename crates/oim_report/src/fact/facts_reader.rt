@@ -14,9 +14,6 @@ use oim_names::{Aliases, Reason};
 use serde_json::{Map, Value};
 use std::alloc::Global;
 
-/// Returns the facts of a report, in byte order of their identifiers.
-///
-/// Errors: the refusal of the first refused fact, with its place; `OutOfMemory`, at the document.
 pub(crate) fn read_facts(
     alloc: Global,
     sheet: &Sheet,

@@ -5,23 +5,19 @@ ghost use Rattle.oim_report.specs.Json.{given, given_of, is_absent, is_no_text, 
 
 use serde_json::Value;
 
-/// The value at a key of an object, by the kinds that sheets and reports distinguish.
+/// The value at a key of an object, as one of the kinds that sheets and reports distinguish.
 #[derive(Clone, Copy, Debug)]
 pub(crate) enum Given<'a> {
-    /// There is no value.
     Absent,
-    /// `null`.
+    /// JSON `null`.
     Nil,
-    /// A text.
     Text(&'a str),
     /// A whole number in the range of `i64` or `u64`.
     Whole(i128),
-    /// Anything else.
     Other,
 }
 
 impl<'a> Given<'a> {
-    /// Classifies the value of a member, which may be absent.
     pub(crate) fn of(member: Option<&'a Value>) -> Given<'a>
         ensures { seen result ≡ given_of (option_map (λ v. view v.now) member.entry) }
     {
@@ -31,7 +27,6 @@ impl<'a> Given<'a> {
         }
     }
 
-    /// Classifies a value.
     pub(crate) fn of_value(value: &'a Value) -> Given<'a>
         ensures { seen result ≡ given (view value.now) }
     {
@@ -46,7 +41,6 @@ impl<'a> Given<'a> {
         }
     }
 
-    /// Returns the text, if the value is one.
     pub(crate) fn text(self) -> Option<&'a str>
         ensures { option_map (λ t. t.now) result ≡ text_of (seen self.entry) }
     {
@@ -56,14 +50,12 @@ impl<'a> Given<'a> {
         }
     }
 
-    /// Returns whether there is no value.
     pub(crate) fn is_absent(self) -> bool
         ensures { result ≡ is_absent (seen self.entry) }
     {
         matches!(self, Given::Absent)
     }
 
-    /// Returns whether there is a value that is not a text.
     pub(crate) fn is_no_text(self) -> bool
         ensures { result ≡ is_no_text (seen self.entry) }
     {

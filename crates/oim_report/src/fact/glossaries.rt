@@ -14,9 +14,7 @@ use std::alloc::{AllocError, Global};
 /// Caches of the meanings of one report's texts, under one sheet and one set of prefixes.
 #[derive(Drop)]
 pub(crate) struct Glossaries<'s> {
-    /// The concepts that the sheet lists.
     pub(crate) concepts: NameCache<'s, ConceptKind>,
-    /// The taxonomy-defined dimensions that the sheet lists.
     pub(crate) dimensions: NameCache<'s, DimensionKind>,
     pub(crate) entities: Glossary<Name>,
     pub(crate) periods: Glossary<Period>,
@@ -27,10 +25,6 @@ pub(crate) struct Glossaries<'s> {
 }
 
 impl<'s> Glossaries<'s> {
-    /// Returns empty caches, each with capacity for this number of texts, but at most
-    /// `MOST_MEANINGS`.
-    ///
-    /// Errors: out of memory.
     pub(crate) fn with_room(alloc: Global, texts: usize) -> Result<Self, AllocError>
         ensures { IfOk result (λ gs. (sheet : Sheet) (bs : List Binding) → AreGlossaries sheet bs gs) }
     {

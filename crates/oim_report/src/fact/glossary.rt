@@ -6,8 +6,8 @@ use crate::limits::MOST_MEANINGS;
 use std::alloc::{AllocError, Global};
 use std::collections::HashMap;
 
-/// A cache of texts and their meanings, so that a repeated text is not read again. It has copies
-/// of the texts, so it can be used for several pieces of a report.
+/// A cache of texts and their meanings, so that a repeated text is not read again. It contains
+/// copies of the texts, so it can outlive a piece of a report.
 #[derive(Drop)]
 pub(crate) struct Glossary<T> {
     alloc: Global,
@@ -15,9 +15,6 @@ pub(crate) struct Glossary<T> {
 }
 
 impl<T> Glossary<T> {
-    /// Returns an empty cache with capacity for this number of texts, but at most `MOST_MEANINGS`.
-    ///
-    /// Errors: out of memory.
     pub(crate) fn with_room(alloc: Global, texts: usize) -> Result<Self, AllocError>
         ensures { IfOk result (λ g. (t : List ℕ) → meaning g t ≡ None) }
     {
@@ -25,7 +22,6 @@ impl<T> Glossary<T> {
         Ok(Glossary { alloc, meanings })
     }
 
-    /// Returns the meaning of a text that was added. It takes no memory.
     pub(crate) fn find(&self, text: &str) -> Option<&T>
         ensures { option_copied result ≡ meaning self.now text.now }
     {
@@ -34,8 +30,8 @@ impl<T> Glossary<T> {
 }
 
 impl<T: Drop> Glossary<T> {
-    /// Adds the meaning of a text. If the cache has `MOST_MEANINGS` texts, or a request for memory
-    /// is refused, nothing changes.
+    /// If the cache contains `MOST_MEANINGS` texts, or a request for memory is refused, nothing
+    /// changes.
     pub(crate) fn add(&mut self, text: &str, value: T)
         ensures { Adds self.old text.now value self.new }
     {

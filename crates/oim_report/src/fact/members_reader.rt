@@ -16,10 +16,7 @@ use oim_dims::{Dimensions, Member};
 use oim_names::{Aliases, Copied, Name, Reason, Text};
 use std::alloc::Global;
 
-/// Returns the dimensions of a fact with this concept and these taxonomy-defined dimensions. Keys
-/// are sorted by prefix, so the members are sorted by name once, at the end.
-///
-/// Errors: some condition that applies; `OutOfMemory`.
+/// Keys are sorted by prefix and not by name, so the members are sorted once, at the end.
 pub(crate) fn read_members<'s>(
     alloc: Global,
     sheet: &'s Sheet,
@@ -50,7 +47,6 @@ pub(crate) fn read_members<'s>(
     Ok(dimensions)
 }
 
-// Reads the member of a dimension of this kind.
 fn read_member(
     alloc: Global,
     aliases: &Aliases,

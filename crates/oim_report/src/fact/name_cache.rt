@@ -13,21 +13,18 @@ use oim_names::{Aliases, Name};
 use std::alloc::{AllocError, Global};
 use std::collections::BTreeMap;
 
-/// Finds the names of a sheet that one report's texts name. It finds a group once per prefix, so
-/// the other names with this prefix compare no URIs.
+/// Finds the names of a sheet that the texts of one report spell. It finds a group once per prefix,
+/// so further names with this prefix need no comparison of URIs.
 #[derive(Drop)]
 pub(crate) struct NameCache<'s, K: Kind> {
     alloc: Global,
-    /// Texts that were found.
+    /// The texts that were found.
     pub(crate) texts: Glossary<(&'s Name, K)>,
-    /// Prefixes, each with the group of its namespace.
+    /// The prefixes, each with the group of its namespace.
     pub(crate) groups: BTreeMap<String, Option<&'s Group<K>>>,
 }
 
 impl<'s, K: Kind> NameCache<'s, K> {
-    /// Returns an empty cache with capacity for this number of texts.
-    ///
-    /// Errors: out of memory.
     pub(crate) fn with_room(alloc: Global, texts: usize) -> Result<Self, AllocError>
         ensures { IfOk result (λ c. (m : FinMap name_cmp K) (bs : List Binding) → IsNameCache m bs c) }
     {
@@ -39,7 +36,6 @@ impl<'s, K: Kind> NameCache<'s, K> {
         })
     }
 
-    /// Returns the name that the text names, if the listing has it, and its kind.
     pub(crate) fn find(
         &mut self,
         listing: &'s Listing<K>,
@@ -59,7 +55,6 @@ impl<'s, K: Kind> NameCache<'s, K> {
         Some((name, kind))
     }
 
-    // Does the same as `find` for a text that was not found before.
     fn look_up(
         &mut self,
         listing: &'s Listing<K>,
@@ -80,7 +75,6 @@ impl<'s, K: Kind> NameCache<'s, K> {
         }
     }
 
-    // Returns the group of the namespace that the prefix is bound to.
     fn group(
         &mut self,
         listing: &'s Listing<K>,

@@ -26,7 +26,6 @@ pub(crate) struct DimensionParts<'a> {
 }
 
 impl<'a> DimensionParts<'a> {
-    /// Returns the parts of a value that is an object.
     fn of(alloc: Global, value: &'a Value) -> Result<Option<DimensionParts<'a>>, AllocError>
         ensures { IfOk result (λ parts. option_map seen_dimensions parts
             ≡ option_map dimension_parts (as_object (view value.now))) }
@@ -38,7 +37,7 @@ impl<'a> DimensionParts<'a> {
     }
 
     // Separates the core dimensions (OIM Common 1.0) from the other members. The keys of a map are
-    // distinct.
+    // distinct, so nothing is overwritten.
     fn of_members(
         alloc: Global,
         members: &'a Map<String, Value>,
@@ -95,7 +94,6 @@ pub(crate) struct FactParts<'a> {
 }
 
 impl<'a> FactParts<'a> {
-    /// Returns the parts of a value that is an object.
     pub(crate) fn of(alloc: Global, object: &'a Value) -> Result<Option<FactParts<'a>>, AllocError>
         ensures { IfOk result (λ parts. option_map seen_parts parts ≡ fact_parts (view object.now)) }
     {
@@ -105,8 +103,7 @@ impl<'a> FactParts<'a> {
         }
     }
 
-    // Returns the members that do not belong to an extension (xBRL-JSON 1.0, section 3.1). The
-    // keys of a map are distinct.
+    // Ignores the members of extensions (xBRL-JSON 1.0, section 3.1).
     fn of_members(
         alloc: Global,
         members: &'a Map<String, Value>,

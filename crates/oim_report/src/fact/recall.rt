@@ -1,6 +1,5 @@
-//! Looks up the meaning of a text in a glossary. If the text is missing, it is read and added.
-//! Tests that also depend on something else, such as the kind of a unit's concept, are repeated
-//! each time.
+//! Looks up the meaning of a text in a glossary. If the text is missing, it is read and added. A
+//! condition that needs more than the text, such as `UnitOnOther`, is tested for each fact.
 
 ghost use Rattle.std.specs.Prelude.{◌≡◌, ◌⊎◌, Some, IsTrue, IfOk, IfErr, IfSome, OnOk};
 ghost use Rattle.std.specs.Str.{str_to_ascii_lowercase};
@@ -16,9 +15,6 @@ use oim_dims::{Period, Unit, read_language, read_period, read_unit};
 use oim_names::{Aliases, Copied, Name, Reason, Text};
 use std::alloc::Global;
 
-/// Returns the expanded name that the text spells.
-///
-/// Errors: the refusal that `Aliases::name_refusal` returns; `OutOfMemory`.
 pub(crate) fn recall_name(
     alloc: Global,
     aliases: &Aliases,
@@ -39,9 +35,6 @@ pub(crate) fn recall_name(
     Ok(name)
 }
 
-/// Returns the entity that the text spells.
-///
-/// Errors: the refusal that `Aliases::entity_refusal` returns; `OutOfMemory`.
 pub(crate) fn recall_entity(
     alloc: Global,
     aliases: &Aliases,
@@ -62,9 +55,6 @@ pub(crate) fn recall_entity(
     Ok(entity)
 }
 
-/// Returns the period that the text denotes.
-///
-/// Errors: as for `read_period`.
 pub(crate) fn recall_period(
     alloc: Global,
     periods: &mut Glossary<Period>,
@@ -84,9 +74,6 @@ pub(crate) fn recall_period(
     read
 }
 
-/// Returns the unit that the text denotes, or None if it is `pure` alone.
-///
-/// Errors: as for `read_unit`.
 pub(crate) fn recall_unit(
     alloc: Global,
     aliases: &Aliases,
@@ -108,9 +95,6 @@ pub(crate) fn recall_unit(
     Ok(unit)
 }
 
-/// Returns the language of the text, in lower case.
-///
-/// Errors: as for `read_language`.
 pub(crate) fn recall_language(
     alloc: Global,
     languages: &mut Glossary<Text>,

@@ -24,7 +24,6 @@ use oim_value::{Decimals, read_fixed};
 use serde_json::Value;
 use std::alloc::Global;
 
-/// Returns the kind of the concept, if the sheet lists it.
 pub(crate) fn kind_of(sheet: &Sheet, aliases: &Aliases, object: &Value) -> Option<ConceptKind>
     ensures { let dimensions = members (object_at (codes "dimensions") (view object.now)) in
         let named = concept sheet.now aliases.now (view object.now) dimensions in
@@ -69,8 +68,6 @@ fn is_unlisted(sheet: &Sheet, aliases: &Aliases, name: &str) -> bool
 {
     aliases.name_refusal(name).is_none() && find_named_concept(sheet, aliases, name).is_none()
 }
-
-// ---- period, unit, language
 
 #[tactic(auto, unfolding(crate::specs::Holds::holds, crate::specs::Shown::fact_shown))]
 pub(crate) fn formless_period(alloc: Global, object: &Value) -> Option<Part<'_>>
@@ -163,8 +160,6 @@ pub(crate) fn misplaced_language<'a>(
     let is_misplaced = language.is_some() && is_numeric(kind_of(sheet, aliases, object));
     value_if(is_misplaced, language)
 }
-
-// ---- value and decimals
 
 #[tactic(auto, unfolding(crate::specs::Holds::holds, crate::specs::Shown::fact_shown))]
 pub(crate) fn formless_value(object: &Value) -> Option<Part<'_>>

@@ -22,14 +22,12 @@ use oim_names::{Aliases, Name, Reason};
 use serde_json::{Map, Value};
 use std::alloc::{AllocError, Global};
 
-/// Returns whether the key belongs to a taxonomy-defined dimension.
 pub(crate) fn is_defined(key: &str) -> bool
     ensures { result ≡ is_defined key.now }
 {
     has_colon(key)
 }
 
-/// Returns the first dimension that the sheet does not list.
 #[tactic(auto, unfolding(crate::specs::Holds::holds, crate::specs::Shown::fact_shown), using(crate::proofs::DefinedRows::unlisted_shown))]
 pub(crate) fn unlisted_dimension<'a>(
     sheet: &Sheet,
@@ -65,10 +63,6 @@ fn is_unlisted(sheet: &Sheet, aliases: &Aliases, key: &str) -> bool
         && find_dimension(sheet, aliases, key).is_none()
 }
 
-/// Returns the first dimension whose member does not fit its kind, or two keys that name the same
-/// dimension.
-///
-/// Errors: out of memory.
 #[tactic(auto, unfolding(crate::specs::Holds::holds, crate::specs::Shown::fact_shown))]
 pub(crate) fn misfit<'a>(
     alloc: Global,
@@ -118,7 +112,6 @@ fn is_misfit(sheet: &Sheet, aliases: &Aliases, key: &str, value: &Value) -> bool
     }
 }
 
-// Returns the first key that repeats a dimension, behind the first key of that dimension.
 fn two_keys<'a>(
     alloc: Global,
     aliases: &Aliases,
@@ -142,7 +135,6 @@ fn two_keys<'a>(
     Ok(None)
 }
 
-/// Returns the key behind the first key that spells the same name.
 pub(crate) fn beside_first<'a>(
     aliases: &Aliases,
     members: &'a Map<String, Value>,
@@ -158,7 +150,6 @@ pub(crate) fn beside_first<'a>(
     Part::Two(key, key)
 }
 
-// Returns whether two keys spell the same name.
 fn spell_same(aliases: &Aliases, key: &str, other: &str) -> bool
     ensures { result ≡ spell_same aliases.now key.now other.now }
 {
@@ -178,7 +169,6 @@ fn is_same_name(name: (&str, &str), other: (&str, &str)) -> bool
     name.0.cmp(other.0).then(name.1.cmp(other.1)).is_eq()
 }
 
-// Returns the name of a taxonomy-defined dimension.
 fn dimension_name(aliases: &Aliases, key: &str) -> Result<Option<Name>, AllocError>
     ensures { IfOk result (λ name. name ≡ defined_name aliases.now key.now) }
 {
@@ -189,7 +179,6 @@ fn dimension_name(aliases: &Aliases, key: &str) -> Result<Option<Name>, AllocErr
     }
 }
 
-/// Returns the name that a key spells, if it spells one.
 pub(crate) fn name_of(aliases: &Aliases, key: &str) -> Result<Option<Name>, AllocError>
     ensures { IfOk result (λ name. name ≡ named aliases.now key.now) }
 {

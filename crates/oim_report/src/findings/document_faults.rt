@@ -14,9 +14,6 @@ use oim_names::Reason;
 use serde_json::Value;
 use std::alloc::{AllocError, Global};
 
-/// Appends every condition that applies to the document.
-///
-/// Errors: out of memory.
 pub(crate) fn add_document_faults(
     alloc: Global,
     tree: &Value,
@@ -37,7 +34,6 @@ pub(crate) fn add_document_faults(
     add_each(alloc, tree, reasons, faults)
 }
 
-// Appends a fault for each of these reasons whose condition applies and is not hidden.
 fn add_each(
     alloc: Global,
     tree: &Value,

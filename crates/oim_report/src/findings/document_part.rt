@@ -36,7 +36,6 @@ pub fn document_part(
     }
 }
 
-// Returns the document type if it is another one.
 #[tactic(auto, unfolding(crate::specs::Holds::document_holds, crate::specs::Shown::document_shown))]
 fn other_type(tree: &Value) -> Option<Part<'_>>
     ensures { option_map seen result ≡ document_part (view tree.now) Reason.DocumentType }
@@ -47,7 +46,6 @@ fn other_type(tree: &Value) -> Option<Part<'_>>
     )
 }
 
-// Returns the first entry of `namespaces` that binds nothing.
 #[tactic(auto, unfolding(crate::specs::Holds::document_holds, crate::specs::Shown::document_shown), using(crate::proofs::ShownParts::entry_shown))]
 fn refused_entry(alloc: Global, tree: &Value) -> Result<Option<Part<'_>>, AllocError>
     ensures { IfOk result (λ part. option_map seen part ≡ document_part (view tree.now) Reason.Namespace) }

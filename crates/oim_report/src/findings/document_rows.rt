@@ -1,4 +1,4 @@
-//! Finds the part of a document that violates a condition on its base, its references or its
+//! Finds the part of a document that violates a condition on its base URL, its references or its
 //! features.
 
 ghost use Rattle.std.specs.Prelude.{◌≡◌, true, option_and_then, option_map, IfOk};
@@ -26,9 +26,6 @@ use oim_value::Level;
 use serde_json::{Map, Value};
 use std::alloc::{AllocError, Global};
 
-/// Returns the `baseURL` if it is refused.
-///
-/// Errors: out of memory.
 pub(crate) fn refused_base(alloc: Global, tree: &Value) -> Result<Option<Part<'_>>, AllocError>
     ensures { IfOk result (λ part. option_map seen part ≡ document_part (view tree.now) Reason.BaseUrl) }
 {
@@ -36,16 +33,14 @@ pub(crate) fn refused_base(alloc: Global, tree: &Value) -> Result<Option<Part<'_
     Ok(value_if(base.is_none(), within(tree, "documentInfo", "baseURL")))
 }
 
-// Returns the base of relative references, which may be absent, or None if the base is refused.
+// Returns `None` if the base URL is refused, and `Some(None)` if there is none.
 fn said_base(alloc: Global, tree: &Value) -> Result<Option<Option<Base>>, AllocError>
     ensures { IfOk result (λ base. base ≡ base_said (view tree.now)) }
 {
     unless_memory(read_base_url(alloc, tree))
 }
 
-/// Returns the first reference that is refused. If the base is refused, there is no base.
-///
-/// Errors: out of memory.
+/// If the base URL is refused, references are tested without it.
 pub(crate) fn refused_reference(alloc: Global, tree: &Value) -> Result<Option<Part<'_>>, AllocError>
     ensures { IfOk result (λ part. option_map seen part ≡ document_part (view tree.now) Reason.TaxonomyUrl) }
 {
@@ -93,10 +88,8 @@ fn is_refused(alloc: Global, base: Option<&Base>, reference: &Value) -> Result<b
     Ok(kept.is_none())
 }
 
-/// Returns the first declaration whose value is not a level, or all features if there are several
-/// declarations. If the prefixes are refused, the features are not tested.
-///
-/// Errors: out of memory.
+/// If the feature is repeated and each value is a level, returns all features. If the prefixes are
+/// refused, the features are not tested.
 pub(crate) fn refused_feature(alloc: Global, tree: &Value) -> Result<Option<Part<'_>>, AllocError>
     ensures { IfOk result (λ part. option_map seen part ≡ document_part (view tree.now) Reason.Feature) }
 {
@@ -149,7 +142,6 @@ fn first_misdeclared<'a>(aliases: &Aliases, features: &'a Map<String, Value>) ->
     None
 }
 
-// Returns whether a member declares the feature, but no level.
 fn is_misdeclared(aliases: &Aliases, key: &str, value: &Value) -> bool
     ensures { result ≡ is_misdeclared aliases.now (key.now, view value.now) }
 {

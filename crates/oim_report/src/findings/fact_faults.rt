@@ -14,9 +14,6 @@ use oim_names::{Aliases, Reason};
 use serde_json::Value;
 use std::alloc::{AllocError, Global};
 
-/// Appends every condition that applies to a fact object, with the fact's place.
-///
-/// Errors: out of memory.
 pub(crate) fn add_fact_faults(
     alloc: Global,
     sheet: &Sheet,
@@ -57,7 +54,6 @@ pub(crate) fn add_fact_faults(
     add_each(alloc, sheet, aliases, object, place, reasons, faults)
 }
 
-// Appends a fault for each of these reasons whose condition applies.
 fn add_each(
     alloc: Global,
     sheet: &Sheet,

@@ -14,8 +14,9 @@ use oim_value::{Level, Value as Said, interval_of, value_meets};
 use serde_json::Value;
 use std::alloc::{AllocError, Global};
 
-/// Returns the indices, from 0, of two facts that the declared level does not allow together (own).
-/// It returns `None` if there are none, or if the report is refused for another reason.
+/// Returns the indices, counted from 0, of two facts that the declared level does not allow
+/// together (own). It returns `None` if there are none, or if the report is refused for another
+/// reason.
 ///
 /// Errors: out of memory.
 pub fn facts_apart(
@@ -53,7 +54,8 @@ fn apart_under(
     }
 }
 
-// Returns the first fact in sorted order that an earlier one does not allow, behind that one.
+// Returns the indices of two facts that the level does not allow together. Only two earlier facts
+// need a test: the one whose interval ends first, and the one whose interval begins last.
 fn first_apart(facts: &[Fact], order: &[usize], level: Level) -> Option<(usize, usize)>
     ensures { IfSome result (λ t. IsTrue (are_apart level facts.now t.0 t.1)) }
 {
@@ -77,7 +79,6 @@ fn first_apart(facts: &[Fact], order: &[usize], level: Level) -> Option<(usize, 
     None
 }
 
-// Returns whether the level does not allow the facts at two indices.
 fn are_apart(facts: &[Fact], one: usize, other: usize, level: Level) -> bool
     ensures { result ≡ are_apart level facts.now one other }
 {
@@ -87,7 +88,6 @@ fn are_apart(facts: &[Fact], one: usize, other: usize, level: Level) -> bool
     }
 }
 
-// Returns whether a level allows two facts.
 fn allows(level: Level, fact: &Fact, other: &Fact) -> bool
     ensures { result ≡ allows level fact.now other.now }
 {

@@ -13,9 +13,6 @@ use oim_names::Aliases;
 use serde_json::{Map, Value};
 use std::alloc::{AllocError, Global};
 
-/// Appends every condition that applies to a fact, fact by fact, in byte order of the identifiers.
-///
-/// Errors: out of memory.
 pub(crate) fn add_facts_faults(
     alloc: Global,
     sheet: &Sheet,

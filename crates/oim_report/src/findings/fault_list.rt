@@ -20,7 +20,6 @@ impl Model for Faults {
 }
 
 impl Faults {
-    /// Returns a list without faults. Later calls take their memory from `alloc`.
     pub(crate) fn new(alloc: Global) -> Faults
         ensures { result ≡ [] }
     {
@@ -29,9 +28,6 @@ impl Faults {
         }
     }
 
-    /// Appends a refusal.
-    ///
-    /// Errors: out of memory.
     pub(crate) fn push(&mut self, refusal: Refusal) -> Result<(), AllocError>
         ensures { OnOk result (self.new ≡ self.old ++ refusal ∷ []) }
     {
@@ -39,8 +35,8 @@ impl Faults {
         Ok(())
     }
 
-    /// Returns the refusals of the document, or else of its facts in byte order of their
-    /// identifiers. Refusals with the same place are sorted by number.
+    /// Returns the refusals of the document or, if there are none, of its facts in byte order of
+    /// the identifiers. Refusals with the same place are sorted by number.
     pub fn as_slice(&self) -> &[Refusal]
         ensures { result.now ≡ self.now }
     {

@@ -18,11 +18,11 @@ use oim_names::Reason;
 use serde_json::Value;
 use std::alloc::{AllocError, Global};
 
-/// Returns all faults of a report's bytes under a sheet (own), while `read_report` returns only
-/// the first. If the bytes are not JSON, that is the only fault. Otherwise the faults are all
-/// conditions that apply to the document. If there are none, they are all conditions that apply to
-/// a fact, each with its place. If there are none either, the only possible fault is
-/// `DisallowedDuplicates`. `Feature` is left out if `Namespace` applies. An accepted report has no
+/// Returns all faults of a report's bytes under a sheet (own). `read_report` returns only the first
+/// of them. If the bytes are not JSON, that is the only fault. Otherwise the faults are all
+/// conditions that apply to the document. If there are none, the faults are all conditions that
+/// apply to a fact, each with its place. If no condition applies, the only possible fault is
+/// `DisallowedDuplicates`. `Feature` is omitted if `Namespace` applies. An accepted report has no
 /// faults.
 ///
 /// Errors: out of memory.
@@ -63,7 +63,6 @@ pub fn tree_faults(alloc: Global, sheet: &Sheet, tree: &Value) -> Result<Faults,
     Ok(faults)
 }
 
-// Appends the refusal if the report is refused.
 fn add_answered(
     alloc: Global,
     sheet: &Sheet,

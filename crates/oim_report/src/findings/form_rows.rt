@@ -14,8 +14,6 @@ use crate::findings::part::{Part, value_if};
 use oim_names::Reason;
 use serde_json::Value;
 
-/// Returns the whole fact if it is not an object, or a member that is missing or has the wrong
-/// kind of value.
 #[tactic(auto, unfolding(crate::specs::Holds::holds, crate::specs::Shown::fact_shown))]
 pub(crate) fn misshapen(object: &Value) -> Option<Part<'_>>
     ensures { (sheet : Sheet) (bs : List Binding) →
@@ -60,7 +58,6 @@ fn misshapen_dimension(object: &Value) -> Option<Part<'_>>
     None
 }
 
-/// Returns the first key of the fact, or of its dimensions, that the format does not define.
 #[tactic(auto, unfolding(crate::specs::Holds::holds, crate::specs::Shown::fact_shown), using(crate::proofs::DimensionAt::any_members))]
 pub(crate) fn unknown(object: &Value) -> Option<Part<'_>>
     ensures { (sheet : Sheet) (bs : List Binding) →

@@ -1,4 +1,5 @@
-//! Finds the name of a fact object that violates a condition on names. The search takes no memory.
+//! Finds the name of a fact object that violates a condition on names. The search does not
+//! allocate.
 
 ghost use Rattle.std.specs.Prelude.{◌≡◌, [], codes, if◌then◌else◌, true, map, option_map, option_and_then};
 ghost use Rattle.std.specs.List.{find};
@@ -23,7 +24,6 @@ use oim_dims::{is_unit_text, refused_piece};
 use oim_names::{Aliases, Reason};
 use serde_json::{Map, Value};
 
-/// Returns the first name that is refused for this reason.
 pub(crate) fn refused_name<'a>(
     sheet: &Sheet,
     aliases: &Aliases,
@@ -49,7 +49,6 @@ pub(crate) fn refused_name<'a>(
     refused_value(sheet, aliases, object, reason)
 }
 
-// Returns the value if it is refused and the concept's values are names.
 fn refused_value<'a>(
     sheet: &Sheet,
     aliases: &Aliases,
@@ -79,7 +78,6 @@ fn refused_text<'a>(aliases: &Aliases, value: Option<&'a Value>, reason: Reason)
     }
 }
 
-/// Returns whether the text is refused as a name for this reason.
 pub(crate) fn is_refused(aliases: &Aliases, text: &str, reason: Reason) -> bool
     ensures { result ≡ refuses reason aliases.now (a_name text.now) }
 {
@@ -101,15 +99,12 @@ fn refused_entity<'a>(
     }
 }
 
-// Returns whether the text is refused as an entity for this reason.
 fn is_refused_entity(aliases: &Aliases, text: &str, reason: Reason) -> bool
     ensures { result ≡ refuses reason aliases.now (an_entity text.now) }
 {
     aliases.entity_refusal(text) == Some(reason)
 }
 
-// Returns the first refused name among the taxonomy-defined dimensions and the members of explicit
-// ones.
 fn refused_dimension<'a>(
     sheet: &Sheet,
     aliases: &Aliases,
@@ -188,8 +183,6 @@ fn refused_unit<'a>(aliases: &Aliases, unit: Option<&'a Value>, reason: Reason) 
     }
 }
 
-// Returns the first piece of a unit's text that is refused for this reason, if the text has the
-// form of a unit.
 fn piece_of<'a>(aliases: &Aliases, text: &'a str, reason: Reason) -> Option<Part<'a>>
     ensures { let all = map a_name (pieces text.now) in
         option_map seen result ≡ option_map name (find (refuses reason aliases.now) all) }

@@ -21,7 +21,7 @@ pub enum Part<'a> {
     NoText(&'static str),
     /// A key.
     Key(&'a str),
-    /// A key of the object at the second key.
+    /// A key, and the key of the object that contains it.
     KeyIn(&'a str, &'static str),
     /// A name, as the file spells it.
     Name(&'a str),
@@ -35,7 +35,6 @@ pub enum Part<'a> {
     Two(&'a str, &'a str),
 }
 
-/// If the condition applies, returns the value, or `Nothing` if there is no value.
 pub(crate) fn value_if(holds: bool, value: Option<&Value>) -> Option<Part<'_>>
     ensures { let found = option_map (λ v. view v.now) value.entry in
         option_map seen result ≡ when holds (value_or_nothing found) }

@@ -11,7 +11,7 @@ use oim_names::{Aliases, Reason};
 use serde_json::{Map, Value};
 use std::alloc::{AllocError, Global};
 
-/// Returns the prefixes of a report, unless an entry of `namespaces` binds nothing.
+/// Returns the prefixes that a report binds, or `None` if an entry of `namespaces` binds nothing.
 ///
 /// Errors: out of memory.
 pub fn report_aliases(alloc: Global, tree: &Value) -> Result<Option<Aliases>, AllocError>
@@ -22,9 +22,6 @@ pub fn report_aliases(alloc: Global, tree: &Value) -> Result<Option<Aliases>, Al
     bound_aliases(alloc, namespaces)
 }
 
-/// Returns the prefixes that a `namespaces` object binds, unless an entry binds nothing.
-///
-/// Errors: out of memory.
 pub(crate) fn bound_aliases(
     alloc: Global,
     namespaces: Option<&Map<String, Value>>,

@@ -24,7 +24,7 @@ use oim_names::{Aliases, Name, Reason};
 use serde_json::{Map, Value};
 use std::alloc::{AllocError, Global};
 
-/// Returns the refusal of a sheet with the part that violates its condition, or `None` exactly if
+/// Returns the refusal of a sheet with the part that violates the condition, or `None` exactly if
 /// the sheet is accepted (own). If several parts violate it, the first is returned.
 ///
 /// Errors: out of memory.
@@ -108,7 +108,6 @@ fn entry_at_fault<'a>(
     }
 }
 
-// Returns the first key that is refused as a name for this reason.
 fn name_at_fault<'a>(tree: &'a Value, aliases: &Aliases, reason: Reason) -> Part<'a>
     ensures { let all = sheet_names (view tree.now) in
         seen result ≡ option_map_or name (find (refuses reason aliases.now) all) nothing }
@@ -149,8 +148,6 @@ fn refused_key<'a>(
     None
 }
 
-// Returns the first entry whose value names no kind, or else the first key that gives a name
-// another kind, behind the first key of that name.
 fn kind_at_fault<'a>(
     alloc: Global,
     tree: &'a Value,
@@ -230,7 +227,6 @@ fn two_kinds_in<'a, K: Kind>(
     Ok(None)
 }
 
-// Returns the name that the key spells, with the kind that the value names.
 fn named_kind<K: Kind>(
     aliases: &Aliases,
     key: &str,

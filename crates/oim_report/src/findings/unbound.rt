@@ -13,9 +13,6 @@ use oim_names::Aliases;
 use serde_json::{Map, Value};
 use std::alloc::{AllocError, Global};
 
-/// Returns the first entry of a `namespaces` object that binds nothing.
-///
-/// Errors: out of memory.
 pub(crate) fn unbound<'a>(
     alloc: Global,
     namespaces: Option<&'a Map<String, Value>>,
@@ -46,7 +43,6 @@ fn first_unbound<'a>(
     Ok(None)
 }
 
-// Returns whether an entry binds nothing.
 fn binds_nothing(alloc: Global, prefix: &str, uri: &Value) -> Result<bool, AllocError>
     ensures { IfOk result (λ nothing. nothing ≡ binds_nothing prefix.now (view uri.now)) }
 {

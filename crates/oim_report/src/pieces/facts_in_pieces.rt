@@ -17,9 +17,8 @@ use oim_names::Aliases;
 use serde_json::{Map, Value};
 use std::alloc::Global;
 
-/// Reads the facts in a text of fact objects, in pieces of `size` bytes or more, and returns them
-/// in byte order of their identifiers. It returns `None` if a piece cannot be read, a fact is
-/// refused, or a request for memory is refused. To find out which, read the whole text.
+/// Returns the facts in byte order of their identifiers, or `None` if a piece cannot be read, a
+/// fact is refused, or a request for memory is refused.
 pub(crate) fn read_facts_in_pieces(
     alloc: Global,
     sheet: &Sheet,
@@ -48,7 +47,6 @@ pub(crate) fn read_facts_in_pieces(
     None
 }
 
-// Reads the facts of a piece, with the caches of the whole report.
 fn read_objects<'s>(
     alloc: Global,
     sheet: &'s Sheet,

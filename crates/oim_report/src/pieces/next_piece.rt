@@ -7,9 +7,8 @@ use crate::pieces::spaces::strip_front;
 use serde_json::{Map, Value};
 use std::alloc::Global;
 
-/// Reads the next piece of a text of members: `size` bytes or more, up to a comma or the end of
-/// the text. Returns its members and the text after the comma. Returns `None` if the piece cannot
-/// be read, or a request for memory is refused.
+/// Reads the next piece of a text of members: `size` bytes or more, up to a comma or the end of the
+/// text.
 pub(crate) fn read_next<'t>(
     alloc: Global,
     buffer: &mut String,
@@ -38,7 +37,6 @@ fn split_piece(text: &str, size: usize) -> (&str, Option<&str>)
     }
 }
 
-// Returns the text before and after the comma at an index, if there is a comma.
 fn cut_at_comma(text: &str, at: usize) -> Option<(&str, &str)>
     ensures { IfSome result (λ p. text.now ≡ p.0.now ++ 44 ∷ p.1.now) }
 {
@@ -48,7 +46,7 @@ fn cut_at_comma(text: &str, at: usize) -> Option<(&str, &str)>
 }
 
 // Guesses the end of a piece of `size` bytes or more: a comma after a closing brace and before a
-// fact. A wrong guess costs time, because the text up to it cannot be read as a piece.
+// fact. A wrong guess costs only time: the piece cannot be read, so the report is read as a whole.
 fn guess_end(text: &str, size: usize) -> Option<usize> {
     let bytes = text.as_bytes();
     let mut after_brace = false;
@@ -68,7 +66,7 @@ fn begins_fact(text: &str) -> bool {
     }
 }
 
-// Returns the key at the start of the text if its value is an object.
+// Returns the key at the start of the text, if an object follows it.
 fn key_of_object(text: &str) -> Option<&str> {
     let (key, rest) = strip_front(text, "\"")?.split_once('"')?;
     let _members = strip_front(strip_front(rest, ":")?, "{")?;

@@ -7,7 +7,7 @@ use crate::pieces::spaces::{strip_back, strip_front, trim_back};
 use serde_json::{Map, Value};
 use std::alloc::Global;
 
-// The end of `facts` is searched for in the last `MOST_BEHIND` bytes of a document.
+// The reader looks for the end of `facts` only in the last `MOST_BEHIND` bytes of a document.
 const MOST_BEHIND: usize = 16_384;
 
 /// A document without its member `facts`, and the text of the members of `facts`.
@@ -17,7 +17,7 @@ pub(crate) struct Outline<'t> {
     pub(crate) facts: &'t str,
 }
 
-// The texts of a document's members before `facts`, in it and after it.
+// The texts of the members before `facts`, in `facts` and after `facts`.
 #[derive(Drop)]
 struct Split<'t> {
     before: Option<&'t str>,
@@ -25,9 +25,7 @@ struct Split<'t> {
     behind: Option<&'t str>,
 }
 
-/// Returns the document without its member `facts`, and the text of the fact objects. If that text
-/// can be parsed, so can the whole document. It returns `None` if the text cannot be split, or if a
-/// request for memory is refused.
+/// Splits a document. If the text of its facts can be parsed, so can the whole document.
 pub(crate) fn read_outline(alloc: Global, text: &str) -> Option<Outline<'_>>
     ensures { IfSome result (λ o. IsOutline text.now (view o.tree) o.facts.now) }
 {
@@ -56,7 +54,7 @@ fn split_document(text: &str) -> Option<Split<'_>>
     })
 }
 
-// Returns the members before the key `facts`, if there are any.
+// Returns `Some(None)` if there are no members before `facts`.
 fn split_head(text: &str) -> Option<Option<&str>>
     ensures { IfSome result (λ b. IsHead text.now (option_map (λ t. t.now) b)) }
 {
@@ -69,7 +67,6 @@ fn split_head(text: &str) -> Option<Option<&str>>
     Some(Some(trim_back(inner)?))
 }
 
-// Returns the members of `facts` and those after it, from the text after the key.
 fn split_tail(text: &str) -> Option<(&str, Option<&str>)>
     ensures { IfSome result (λ p. IsTail text.now p.0.now (option_map (λ t. t.now) p.1)) }
 {
@@ -80,7 +77,6 @@ fn split_tail(text: &str) -> Option<(&str, Option<&str>)>
     Some((facts, behind))
 }
 
-// Returns the text before and after the closing brace at an index, if there is one.
 fn cut_at_brace(text: &str, at: usize) -> Option<(&str, &str)>
     ensures { IfSome result (λ p. text.now ≡ p.0.now ++ 125 ∷ p.1.now) }
 {
@@ -89,7 +85,7 @@ fn cut_at_brace(text: &str, at: usize) -> Option<(&str, &str)>
     Some((front, rest))
 }
 
-// Returns the members after `facts`, if there are any.
+// Returns `Some(None)` if there are no members after `facts`.
 fn split_end(text: &str) -> Option<Option<&str>>
     ensures { IfSome result (λ b. IsEnd text.now (option_map (λ t. t.now) b)) }
 {
@@ -101,8 +97,8 @@ fn split_end(text: &str) -> Option<Option<&str>>
     Some(Some(strip_front(front, ",")?))
 }
 
-// Guesses the index of the brace that closes `facts`. Scanning backwards, it is the last closing
-// brace or bracket that is not inside another pair.
+// Guesses the index of the brace that closes `facts`: the leftmost closing brace or bracket that is
+// not inside another pair.
 fn guess_end(bytes: &[u8]) -> usize {
     let mut end = 0;
     let mut depth: usize = 0;

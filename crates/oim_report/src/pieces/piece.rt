@@ -6,9 +6,8 @@ ghost use Rattle.oim_report.specs.Pieces.{alone, one_data, EndsWithBrace, IsPiec
 use serde_json::{Map, Value};
 use std::alloc::Global;
 
-/// Reads the members of a piece, as the only object of an array. It returns `None` if the piece has
-/// no member, is not the text of members or does not end with a brace, or if a request for memory
-/// is refused.
+/// Reads the members of a piece as the only object of an array. The members of `facts` are then
+/// nested as deep as in the report.
 pub(crate) fn read_piece(
     alloc: Global,
     buffer: &mut String,
@@ -45,7 +44,6 @@ fn read_alone(alloc: Global, buffer: &mut String, piece: &str) -> Option<Value>
     Value::from_str(alloc, buffer.as_str()).ok()
 }
 
-// Returns the members of an array's only object.
 fn only_object(value: Value) -> Option<Map<String, Value>>
     ensures { IfSome result (λ m. view value ≡ one_data (members_view m.entries)) }
 {

@@ -8,7 +8,6 @@ fn is_space(byte: u8) -> bool
     byte == b' ' || byte == b'\t' || byte == b'\n' || byte == b'\r'
 }
 
-// Returns the index at which leading white space ends.
 fn front_end(bytes: &[u8]) -> usize
     ensures bound { result ≤ length bytes.now }
     ensures spaces { AreSpaces (take result bytes.now) }
@@ -23,7 +22,6 @@ fn front_end(bytes: &[u8]) -> usize
     at
 }
 
-// Returns the index at which trailing white space begins.
 fn back_start(bytes: &[u8]) -> usize
     ensures bound { result ≤ length bytes.now }
     ensures spaces { AreSpaces (drop result bytes.now) }
@@ -38,7 +36,6 @@ fn back_start(bytes: &[u8]) -> usize
     at
 }
 
-/// Returns the text after leading white space and `start`.
 pub(crate) fn strip_front<'t>(text: &'t str, start: &str) -> Option<&'t str>
     ensures { IfSome result (λ r. AfterSpaces text.now (start.now ++ r.now)) }
 {
@@ -46,7 +43,6 @@ pub(crate) fn strip_front<'t>(text: &'t str, start: &str) -> Option<&'t str>
     rest.strip_prefix(start)
 }
 
-/// Returns the text without trailing white space.
 pub(crate) fn trim_back(text: &str) -> Option<&str>
     ensures { IfSome result (λ r. BeforeSpaces text.now r.now) }
 {
@@ -54,7 +50,6 @@ pub(crate) fn trim_back(text: &str) -> Option<&str>
     Some(front)
 }
 
-/// Returns the text before `end`, if only white space follows `end`.
 pub(crate) fn strip_back<'t>(text: &'t str, end: &str) -> Option<&'t str>
     ensures { IfSome result (λ r. BeforeSpaces text.now (r.now ++ end.now)) }
 {

@@ -10,8 +10,8 @@ use std::collections::BTreeMap;
 use std::marker::Model;
 use std::mem::replace;
 
-/// The names of a sheet with their kinds, while the sheet is read. The group of one namespace is
-/// apart, so names of this namespace are added without a comparison of URIs.
+/// The names of a sheet with their kinds, while the sheet is read. The group of the current
+/// namespace is separate, so names of this namespace are added without comparing URIs.
 #[derive(Drop)]
 pub(crate) struct Gathered<K: Kind> {
     alloc: Global,
@@ -37,7 +37,6 @@ impl<K: Kind> Model for Gathered<K> {
 }
 
 impl<K: Kind> Gathered<K> {
-    /// Returns a map without names. Later calls take their memory from `alloc`.
     pub(crate) fn new(alloc: Global) -> Self
         ensures { result ≡ record { uri = []; names = map.empty } }
     {
@@ -49,9 +48,6 @@ impl<K: Kind> Gathered<K> {
         }
     }
 
-    /// Turns to the namespace with this URI.
-    ///
-    /// Errors: out of memory.
     pub(crate) fn turn_to(&mut self, uri: &str) -> Result<(), AllocError>
         ensures { OnOk result (self.new ≡ record { uri = uri.now; names = self.old.names }) }
     {
@@ -65,7 +61,6 @@ impl<K: Kind> Gathered<K> {
         self.others.set(last, group)
     }
 
-    /// Returns whether the map has the name, which is in the current namespace.
     pub(crate) fn has(&self, name: &Name) -> bool
         requires { name.now.uri ≡ self.now.uri }
         ensures { result ≡ map.contains_key self.now.names name.now }
@@ -73,10 +68,6 @@ impl<K: Kind> Gathered<K> {
         self.group.contains_key(name.local())
     }
 
-    /// Adds the name, which is in the current namespace, with the kind, unless the map has the
-    /// name. Returns the kind of the name in the map.
-    ///
-    /// Errors: out of memory.
     pub(crate) fn put(&mut self, name: Name, kind: K) -> Result<K, AllocError>
         requires { name.uri ≡ self.old.uri }
         ensures ok { OnOk result (self.new
@@ -93,9 +84,6 @@ impl<K: Kind> Gathered<K> {
         }
     }
 
-    /// Returns the names.
-    ///
-    /// Errors: out of memory.
     pub(crate) fn into_listing(self) -> Result<Listing<K>, AllocError>
         ensures { IfOk result (λ listing. listing ≡ self.names) }
     {

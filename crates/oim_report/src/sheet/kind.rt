@@ -8,24 +8,18 @@ use std::fmt::Debug;
 pub(crate) trait Kind: Copy + Debug + Drop {
     ghost use Rattle.std.specs.Prelude.{ℕ, List, Bool, true, Option};
 
-    /// The kind that a text names.
     ghost kind_named: { List ℕ → Option Self };
 
-    /// Returns whether two kinds are equal.
     ghost same_kind: { Self → Self → Bool };
 
-    /// Returns the kind that the text names.
     fn named(text: &str) -> Option<Self>
         ensures { result ≡ kind_named text.now };
 
-    /// Returns whether both are the same kind.
     fn is(self, other: Self) -> bool
         ensures { result ≡ same_kind self other };
 
-    /// Kinds for which `same_kind` holds are equal.
     ghost exact: { (k l : Self) → same_kind k l ≡ true → k ≡ l };
 
-    /// `same_kind` holds for each kind and itself.
     ghost itself: { (k : Self) → same_kind k k ≡ true };
 }
 

@@ -8,7 +8,6 @@ use crate::dimension_kind::DimensionKind;
 use crate::sheet::Sheet;
 use oim_names::{Aliases, Name};
 
-/// Returns the concept that a text names, as the sheet lists it, and the kind of its values.
 pub(crate) fn find_named_concept<'s>(
     sheet: &'s Sheet,
     aliases: &Aliases,
@@ -24,7 +23,6 @@ pub(crate) fn find_named_concept<'s>(
     }
 }
 
-/// Returns the dimension that a text names, as the sheet lists it, and the kind of its members.
 pub(crate) fn find_dimension<'s>(
     sheet: &'s Sheet,
     aliases: &Aliases,

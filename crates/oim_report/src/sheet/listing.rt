@@ -14,8 +14,8 @@ use std::marker::Model;
 /// The names of one namespace by their local parts, each with its kind.
 pub(crate) type Group<K> = BTreeMap<String, (Name, K)>;
 
-/// The names of a sheet with their kinds, in one group per namespace, so a search compares URIs
-/// only to find the group.
+/// The names of a sheet with their kinds, in one group per namespace. A search compares URIs only
+/// to find the group.
 #[derive(Debug, Drop)]
 pub(crate) struct Listing<K: Kind> {
     groups: BTreeMap<String, Group<K>>,
@@ -38,7 +38,6 @@ impl<K: Kind> Model for Listing<K> {
 }
 
 impl<K: Kind> Listing<K> {
-    /// Returns a listing without names. Later calls take their memory from `alloc`.
     pub(crate) fn new(alloc: Global) -> Self
         ensures { result ≡ map.empty }
     {
@@ -47,15 +46,12 @@ impl<K: Kind> Listing<K> {
         }
     }
 
-    /// Returns the group of the namespace with this URI.
     pub(crate) fn group(&self, uri: &str) -> Option<&Group<K>>
         ensures { IsGroupOf self.now uri.now (option_copied result) }
     {
         self.groups.get(uri)
     }
 
-    /// Removes the group of the namespace with this URI, and returns it. If there is none, it
-    /// returns an empty group.
     pub(crate) fn take(&mut self, alloc: Global, uri: &str) -> Group<K>
         ensures names { IsGroup uri.now result }
         ensures kinds { (l : List ℕ) → option_map (λ e. e.1) (get_by_text result l)
@@ -66,9 +62,6 @@ impl<K: Kind> Listing<K> {
         self.groups.remove(uri).unwrap_or(BTreeMap::new(alloc))
     }
 
-    /// Sets the group of the namespace with this URI.
-    ///
-    /// Errors: out of memory; the listing is then unchanged.
     pub(crate) fn set(&mut self, uri: String, group: Group<K>) -> Result<(), AllocError>
         requires { IsGroup (string_bytes uri) group }
         ensures ok { OnOk result ((u l : List ℕ) → map.get self.new (record { uri = u; local_part = l })
@@ -80,7 +73,6 @@ impl<K: Kind> Listing<K> {
         Ok(())
     }
 
-    /// Returns the name with this URI and local part, and its kind. It takes no memory.
     pub(crate) fn find(&self, uri: &str, local: &str) -> Option<(&Name, K)>
         ensures kind { option_map (λ e. e.1) result
             ≡ map.get self.now (record { uri = uri.now; local_part = local.now }) }
@@ -90,14 +82,12 @@ impl<K: Kind> Listing<K> {
         find_in(self.group(uri), local)
     }
 
-    /// Returns whether both have the same names with the same kinds.
     pub(crate) fn same_as(&self, other: &Self) -> bool
         ensures { IsTrue result ↔ (self.now ≡ other.now) }
     {
         self.is_within(other) && other.is_within(self)
     }
 
-    // Returns whether the other listing has each of these names, with the same kind.
     fn is_within(&self, other: &Self) -> bool
         ensures { IsTrue result ↔ ((q : QName) (k : K) → map.get self.now q ≡ Some k → map.get other.now q ≡ Some k) }
     {
@@ -110,7 +100,6 @@ impl<K: Kind> Listing<K> {
     }
 }
 
-/// Returns the name with this local part in a group, and its kind. It takes no memory.
 pub(crate) fn find_in<'s, K: Kind>(
     group: Option<&'s Group<K>>,
     local: &str,
@@ -121,7 +110,6 @@ pub(crate) fn find_in<'s, K: Kind>(
     Some((name, *kind))
 }
 
-// Returns whether a group has each name of the other, with the same kind.
 fn has_each<K: Kind>(group: Option<&Group<K>>, other: &Group<K>) -> bool
     ensures { IsTrue result ↔ HasEach (option_copied group.entry) other.now }
 {
@@ -133,7 +121,6 @@ fn has_each<K: Kind>(group: Option<&Group<K>>, other: &Group<K>) -> bool
     true
 }
 
-// Returns whether a group has the name with this local part, with this kind.
 fn has_kind<K: Kind>(group: Option<&Group<K>>, local: &str, kind: K) -> bool
     ensures { IsTrue result
         ↔ (option_map (λ e. e.1) (in_group (option_copied group.entry) local.now) ≡ Some kind) }

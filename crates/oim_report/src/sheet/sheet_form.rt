@@ -11,9 +11,6 @@ use crate::findings::name_rows::is_refused;
 use oim_names::{Aliases, Reason};
 use serde_json::{Map, Value};
 
-/// Checks the form of a sheet: its parts and their keys.
-///
-/// Errors, the first that applies: `MemberForm`, `UnknownMember`.
 #[tactic(auto, unfolding(crate::specs::Sheet::sheet_holds))]
 pub(crate) fn check_form(tree: &Value) -> Result<(), Reason>
     ensures { let form = Reason.MemberForm ∷ Reason.UnknownMember ∷ [] in
@@ -32,9 +29,6 @@ pub(crate) fn check_form(tree: &Value) -> Result<(), Reason>
     Ok(())
 }
 
-/// Checks that each key of both objects is a name.
-///
-/// Errors, the first that applies to any key: `NameForm`, `UnboundPrefix`, `ReservedNamespace`.
 pub(crate) fn check_names(
     aliases: &Aliases,
     concepts: Option<&Map<String, Value>>,
@@ -56,7 +50,6 @@ pub(crate) fn check_names(
     Ok(())
 }
 
-// Returns whether some key of either object is refused as a name for this reason.
 fn refuses_either(
     aliases: &Aliases,
     concepts: Option<&Map<String, Value>>,

@@ -13,10 +13,6 @@ use oim_names::{Aliases, Reason};
 use serde_json::{Map, Value};
 use std::alloc::{AllocError, Global};
 
-/// Returns the names that the keys of an object spell, with the kinds that its values name. If
-/// there is no object, there are no names.
-///
-/// Errors: `SheetKind` if a value names no kind, or a name has two kinds; `OutOfMemory`.
 pub(crate) fn read_listing<K: Kind>(
     alloc: Global,
     aliases: &Aliases,
@@ -70,8 +66,7 @@ fn list_all<K: Kind>(
     Ok(gathered.into_listing()?)
 }
 
-// Turns to the namespace with this URI, unless the last name had the same prefix. Keys are sorted by
-// prefix, so this compares URIs once per prefix.
+// Keys are sorted by prefix, so URIs are compared only once per prefix.
 fn turn<K: Kind>(
     gathered: &mut Gathered<K>,
     last: Option<&str>,
@@ -87,7 +82,6 @@ fn turn<K: Kind>(
     gathered.turn_to(uri)
 }
 
-/// Returns the kind that a value names.
 pub(crate) fn kind_in<K: Kind>(value: &Value) -> Option<K>
     ensures { result ≡ kind_in K.kind_named K.same_kind (view value.now) }
 {
