@@ -39,7 +39,6 @@ union_has_both a b =
       references = λ r. let one = in_one_of_both a.references b.references r in (λ h. one.0 ((references.members r).0 h), λ h. (references.members r).1 (one.1 h));
     }
 
--- lists with the same documents have the same facts and the same references
 same_in_all : {A : Type 0} (f : Document → List A) (ds es : List Document) → SameMembers ds es → SameMembers (flat_map f ds) (flat_map f es)
 same_in_all f ds es same x =
     let first = in_flat_map f ds x in

@@ -24,7 +24,6 @@ use Rattle.fact_base.specs.Rows.{values_at}
 use Rattle.fact_base.proofs.Members.{each_there, first_or_later, first_there, later_there, none_there}
 use Rattle.fact_base.proofs.Verdicts.{inconsistent_is_apart}
 
--- some fact has these dimensions and this value
 abbrev HasFact : DimensionSet → Value → List Fact → Type 0
 HasFact s v fs = (f : Fact) × (Contains fs f × ((s ≡ f.dimensions) × (f.value ≡ v)))
 

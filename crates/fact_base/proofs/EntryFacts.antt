@@ -20,7 +20,6 @@ use Rattle.fact_base.proofs.Members.{each_in_turn, from_map, in_flat_map, in_map
 
 -- ---- order
 
--- two ascending lists ascend together if all items of the first are less than all items of the second
 rise_both : {A : Type 0} (R : A → A → Ordering) (xs ys : List A) → IsStrictlySortedBy R xs → IsStrictlySortedBy R ys → AllByRecursion (λ x. AllByRecursion (λ y. R x y ≡ Less) ys) xs → IsStrictlySortedBy R (xs ++ ys)
 unfolding IsStrictlySortedBy
 rise_both R [] ys h g below = g
@@ -30,11 +29,9 @@ rise_both {A = A} R (x ∷ xs) ys h g below = (behind xs h.0 below.0, rise_both 
     behind [] a b = b
     behind (z ∷ zs) a b = (a.0, behind zs a.1 b)
 
--- a fact with lesser dimensions is less
 pub less_by_dimensions : (f g : Fact) → dimensions_cmp f.dimensions g.dimensions ≡ Less → fact_cmp f g ≡ Less
 less_by_dimensions f g h = ap (λ o. ordering_then o (value_cmp f.value g.value)) h
 
--- facts with the same dimensions are ordered by value
 pub less_by_values : (s : DimensionSet) (v w : Value) → value_cmp v w ≡ Less → fact_cmp (record { dimensions = s; value = v }) (record { dimensions = s; value = w }) ≡ Less
 less_by_values s v w h = ap (λ o. ordering_then o (value_cmp v w)) (tied_itself dimensions_cmp_total s) ∙ h
 
@@ -57,12 +54,10 @@ from_facts_with s vs f h =
     let found = from_map (λ (w : Value). let g : Fact = record { dimensions = s; value = w } in g) vs f h in
     (ap (λ (g : Fact). g.dimensions) found.1.1, subst (Contains vs) (ap (λ (g : Fact). g.value) found.1.1) found.1.0)
 
--- there is an entry, and it has the value
 abbrev pub Holds : Option Summed → Value → Type 0
 Holds None v = ⊥
 Holds (Some kept) v = Contains kept.0 v
 
--- ascending entries contain a fact exactly if the entry at its dimensions has its value
 pub tells_fact : (es : List Entry) (f : Fact) → IsRising dimensions_cmp entry_key es → Contains (facts_of_entries es) f ↔ Holds (value_at dimensions_cmp f.dimensions es) f.value
 tells_fact es f rise =
     let some = in_flat_map facts_of_entry es f in (

@@ -19,7 +19,7 @@ use Rattle.fact_base.specs.code.Judged.{AreSummarised}
 use Rattle.fact_base.proofs.EntryFacts.{in_facts_with}
 use Rattle.fact_base.proofs.Members.{each_by_there, each_there}
 
--- the rank of a concept's kind among the kinds of values
+-- the number that `kind_order` gives to values of this kind; 0 without a kind
 abbrev kind_number : Option ConceptKind → ℕ
 kind_number None = 0
 kind_number (Some Numeric) = 1

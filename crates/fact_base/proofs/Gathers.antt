@@ -34,7 +34,6 @@ use Rattle.fact_base.proofs.Unions.{rises}
 -- ---- sorting without repeats
 
 module _ {K : Type 0} {R : K → K → Ordering} (o : IsTotalOrder R) (exact : (x y : K) → R x y ≡ Equal → x ≡ y) where
-  -- making a set from a set changes nothing
   pub set_of_set : (xs : List K) → set_of R (set_of R xs) ≡ set_of R xs
   set_of_set xs =
       let all = set_of_is_set o exact xs in
@@ -90,7 +89,6 @@ always_ok (Err e) p = tt
 
 -- ---- one more report
 
--- the body of a document fits if its facts fit and its references are kept references
 pub document_fits : (sheet : Sheet) (d : Document) → All (FactFits sheet) d.facts → All IsKeptReference d.references → Fits sheet (body (d ∷ []))
 document_fits sheet d facts references =
     let all = set_of_is_set fact_cmp_total fact_cmp_exact (d.facts ++ []) in
@@ -114,18 +112,15 @@ nothing_fits sheet =
 pub same_gathered : (facts more : List Fact) (references others : List (List ℕ)) → set_of fact_cmp facts ≡ set_of fact_cmp more → set_of text_cmp references ≡ set_of text_cmp others → gathered facts references ≡ gathered more others
 same_gathered facts more references others p q = λ i. record { facts = p i; references = q i }
 
--- gathering a document's facts, in any order, and its references gives the document's body
 pub gathered_document : (facts : List Fact) (references : List (List ℕ)) (d : Document) → SameMembers facts d.facts → references ≡ d.references → gathered facts references ≡ body (d ∷ [])
 gathered_document facts references d same is = same_gathered facts (d.facts ++ []) references (d.references ++ [])
     (same_sets fact_cmp_total fact_cmp_exact facts d.facts same ∙ ap (set_of fact_cmp) (sym (append-nil d.facts)))
     (ap (set_of text_cmp) (is ∙ sym (append-nil d.references)))
 
--- gathering two groups of facts and references gives the union of their bodies
 pub gathered_both : (facts more : List Fact) (references others : List (List ℕ)) → gathered (facts ++ more) (references ++ others) ≡ union (gathered facts references) (gathered more others)
 gathered_both facts more references others =
     λ i. record { facts = set_of-both fact_cmp_total fact_cmp_exact facts more i; references = set_of-both text_cmp_total text_cmp_exact references others i }
 
--- the union with the empty body changes nothing
 pub with_nothing : (b : Body) → IsBody b → b ≡ union b (body [])
 unfolding set_of
 with_nothing b rises = λ i. record {

@@ -84,7 +84,7 @@ level_at_set s (v ∷ w ∷ vs) rises =
     other : each_value Complete (v ∷ w ∷ vs) ≡ false
     other = ap (λ (o : Ordering). (is_eq o && list_all (allows_values Complete v) vs) && each_value Complete (w ∷ vs)) rises.0.0
 
--- ---- several
+-- ---- several dimension sets
 
 four : (P : Bool → Bool → Bool → Type 0) → P true true true → P false true true → P false false true → P false false false → (u c s : Bool) → (u ≡ true → c ≡ true) → (c ≡ true → s ≡ true) → P u c s
 four P a b c d true true true p q = a
@@ -144,9 +144,8 @@ level_of_more e es rises below =
     ∙ together (allows_each Unique fs) (allows_each Complete fs) (allows_each Consistent fs) (allows_each Unique gs) (allows_each Complete gs) (allows_each Consistent gs) (unique_are_complete fs) (complete_are_consistent fs) (unique_are_complete gs) (complete_are_consistent gs)
     ∙ (λ i. ord_max level_cmp ((sym (level_of_is fs) ∙ level_at_set e.0 e.1.0 rises) i) (sym (level_of_is gs) i))
 
--- ---- the walk
+-- ---- the loop over entries
 
--- the highest among a level and the levels of entries
 abbrev pub highest : Level → List Entry → Level
 highest level [] = level
 highest level (e ∷ es) = highest (ord_max level_cmp level (level_of_values e.1.0)) es

@@ -22,7 +22,6 @@ by_dimensions Equal Less less allowed = allowed
 by_dimensions Equal Equal less allowed = absurd (cc)
 by_dimensions Equal Greater less allowed = allowed
 
--- `complete` allows two different facts only if `none` does
 apart : (f g : Fact) → fact_cmp f g ≡ Less → allows Complete f g ≡ true → allows Unique f g ≡ true
 apart f g less allowed = by_dimensions (dimensions_cmp f.dimensions g.dimensions) (value_cmp f.value g.value) less allowed
 

@@ -95,7 +95,6 @@ put_last (e ∷ d ∷ es) f (suc n) x kept rise count is same made =
 
 -- ---- facts that do not descend
 
--- if no entry is above a fact, none is above the next fact once the first is added
 pub none_above_next : (es : List Entry) (f g : Fact) → NoneAbove f.dimensions es → is_gt (dimensions_cmp f.dimensions g.dimensions) ≡ false → NoneAbove g.dimensions (with_fact f es)
 none_above_next es f g up next =
     all_of_union dimensions_cmp_exact summed_of_both (λ s _. is_gt (dimensions_cmp s g.dimensions) ≡ false) (λ s _ _ h _. h) es (entry_of f ∷ [])
@@ -116,7 +115,6 @@ turned_up Less up = absurd (true≢false up)
 turned_up Equal up = refl
 turned_up Greater up = refl
 
--- in an order of facts, dimensions do not descend from one fact to the next
 dimensions_rise : (facts : List Fact) (places : List ℕ) (i : ℕ) (f g : Fact) → IsOrderOf facts places → i + 1 < length places → f ≡ get_or facts (get_or places i 0) f → g ≡ get_or facts (get_or places (i + 1) 0) g → is_gt (dimensions_cmp f.dimensions g.dimensions) ≡ false
 dimensions_rise facts places i f g order within here there =
     let p : ℕ = get_or places i 0 in
@@ -127,7 +125,6 @@ dimensions_rise facts places i f g order within here there =
     let ordered : is_lt (fact_cmp g f) ≡ false = sym (λ k. is_lt (option_cmp fact_cmp (second k) (first k))) ∙ falls in
     first_up (dimensions_cmp f.dimensions g.dimensions) (value_cmp f.value g.value) (ap is_gt (fact_cmp_total.antisymm f g) ∙ turned_up (fact_cmp g f) ordered)
 
--- no entry is above the next fact of an order, if there is one
 abbrev pub Reached : List Fact → List ℕ → ℕ → List Entry → Type 0
 Reached facts places i es = (f : Fact) → i < length places → f ≡ get_or facts (get_or places i 0) f → NoneAbove f.dimensions es
 
@@ -146,7 +143,6 @@ rise_in facts i f g sorted within here there =
     let ordered : is_lt (fact_cmp g f) ≡ false = (λ k. is_lt (fact_cmp (sym next k) (here k))) ∙ sorted i f (omega arith) within in
     first_up (dimensions_cmp f.dimensions g.dimensions) (value_cmp f.value g.value) (ap is_gt (fact_cmp_total.antisymm f g) ∙ turned_up (fact_cmp g f) ordered)
 
--- no entry is above the i-th fact, if there is one
 abbrev pub ReachedIn : List Fact → ℕ → List Entry → Type 0
 ReachedIn facts i es = (f : Fact) → i < length facts → f ≡ get_or facts i f → NoneAbove f.dimensions es
 

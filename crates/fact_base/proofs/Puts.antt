@@ -68,7 +68,6 @@ front_fits P fs gs all = each_by_there P fs (λ f at. each_there P (fs ++ gs) f 
 back_fits : (P : Fact → Type 0) (fs gs : List Fact) → All P (fs ++ gs) → All P gs
 back_fits P fs gs all = each_by_there P gs (λ f at. each_there P (fs ++ gs) f all ((in_one_of_both fs gs f).1 (inr at)))
 
--- the merged entries of two lists of facts are the entries of both lists together
 pub of_both : (fs gs : List Fact) (es ds : List Entry) → AreEntriesOf fs es → AreEntriesOf gs ds → AreEntriesOf (fs ++ gs) (map_union dimensions_cmp summed_of_both es ds)
 of_both fs gs es ds first second = record {
   rise = (map_union_has_both dimensions_cmp_total summed_of_both es ds first.rise second.rise).rises;
@@ -88,7 +87,6 @@ one_more fs es f are = of_both fs (f ∷ []) es (entry_alone f ∷ []) are (one_
 
 -- ---- facts by their indices
 
--- the fact at an index as a list, and the facts at several indices
 abbrev pub one_at : List Fact → ℕ → List Fact
 one_at facts i = option_map_or (λ f. f ∷ []) (slice_get facts i) []
 
@@ -98,7 +96,6 @@ facts_by facts places = flat_map (one_at facts) places
 here : (facts : List Fact) (place : ℕ) (f : Fact) → place < length facts → f ≡ get_or facts place f → one_at facts place ≡ f ∷ []
 here facts place f within is = ap (λ o. option_map_or (λ g. g ∷ []) o []) (slice_get-get_or facts place f within) ∙ ap (λ g. g ∷ []) (sym is)
 
--- with one more index, the fact at that index is appended
 pub by_more : (facts : List Fact) (places : List ℕ) (i place : ℕ) (f : Fact) → i < length places → place ≡ get_or places i place → place < length facts → f ≡ get_or facts place f → facts_by facts (take (i + 1) places) ≡ facts_by facts (take i places) ++ f ∷ []
 by_more facts places i place f below at within is =
     ap (facts_by facts) (take_more places i place below ∙ ap (λ p. take i places ++ p ∷ []) (sym at))
@@ -109,7 +106,6 @@ pub step : (facts : List Fact) (places : List ℕ) (i place : ℕ) (f : Fact) (e
 step facts places i place f es ds below at within is are put =
     subst (λ fs. AreEntriesOf fs ds) (sym (by_more facts places i place f below at within is)) (subst (AreEntriesOf (facts_by facts (take i places) ++ f ∷ [])) (sym put) (one_more (facts_by facts (take i places)) es f are))
 
--- the facts at the indices of an order are all facts
 from_place : (facts : List Fact) (place : ℕ) (f : Fact) → Contains (one_at facts place) f → Contains facts f
 from_place facts place f at = by_place (slice_get facts place) refl at
   where
@@ -139,11 +135,9 @@ all_put facts places es order are = record {
 
 -- ---- facts in another order
 
--- facts in another order have the same members
 pub same_moved : (facts moved : List Fact) → IsPermutation facts moved → SameMembers moved facts
 same_moved facts moved order f = (Contains-permutation moved facts f (IsPermutation-sym facts moved order), Contains-permutation facts moved f order)
 
--- facts in another order have the same entries
 pub all_moved : (facts moved : List Fact) (es : List Entry) → IsPermutation facts moved → AreEntriesOf moved es → AreEntriesOf facts es
 all_moved facts moved es order are = record {
   rise = are.rise;

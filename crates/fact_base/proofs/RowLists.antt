@@ -23,7 +23,6 @@ eq_itself s = ap is_eq (tied_itself dimensions_cmp_total s)
 
 -- ---- rows
 
--- the first row, if any, has other dimensions
 abbrev Apart : DimensionSet → List Row → Type 0
 Apart s [] = Unit {0}
 Apart s (r ∷ rs) = eq s r.0 ≡ false
@@ -35,7 +34,6 @@ alone_before s v (r ∷ rs) apart = ap (λ (b : Bool). cond b ((r.0, v ∷ r.1) 
 joins_first : (s : DimensionSet) (v : Value) (vs : List Value) (rs : List Row) → before_rows (record { dimensions = s; value = v }) ((s, vs) ∷ rs) ≡ (s, v ∷ vs) ∷ rs
 joins_first s v vs rs = ap (λ (b : Bool). cond b ((s, v ∷ vs) ∷ rs) ((s, v ∷ []) ∷ (s, vs) ∷ rs)) (eq_itself s)
 
--- facts with one dimension set make one row before rows with other dimensions
 row_before : (s : DimensionSet) (v : Value) (vs : List Value) (fs : List Fact) (rs : List Row) → rows_of fs ≡ rs → Apart s rs → rows_of (facts_with s (v ∷ vs) ++ fs) ≡ (s, v ∷ vs) ∷ rs
 unfolding rows_of
 row_before s v [] fs rs is apart = ap (before_rows (record { dimensions = s; value = v })) is ∙ alone_before s v rs apart
@@ -73,7 +71,6 @@ values_here : (s t : DimensionSet) (vs : List Value) → values_at s (facts_with
 values_here s t [] = elim (eq s t) as (λ b. ◌≡◌ {A = List Value} [] (cond b [] [])) [ true ↦ refl | false ↦ refl ]
 values_here s t (v ∷ vs) = ap (λ ws. cond (eq s t) (v ∷ ws) ws) (values_here s t vs) ∙ elim (eq s t) as (λ b. cond b (v ∷ cond b vs []) (cond b vs []) ≡ cond b (v ∷ vs) []) [ true ↦ refl | false ↦ refl ]
 
--- the values of an entry, if there is one
 abbrev pub values_in : Option Summed → List Value
 values_in None = []
 values_in (Some kept) = kept.0

@@ -24,7 +24,6 @@ use Rattle.fact_base.proofs.EntryFacts.{from_facts_with, in_facts_with}
 use Rattle.fact_base.proofs.Members.{each_by_there, each_in_turn, first_there, from_map, in_flat_map, in_map, some_there, turn_there}
 use Rattle.fact_base.proofs.RowLists.{values_at_entries, values_in}
 
--- a row is an entry with the summary of its values
 abbrev entry_of : Row → Entry
 entry_of r = (r.0, (r.1, summary_of_all r.1))
 
@@ -34,7 +33,6 @@ entries_of rs = map entry_of rs
 abbrev facts_of_rows : List Row → List Fact
 facts_of_rows rs = facts_of_entries (entries_of rs)
 
--- a fact that is added before rows becomes the first of their facts
 facts_before : (f : Fact) (rs : List Row) → facts_of_rows (before_rows f rs) ≡ f ∷ facts_of_rows rs
 facts_before f [] = refl
 facts_before f (r ∷ rs) = elim (is_eq (dimensions_cmp f.dimensions r.0)) as (λ b. is_eq (dimensions_cmp f.dimensions r.0) ≡ b → facts_of_rows (cond b ((r.0, f.value ∷ r.1) ∷ rs) ((f.dimensions, f.value ∷ []) ∷ r ∷ rs)) ≡ f ∷ facts_of_rows (r ∷ rs)) [
@@ -49,12 +47,10 @@ facts_are (f ∷ fs) = facts_before f (rows_of fs) ∙ ap (λ gs. f ∷ gs) (fac
 
 -- ---- order
 
--- a row has at least one value, and its values are distinct and in order
 record IsRow (r : Row) : Type 0 where
   some : r.1 ≢ []
   in_order : IsSet value_cmp r.1
 
--- the lesser of two facts has lesser dimensions, or the same dimensions and a lesser value
 lesser_dimensions : (f g : Fact) → fact_cmp f g ≡ Less → is_eq (dimensions_cmp f.dimensions g.dimensions) ≡ false → dimensions_cmp f.dimensions g.dimensions ≡ Less
 lesser_dimensions f g less other = by_order (dimensions_cmp f.dimensions g.dimensions) refl
   where
@@ -69,7 +65,6 @@ lesser_dimensions f g less other = by_order (dimensions_cmp f.dimensions g.dimen
 lesser_values : (f g : Fact) → fact_cmp f g ≡ Less → dimensions_cmp f.dimensions g.dimensions ≡ Equal → value_cmp f.value g.value ≡ Less
 lesser_values f g less same = sym (ap (λ o. ordering_then o (value_cmp f.value g.value)) same) ∙ less
 
--- each value of a row is a fact of the rows
 in_row : (rs : List Row) (r : Row) (v : Value) → Contains rs r → Contains r.1 v → Contains (facts_of_rows rs) (record { dimensions = r.0; value = v })
 in_row rs r v at held =
     (in_flat_map facts_of_entry (entries_of rs) (record { dimensions = r.0; value = v })).1
@@ -82,7 +77,6 @@ some_of (v ∷ vs) h = (v, first_there v vs)
 abbrev Rising : List Row → Type 0
 Rising rs = IsRising dimensions_cmp entry_key rs
 
--- the fact is below all facts of the rows
 module _ (f : Fact) where
   abbrev IsBelow : List Row → Type 0
   IsBelow rs = (g : Fact) → Contains (facts_of_rows rs) g → fact_cmp f g ≡ Less
@@ -90,7 +84,6 @@ module _ (f : Fact) where
   later_below : (r : Row) (rs : List Row) → IsBelow (r ∷ rs) → IsBelow rs
   later_below r rs below g at = below g (Contains-append_right (facts_with r.0 r.1) (facts_of_rows rs) g at)
 
-  -- if the first row has greater dimensions than a fact, so have all rows
   below_rows : (r : Row) (rs : List Row) → dimensions_cmp f.dimensions r.0 ≡ Less → AllByRecursion (λ q. dimensions_cmp r.0 q.0 ≡ Less) rs → AllByRecursion (λ q. dimensions_cmp f.dimensions q.0 ≡ Less) (r ∷ rs)
   below_rows r rs less rest = (less, chained rs rest)
     where

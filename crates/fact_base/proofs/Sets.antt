@@ -12,7 +12,6 @@ use Rattle.merge_laws.proofs.Rising.{none_rise}
 use Rattle.fact_base.specs.Sets.{set_of}
 use Rattle.fact_base.proofs.Members.{first_there, first_or_later, in_one_of_both, later_there, none_there}
 
--- the set ascends and has exactly the items of the list
 pub record IsSetOf {K : Type 0} (R : K → K → Ordering) (xs set : List K) : Type 0 where
   pub rises : IsSet R set
   pub members : (x : K) → Contains set x ↔ Contains xs x
@@ -32,19 +31,16 @@ module _ {K : Type 0} {R : K → K → Ordering} (o : IsTotalOrder R) (exact : (
         );
       }
 
-  -- an ascending list with exactly these members is the set
   pub is_set_of : (set xs : List K) → IsSet R set → SameMembers set xs → set ≡ set_of R xs
   is_set_of set xs rises same =
       let all = set_of_is_set xs in
       set_is_its_members o exact set (set_of R xs) rises all.rises (λ x. (λ h. (all.members x).1 ((same x).0 h), λ h. (same x).1 ((all.members x).0 h)))
 
-  -- lists with the same members make the same set
   pub same_sets : (xs ys : List K) → SameMembers xs ys → set_of R xs ≡ set_of R ys
   same_sets xs ys same =
       let all = set_of_is_set xs in
       is_set_of (set_of R xs) ys all.rises (λ x. (λ h. (same x).0 ((all.members x).0 h), λ h. (all.members x).1 ((same x).1 h)))
 
-  -- the union of the sets of two lists is the set of both lists
   pub set_of-both : (xs ys : List K) → set_of R (xs ++ ys) ≡ set_of R (set_of R xs ++ set_of R ys)
   set_of-both xs ys =
       let first = set_of_is_set xs in

@@ -36,7 +36,6 @@ use Rattle.fact_base.proofs.Sets.{is_set_of, same_sets, set_of_is_set}
 use Rattle.fact_base.proofs.TextOrder.{text_cmp_exact, text_cmp_total}
 use Rattle.fact_base.proofs.Unions.{Fit, all_fit_together, fit_in_order, rises, union_facts}
 
--- stored entries and references fit the sheet
 pub stored_fits : (sheet : Sheet) (es : List Entry) (references : List (List ℕ)) → AreStored sheet es references → Fits sheet (record { facts = facts_of_entries es; references = references })
 stored_fits sheet es references stored = record {
   rises = record { facts = rises es stored.rise (fit_in_order sheet es stored.entries); references = stored.in_order };
@@ -49,7 +48,6 @@ stored_fits sheet es references stored = record {
         let some = (in_flat_map facts_of_entry ds f).0 at in
         each_there (FactFits sheet) (facts_of_entry some.1) f (each_there (λ e. EntryFits sheet e.0 e.1) ds some.1 fit (some.0, some.2, some.3)).facts some.4
 
--- a base still satisfies its conditions after entries and references are added
 pub stored_together : (sheet : Sheet) (es ds : List Entry) (references others wider : List (List ℕ)) → AreStored sheet es references → IsRising dimensions_cmp entry_key ds → Fit sheet ds → All IsKeptReference others → wider ≡ set_of text_cmp (references ++ others) → AreStored sheet (map_union dimensions_cmp summed_of_both es ds) wider
 stored_together sheet es ds references others wider stored rise fit kept is =
     let set = set_of_is_set text_cmp_total text_cmp_exact (references ++ others) in
@@ -64,18 +62,15 @@ stored_together sheet es ds references others wider stored rise fit kept is =
 same_bodies : {facts more : List Fact} {references others : List (List ℕ)} → facts ≡ more → references ≡ others → ◌≡◌ {A = Body} (record { facts = facts; references = references }) (record { facts = more; references = others })
 same_bodies p q = λ i. record { facts = p i; references = q i }
 
--- joining two bases gives the union of their bodies
 pub joined : (sheet : Sheet) (es ds : List Entry) (references others wider : List (List ℕ)) → AreStored sheet es references → AreStored sheet ds others → wider ≡ set_of text_cmp (references ++ others) → ◌≡◌ {A = Body} (record { facts = facts_of_entries (map_union dimensions_cmp summed_of_both es ds); references = wider }) (union (record { facts = facts_of_entries es; references = references }) (record { facts = facts_of_entries ds; references = others }))
 joined sheet es ds references others wider stored more is = same_bodies (union_facts sheet es ds stored.rise more.rise stored.entries more.entries) is
 
--- replacing part of a list by a list with the same members keeps the members
 with_set : {A : Type 0} (xs ys zs : List A) → SameMembers ys zs → SameMembers (xs ++ ys) (xs ++ zs)
 with_set xs ys zs same x = (
   λ h. (in_one_of_both xs zs x).1 (⊎_elim inl (λ r. inr ((same x).0 r)) ((in_one_of_both xs ys x).0 h)),
   λ h. (in_one_of_both xs ys x).1 (⊎_elim inl (λ r. inr ((same x).1 r)) ((in_one_of_both xs zs x).0 h)),
 )
 
--- taking a report gives the union with the report's body
 pub taken : (sheet : Sheet) (es ds : List Entry) (references wider : List (List ℕ)) (d : Document) → AreStored sheet es references → AreEntriesOf d.facts ds → Fit sheet ds → wider ≡ set_of text_cmp (references ++ d.references) → ◌≡◌ {A = Body} (record { facts = facts_of_entries (map_union dimensions_cmp summed_of_both es ds); references = wider }) (union (record { facts = facts_of_entries es; references = references }) (body (d ∷ [])))
 taken sheet es ds references wider d stored are fit is =
     let facts = set_of_is_set fact_cmp_total fact_cmp_exact (d.facts ++ []) in
@@ -101,7 +96,6 @@ all_there references others rise all = is_set_of text_cmp_total text_cmp_exact r
   λ h. ⊎_elim (λ l. l) (each_there (Contains references) others r all) ((in_one_of_both references others r).0 h),
 ))
 
--- the union of sorted references and a set of others is the set of both
 pub set_among : (references others : List (List ℕ)) → IsSet text_cmp references → set_union text_cmp references (set_of text_cmp others) ≡ set_of text_cmp (references ++ others)
 set_among references others rise =
     let set = set_of_is_set text_cmp_total text_cmp_exact others in
@@ -111,7 +105,6 @@ set_among references others rise =
       λ h. (both.members r).1 (⊎_elim inl (λ o. inr ((set.members r).1 o)) ((in_one_of_both references others r).0 h)),
     ))
 
--- texts have equal bytes exactly if they compare as equal
 same_bytes_tie : (x y : List ℕ) → bytes_eq x y ≡ eq_by_cmp text_cmp x y
 same_bytes_tie x y = sym (is_eq-slice_cmp x y)
 

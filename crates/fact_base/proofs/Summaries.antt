@@ -29,7 +29,7 @@ use Rattle.fact_base.specs.Verdict.{IsApartPair, IsCommonOf, IsPairOf, IsShownPa
 use Rattle.fact_base.specs.declared.verdict.Verdict.TheVariants.{Complete, Consistent, Inconsistent}
 use Rattle.fact_base.proofs.Members.{each_there, first_there, first_or_later, later_there, none_there}
 
--- ---- each two values meet
+-- ---- every two values meet
 
 all_pass : {A : Type 0} (p : A → Bool) (P : A → Type 0) → ((x : A) → IsTrue (p x) ↔ P x) → (xs : List A) → IsTrue (list_all p xs) ↔ AllByRecursion P xs
 all_pass p P told [] = (λ _. tt, λ _. refl)
@@ -59,7 +59,6 @@ no_intervals (Number m d ∷ vs) h = absurd (true≢false h)
 no_intervals (AText t ∷ vs) h = no_intervals vs h
 no_intervals (AName n ∷ vs) h = no_intervals vs h
 
--- if some values have ends, their summary contains these ends
 ends_told : (vs : List Value) (ends : Interval) → AreEnds ends (intervals_of vs) → (summary_of_all vs).ends ≡ Some ends
 ends_told vs ends are = by_ends (summary_of_all vs).ends refl
   where
@@ -76,7 +75,6 @@ ends_told vs ends are = by_ends (summary_of_all vs).ends refl
 told_ends : (vs : List Value) (ends : Interval) → (summary_of_all vs).ends ≡ Some ends → AreEnds ends (intervals_of vs)
 told_ends vs ends is = subst (λ a. IfSome a (λ e. AreEnds e (intervals_of vs))) is (summary_tells_all vs).ends
 
--- None if there is a nil, otherwise the ends
 abbrev unless : Bool → Interval → Option Interval
 unless b ends = cond b None (Some ends)
 
@@ -123,7 +121,6 @@ shows_shared vs ends between =
     ap (option_and_then (λ e. unless ((summary_of_all vs).nil || int_lt e.high e.low) e)) (ends_told vs ends between.ends)
     ∙ (λ i. unless (not_nil vs between.no_nil i || not_above ends.high ends.low between.points i) ends)
 
--- several values have a common part exactly if each two of them meet
 pub shared_where_meet : (vs : List Value) (s : Summarised) → AreSummarised vs s → 2 ≤ length vs → (ends : Interval) → shared_by s ≡ Some ends → EachTwoValuesMeet vs × MeetBetween vs ends
 shared_where_meet vs s summed several ends is =
     let between = shared_shows vs ends (ap shared_by (sym summed.summary) ∙ is) in
@@ -195,7 +192,6 @@ some_number (v ∷ vs) h = by_test (λ later. some_number vs later) (has_interva
         let found = rest (sym (ap (λ (b : Bool). b || list_any has_interval vs) is) ∙ h) in
         (found.0, (later_there v vs found.0 found.1.0, found.1.1))
 
--- if there is a number and no nil, all are numbers
 all_numbers : (kind : ℕ) (vs : List Value) → AreNilOrOfKind kind vs → (Contains vs Nil → ⊥) → list_any has_interval vs ≡ true → (v : Value) → Contains vs v → has_interval v ≡ true
 all_numbers kind vs alike none some v at =
     let found = some_number vs some in

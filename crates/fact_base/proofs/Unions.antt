@@ -23,7 +23,6 @@ use Rattle.fact_base.proofs.EntryFacts.{Holds, facts_rise, from_facts_with, in_f
 use Rattle.fact_base.proofs.Members.{each_by_there, each_there, first_there, in_one_of_both, none_there}
 use Rattle.fact_base.proofs.Sets.{is_set_of}
 
--- the union of two sorted lists has exactly the values of both
 pub in_values_of_both : (vs ws : List Value) → IsSet value_cmp vs → IsSet value_cmp ws → (v : Value) → Contains (set_union value_cmp vs ws) v ↔ (Contains vs v ⊎ Contains ws v)
 in_values_of_both vs ws h g v = (set_union_has_both value_cmp_total value_cmp_exact vs ws h g).members v
 
@@ -95,7 +94,6 @@ facts_of_both es fs rise more sets others f =
       λ h. told.1 (subst (λ a. Holds a f.value) (sym (both.values f.dimensions)) (held.1 (⊎_elim (λ l. inl (first.0 l)) (λ r. inr (second.0 r)) h))),
     )
 
--- the facts of merged entries are the union of both sets of facts
 pub union_facts : (sheet : Sheet) (es fs : List Entry) → IsRising dimensions_cmp entry_key es → IsRising dimensions_cmp entry_key fs → Fit sheet es → Fit sheet fs → facts_of_entries (map_union dimensions_cmp summed_of_both es fs) ≡ set_of fact_cmp (facts_of_entries es ++ facts_of_entries fs)
 union_facts sheet es fs rise more fit others =
     let both = map_union_has_both dimensions_cmp_total summed_of_both es fs rise more in

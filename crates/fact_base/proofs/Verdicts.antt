@@ -16,7 +16,6 @@ use Rattle.fact_base.specs.declared.verdict.Verdict.TheVariants.{Complete, Consi
 use Rattle.fact_base.proofs.Summaries.{each_meet_is}
 use Rattle.fact_base.proofs.Members.{first_or_later, first_there, later_there, none_there}
 
--- two values do not meet
 abbrev Apart : List Value → Type 0
 Apart vs = (v w : Value) × (Contains vs v × (Contains vs w × ¬ (Meets v w)))
 
@@ -26,7 +25,6 @@ apart_later x vs found = (found.0, found.1, (later_there x vs found.0 found.2.0,
 not_so : {P : Type 0} {b : Bool} → b ≡ false → (P → b ≡ true) → ¬ P
 not_so h told p = true≢false (sym (told p) ∙ h)
 
--- if a value does not meet all others, there is one that it does not meet
 apart_from_one : (v : Value) (ws : List Value) → list_all (values_meet v) ws ≡ false → (w : Value) × (Contains ws w × ¬ (Meets v w))
 apart_from_one v [] h = absurd (true≢false h)
 apart_from_one v (w ∷ ws) h = by_test (λ later. apart_from_one v ws later) (values_meet v w) refl

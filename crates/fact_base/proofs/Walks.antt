@@ -40,7 +40,7 @@ use Rattle.fact_base.proofs.Levels.{highest, highest_is, level_of_values}
 use Rattle.fact_base.proofs.Members.{each_there, to_the_end}
 use Rattle.fact_base.proofs.RowLists.{rows_of_entries, values_at_entries, values_in}
 
--- ---- one step further
+-- ---- one step
 
 drop_from : {A : Type 0} (xs : List A) (i : ℕ) (x : A) → slice_get xs i ≡ Some x → drop i xs ≡ x ∷ drop (suc i) xs
 drop_from [] i x is = absurd (true≢false (sym (ap is_some is)))

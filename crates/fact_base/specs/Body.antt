@@ -9,7 +9,7 @@ use Rattle.oim_dims.specs.declared.fact.Fact.{Fact}
 use Rattle.oim_report.specs.Document.{Document}
 use Rattle.fact_base.specs.Sets.{set_of}
 
--- texts are ordered by bytes
+-- the order of texts by bytes
 abbrev pub text_cmp : List ℕ → List ℕ → Ordering
 text_cmp = slice_cmp nat_cmp
 
@@ -18,14 +18,14 @@ pub record Body : Type 0 where
   pub facts : List Fact
   pub references : List (List ℕ)
 
--- the facts of all documents in sequence, and likewise their references
+-- the facts of all documents in sequence; the same for references
 abbrev pub all_facts : List Document → List Fact
 all_facts docs = flat_map (λ d. d.facts) docs
 
 abbrev pub all_references : List Document → List (List ℕ)
 all_references docs = flat_map (λ d. d.references) docs
 
--- the set of all documents' facts and the set of their references
+-- the set of the facts of all documents, and the set of their references
 abbrev pub body : List Document → Body
 body docs = record { facts = set_of fact_cmp (all_facts docs); references = set_of text_cmp (all_references docs) }
 

@@ -1,4 +1,4 @@
--- The facts and references of bodies; neither order nor repetition matters (own).
+-- The facts and references of bodies (own).
 use Rattle.std.specs.Prelude.{◌≡◌, ◌↔◌, ◌⊎◌, ℕ, List, ◌++◌, Contains}
 use Rattle.std.specs.List.{Any}
 use Rattle.merge_laws.specs.Members.{SameMembers}
@@ -13,7 +13,7 @@ pub record IsBody (b : Body) : Type 0 where
   pub facts : IsSet fact_cmp b.facts
   pub references : IsSet text_cmp b.references
 
--- a body has exactly the facts and references of the documents in a list
+-- the body has exactly the facts and references of the documents
 pub record HasWhatDocumentsHave (docs : List Document) (b : Body) : Type 0 where
   pub rises : IsBody b
   pub facts : (f : Fact) → Contains b.facts f ↔ Any (λ d. Contains d.facts f) docs
@@ -22,7 +22,7 @@ pub record HasWhatDocumentsHave (docs : List Document) (b : Body) : Type 0 where
 abbrev pub BodyHasWhatDocumentsHave : Type 0
 BodyHasWhatDocumentsHave = (docs : List Document) → HasWhatDocumentsHave docs (body docs)
 
--- a body has exactly the facts and references of one body or the other
+-- one body has exactly the facts and references of two others
 pub record HasBoth (a b both : Body) : Type 0 where
   pub rises : IsBody both
   pub facts : (f : Fact) → Contains both.facts f ↔ (Contains a.facts f ⊎ Contains b.facts f)
@@ -31,7 +31,7 @@ pub record HasBoth (a b both : Body) : Type 0 where
 abbrev pub UnionHasBoth : Type 0
 UnionHasBoth = (a b : Body) → HasBoth a b (union a b)
 
--- the body depends neither on the order of documents nor on repeats
+-- the body does not depend on the order or repetition of documents
 abbrev pub BodyIgnoresOrder : Type 0
 BodyIgnoresOrder = (ds es : List Document) → SameMembers ds es → body ds ≡ body es
 

@@ -18,7 +18,7 @@ use Rattle.fact_base.specs.declared.verdict.Verdict.TheVariants.{Inconsistent}
 abbrev pub IsNumeric : Sheet → DimensionSet → Type 0
 IsNumeric sheet s = map.get sheet.concepts s.concept ≡ Some Numeric
 
--- both are numbers and no number of units lies in both of their intervals, or one is nil and the other is not
+-- both are numbers whose intervals share no point, or only one of them is nil
 abbrev pub Contradict : Value → Value → Type 0
 Contradict (Number m d) (Number n e) = ¬ ((units : ℤ) × IsCommonPoint (interval m d) (interval n e) units)
 Contradict Nil Nil = ⊥
@@ -26,7 +26,7 @@ Contradict Nil w = ⊤
 Contradict v Nil = ⊤
 Contradict v w = ⊥
 
--- two of these values contradict one another
+-- two of these values contradict each other
 pub record HasContradiction (vs : List Value) : Type 0 where
   pub first : Value
   pub second : Value
@@ -34,7 +34,7 @@ pub record HasContradiction (vs : List Value) : Type 0 where
   pub second_there : Contains vs second
   pub contradict : Contradict first second
 
--- a numeric dimension set of a body that fits a sheet is inconsistent exactly if two of its values contradict one another
+-- in a body that fits a sheet, a numeric dimension set is inconsistent exactly if two of its values contradict each other
 abbrev pub NumericInconsistentIsApart : Type 0
 NumericInconsistentIsApart =
     (sheet : Sheet) (b : Body) (s : DimensionSet) → Fits sheet b → IsNumeric sheet s →

@@ -13,7 +13,7 @@ Summed = List Value × Summarised
 abbrev pub Entry : Type 0
 Entry = DimensionSet × Summed
 
--- the facts of an entry, and the facts of several entries in sequence
+-- the facts with these dimensions and values; the same for an entry and for several entries
 abbrev pub facts_with : DimensionSet → List Value → List Fact
 facts_with s vs = map (λ v. record { dimensions = s; value = v }) vs
 

@@ -23,12 +23,12 @@ abbrev pub before_rows : Fact → List Row → List Row
 before_rows f [] = (f.dimensions, f.value ∷ []) ∷ []
 before_rows f (r ∷ rs) = if is_eq (dimensions_cmp f.dimensions r.0) then (r.0, f.value ∷ r.1) ∷ rs else (f.dimensions, f.value ∷ []) ∷ r ∷ rs
 
--- the rows of ascending facts: neighbours with the same dimensions share a row
+-- the rows of ascending facts: adjacent facts with the same dimensions share a row
 unfoldable pub rows_of : List Fact → List Row
 rows_of [] = []
 rows_of (f ∷ fs) = before_rows f (rows_of fs)
 
--- the rows have distinct dimension sets in order, each with exactly its values, which are distinct and in order
+-- the dimension sets of the rows are distinct and in order; each row has exactly its values, distinct and in order
 pub record AreRowsOf (facts : List Fact) (rows : List Row) : Type 0 where
   pub rise : IsRising dimensions_cmp entry_key rows
   pub values : All (λ r. r.1 ≡ values_at r.0 facts) rows

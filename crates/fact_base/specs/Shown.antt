@@ -1,4 +1,4 @@
--- Rows as contracts see them.
+-- Rows as contracts see them (own).
 use Rattle.std.specs.Prelude.{map, List, drop}
 use Rattle.fact_base.specs.Entries.{Entry}
 use Rattle.fact_base.specs.Rows.{Row}

@@ -23,7 +23,7 @@ abbrev pub each_meet : List Value → Bool
 each_meet [] = true
 each_meet (v ∷ vs) = list_all (values_meet v) vs && each_meet vs
 
--- one value is complete; several are consistent if each two of them meet, and inconsistent otherwise
+-- one value is complete; several are consistent if every two of them meet, and inconsistent otherwise
 abbrev pub verdict_of : List Value → Option Verdict
 verdict_of [] = None
 verdict_of (v ∷ []) = Some Complete
@@ -33,7 +33,7 @@ verdict_of (v ∷ w ∷ vs) = Some (if each_meet (v ∷ w ∷ vs) then Consisten
 abbrev pub verdict : List Fact → DimensionSet → Option Verdict
 verdict facts s = verdict_of (values_at s facts)
 
--- a dimension set is called inconsistent exactly if two of its facts do not meet
+-- the verdict is `Inconsistent` exactly if two of the values do not meet
 abbrev pub InconsistentIsApart : Type 0
 InconsistentIsApart =
     (facts : List Fact) (s : DimensionSet) →
@@ -41,7 +41,7 @@ InconsistentIsApart =
 
 -- ---- evidence
 
--- there are several values, each two meet, and the interval contains exactly the numbers that lie in all their intervals
+-- there are several values, every two meet, and the interval contains exactly the numbers that lie in all their intervals
 pub record IsCommonOf (vs : List Value) (common : Interval) : Type 0 where
   pub several : 2 ≤ length vs
   pub each : EachTwoValuesMeet vs
@@ -53,8 +53,8 @@ abbrev pub begin_with_numbers : List Value → Bool
 begin_with_numbers (v ∷ w ∷ vs) = has_interval v && has_interval w
 begin_with_numbers other = false
 
--- the pair that is shown for several values: if the first two are numbers, the first index with the least high end and the first
--- with the greatest low end; otherwise the first two
+-- the indices shown for several values: if the first two are numbers, the first number with the least high end and the first
+-- with the greatest low end; otherwise 0 and 1
 abbrev pub IsPairOf : Bool → List Value → ℕ → ℕ → Type 0
 IsPairOf true vs i j = (ends : Interval) → AreEnds ends (intervals_of vs) → (i ≡ place_of_least_high ends vs) × (j ≡ place_of_greatest_low ends vs)
 IsPairOf false vs i j = (i ≡ 0) × (j ≡ 1)
@@ -62,7 +62,7 @@ IsPairOf false vs i j = (i ≡ 0) × (j ≡ 1)
 abbrev pub IsShownPair : List Value → ℕ → ℕ → Type 0
 IsShownPair vs = IsPairOf (begin_with_numbers vs) vs
 
--- the values of the shown pair do not meet
+-- the values at the shown indices do not meet
 pub record IsApartPair (vs : List Value) (i j : ℕ) : Type 0 where
   pub shown : IsShownPair vs i j
   pub apart : AreApart vs i j

@@ -1,3 +1,3 @@
--- Definitions that only private code cites: how values are stored, and intermediate laws. No public contract uses them.
+-- Definitions that no public contract uses.
 pub mod Entries
 pub mod Judged

@@ -22,8 +22,8 @@ use oim_value::{Level, Value};
 use std::alloc::{AllocError, Global};
 use std::marker::Model;
 
-/// The distinct facts and taxonomy references of several reports. It borrows the sheet under which
-/// they are read.
+/// The distinct facts and the taxonomy references of several reports that were read under one
+/// sheet. A base borrows its sheet.
 #[derive(Drop)]
 pub struct Base<'s> {
     alloc: Global,
@@ -50,7 +50,7 @@ impl<'s> Model for Base<'s> {
 }
 
 impl<'s> Base<'s> {
-    /// Returns a base without facts and references. Later calls take their memory from `alloc`.
+    /// Returns a base without facts and references. Later calls allocate from `alloc`.
     pub fn new(alloc: Global, sheet: &'s Sheet) -> Base<'s>
         ensures { result ≡ record { sheet = sheet.now; body = body [] } }
     {
@@ -62,8 +62,6 @@ impl<'s> Base<'s> {
         }
     }
 
-    /// Returns a base of these entries and references, which come from reports that were read under
-    /// the sheet.
     pub(crate) fn of(
         alloc: Global,
         sheet: &'s Sheet,
@@ -81,15 +79,14 @@ impl<'s> Base<'s> {
         }
     }
 
-    /// Returns the sheet under which the reports are read.
+    /// Returns the sheet under which the reports were read.
     pub fn sheet(&self) -> &'s Sheet
         ensures { result.now ≡ self.now.sheet }
     {
         self.sheet
     }
 
-    /// Returns whether the sheet is equal to the base's sheet, so that reports read under it can be
-    /// taken.
+    /// Returns whether the sheet equals the base's sheet. Reports read under it can then be taken.
     pub fn same_sheet(&self, sheet: &Sheet) -> bool
         ensures { IsTrue result ↔ (self.now.sheet ≡ sheet.now) }
     {
@@ -153,14 +150,14 @@ impl<'s> Base<'s> {
     {
         let references = with_all(self.alloc, &self.references, other.taxonomy())?;
         // Values of a shared dimension set are copied into the other base, so that a refused
-        // request leaves this base unchanged. Absorbing many bases with shared dimension sets one
-        // by one therefore takes time that is quadratic in their number.
+        // request leaves this base unchanged. Absorbing many bases one by one therefore takes
+        // quadratic time if they share dimension sets.
         self.entries.absorb(other.entries)?;
         replace(&mut self.references, references);
         Ok(())
     }
 
-    /// Returns the dimension sets in order, each once, with their values.
+    /// Returns one row for each dimension set, in order.
     pub fn rows(&self) -> Rows<'_>
         ensures { rows_left result ≡ rows_of self.now.body.facts }
     {
@@ -217,7 +214,7 @@ impl<'s> Base<'s> {
     }
 
     /// Returns the strictest level of duplicates that allows the facts. It is never `Complete`,
-    /// since the facts are distinct.
+    /// because the facts are distinct.
     pub fn level(&self) -> Level
         ensures level { result ≡ level_of self.now.body.facts }
         ensures never_complete { result ≢ Level.Complete }
@@ -225,8 +222,8 @@ impl<'s> Base<'s> {
         level_of(&self.entries)
     }
 
-    /// Does nothing. Its contract states that each fact fits the sheet, that each reference is kept
-    /// as it is, and that both lists ascend.
+    /// Does nothing. Its contract states that each fact fits the sheet, and that both lists ascend.
+    /// It also states that resolving a reference again without a base does not change it.
     pub fn known(&self)
         ensures { Fits self.now.sheet self.now.body }
     {

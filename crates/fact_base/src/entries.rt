@@ -23,11 +23,10 @@ use std::alloc::{AllocError, Global};
 /// The contents of a base: its dimension sets in order, each with its values and their summary.
 pub(crate) type Entries = SortedMap<Dimensions, (SortedSet<Value>, Summary)>;
 
-/// A dimension set with its values and their summary.
 type Entry = (Dimensions, (SortedSet<Value>, Summary));
 
-/// Returns the entries of facts. `order` visits each fact once, in ascending order, so each fact
-/// is added to the last entry or after it. A fact is copied once, without a look-up.
+/// `order` visits each fact once, in ascending order. Each fact is therefore added to the last
+/// entry or after it, without a look-up.
 pub(crate) fn entries_of(
     alloc: Global,
     facts: &[Fact],
@@ -43,7 +42,7 @@ pub(crate) fn entries_of(
     Ok(SortedMap::of_rising(entries))
 }
 
-/// Does the same as `entries_of`, but consumes the facts and moves them.
+/// Does the same as `entries_of`, but moves the facts.
 pub(crate) fn entries_from(
     alloc: Global,
     facts: Vec<Fact>,
@@ -56,7 +55,6 @@ pub(crate) fn entries_from(
     entries_in_order(alloc, sorted)
 }
 
-/// Does the same as `entries_from` for facts that are already sorted.
 pub(crate) fn entries_in_order(alloc: Global, facts: Vec<Fact>) -> Result<Entries, AllocError>
     requires { IsSorted fact_cmp facts.items }
     ensures { IfOk result (AreEntriesOf facts.items) }
@@ -68,7 +66,6 @@ pub(crate) fn entries_in_order(alloc: Global, facts: Vec<Fact>) -> Result<Entrie
     Ok(SortedMap::of_rising(entries))
 }
 
-// Does the same as `push`, but consumes the fact.
 fn push_given(alloc: Global, entries: &mut Vec<Entry>, fact: Fact) -> Result<(), AllocError>
     requires rise { IsRising dimensions_cmp entry_key entries.old.items }
     requires below { NoneAbove fact.dimensions entries.old.items }
@@ -101,7 +98,6 @@ fn push(alloc: Global, entries: &mut Vec<Entry>, fact: &Fact) -> Result<(), Allo
     }
 }
 
-// Adds a value to the values of an entry.
 fn add(
     alloc: Global,
     kept: &mut (SortedSet<Value>, Summary),
@@ -113,7 +109,6 @@ fn add(
     kept.1.merge(alloc, &Summary::of(value))
 }
 
-// Returns the entry of a dimension set with one value. Most entries have no more.
 fn entry_of(alloc: Global, fact: &Fact) -> Result<Entry, AllocError>
     ensures { IfOk result (λ entry. entry ≡ entry_of fact.now) }
 {
@@ -128,7 +123,6 @@ fn entry_given(alloc: Global, fact: Fact) -> Entry
     (dimensions, (SortedSet::of_one(alloc, value), summary))
 }
 
-/// Returns the number of facts in the entries.
 pub(crate) fn count_of(entries: &Entries) -> u128
     ensures { result ≡ length (facts_of_entries entries.now) }
 {
@@ -141,7 +135,6 @@ pub(crate) fn count_of(entries: &Entries) -> u128
     count
 }
 
-/// Returns whether both have the same dimension sets with the same values.
 pub(crate) fn same_rows(one: &Entries, other: &Entries) -> bool
     ensures { IsTrue result ↔ (map row_of one.now ≡ map row_of other.now) }
 {
@@ -168,8 +161,7 @@ fn same_at(one: &Entries, other: &Entries, place: usize) -> bool
     }
 }
 
-/// Returns the strictest level of duplicates that allows the facts. For each dimension set, it
-/// reads only the number of values and their summary.
+/// For each dimension set, it reads only the number of values and their summary.
 pub(crate) fn level_of(entries: &Entries) -> Level
     requires rise { IsRising dimensions_cmp entry_key entries.now }
     requires summed { All (λ e. AreSummarised e.1.0 e.1.1) entries.now }

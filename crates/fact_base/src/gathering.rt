@@ -14,13 +14,16 @@ use oim_report::{Report, Sheet};
 use std::alloc::{AllocError, Global};
 use std::marker::Model;
 
-/// Collects reports that become one base. It borrows the sheet under which they are read.
+/// Collects reports that are read under one sheet, and returns them as one base. A gathering
+/// borrows its sheet.
 ///
-/// A report with at least half as many facts and references as the base is absorbed, so that
-/// providers of the same figures cost one look-up per fact. Absorbing a smaller report would walk
-/// the whole base. Its facts and references go to two lists instead, which are sorted without
-/// repeats whenever they have doubled. References count like facts: otherwise reports of the same
-/// facts with different references would be absorbed one by one.
+/// The base absorbs a report that has at least half as many facts and references as the base. If
+/// providers report the same figures, each fact then costs one look-up. Absorbing a smaller report
+/// would walk the whole base, so its facts and references are appended to two lists instead. When a
+/// list has doubled, it is sorted and repeats are removed.
+///
+/// References count like facts. Otherwise the base would absorb reports of the same facts with
+/// different references one by one.
 #[derive(Drop)]
 pub struct Gathering<'s> {
     alloc: Global,
@@ -54,7 +57,7 @@ impl<'s> Model for Gathering<'s> {
 }
 
 impl<'s> Gathering<'s> {
-    /// Returns a gathering without reports. Later calls take their memory from `alloc`.
+    /// Returns a gathering without reports. Later calls allocate from `alloc`.
     pub fn new(alloc: Global, sheet: &'s Sheet) -> Gathering<'s>
         ensures { result ≡ record { sheet = sheet.now; body = body [] } }
     {
@@ -69,15 +72,14 @@ impl<'s> Gathering<'s> {
         }
     }
 
-    /// Returns the sheet under which the reports are read.
+    /// Returns the sheet under which the reports were read.
     pub fn sheet(&self) -> &'s Sheet
         ensures { result.now ≡ self.now.sheet }
     {
         self.base.sheet()
     }
 
-    /// Adds the facts and references of a report that was read under an equal sheet. The facts are
-    /// moved.
+    /// Adds a report that was read under an equal sheet. Its facts are moved.
     ///
     /// Errors: out of memory; the gathering is then unchanged, and the report is lost.
     pub fn add(&mut self, report: Report<'_>) -> Result<(), AllocError>
@@ -91,7 +93,6 @@ impl<'s> Gathering<'s> {
         self.absorb(report)
     }
 
-    // Absorbs a report into the base.
     fn absorb(&mut self, report: Report<'_>) -> Result<(), AllocError>
         requires { report.sheet ≡ self.old.sheet }
         ensures ok { OnOk result (self.new ≡ record self.old { body = union self.old.body (body (report.entry.document ∷ [])) }) }
@@ -102,7 +103,6 @@ impl<'s> Gathering<'s> {
         Ok(())
     }
 
-    // Appends the facts and references of a report to the lists.
     fn gather(&mut self, report: Report<'_>) -> Result<(), AllocError>
         requires { report.sheet ≡ self.old.sheet }
         ensures ok { OnOk result (self.new ≡ record self.old { body = union self.old.body (body (report.entry.document ∷ [])) }) }
@@ -116,7 +116,6 @@ impl<'s> Gathering<'s> {
         self.append(facts, references)
     }
 
-    // Sorts the lists that have doubled. Contracts do not see the difference.
     fn settle(&mut self) -> Result<(), AllocError>
         ensures { self.new ≡ self.old }
     {
@@ -138,7 +137,7 @@ impl<'s> Gathering<'s> {
 
     /// Returns the base of all reports that were added.
     ///
-    /// Errors: out of memory; everything is then lost.
+    /// Errors: out of memory; the gathering is then lost.
     pub fn into_base(self) -> Result<Base<'s>, AllocError>
         ensures { IfOk result (λ base. base ≡ self.entry) }
     {
@@ -157,8 +156,8 @@ impl<'s> Gathering<'s> {
         joined(base, others)
     }
 
-    /// Does nothing. Its contract states that each fact fits the sheet, that each reference is kept
-    /// as it is, and that both lists ascend.
+    /// Does nothing. Its contract states that each fact fits the sheet, and that both lists ascend.
+    /// It also states that resolving a reference again without a base does not change it.
     pub fn known(&self)
         ensures { Fits self.now.sheet self.now.body }
     {
@@ -166,7 +165,6 @@ impl<'s> Gathering<'s> {
     }
 }
 
-// Returns the number of facts and references, or the greatest number that fits.
 fn size_of(base: &Base<'_>) -> u128
     ensures { result ≡ min (length base.now.body.facts + length base.now.body.references) (2 ^ 128 - 1) }
 {
@@ -174,7 +172,6 @@ fn size_of(base: &Base<'_>) -> u128
     base.fact_count().saturating_add(references)
 }
 
-// Returns the number of facts and references of a report, or the greatest number that fits.
 fn size_of_report(report: &Report<'_>) -> u128
     ensures { result ≡ min (length report.now.document.facts + length report.now.document.references) (2 ^ 128 - 1) }
 {
@@ -182,7 +179,6 @@ fn size_of_report(report: &Report<'_>) -> u128
     (report.facts().len() as u128).saturating_add(references)
 }
 
-// Returns the base of these facts and references, which may be in any order and have repeats.
 fn base_of<'s>(
     alloc: Global,
     sheet: &'s Sheet,
@@ -199,7 +195,6 @@ fn base_of<'s>(
     Ok(Base::of(alloc, sheet, entries, references))
 }
 
-// Joins both bases: the larger one absorbs the other.
 fn joined<'s>(mut base: Base<'s>, mut other: Base<'s>) -> Result<Base<'s>, AllocError>
     requires { base.sheet ≡ other.sheet }
     ensures { IfOk result (λ both. both ≡ record { sheet = base.entry.sheet; body = union base.entry.body other.entry.body }) }

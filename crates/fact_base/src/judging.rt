@@ -8,9 +8,8 @@ use crate::verdict::Verdict;
 use merge_laws::Summary;
 use oim_value::{Interval, Value, interval_of};
 
-/// Returns the verdict on the values of one dimension set, from their number and their summary.
-/// That is enough because the values fit a sheet: each is nil or of one kind, and different values
-/// meet only if both are numbers.
+/// The number of values and their summary determine the verdict, because the values fit a sheet:
+/// each is nil or of one kind. Different values meet only if both are numbers.
 pub(crate) fn verdict_of(values: &[Value], summary: &Summary) -> Verdict
     requires { AreSummarised values.now summary.now }
     ensures { verdict_of values.now ≡ Some result }
@@ -38,9 +37,8 @@ pub(crate) fn evidence_of(values: &[Value], summary: &Summary) -> Evidence
     }
 }
 
-// Returns the indices of two values that do not meet. If one of the first two is not a number, the
-// first two are returned, since nil comes before numbers. Otherwise the numbers whose intervals
-// end first and begin last are returned.
+// Nil is the first value if it is present. With nil, or without numbers, the first two values do
+// not meet. Otherwise the interval that ends first and the interval that begins last are disjoint.
 fn apart(values: &[Value], summary: &Summary) -> Evidence
     requires summed { AreSummarised values.now summary.now }
     requires apart { shared_by summary.now ≡ None }
@@ -55,7 +53,6 @@ fn apart(values: &[Value], summary: &Summary) -> Evidence
     }
 }
 
-// Returns the common part of the intervals of several values that meet.
 fn shared_by(summary: &Summary) -> Option<Interval>
     ensures { result ≡ shared_by summary.now }
 {
@@ -66,7 +63,6 @@ fn shared_by(summary: &Summary) -> Option<Interval>
     Some(ends)
 }
 
-// Returns the index of the first number whose interval has this high end.
 fn first_high(values: &[Value], ends: &Interval) -> usize
     ensures { result ≡ place_of_least_high ends.now values.now }
 {
@@ -78,7 +74,6 @@ fn first_high(values: &[Value], ends: &Interval) -> usize
     values.len()
 }
 
-// Returns the index of the first number whose interval has this low end.
 fn first_low(values: &[Value], ends: &Interval) -> usize
     ensures { result ≡ place_of_greatest_low ends.now values.now }
 {

@@ -33,8 +33,8 @@ pub fn accepted_fits()
     ensures union { UnionFits }
 {}
 
-/// The rows of facts have distinct dimension sets in order, each with exactly its values, distinct
-/// and in order.
+/// The rows of facts have distinct dimension sets in order. Each row has exactly the values of its
+/// dimension set, distinct and in order.
 pub fn rows_tell_facts()
     ensures { RowsTellFacts }
 {}
@@ -44,14 +44,14 @@ pub fn sets_are_never_complete()
     ensures { SetsAreNeverComplete }
 {}
 
-/// A dimension set is called inconsistent exactly if two of its facts do not meet.
+/// The verdict on a dimension set is `Inconsistent` exactly if two of its facts do not meet.
 pub fn inconsistent_is_apart()
     ensures { InconsistentIsApart }
 {}
 
-/// Take a body that fits a sheet. A numeric dimension set is called inconsistent exactly if two of
-/// its values are numbers whose intervals have no number of units in common, or one is nil and the
-/// other is not.
+/// In a body that fits a sheet, the verdict on a numeric dimension set is `Inconsistent` exactly if
+/// two of its values contradict each other. Two numbers do so if their intervals share no point;
+/// nil contradicts each number.
 pub fn numeric_inconsistent_is_apart()
     ensures { NumericInconsistentIsApart }
 {}

@@ -9,10 +9,8 @@ use oim_dims::Fact;
 use oim_names::Key;
 use std::alloc::AllocError;
 
-/// Returns the facts of a report in order. Facts are moved by swaps and never copied. The sort
-/// afterwards compares each fact only with the next one.
-///
-/// Errors: out of memory.
+/// Swaps move the facts to their places without a copy. The sort afterwards finds them in order, so
+/// it compares each fact only with the next one.
 pub(crate) fn in_order(mut facts: Vec<Fact>, order: Vec<usize>) -> Result<Vec<Fact>, AllocError>
     requires { IsOrderOf facts.items order.items }
     ensures moved { IfOk result (λ sorted. IsPermutation facts.items sorted.items) }
@@ -28,8 +26,8 @@ pub(crate) fn in_order(mut facts: Vec<Fact>, order: Vec<usize>) -> Result<Vec<Fa
     Ok(facts)
 }
 
-// Returns the current index of the fact that belongs at index `i`. A fact at an earlier index was
-// swapped to the index noted there, which is later.
+// Returns where the fact that belongs at index `i` is now. If its first index is below `i`, it was
+// swapped to the index noted there.
 fn place_now(places: &[usize], i: usize) -> usize
     requires here { i < length places.now }
     requires within { All (λ place. place < length places.now) places.now }

@@ -7,9 +7,8 @@ use merge_laws::{Merge, SortedSet};
 use oim_names::{Copied, Text};
 use std::alloc::{AllocError, Global};
 
-/// Returns the union of the references and others, or None if none of the others is new. The
-/// references are copied only if one is new. The others may be in any order and are added all at
-/// once.
+/// Returns None if the references include all others, which saves a copy. Otherwise returns the
+/// union of both. The others may be in any order.
 pub(crate) fn with_all(
     alloc: Global,
     references: &SortedSet<Text>,
@@ -26,7 +25,6 @@ pub(crate) fn with_all(
     Ok(Some(wider))
 }
 
-// Returns the distinct texts in order.
 fn set_of(alloc: Global, texts: &[Text]) -> Result<SortedSet<Text>, AllocError>
     ensures { IfOk result (λ set. set ≡ set_of text_cmp texts.now) }
 {
@@ -36,7 +34,6 @@ fn set_of(alloc: Global, texts: &[Text]) -> Result<SortedSet<Text>, AllocError>
     Ok(SortedSet::of_rising(items))
 }
 
-/// Returns a copy of the texts.
 pub(crate) fn copies_of(alloc: Global, texts: &[Text]) -> Result<Vec<Text>, AllocError>
     ensures { IfOk result (λ copies. copies.items ≡ texts.now) }
 {
@@ -47,7 +44,6 @@ pub(crate) fn copies_of(alloc: Global, texts: &[Text]) -> Result<Vec<Text>, Allo
     Ok(copies)
 }
 
-// Returns whether sorted references include all the others.
 fn has_all(references: &[Text], others: &[Text]) -> bool
     ensures { IsTrue result → All (Contains references.now) others.now }
 {
@@ -59,7 +55,6 @@ fn has_all(references: &[Text], others: &[Text]) -> bool
     true
 }
 
-/// Replaces these references with others, if there are any.
 pub(crate) fn replace(references: &mut SortedSet<Text>, wider: Option<SortedSet<Text>>)
     ensures { references.new ≡ unwrap_or wider references.old }
 {

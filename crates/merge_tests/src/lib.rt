@@ -1,6 +1,6 @@
-//! Tests of `fact_base`, `oim_write`, `oim_merge` and `row_formats`, through their public calls.
+//! Tests the public calls of `fact_base`, `oim_write`, `oim_merge` and `row_formats`.
 //!
-//! They have their own crate because a crate that contains tests is proved twice.
+//! The tests have their own crate because a crate that contains tests is proved twice.
 #![tactic(auto)]
 
 #[cfg(test)]

@@ -2,7 +2,7 @@ use clap::builder::ValueParser;
 use clap::{Arg, ArgAction, Command};
 use std::alloc::{AllocError, Global};
 
-// The arguments are a table because functions that build one each would be slow to prove.
+// The arguments are constants, because functions that build them would be slow to prove.
 
 /// A command, with its help and its arguments in the order of the help.
 pub(crate) struct CommandWords {
@@ -12,35 +12,34 @@ pub(crate) struct CommandWords {
     pub arguments: &'static [Argument],
 }
 
-/// An argument of a command.
 #[derive(Clone, Copy)]
 pub(crate) struct Argument {
     pub name: &'static str,
     pub short: Option<char>,
     pub takes: Takes,
     pub is_required: bool,
-    /// The option that must be given, too.
+    /// The option that this one requires.
     pub needs: Option<&'static str>,
     pub help: &'static str,
 }
 
-/// What an argument takes. The help shows a value of an option by the first text.
+/// The value of an argument. The help shows the first text in its place.
 #[derive(Clone, Copy)]
 pub(crate) enum Takes {
     /// The option has no value.
     Nothing,
     Text(&'static str),
-    /// One of these words. The last text is the word without the option.
+    /// One of these words. Without the option, the last text is used.
     OneOf(&'static str, &'static [&'static str], &'static str),
-    /// A number from 1 to this one.
+    /// A number from 1 to this maximum.
     UpTo(&'static str, i64),
-    /// A file, without an option.
+    /// A file name, without an option.
     File,
-    /// Any number of files, without an option.
+    /// Any number of file names, without an option.
     Files,
 }
 
-/// An option without a value.
+/// The defaults of an argument.
 pub(crate) const OPTION: Argument = Argument {
     name: "",
     short: None,
@@ -58,7 +57,6 @@ pub(crate) const SHEET: Argument = Argument {
     ..OPTION
 };
 
-/// The file of report names.
 pub(crate) const LIST: Argument = Argument {
     name: "reports-from",
     takes: Takes::Text("FILE"),
@@ -103,7 +101,6 @@ pub(crate) const REPORT: Argument = Argument {
     ..OPTION
 };
 
-/// Returns a command for clap.
 pub(crate) fn command<'w>(alloc: Global, words: &CommandWords) -> Result<Command<'w>, AllocError> {
     let mut command = Command::new(alloc, words.name)
         .about(words.about)
@@ -129,7 +126,6 @@ fn arg<'w>(alloc: Global, argument: &Argument) -> Result<Arg<'w>, AllocError> {
     }
 }
 
-/// Adds what the argument takes.
 fn with_value<'w>(arg: Arg<'w>, argument: &Argument) -> Arg<'w> {
     let name = argument.name;
     match argument.takes {

@@ -1,4 +1,4 @@
-//! The commands. Each file contains one command: its arguments, its help and its code.
+//! The commands. Each file contains the arguments, the help and the code of one command.
 
 ghost use Rattle.std.specs.Prelude.{◌-◌, ◌^◌, ◌<◌};
 
@@ -39,7 +39,6 @@ pub(crate) fn execute<'n, F: Files, E: Write, S: Sink>(
     }
 }
 
-/// Runs a command under the sheet.
 fn execute_under<'n, F: Files, E: Write, S: Sink>(
     sheet: &Sheet,
     subcommand: Subcommand<'n>,
@@ -57,9 +56,7 @@ fn execute_under<'n, F: Files, E: Write, S: Sink>(
     }
 }
 
-/// Writes help or the version to `out`. Returns no refusals.
-///
-/// Errors: out of memory, and `Device`.
+/// Writes help or the version, which clap returns as an error.
 fn show<'n, S: Sink>(alloc: Global, text: &clap::Error, out: &mut S) -> Result<Success, Error<'n>>
     requires { S.failures out.old < 2 ^ 64 - 1 }
 {

@@ -11,13 +11,13 @@ const TOO_LOOSE: u8 = 2;
 
 const FAILED: u8 = 3;
 
-// Terminal codes: go to the start of the line, and erase it.
+// Terminal codes that move to the start of the line and erase it.
 
 const BACK: &str = "\r";
 
 const CLEARED: &str = "\r\x1b[K";
 
-/// Standard error. On a terminal one line shows how many reports were read. A failed write is
+/// Standard error. On a terminal, one line shows the number of reports read. Failed writes are
 /// ignored.
 #[derive(Drop)]
 pub(crate) struct Console<E> {

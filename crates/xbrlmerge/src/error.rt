@@ -13,7 +13,6 @@ pub(crate) enum Success {
     Faults(u64),
 }
 
-/// Returns the result of a command from the result of its last call.
 pub(crate) fn ended<'n>(answer: Result<Refusals, Fault>) -> Result<Success, Error<'n>> {
     match answer {
         Ok(refusals) => Ok(Success::Refusals(refusals)),
@@ -21,13 +20,13 @@ pub(crate) fn ended<'n>(answer: Result<Refusals, Fault>) -> Result<Success, Erro
     }
 }
 
-/// The reasons for which the program stops early.
+/// Why the program stops early.
 #[derive(Drop)]
 pub(crate) enum Error<'n> {
     /// The arguments are not valid. The error has clap's message.
     Usage(clap::Error),
-    /// The file with this name, or standard input as `-`, was not read, with the cause if it is
-    /// known.
+    /// The file with this name was not read. The name `-` is standard input. The text is the cause,
+    /// if it is known.
     Unread(&'n str, ReadFault, Option<&'static str>),
     /// The file with this name should list reports but lists none.
     NoNames(&'n str),
@@ -35,7 +34,7 @@ pub(crate) enum Error<'n> {
     Unwritten(&'n str),
     /// The line with this number, from 1, is not an event, or names something that does not exist.
     Event(u64),
-    /// The sheet is refused, with the lines that `explain` adds.
+    /// The sheet is refused. The text contains the lines that `explain` prints about it.
     Sheet(Reason, Option<String>),
     /// The row with this number is above the allowed level.
     TooLoose(u64, Refusals),

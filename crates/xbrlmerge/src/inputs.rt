@@ -11,44 +11,35 @@ use std::fs::{self, File};
 use std::io::{ErrorKind, Read, Write};
 use std::rt::Files;
 
-/// The most bytes in a file.
 const MOST_BYTES: u32 = 2_147_483_648;
 
 /// The name of standard input, in arguments and in printed lines.
 pub(crate) const STANDARD_INPUT: &str = "-";
 
-/// The inputs of a command, and its progress. The sink is not a field: otherwise the contract of
-/// each method would have to say that the sink is unchanged.
+/// The inputs of a command, and its progress. The sink is not a field. Otherwise the contract of
+/// each method would have to state that the sink is unchanged.
 #[derive(Drop)]
 pub(crate) struct Inputs<'n, F, E> {
     pub alloc: Global,
     pub files: &'n F,
     /// The bundle; empty if there are arguments.
     pub bundle: &'n [u8],
-    /// The names of the reports.
     pub names: &'n [&'n str],
     pub console: &'n mut Console<E>,
 }
 
 impl<'n, F: Files, E: Write> Inputs<'n, F, E> {
-    /// Reads the file with this name.
-    ///
-    /// Errors: `Unread`.
     pub(crate) fn read(&self, name: &'n str) -> Result<Encoded, Error<'n>> {
         read_file(self.alloc, self.files, name)
     }
 
-    /// Reads the concept sheet in the file with this name.
-    ///
     /// Errors: `Unread`; `Sheet` if the sheet is refused; out of memory.
     pub(crate) fn read_sheet(&self, name: &'n str) -> Result<Sheet, Error<'n>> {
         let bytes = self.read(name)?;
         sheet_of(self.alloc, bytes.as_bytes())
     }
 
-    /// Reads the report with this name, and shows the number of reports read before.
-    ///
-    /// Errors: `Unread`.
+    /// Shows how many reports were read before, and reads the report with this name.
     pub(crate) fn read_report(&mut self, name: &'n str) -> Result<Encoded, Error<'n>> {
         self.console.show(self.names.len());
         let report = self.read(name)?;
@@ -57,8 +48,6 @@ impl<'n, F: Files, E: Write> Inputs<'n, F, E> {
     }
 
     /// Reads all reports in order, up to the first that cannot be read.
-    ///
-    /// Errors: `Unread`, and out of memory.
     pub(crate) fn read_reports(&mut self) -> Result<Vec<Encoded>, Error<'n>> {
         let names = self.names;
         let mut all = Vec::new(self.alloc);
@@ -69,10 +58,8 @@ impl<'n, F: Files, E: Write> Inputs<'n, F, E> {
         Ok(all)
     }
 
-    /// Reads all reports under a sheet in order, up to the first that cannot be read. The bytes of
-    /// a report are dropped once it is added.
-    ///
-    /// Errors: `Unread`, and out of memory.
+    /// Reads and adds all reports in order, up to the first that cannot be read. The bytes of a
+    /// report are dropped once it is added.
     pub(crate) fn consolidate<'s>(
         &mut self,
         sheet: &'s Sheet,
@@ -95,9 +82,6 @@ impl<'n, F: Files, E: Write> Inputs<'n, F, E> {
     }
 }
 
-/// Reads a concept sheet from these bytes.
-///
-/// Errors: `Sheet`, and out of memory.
 pub(crate) fn sheet_of<'n>(alloc: Global, bytes: &[u8]) -> Result<Sheet, Error<'n>> {
     match Sheet::read(alloc, bytes) {
         Ok(sheet) => Ok(sheet),
@@ -106,9 +90,6 @@ pub(crate) fn sheet_of<'n>(alloc: Global, bytes: &[u8]) -> Result<Sheet, Error<'
     }
 }
 
-/// Reads standard input.
-///
-/// Errors: `Unread`.
 pub(crate) fn read_input<'n, R: Read + Drop>(
     alloc: Global,
     input: R,
@@ -119,9 +100,6 @@ pub(crate) fn read_input<'n, R: Read + Drop>(
     }
 }
 
-/// Opens and reads the file with this name.
-///
-/// Errors: `Unread`.
 pub(crate) fn read_file<'n, F: Files>(
     alloc: Global,
     files: &F,
@@ -144,13 +122,11 @@ fn open_and_read<F: Files>(alloc: Global, files: &F, name: &str) -> Result<Encod
     }
 }
 
-/// Reads all bytes of a reader.
 fn read_bytes<R: Read + Drop>(alloc: Global, reader: R) -> Result<Encoded, ReadFault> {
     let mut source = StdSource::new(reader);
     read_all(alloc, &mut source, MOST_BYTES)
 }
 
-/// Returns why the file with this name cannot be read, if the cause is known.
 fn why_unread<F: Files>(files: &F, name: &str) -> Option<&'static str> {
     match fs::metadata(files, name) {
         Ok(found) if found.is_dir() => return Some("It is a folder."),

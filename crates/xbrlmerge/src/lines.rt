@@ -7,12 +7,9 @@ use oim_report::{Place, Refusal};
 use oim_write::{Sink, WriteFault, put_all};
 use std::io::Write;
 
-// Printed lines. On standard error a failed write is ignored. The name of a file is escaped,
-// because a line end in a name could fake a line.
+// Failed writes to standard error are ignored. File names are escaped, because a line end in a name
+// could fake a line.
 
-/// Prints a text on standard output.
-///
-/// Errors: `Device`, with the number of bytes taken.
 pub(crate) fn put_text<S: Sink>(out: &mut S, text: &str) -> Result<(), WriteFault>
     requires { S.failures out.old < 2 ^ 64 - 1 }
     ensures { OnOk result (S.failures out.new ≡ S.failures out.old) }
@@ -31,7 +28,6 @@ pub(crate) fn print_awaited<E: Write>(err: &mut E) {
     );
 }
 
-/// Prints the lines for refused reports.
 pub(crate) fn print_refusals<E: Write>(err: &mut E, refusals: &Refusals) {
     for (report, refusal) in refusals.as_slice() {
         print_refusal(err, *report, refusal);
@@ -47,7 +43,7 @@ fn print_refusal<E: Write>(err: &mut E, report: u64, refusal: &Refusal) {
     };
 }
 
-/// Prints why the program stopped; on a terminal also why a file was not read.
+/// Prints why the program stopped. On a terminal, it also prints why a file was not read.
 pub(crate) fn print_error<E: Write>(err: &mut E, is_terminal: bool, error: &Error<'_>) {
     let _ = match error {
         Error::Usage(error) => write!(err, "{error}"),
@@ -78,7 +74,6 @@ pub(crate) fn print_error<E: Write>(err: &mut E, is_terminal: bool, error: &Erro
     };
 }
 
-/// Prints the line for a file that was not read.
 pub(crate) fn print_read_fault<E: Write>(err: &mut E, file: &str, fault: ReadFault) {
     let _ = match fault {
         ReadFault::OutOfMemory => writeln!(err, "out of memory"),

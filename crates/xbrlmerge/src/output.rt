@@ -9,12 +9,12 @@ use std::io::{self, ErrorKind, Write};
 use std::os::unix::fs::PermissionsExt;
 use std::rt::Files;
 
-/// The bits of a mode that are kept. The new file belongs to the user who runs the program, so
-/// setuid and setgid would then apply to another user.
+/// The mode bits that the new file gets from the old one. The new file may have another owner, so
+/// setuid and setgid are not among them.
 const KEPT_BITS: u32 = 0o777;
 
 /// Writes the text of the request to standard output, and flushes it unless the program stopped. If
-/// standard output fails, the fault carries the number of bytes it took in this run.
+/// standard output fails, the fault contains the number of bytes written in this run.
 pub(crate) fn write_out<'n, F: Files, E: Write, O: Write + Drop>(
     request: &Request<'n>,
     inputs: &mut Inputs<'n, F, E>,
@@ -57,7 +57,6 @@ pub(crate) fn write_file<'n, F: Files, E: Write>(
     done
 }
 
-/// Renames the new file to its final name, unless the program stopped.
 fn settle<'n, F: Files>(
     files: &F,
     done: Result<Success, Error<'n>>,
@@ -75,14 +74,13 @@ fn settle<'n, F: Files>(
     }
 }
 
-/// A new file, with its name.
 type Named<F> = (String, F);
 
-/// Creates a new file in the folder of the file with this name, to replace it later. The new file
-/// gets the mode of the old one, if there is an old one.
+/// Creates a file that will replace the file with this name. It is in the same folder and has the
+/// same mode.
 ///
-/// Errors: `Unwritten` if it cannot be created, or if the name belongs to a symbolic link or to
-/// anything but a regular file; out of memory.
+/// Errors: `Unwritten` if it cannot be created, or if the name belongs to anything but a regular
+/// file, such as a symbolic link; out of memory.
 fn new_beside<'w, F: Files>(
     alloc: Global,
     files: &F,
@@ -101,7 +99,6 @@ fn new_beside<'w, F: Files>(
     Ok((beside, file))
 }
 
-/// Renames the written file to the name of the file that it replaces.
 fn put_in_place<F: Files>(
     files: &F,
     mut file: F::File,
@@ -113,15 +110,13 @@ fn put_in_place<F: Files>(
     fs::rename(files, beside, name)
 }
 
-/// Removes a file, if possible.
 fn remove<F: Files>(files: &F, name: &str) {
     let _ = fs::remove_file(files, name);
 }
 
-/// Returns the mode of the regular file with this name, if there is one, without the bits for
-/// setuid, setgid and sticky.
+/// Returns None if no file has this name.
 ///
-/// Errors: `Unwritten` if the name is invalid or belongs to anything else.
+/// Errors: `Unwritten` if the name is invalid or belongs to anything but a regular file.
 fn old_mode<'w, F: Files>(files: &F, name: &'w str) -> Result<Option<Permissions>, Error<'w>> {
     match fs::symlink_metadata(files, name) {
         Ok(old) if old.is_file() => {
@@ -133,8 +128,8 @@ fn old_mode<'w, F: Files>(files: &F, name: &'w str) -> Result<Option<Permissions
     }
 }
 
-/// Creates a file beside this one, under the first numbered name that is free. Earlier numbers
-/// belong to running programs, and to programs that a signal ended.
+/// The name has the first free number. Lower numbers belong to running programs, and to programs
+/// that a signal ended.
 fn first_new<F: Files>(
     alloc: Global,
     files: &F,

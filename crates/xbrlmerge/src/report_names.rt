@@ -5,7 +5,6 @@ use oim_merge::ReadFault;
 use oim_write::Encoded;
 use std::alloc::{AllocError, Global};
 
-/// The names of the reports.
 #[derive(Drop)]
 pub(crate) struct ReportNames<'w> {
     /// The names in the arguments, which come first.
@@ -25,7 +24,6 @@ impl<'w> ReportNames<'w> {
         }
     }
 
-    /// Returns the names in a command's arguments.
     pub(crate) fn of(
         alloc: Global,
         matches: &ArgMatches<'w>,
@@ -46,8 +44,8 @@ impl<'w> ReportNames<'w> {
     /// Returns the names of all reports, given the bytes of the file of names. Empty names are
     /// skipped.
     ///
-    /// Errors: `Unread` if the names are not UTF-8; `NoNames` if there is such a file and no report is
-    /// named; out of memory.
+    /// Errors: `Unread` if the names are not UTF-8; `NoNames` if there is such a file and no report
+    /// is named; out of memory.
     pub(crate) fn names<'n>(
         &'n self,
         alloc: Global,
@@ -68,7 +66,6 @@ impl<'w> ReportNames<'w> {
     }
 }
 
-/// Adds the names in a text. Each name ends with `end`.
 fn push_names<'n>(all: &mut Vec<&'n str>, text: &'n str, end: char) -> Result<(), AllocError> {
     for name in text.split(end) {
         if !name.is_empty() {

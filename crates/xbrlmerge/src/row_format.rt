@@ -26,7 +26,6 @@ pub(crate) const SPREADSHEET: Argument = Argument {
     ..OPTION
 };
 
-/// Returns the format given by the arguments.
 pub(crate) fn print_format_of(found: &ArgMatches<'_>) -> Option<PrintFormat> {
     match (
         found.get_str(FORMAT.name)?,

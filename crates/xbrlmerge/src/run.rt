@@ -9,15 +9,15 @@ use std::convert::AsStr;
 use std::io::{Read, Write};
 use std::rt::Files;
 
-// `run` is split into four functions, each of which owns few values and borrows the rest, so they
-// have many parameters. One function that owns all values would be slow to prove, because each
-// value may be alive at each exit.
+// `run` is split into four functions. Each owns few values and borrows the rest, so it has many
+// parameters. One function that owns all values would be slow to prove, because each value may be
+// alive at each exit.
 
-/// Runs the program with the arguments after its name. Without arguments it merges the bundle on
-/// standard input. Standard error gets a line for each refused report, or one that says why the program
-/// stopped. On terminals it also says that a bundle is expected, how many reports were read, and why a
-/// file cannot be read. Returns the exit status: 0; 1 if a report was refused or has a fault; 2 if a
-/// row is above the allowed level; 3 if the program stopped early.
+/// Runs the program with the arguments after its name. Without arguments, it merges the bundle on
+/// standard input. It prints a line on standard error for each refused report, or the reason why it
+/// stopped. On terminals, it also prints that a bundle is expected, how many reports were read, and
+/// why a file cannot be read. Returns the exit status: 0; 1 if a report was refused or has a fault;
+/// 2 if a row is above the allowed level; 3 if the program stopped early.
 pub fn run<F, W, R, O, E>(alloc: Global, files: &F, words: &[W], streams: Streams<R, O, E>) -> u8
 where
     F: Files,
@@ -46,7 +46,6 @@ where
     }
 }
 
-/// Reads the file of names or the bundle, if one is needed, and runs the request.
 fn run_args<F: Files, R: Read + Drop, O: Write + Drop, E: Write>(
     alloc: Global,
     files: &F,
@@ -61,7 +60,6 @@ fn run_args<F: Files, R: Read + Drop, O: Write + Drop, E: Write>(
     }
 }
 
-/// Runs the request, given the bytes of the file of names or of the bundle.
 fn run_named<F: Files, O: Write + Drop, E: Write>(
     alloc: Global,
     files: &F,
@@ -76,7 +74,6 @@ fn run_named<F: Files, O: Write + Drop, E: Write>(
     }
 }
 
-/// Runs the request, given the names of the reports.
 fn run_inputs<'n, F: Files, O: Write + Drop, E: Write>(
     alloc: Global,
     files: &'n F,

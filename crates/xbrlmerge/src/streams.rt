@@ -1,4 +1,4 @@
-/// The standard streams; the flags say which are terminals.
+/// The standard streams, and which of them are terminals.
 pub struct Streams<R, O, E> {
     pub input: R,
     pub out: O,

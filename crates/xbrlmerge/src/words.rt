@@ -32,7 +32,6 @@ Status of each command; if several apply, the highest:
   3  not done, or not completed: invalid arguments, a refused sheet or event, a file or device
      that failed, or out of memory";
 
-/// The commands, in the order of the help.
 const COMMANDS: [CommandWords; 6] = [
     merge::WORDS,
     verdicts::WORDS,
@@ -61,8 +60,7 @@ pub(crate) fn read_words<W: AsStr>(alloc: Global, words: &[W]) -> Result<Args<'_
     }
 }
 
-/// Returns the error for these arguments with their texts escaped, since clap prints them
-/// unescaped.
+/// Escapes the texts of the arguments, since clap prints them unescaped.
 fn error_shown<W: AsStr>(
     alloc: Global,
     words: &[W],
@@ -84,7 +82,6 @@ fn escape_each<W: AsStr>(alloc: Global, words: &[W]) -> Result<Vec<String>, Allo
     Ok(escaped)
 }
 
-/// Returns a request without reports and files.
 fn alone(alloc: Global, request: Request<'_>) -> Args<'_> {
     Args {
         request,
@@ -111,7 +108,6 @@ fn match_words<'w, W: AsStr>(
     Ok(args_of(alloc, &matches)?)
 }
 
-/// Returns the parsed arguments, or None if they name no command.
 fn args_of<'w>(alloc: Global, matches: &ArgMatches<'w>) -> Result<Option<Args<'w>>, AllocError> {
     let Some((name, matches)) = matches.subcommand() else {
         return Ok(None);
@@ -127,7 +123,6 @@ fn args_of<'w>(alloc: Global, matches: &ArgMatches<'w>) -> Result<Option<Args<'w
     }))
 }
 
-/// Returns the request for a command, or None if there is no such command.
 fn request_of<'w>(name: &str, matches: &ArgMatches<'w>) -> Option<Request<'w>> {
     let sheet = matches.get_str(SHEET.name)?;
     let subcommand = match name {
@@ -142,7 +137,6 @@ fn request_of<'w>(name: &str, matches: &ArgMatches<'w>) -> Option<Request<'w>> {
     Some(Request::Under(sheet, subcommand))
 }
 
-/// Returns the program with its help, without commands.
 fn described<'w>(alloc: Global) -> Result<Command<'w>, AllocError> {
     let program = Command::new(alloc, PROGRAM)
         .no_binary_name(true)
@@ -152,7 +146,6 @@ fn described<'w>(alloc: Global) -> Result<Command<'w>, AllocError> {
     program.bin_name(PROGRAM)
 }
 
-/// Returns the program with its commands and their help.
 fn program<'w>(alloc: Global) -> Result<Command<'w>, AllocError> {
     let mut program = described(alloc)?;
     for words in &COMMANDS {

@@ -20,14 +20,14 @@ use Rattle.fact_base.specs.Entries.{Entry, Summed, facts_of_entries, facts_with}
 abbrev pub summed_of_both : Summed → Summed → Summed
 summed_of_both p q = (set_union value_cmp p.0 q.0, both_summaries p.1 q.1)
 
--- one value with its summary, and values with one more added
+-- one value with its summary; the next definition adds one value to others
 abbrev pub summed : Value → Summed
 summed v = (v ∷ [], summary_of v)
 
 abbrev pub with_value : Value → Summed → Summed
 with_value v kept = summed_of_both kept (summed v)
 
--- the entry of one fact, and entries with one fact added
+-- the entry of one fact; the next definition adds one fact to entries
 abbrev pub entry_of : Fact → Entry
 entry_of f = (f.dimensions, summed f.value)
 
@@ -38,7 +38,7 @@ with_fact f es = map_with dimensions_cmp summed_of_both f.dimensions (summed f.v
 abbrev pub NoneAbove : DimensionSet → List Entry → Type 0
 NoneAbove s es = All (λ e. is_gt (dimensions_cmp e.0 s) ≡ false) es
 
--- the values of an entry are in order, with their summary, and its facts fit the sheet
+-- an entry has values in order and their summary, and its facts fit the sheet
 pub record EntryFits (sheet : Sheet) (s : DimensionSet) (kept : Summed) : Type 0 where
   pub some : kept.0 ≢ []
   pub in_order : IsSet value_cmp kept.0
@@ -52,7 +52,7 @@ pub record AreStored (sheet : Sheet) (es : List Entry) (texts : List (List ℕ))
   pub in_order : IsSet text_cmp texts
   pub references : All IsKeptReference texts
 
--- ascending entries with exactly these facts; they fit every sheet that all of the facts fit
+-- ascending entries with exactly these facts; they fit each sheet that all facts fit
 pub record AreEntriesOf (facts : List Fact) (entries : List Entry) : Type 0 where
   pub rise : IsRising dimensions_cmp entry_key entries
   pub in_order : All (λ e. IsSet value_cmp e.1.0) entries

@@ -21,7 +21,7 @@ pub record AreSummarised (vs : List Value) (told : Summarised) : Type 0 where
   pub alike : AreNilOrOfKind kind vs
   pub summary : told ≡ summary_of_all vs
 
--- the common part of the intervals of values that meet: the interval between their ends, if none is nil and low is at most high
+-- the common part of the intervals of values that meet: the interval between their ends, if no value is nil and low is at most high
 abbrev pub shared_by : Summarised → Option Interval
 shared_by s = option_and_then (λ ends. if s.nil || int_lt ends.high ends.low then None else Some ends) s.ends
 

@@ -3,7 +3,8 @@ use oim_report::Sheet;
 use std::alloc::{AllocError, Global};
 
 // Repeats a call after a refused request for memory. A line on standard error reports the refusal
-// to `tests/refused_memory`: `refused here` if the test itself made the request, else `refused`.
+// to `tests/refused_memory`: `refused here` if the test itself made the request, otherwise
+// `refused`.
 
 const ROOM: usize = 1 << 12;
 
@@ -26,7 +27,6 @@ pub(crate) fn tell_refused_here(rt: &HostRuntime) {
     let _ = eprintln!(rt; "refused here");
 }
 
-/// Reads `SHEET`.
 pub(crate) fn read_sheet(rt: &HostRuntime) -> Result<Sheet, Reason> {
     match Sheet::read(rt.alloc(), SHEET.as_bytes()) {
         Err(Reason::OutOfMemory) => {
@@ -37,7 +37,7 @@ pub(crate) fn read_sheet(rt: &HostRuntime) -> Result<Sheet, Reason> {
     }
 }
 
-/// Returns whether a call returns true. The call is repeated if memory is refused.
+/// Returns the result of the call, which is repeated if memory is refused.
 pub(crate) fn holds<F: Fn(Global) -> Result<bool, AllocError>>(rt: &HostRuntime, call: F) -> bool
     requires { F.IsAlwaysCallable call }
 {
@@ -49,7 +49,6 @@ pub(crate) fn holds<F: Fn(Global) -> Result<bool, AllocError>>(rt: &HostRuntime,
     answer == Ok(true)
 }
 
-/// Concatenates the parts.
 pub(crate) fn joined(rt: &HostRuntime, parts: &[&str]) -> Result<Vec<u8>, AllocError> {
     let mut all = match Vec::with_capacity(rt.alloc(), ROOM) {
         Ok(made) => made,

@@ -58,8 +58,8 @@ fn take_text(rt: &HostRuntime, base: &mut Base<'_>, text: &str) -> bool {
     }
 }
 
-// Adds a report whose text has three parts. Only the second part differs between reports. Returns
-// false if the report is refused.
+// Adds a report whose text has three parts, of which only the second differs between reports.
+// Returns false if the report is refused.
 fn add(rt: &HostRuntime, base: &mut Base<'_>, start: &str, text: &str, end: &str) -> bool {
     match joined(rt, start, text, end) {
         Ok(report) => take_text(rt, base, report.as_str()),
@@ -67,7 +67,6 @@ fn add(rt: &HostRuntime, base: &mut Base<'_>, start: &str, text: &str, end: &str
     }
 }
 
-// Returns a base that took one report for each text. All reports have the same start and end.
 fn base_between<'s>(
     rt: &HostRuntime,
     sheet: &'s Sheet,
@@ -84,12 +83,10 @@ fn base_between<'s>(
     Some(base)
 }
 
-// Returns a base that took one report for each value with its decimals.
 fn base_of<'s>(rt: &HostRuntime, sheet: &'s Sheet, values: &[&str]) -> Option<Base<'s>> {
     base_between(rt, sheet, FACT, values, OF_A)
 }
 
-// Returns the verdict and the evidence on the first dimension set of a base.
 fn judged(base: &Base<'_>) -> Option<(Verdict, Evidence)> {
     let row = base.rows().next()?;
     match (base.verdict(row.dimensions), base.evidence(row.dimensions)) {

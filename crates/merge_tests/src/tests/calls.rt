@@ -10,7 +10,7 @@ use oim_write::{Encoded, StdSink};
 use std::alloc::{AllocError, Global};
 use std::test::Fail;
 
-// Tests the calls of the library. A call is repeated after a refused request for memory.
+// Tests the calls of the library. After a refused request for memory, the call is repeated.
 
 pub(crate) const HUNDRED: &str =
     r#""a":{"value":"100","decimals":0,"dimensions":{"concept":"eg:A"}}"#;
@@ -34,13 +34,11 @@ pub(crate) const AT_FIRST_FACT: Refusal = Refusal {
     place: Place::Fact(1),
 };
 
-/// A report with these facts.
 fn report(alloc: Global, facts: &str) -> Result<Encoded, AllocError> {
     let text = format!(in alloc; "{INFO}{facts}{END}")?;
     Encoded::new(alloc, text.as_bytes())
 }
 
-/// One report for each list of facts.
 pub(crate) fn reports(alloc: Global, each: &[&str]) -> Result<Vec<Encoded>, AllocError> {
     let mut reports = Vec::with_capacity(alloc, each.len())?;
     for facts in each {
@@ -77,8 +75,8 @@ fn is_too_loose(alloc: Global) -> Result<bool, AllocError> {
     are_too_loose(alloc, &sheet, &reports)
 }
 
-/// True if the reports have exactly this verdict line. If `is_second_refused`, only the second
-/// report must be refused, otherwise none.
+/// True if the reports have exactly this verdict line. If `is_second_refused` is set, exactly the
+/// second report must be refused, otherwise none.
 fn have_line(
     alloc: Global,
     sheet: &Sheet,
@@ -100,7 +98,6 @@ fn have_line(
     Ok(is_told && sink.into_inner().is_met())
 }
 
-/// True if the verdict line contains the ends of the common interval.
 fn tells_ends(alloc: Global) -> Result<bool, AllocError> {
     let sheet = sheet(alloc)?;
     let facts = [TWELVE_DECIMALS, UNBOUND, ELEVEN_DECIMALS];
@@ -140,7 +137,6 @@ const FARTHEST: [([&str; 2], &[u8]); 4] = [
     ),
 ];
 
-/// True if a report with these facts has exactly this verdict line.
 fn has_line(alloc: Global, facts: &[&str], line: &[u8]) -> Result<bool, AllocError> {
     let sheet = sheet(alloc)?;
     let reports = reports(alloc, facts)?;
@@ -160,7 +156,6 @@ fn verdicts_are_exact_at_either_end_of_the_decimals(rt: HostRuntime) -> Result<(
     Ok(())
 }
 
-/// True if a repeated fact is counted twice.
 fn counts_repeats(alloc: Global) -> Result<bool, AllocError> {
     let sheet = sheet(alloc)?;
     let report = report(alloc, TWICE)?;

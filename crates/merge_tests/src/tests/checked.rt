@@ -11,7 +11,7 @@ use oim_value::Level;
 use std::alloc::{AllocError, Global};
 use std::test::Fail;
 
-// Tests the results of `check_report`. A call is repeated after a refused request for memory.
+// Tests the results of `check_report`. After a refused request for memory, the call is repeated.
 
 /// A report in parts, the number of its facts, their level, and whether the report is canonical.
 type Row = (&'static [&'static str], u64, Level, bool);
@@ -98,7 +98,7 @@ const SPELLED: [&[&str]; 9] = [
         r#""f1":{"decimals":0,"dimensions":{"concept":"m1:A"},"value":"100"}"#,
         END,
     ],
-    // a wider identifier
+    // an identifier with more digits
     &[
         HEAD,
         ONE_URI,
@@ -116,7 +116,7 @@ const SPELLED: [&[&str]; 9] = [
         WRITTEN_HUNDRED,
         END,
     ],
-    // a report by another writer, with rising facts
+    // a report that another program wrote, with ascending facts
     &[
         INFO,
         r#""a":{"value":"100","decimals":0,"dimensions":{"concept":"eg:A"}}"#,
@@ -140,7 +140,6 @@ fn checked(
     }
 }
 
-/// True if checking the report under the sheet gives this result.
 fn comes_to(
     rt: &HostRuntime,
     sheet_text: &str,

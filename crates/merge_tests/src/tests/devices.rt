@@ -11,7 +11,7 @@ pub enum Then {
     Fails,
     /// It is interrupted.
     IsInterrupted,
-    /// A reader gives zeros for ever; a writer fails.
+    /// A reader gives zeros forever; a writer fails.
     GoesOn,
 }
 
@@ -36,7 +36,6 @@ impl Step {
     }
 }
 
-/// The steps that tables use.
 pub const STEPS: [Step; 3] = [Step::All, Step::Half, Step::Few(1)];
 
 fn fault(then: Then) -> io::Error {

@@ -26,7 +26,6 @@ impl<'a> Expecting<'a> {
         !self.differs
     }
 
-    /// The number of bytes still expected.
     pub(crate) fn left(&self) -> usize {
         self.left.len()
     }

@@ -7,8 +7,8 @@ use oim_write::Encoded;
 use std::io::{self, Read};
 use std::test::Fail;
 
-// After a refused request for memory, a call is repeated on a new device. A line on standard error
-// reports the refusal.
+// After a refused request for memory, the call is repeated on a new device. A line on standard
+// error reports the refusal.
 
 /// The result of `read_all`, the number of its requests, and the number of the source's failures.
 fn read(
@@ -27,8 +27,8 @@ fn read(
     (answer, source.into_inner().calls, failures)
 }
 
-/// True if `read_all` returns this result after at most `limit` + 2 calls, and a failing source
-/// failed exactly once.
+/// True if `read_all` returns this result after at most `limit` + 2 calls. A failing source must
+/// fail exactly once.
 fn answers(
     rt: &HostRuntime,
     reader: TestReader<'_>,
@@ -75,7 +75,6 @@ fn stops_behind(rt: &HostRuntime, front: &[u8], limit: u32) -> bool {
     true
 }
 
-/// True if endless sources are reported as too long, with each step.
 fn never_ends(rt: &HostRuntime, limit: u32) -> bool {
     for step in STEPS {
         let reader = TestReader::new(b"ab", step, Then::GoesOn);

@@ -13,8 +13,9 @@ use oim_write::{Encoded, Sink, StdSink, WriteFault, prefixes, text, write_to};
 use std::alloc::AllocError;
 use std::test::Fail;
 
-// Each call is repeated after a refused request for memory. The sink must have as many bytes of the
-// text as the fault reports. Lines on standard error report both to `tests/refused_memory`.
+// Each call is repeated after a refused request for memory. The sink must contain as many bytes of
+// the text as the fault reports. A line on standard error reports each refusal to
+// `tests/refused_memory`.
 
 fn is_want_of_memory(refusal: Refusal) -> bool {
     refusal
@@ -53,13 +54,12 @@ fn take_first<'s>(rt: &HostRuntime, report: &Report<'s>) -> Option<Base<'s>> {
     Some(base)
 }
 
-/// A base that took one report.
 fn base_of<'s>(rt: &HostRuntime, sheet: &'s Sheet, report: &[u8]) -> Option<Base<'s>> {
     let report = read(rt, sheet, report)?;
     take_first(rt, &report)
 }
 
-/// True if the sink took exactly `written` bytes without a failure, and the text has as many.
+/// True if the sink took exactly `written` bytes without a failure, and the text has that length.
 fn holds(sink: &StdSink<Expecting<'_>>, text: &[u8], written: u64) -> bool {
     sink.taken() == written && sink.failures() == 0 && written <= text.len() as u64
 }
@@ -187,7 +187,7 @@ fn a_refused_base_comes_back(rt: HostRuntime) -> Result<(), Fail> {
 /// Fifty letters.
 const LETTERS: &str = "abcdefghijklmnopqrstuvwxyzabcdefghijklmnopqrstuvwx";
 
-// The last text is longer, so memory is requested for it after the sink took the other texts.
+// The last text is longer than the others. Memory for it is requested after the sink took them.
 
 const MANY: usize = 400;
 
@@ -228,14 +228,13 @@ fn push_all_long(text: &mut String) -> Result<(), AllocError> {
     text.push_str(END)
 }
 
-/// A report with four texts of 20,001 bytes and one text of 60,001 bytes.
 fn long_report(rt: &HostRuntime) -> Result<String, AllocError> {
     let mut text = long_room(rt)?;
     push_all_long(&mut text)?;
     Ok(text)
 }
 
-/// True if `write_to` writes the same bytes as `text` returns, and they are more than a chunk.
+/// True if `write_to` writes the same bytes as `text` returns, and these are longer than a chunk.
 fn writes_long(rt: &HostRuntime, base: &Base<'_>) -> bool {
     match text_of(rt, base) {
         Ok(text) => text.as_bytes().len() > 100_000 && writes(rt, base, text.as_bytes()),

@@ -8,16 +8,16 @@ use oim_report::Sheet;
 use oim_write::text;
 use std::alloc::{AllocError, Global};
 
-// Tests schedules that replicas run. A call is repeated after a refused request for memory.
+// Tests schedules that replicas run. After a refused request for memory, the call is repeated.
 
-/// One more fact, in addition to the facts of `calls`.
+/// A fact that `calls` does not have.
 const HUNDRED_ONE: &str = r#""a":{"value":"101","decimals":0,"dimensions":{"concept":"eg:A"}}"#;
 
 /// Three replicas each take a report, exchange texts and join.
 const NINE_EVENTS: &str =
     "take 1 1\nsend 1\ntake 2 2\nreceive 2 1\nsend 2\ntake 3 3\nreceive 3 2\nreceive 3 1\njoin 1 2\n";
 
-/// Runs the events in these lines on `n` replicas. `each` has the facts of each report.
+/// `each` has the facts of each report.
 fn played<'s>(
     alloc: Global,
     sheet: &'s Sheet,
@@ -40,7 +40,6 @@ fn with_memory<T: Drop>(
     }
 }
 
-/// True if the bytes are the concatenation of these parts.
 fn are_parts(bytes: &[u8], parts: &[&str]) -> bool {
     let mut left = bytes;
     for part in parts {
@@ -52,7 +51,6 @@ fn are_parts(bytes: &[u8], parts: &[&str]) -> bool {
     left.is_empty()
 }
 
-/// True if the base is written as these parts.
 fn writes(alloc: Global, base: &Base<'_>, parts: &[&str]) -> Result<bool, AllocError> {
     let text = text(alloc, base)?;
     Ok(are_parts(text.as_bytes(), parts))

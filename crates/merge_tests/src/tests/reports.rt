@@ -1,4 +1,4 @@
-// Tests `oim_report` by its public calls.
+// Tests the public calls of `oim_report`.
 
 mod accepted;
 mod conditions;
@@ -88,7 +88,7 @@ enum Answer<'t> {
     InDocument(u8),
     InFact(u8, u64),
     Read,
-    /// It is accepted and declares no level. It has this number of facts and this level.
+    /// It is accepted, and its level is not declared. It has this number of facts and this level.
     HasLevel(usize, Level),
     Declares(Level),
     /// It has these references.
@@ -216,7 +216,6 @@ fn table_holds(rt: &HostRuntime, sheet: &Sheet, table: &Table) -> Result<bool, A
     Ok(true)
 }
 
-/// Returns whether the tables hold under a sheet.
 fn hold(rt: &HostRuntime, sheet: &str, tables: &[Table]) -> Result<bool, Reason> {
     let sheet = read_sheet(rt, sheet)?;
     for table in tables {

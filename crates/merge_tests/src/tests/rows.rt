@@ -8,8 +8,8 @@ use row_formats::{RowFormat, finish_rows, finish_rows_last, source_rows, verdict
 use std::alloc::{AllocError, Global};
 use std::test::Fail;
 
-// Compares the output of each call, for rows of every kind, with output written by hand. A call is
-// repeated after a refused request for memory.
+// Compares the output of each call, for rows of every kind, with output written by hand. After a
+// refused request for memory, the call is repeated.
 
 const FIRST: &[u8] =
     br#"{"documentInfo":{"documentType":"https://xbrl.org/2021/xbrl-json","namespaces":{"eg":"http://example.org/t","x":"http://example.org/u"}},"facts":{"p":{"value":"100","decimals":0,"dimensions":{"concept":"eg:A","entity":"x:E1","period":"2024-01-01T00:00:00/2025-01-01T00:00:00","unit":"eg:USD","eg:Reg":"eg:N"}},"-q":{"value":"=1, \"x\"","dimensions":{"concept":"eg:T","language":"en"}},"r":{"value":null,"dimensions":{"concept":"eg:B","eg:Sku":"s,1"}},"s":{"value":"eg:N","dimensions":{"concept":"eg:Q"}}}}"#;
@@ -42,7 +42,6 @@ const VERDICTS_CSV: &[u8] =
 const SOURCES_SPREADSHEET: &[u8] =
     b"fact,report,identifier\r\nf1,1,p\r\nf2,3,p\r\nf3,1,r\r\nf4,1,s\r\nf5,1,'-q\r\nf6,3,q\r\n";
 
-/// The call to make.
 #[derive(Clone, Copy)]
 enum Call {
     Verdicts,
@@ -67,7 +66,6 @@ fn added<'s>(alloc: Global, sheet: &'s Sheet) -> Result<Consolidation<'s>, Alloc
     Ok(consolidation)
 }
 
-/// Makes a call that takes the reports.
 fn of_reports<S: Sink>(
     alloc: Global,
     sheet: &Sheet,
@@ -86,7 +84,6 @@ fn of_reports<S: Sink>(
     }
 }
 
-/// Makes a call that takes what was added.
 fn of_added<S: Sink>(
     alloc: Global,
     sheet: &Sheet,
@@ -122,7 +119,7 @@ fn asked<S: Sink>(
     }
 }
 
-/// True if a call writes exactly this and returns one refusal.
+/// The call must also return one refusal.
 fn writes(alloc: Global, call: Call, format: RowFormat, wanted: &[u8]) -> Result<bool, AllocError> {
     let mut sink = StdSink::new(Vec::new(alloc));
     match asked(alloc, call, format, &mut sink) {

@@ -17,7 +17,6 @@ pub(crate) const TOUCHING: &str =
 pub(crate) const EVERY_DIMENSION: &str =
     r#"{"documentInfo":{"documentType":"https://xbrl.org/2021/xbrl-json","namespaces":{"eg":"http://example.org/t","x":"http://example.org/u"}},"facts":{"a":{"value":"Blue","dimensions":{"concept":"eg:T","entity":"x:529900:A1","period":"2020-01-01T00:00:00/2020-12-31T24:00:00","language":"en-GB","eg:Reg":"eg:North","eg:Sku":"a b"}}}}"#;
 
-/// Reads a sheet, which must be accepted.
 pub(crate) fn sheet_of(alloc: Global, text: &str) -> Result<Sheet, AllocError> {
     match Sheet::read(alloc, text.as_bytes()) {
         Ok(sheet) => Ok(sheet),
@@ -29,7 +28,6 @@ pub(crate) fn sheet(alloc: Global) -> Result<Sheet, AllocError> {
     sheet_of(alloc, SHEET)
 }
 
-/// A base that took one report, which must be accepted.
 pub(crate) fn base_of<'s>(
     alloc: Global,
     sheet: &'s Sheet,

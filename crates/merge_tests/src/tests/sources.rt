@@ -36,8 +36,8 @@ fn tells_each_source(alloc: Global) -> Result<bool, AllocError> {
     are_told(alloc, &sheet, &reports)
 }
 
-/// True if a sink with room for this many bytes contains exactly the first ones, and the fault
-/// reports their number.
+/// True if a sink with room for this many bytes contains the first bytes, and the fault reports
+/// their number.
 fn holds_front(
     alloc: Global,
     sheet: &Sheet,

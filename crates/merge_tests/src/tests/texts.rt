@@ -11,14 +11,14 @@ use oim_merge::{Fault, consolidate_bundle};
 use oim_write::StdSink;
 use std::test::Fail;
 
-// A call is repeated after a refused request for memory. A line on standard error reports it to
-// `tests/refused_memory`.
+// After a refused request for memory, the call is repeated. A line on standard error reports the
+// refusal to `tests/refused_memory`.
 
 const LINE: &str = "\n";
 
 const TWO_URIS: &str = r#""n1":"http://example.org/t","n2":"http://example.org/u""#;
 
-/// True if merging the bundle gives the text; None if memory was refused.
+/// None if memory was refused.
 fn merges(rt: &HostRuntime, bundle: &[u8], text: &[u8]) -> Option<bool> {
     let mut sink = StdSink::new(Expecting::just(text));
     let accepted = match consolidate_bundle(rt.alloc(), bundle, &mut sink) {
@@ -34,7 +34,6 @@ fn merges(rt: &HostRuntime, bundle: &[u8], text: &[u8]) -> Option<bool> {
     Some(same)
 }
 
-/// True if merging the bundle with these parts gives the text with these parts.
 fn gives(rt: &HostRuntime, bundle: &[&str], text: &[&str]) -> Result<bool, Fail> {
     let bundle = joined(rt, bundle)?;
     let text = joined(rt, text)?;
@@ -50,7 +49,6 @@ fn gives(rt: &HostRuntime, bundle: &[&str], text: &[&str]) -> Result<bool, Fail>
 /// The parts of a bundle, and the parts of its merged text.
 type Row = (&'static [&'static str], &'static [&'static str]);
 
-/// True if merging each bundle gives its text.
 fn all_give(rt: &HostRuntime, rows: &[Row]) -> Result<bool, Fail> {
     let mut all = true;
     for (bundle, text) in rows {

@@ -14,7 +14,7 @@ use std::alloc::{AllocError, Global};
 use std::test::Fail;
 
 // Tests each call with writers that stop at each byte of its text. After a refused request for
-// memory the row is repeated.
+// memory, the row is repeated.
 
 /// The call that writes a text.
 #[derive(Clone, Copy)]
@@ -25,7 +25,6 @@ enum Call<'a, 's> {
     Verdicts(&'a Sheet, &'a [Encoded]),
 }
 
-/// The result of a call.
 #[derive(Clone, Copy, PartialEq, Eq)]
 enum Ended {
     /// The whole text was written, and no report was refused.
@@ -76,8 +75,8 @@ fn called(
     Ok((ended, failures, sink.into_inner().is_met()))
 }
 
-/// True if a writer with room for this many bytes takes exactly the first bytes of the text, and
-/// the call reports their number.
+/// True if a writer with room for this many bytes takes the first bytes of the text, and the call
+/// reports their number.
 fn holds_the_front(
     alloc: Global,
     call: Call<'_, '_>,
@@ -183,7 +182,6 @@ const APART: Row = (
     33,
 );
 
-/// True if a writer of each size takes exactly the first bytes of the row's text.
 fn holds(rt: &HostRuntime, kind: Kind, row: &Row) -> Result<bool, Fail> {
     let (facts, parts, length) = row;
     let text = joined(rt, parts)?;

@@ -57,7 +57,6 @@ fn bind_all(
     Ok(())
 }
 
-// Returns aliases with these prefixes and URIs.
 fn aliases_of(rt: &HostRuntime, bindings: &[(&str, &str)]) -> Result<Aliases, Reason> {
     let mut aliases = Aliases::new(rt.alloc());
     bind_all(rt, &mut aliases, bindings)?;
@@ -145,7 +144,6 @@ fn rises<T: PartialOrd>(low: &T, high: &T) -> bool {
     low < high && high > low && low != high
 }
 
-// Returns whether both calls succeeded and the first value is less than the second.
 fn do_rise<T: PartialOrd + Drop>(low: Result<T, Reason>, high: Result<T, Reason>) -> bool {
     match (low, high) {
         (Ok(low), Ok(high)) => rises(&low, &high),

@@ -50,7 +50,6 @@ fn merge<M: Merge>(rt: &HostRuntime, value: &mut M, other: &M) -> Result<(), All
     }
 }
 
-// Inserts an item, and returns whether it was new to the set.
 fn insert(rt: &HostRuntime, set: &mut Items, item: &str) -> Result<bool, AllocError> {
     let item = text(rt, item)?;
     match set.insert(&item) {

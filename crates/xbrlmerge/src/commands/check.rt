@@ -56,7 +56,7 @@ pub(crate) fn of<'w>(matches: &ArgMatches<'w>) -> Option<Subcommand<'w>> {
 }
 
 /// Reads the report with this name and writes a line to `out` if it is accepted. A refused report
-/// is returned, as report 1.
+/// is returned as report 1.
 ///
 /// Errors: `Unread`, out of memory, and `Device`.
 pub(crate) fn run<'n, F: Files, E: Write, S: Sink>(
@@ -72,7 +72,6 @@ pub(crate) fn run<'n, F: Files, E: Write, S: Sink>(
     ended(put_checked(inputs.alloc, out, checked))
 }
 
-/// Prints the line of an accepted report, and returns a refused one as report 1.
 fn put_checked<S: Sink>(
     alloc: Global,
     out: &mut S,
@@ -92,7 +91,6 @@ fn put_checked<S: Sink>(
     Ok(refusals)
 }
 
-/// Prints the line of an accepted report.
 fn put_accepted<S: Sink>(alloc: Global, out: &mut S, checked: &Checked) -> Result<(), WriteFault>
     requires { S.failures out.old < 2 ^ 64 - 1 }
 {

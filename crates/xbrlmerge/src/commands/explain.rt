@@ -69,7 +69,6 @@ pub(crate) const WORDS: CommandWords = CommandWords {
     arguments: &[SHEET, FORMAT, LIST, NULL, OUTPUT, QUIET, REPORTS],
 };
 
-/// Returns the format given by the arguments.
 pub(crate) fn format_of(found: &ArgMatches<'_>) -> Format {
     match found.get_str(FORMAT.name) {
         Some("json") => Format::Json,
@@ -96,9 +95,6 @@ pub(crate) fn run<'n, F: Files, E: Write, S: Sink>(
     Ok(Success::Faults(counts.faults))
 }
 
-/// Prints the last line, with the counts.
-///
-/// Errors: out of memory, and `Device`.
 fn put_counts<S: Sink>(
     alloc: Global,
     reports: usize,
@@ -114,9 +110,6 @@ fn put_counts<S: Sink>(
     }
 }
 
-/// Prints the lines for the sheet with this name and these bytes, and for the reports.
-///
-/// Errors: `Unread`, `Sheet`, out of memory, and `Device`.
 fn put_under<'n, F: Files, E: Write, S: Sink>(
     name: &str,
     format: Format,
@@ -137,8 +130,6 @@ fn put_under<'n, F: Files, E: Write, S: Sink>(
     put_each(&sheet, format, inputs, out, repeated)
 }
 
-/// Reads the sheet with this name from these bytes.
-///
 /// Errors: `Sheet` with the lines that explain it; out of memory.
 fn read_sheet<'n>(alloc: Global, name: &str, bytes: &[u8]) -> Result<Sheet, Error<'n>> {
     match sheet_of(alloc, bytes) {
@@ -158,7 +149,6 @@ struct Counts {
 }
 
 impl Counts {
-    /// Counts one more report.
     fn with(self, faults: u64) -> Counts {
         Counts {
             faulty: self.faulty.saturating_add(u64::from(faults > 0)),
@@ -167,9 +157,7 @@ impl Counts {
     }
 }
 
-/// Prints the lines and returns their number.
-///
-/// Errors: out of memory, and `Device`.
+/// Returns the number of lines.
 fn put_explained<S: Sink>(
     out: &mut S,
     explained: Result<Explained, AllocError>,
@@ -186,10 +174,7 @@ fn put_explained<S: Sink>(
     }
 }
 
-/// Reads the reports, one after another, and prints the lines for each. `faults` is the number of
-/// faults printed before.
-///
-/// Errors: `Unread`, out of memory, and `Device`.
+/// `faults` is the number of faults that were printed before.
 fn put_each<'n, F: Files, E: Write, S: Sink>(
     sheet: &Sheet,
     format: Format,

@@ -18,7 +18,6 @@ use std::rt::Files;
 
 pub(crate) const NAME: &str = "replay";
 
-/// The most replicas.
 const MOST_REPLICAS: i64 = 64;
 
 const REPLICAS: Argument = Argument {
@@ -84,8 +83,8 @@ pub(crate) fn of<'w>(matches: &ArgMatches<'w>) -> Option<Subcommand<'w>> {
 /// Reads the schedule and the reports, runs the schedule on the replicas and writes the text of
 /// each replica to `out`. Returns the refused takes with the numbers of their reports, from 1.
 ///
-/// Errors: `Unread`; `Event` if a line is not an event, before any report is read, or if it names
-/// something that does not exist; out of memory; `Device`.
+/// Errors: `Unread`; `Event` if a line is not an event or names something that does not exist; out
+/// of memory; `Device`. A line that is not an event is found before any report is read.
 pub(crate) fn run<'n, F: Files, E: Write, S: Sink>(
     replicas: usize,
     schedule: &'n str,
@@ -100,7 +99,6 @@ pub(crate) fn run<'n, F: Files, E: Write, S: Sink>(
     ended(put_replayed(inputs.alloc, out, replayed))
 }
 
-/// Reads the events from the schedule file with this name.
 fn read_schedule<'n, F: Files, E: Write>(
     name: &'n str,
     inputs: &Inputs<'n, F, E>,
@@ -109,7 +107,6 @@ fn read_schedule<'n, F: Files, E: Write>(
     Ok(read_events(inputs.alloc, lines.as_bytes())?)
 }
 
-/// Returns the replicas after the events.
 fn replay_reports<'n, 's, F: Files, E: Write>(
     replicas: usize,
     events: &Events,
@@ -120,9 +117,6 @@ fn replay_reports<'n, 's, F: Files, E: Write>(
     Ok(replay(inputs.alloc, sheet, replicas, reports.as_slice(), events)?)
 }
 
-/// Prints the text of each replica and returns the refused takes.
-///
-/// Errors: the same as for `put_replicas`.
 fn put_replayed<S: Sink>(
     alloc: Global,
     out: &mut S,
@@ -136,9 +130,7 @@ fn put_replayed<S: Sink>(
     Ok(refused)
 }
 
-/// Prints the text of each replica.
-///
-/// Errors: out of memory, and `Device`. `run` reports the number of bytes over all texts.
+/// Errors: out of memory, and `Device`. `run` reports how many bytes of all texts were written.
 fn put_replicas<S: Sink>(
     alloc: Global,
     out: &mut S,
@@ -152,9 +144,6 @@ fn put_replicas<S: Sink>(
     Ok(())
 }
 
-/// Prints the text of a replica and a line end.
-///
-/// Errors: out of memory, and `Device`, with the number of bytes taken.
 fn put_replica<S: Sink>(alloc: Global, out: &mut S, base: &Base<'_>) -> Result<(), WriteFault>
     requires { S.failures out.old < 2 ^ 64 - 1 }
     ensures { OnOk result (S.failures out.new ≡ S.failures out.old) }

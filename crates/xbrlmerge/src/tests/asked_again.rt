@@ -1,7 +1,7 @@
 use std::alloc::AllocError;
 
-// The tests repeat a call after a refused request for memory. They print a line on standard error,
-// which says if the request was made by the test itself.
+// After a refused request for memory, the tests repeat the call. A line on standard error reports
+// whether the test itself made the request.
 
 const ROOM: usize = 1 << 12;
 
@@ -12,7 +12,7 @@ pub(crate) const SHEET: &str =
 pub(crate) const INFO: &str =
     r#"{"documentInfo":{"documentType":"https://xbrl.org/2021/xbrl-json","namespaces":{"eg":"http://example.org/t","x":"http://example.org/u","xbrli":"http://www.xbrl.org/2003/instance","xbrl":"https://xbrl.org/2021"}},"facts":{"#;
 
-/// The beginning of a report, up to the further members of `documentInfo`.
+/// The beginning of a report, up to the other members of `documentInfo`.
 pub(crate) const OPEN_INFO: &str =
     r#"{"documentInfo":{"documentType":"https://xbrl.org/2021/xbrl-json""#;
 
@@ -24,7 +24,6 @@ pub(crate) fn tell_refused_here(rt: &HostRuntime) {
     let _ = eprintln!(rt; "refused here");
 }
 
-/// Concatenates the parts.
 pub(crate) fn joined(rt: &HostRuntime, parts: &[&str]) -> Result<Vec<u8>, AllocError> {
     let mut all = match Vec::with_capacity(rt.alloc(), ROOM) {
         Ok(made) => made,

@@ -31,7 +31,6 @@ impl Step {
     }
 }
 
-/// The steps that the tests try.
 pub const STEPS: [Step; 2] = [Step::All, Step::Few(1)];
 
 fn fault(then: Then) -> io::Error {
@@ -42,7 +41,7 @@ fn fault(then: Then) -> io::Error {
     io::Error::from(kind)
 }
 
-/// Gives the bytes that are left, a step at a time.
+/// Gives its remaining bytes in steps.
 #[derive(Clone, Copy)]
 pub struct TestReader<'a> {
     left: &'a [u8],

@@ -32,7 +32,6 @@ impl<'a> Expecting<'a> {
         self.left.is_empty() && !self.differs
     }
 
-    /// Returns the number of bytes still expected.
     pub(crate) fn left(&self) -> usize {
         self.left.len()
     }

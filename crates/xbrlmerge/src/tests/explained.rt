@@ -14,7 +14,7 @@ const SHEET: &str =
 const START: &str =
     r#"{"documentInfo":{"documentType":"https://xbrl.org/2021/xbrl-json","namespaces":{"eg":"http://example.org/t","x":"http://example.org/u","zz":"http://example.org/t","xbrl":"https://xbrl.org/2021"},"features":{"xbrl:allowedDuplicates":"consistent"}},"facts":{"#;
 
-// The beginning of a report, up to the further members of `documentInfo`.
+// The beginning of a report, up to the other members of `documentInfo`.
 const TYPED: &str = r#"{"documentInfo":{"documentType":"https://xbrl.org/2021/xbrl-json""#;
 
 struct Table<'t> {

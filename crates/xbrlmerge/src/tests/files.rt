@@ -20,7 +20,6 @@ use std::{env, fs};
 
 // The program is run again after a refused request for memory.
 
-/// Returns whether the program has the results that each row lists.
 fn are_met(rt: &HostRuntime, rows: &[Row]) -> Result<bool, Fail> {
     let mut all = true;
     for (line, status, out, err) in rows {
@@ -76,7 +75,7 @@ fn are_unheard(rt: &HostRuntime, rows: &[Row]) -> Result<bool, Fail> {
     Ok(all)
 }
 
-/// Returns the bytes of a file. The test's own request for memory may be refused once.
+/// The test's own request for memory may be refused once.
 fn content(rt: &HostRuntime, name: &str) -> Result<Vec<u8>, Fail> {
     if let Ok(held) = fs::read(rt, name) {
         return Ok(held);

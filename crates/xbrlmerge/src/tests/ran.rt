@@ -12,10 +12,8 @@ use std::io::Write;
 /// No arguments, for a bundle on standard input.
 pub(crate) const NO_WORDS: &[&str] = &[];
 
-/// The most arguments in a line.
 const MOST_WORDS: usize = 16;
 
-/// Returns streams that are not terminals.
 pub(crate) fn piped<R, O, E>(input: R, out: O, err: E) -> Streams<R, O, E> {
     Streams {
         input,
@@ -59,7 +57,7 @@ pub(crate) fn ends(
     }
 }
 
-/// Returns the same, or None if memory was refused.
+/// Does the same as `ends`, but returns None if memory was refused.
 fn ends_once(
     rt: &HostRuntime,
     words: &[&str],
@@ -81,7 +79,7 @@ fn ends_once(
     Some(same)
 }
 
-/// Returns whether the program, with this standard output, stops with this line.
+/// Returns whether the program stops with this line if it has this standard output.
 pub(crate) fn stops<O: Write + Copy + Drop>(
     rt: &HostRuntime,
     words: &[&str],
@@ -97,7 +95,7 @@ pub(crate) fn stops<O: Write + Copy + Drop>(
     }
 }
 
-/// Returns the same, or None if memory was refused.
+/// Does the same as `stops`, but returns None if memory was refused.
 fn stops_once<O: Write + Drop>(
     rt: &HostRuntime,
     words: &[&str],
@@ -116,8 +114,8 @@ fn stops_once<O: Write + Drop>(
     Some(same)
 }
 
-/// Returns the status, and standard error compared both with the expected text and with the line
-/// for refused memory.
+/// Returns the status and standard error, which is compared with the expected text and with the
+/// line for refused memory.
 fn heard<'a, O: Write + Drop>(
     rt: &HostRuntime,
     words: &[&str],

@@ -26,7 +26,6 @@ fn writer(rt: &HostRuntime, room: usize) -> Result<TestWriter, AllocError> {
     }
 }
 
-/// The results of the program.
 #[derive(Drop)]
 struct Ran {
     status: u8,
@@ -51,7 +50,7 @@ fn run_in(rt: &HostRuntime, input: TestReader<'_>, room: usize) -> Result<Ran, A
     Ok(ran)
 }
 
-/// Returns whether the program has these results. If not, the actual ones are printed.
+/// If the results differ, the actual ones are printed.
 fn gives(
     rt: &HostRuntime,
     parts: &[&str],
@@ -127,7 +126,6 @@ const REFUSED_SHEETS: [(&str, &str); 5] = [
     ),
 ];
 
-/// Returns whether the run stops with its line for each bundle.
 fn all_end(rt: &HostRuntime, rows: &[(&str, &str)]) -> Result<bool, Fail> {
     let mut all = true;
     for (bundle, line) in rows {
@@ -264,7 +262,6 @@ fn an_output_that_failed_is_not_flushed(rt: HostRuntime) -> Result<(), Fail> {
     Ok(())
 }
 
-/// Returns the exit status for a bundle.
 fn status_of(rt: &HostRuntime, bundle: &[u8], out: &mut TestWriter, err: &mut TestWriter) -> u8 {
     let input = TestReader::new(bundle, Step::All, Then::Ends);
     run(rt.alloc(), rt, NO_WORDS, piped(input, out, err))

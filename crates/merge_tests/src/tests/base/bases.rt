@@ -41,7 +41,6 @@ fn join(rt: &HostRuntime, base: &mut Base<'_>, other: &Base<'_>) -> bool {
     base.join(other).is_ok()
 }
 
-// The values of a base, the values of a base that it joins, and the values of both.
 struct Joined<'t> {
     values: &'t [&'t str],
     others: &'t [&'t str],
@@ -120,8 +119,7 @@ fn an_equal_or_empty_base_adds_nothing(rt: HostRuntime) {
     }
 }
 
-// Absorbs a base with two facts, and returns whether this succeeded. If a request is refused, the
-// other base is lost.
+// If a request is refused, the other base is lost.
 fn absorb_two(rt: &HostRuntime, base: &mut Base<'_>) -> Option<bool> {
     let other = base_of(rt, base.sheet(), &[TWO, ONE])?;
     if !base.same_sheet(other.sheet()) {
@@ -130,7 +128,6 @@ fn absorb_two(rt: &HostRuntime, base: &mut Base<'_>) -> Option<bool> {
     Some(base.absorb(other).is_ok())
 }
 
-// Absorbs a base with two facts, and repeats this if a request was refused.
 fn absorbs(rt: &HostRuntime, base: &mut Base<'_>) -> bool {
     match absorb_two(rt, base) {
         Some(false) => {
@@ -157,8 +154,7 @@ fn what_is_absorbed_is_counted_once(rt: HostRuntime) -> Result<(), Fail> {
     Ok(())
 }
 
-// Absorbs a report with one value, and returns whether this succeeded. If a request is refused,
-// the report is lost.
+// If a request is refused, the report is lost.
 fn absorb_value(rt: &HostRuntime, base: &mut Base<'_>, value: &str) -> Option<bool> {
     let text = joined(rt, FACT, value, OF_A).ok()?;
     let report = read(rt, base.sheet(), text.as_str())?;
@@ -168,7 +164,6 @@ fn absorb_value(rt: &HostRuntime, base: &mut Base<'_>, value: &str) -> Option<bo
     Some(base.absorb_report(report).is_ok())
 }
 
-// Absorbs a report with one value, and repeats this if a request was refused.
 fn absorbs_value(rt: &HostRuntime, base: &mut Base<'_>, value: &str) -> bool {
     match absorb_value(rt, base, value) {
         Some(false) => {
@@ -179,8 +174,8 @@ fn absorbs_value(rt: &HostRuntime, base: &mut Base<'_>, value: &str) -> bool {
     }
 }
 
-// Returns whether a base with two values has all values after it absorbs a third value, and after
-// it absorbs that value again.
+// A base with two values must have all values after it absorbs a third value, and after it absorbs
+// that value again.
 fn is_given_up(rt: &HostRuntime, all: &Base<'_>) -> bool {
     match base_of(rt, all.sheet(), &[NINE, ONE]) {
         Some(mut base) => {
@@ -211,7 +206,6 @@ fn a_report_that_is_given_up_is_taken(rt: HostRuntime) -> Result<(), Fail> {
 const TAXONOMY: &str =
     r#"{"documentInfo":{"documentType":"https://xbrl.org/2021/xbrl-json","taxonomy":[""#;
 
-// Returns a base that took one report for each reference.
 fn base_of_references<'s>(
     rt: &HostRuntime,
     sheet: &'s Sheet,
@@ -241,7 +235,6 @@ fn references_are_kept_once(rt: HostRuntime) -> Result<(), Fail> {
     Ok(())
 }
 
-// Returns whether a base has exactly these references.
 fn are_spelled(base: &Base<'_>, references: &[&str]) -> bool {
     for (place, reference) in references.iter().enumerate() {
         match base.taxonomy().get(place) {

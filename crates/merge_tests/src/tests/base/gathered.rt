@@ -11,8 +11,7 @@ const TWO: &str = r#""value":"2","decimals":0"#;
 
 const NINE: &str = r#""value":"9","decimals":0"#;
 
-// Adds a report with one value, and returns whether it was added. If a request is refused, the
-// report is lost.
+// If a request is refused, the report is lost.
 fn add(rt: &HostRuntime, gathered: &mut Gathering<'_>, value: &str) -> Option<bool> {
     let text = joined(rt, FACT, value, OF_A).ok()?;
     let report = read(rt, gathered.sheet(), text.as_str())?;
@@ -22,7 +21,6 @@ fn add(rt: &HostRuntime, gathered: &mut Gathering<'_>, value: &str) -> Option<bo
     Some(gathered.add(report).is_ok())
 }
 
-// Adds a report with one value, and repeats this if a request was refused.
 fn adds(rt: &HostRuntime, gathered: &mut Gathering<'_>, value: &str) -> bool {
     match add(rt, gathered, value) {
         Some(false) => {
@@ -33,7 +31,6 @@ fn adds(rt: &HostRuntime, gathered: &mut Gathering<'_>, value: &str) -> bool {
     }
 }
 
-// Adds one report for each value in order, and returns the base.
 fn gather<'s>(
     rt: &HostRuntime,
     sheet: &'s Sheet,
@@ -49,7 +46,7 @@ fn gather<'s>(
     Some(gathered.into_base())
 }
 
-// Adds the reports and returns the base. If a request for the base is refused, it starts again.
+// If a request for the base is refused, all reports are added again.
 fn gathered_of<'s>(rt: &HostRuntime, sheet: &'s Sheet, values: &[&str]) -> Option<Base<'s>> {
     match gather(rt, sheet, values)? {
         Ok(base) => Some(base),

@@ -1,5 +1,5 @@
 // Adds small reports after a large one. Their facts are collected in lists, which are sorted
-// each time their length has doubled.
+// whenever their length has doubled.
 
 use crate::tests::asked_again::{read_sheet, tell_refused};
 use fact_base::{Base, Gathering};
@@ -92,8 +92,8 @@ fn take_small(
     take(rt, base, text.as_str())
 }
 
-// Returns whether a base with the large report has the same facts and references as the other after
-// it takes the small reports.
+// Returns whether both bases have the same facts and references after the first takes the small
+// reports.
 fn takes_each(
     rt: &HostRuntime,
     base: &mut Base<'_>,

@@ -10,7 +10,6 @@ type Said = (Verdict, Evidence);
 // Values of one dimension set, in any order, with their verdict and evidence.
 type Row<'t> = (&'t [&'t str], Said);
 
-// Returns whether values with these dimensions have this verdict and evidence.
 fn is_said(rt: &HostRuntime, sheet: &Sheet, end: &str, row: &Row<'_>) -> bool {
     match base_between(rt, sheet, FACT, row.0, end) {
         Some(base) => judged(&base) == Some(row.1),
@@ -32,8 +31,7 @@ fn first_other_under(
     None
 }
 
-// Returns the index of the first row whose values, with these dimensions, have another verdict or
-// other evidence.
+// Returns the index of the first row with another verdict or other evidence.
 fn first_other(rt: &HostRuntime, end: &str, rows: &[Row<'_>]) -> Option<usize> {
     match read_sheet(rt) {
         Ok(sheet) => first_other_under(rt, &sheet, end, rows),
@@ -268,7 +266,6 @@ fn texts_and_names_meet_as_equal(rt: HostRuntime) {
     assert_eq!(rt; first_other(&rt, OF_Q, &NAMES), None);
 }
 
-// Returns whether the first row has nil and a name.
 fn has_nil_first(base: &Base<'_>) -> bool {
     match base.rows().next() {
         Some(row) => {
@@ -278,7 +275,6 @@ fn has_nil_first(base: &Base<'_>) -> bool {
     }
 }
 
-// Values and their dimensions.
 const SEVERAL: [(&str, &str); 4] = [
     (r#""value":"a""#, OF_T),
     (r#""value":"eg:B""#, OF_Q),
@@ -295,7 +291,6 @@ fn add_several(rt: &HostRuntime, base: &mut Base<'_>) -> bool {
     true
 }
 
-// Returns whether there are two rows with two facts each, and the level is `All`.
 fn has_several(base: &Base<'_>) -> bool {
     base.row_count() == 2
         && base.fact_count() == 4

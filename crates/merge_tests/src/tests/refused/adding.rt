@@ -12,8 +12,8 @@ use oim_write::StdSink;
 use std::alloc::AllocError;
 use std::test::Fail;
 
-// Tests reports that are added one at a time. After a refused request for memory the report is
-// added again. It must be counted once, and its facts must be taken once.
+// Tests reports that are added one at a time. After a refused request for memory, the report is
+// added again. It must be counted once, and its facts must be added once.
 
 /// One of the facts of `THREE_SETS`.
 const ONE_OF_THREE: &str =
@@ -36,7 +36,6 @@ fn add(
     }
 }
 
-/// Starts a merge and adds bytes that are not a report, and two reports.
 fn three<'s>(
     rt: &HostRuntime,
     sheet: &'s Sheet,

@@ -13,7 +13,7 @@ use oim_write::{Encoded, StdSink};
 use std::alloc::AllocError;
 use std::test::Fail;
 
-// Tests the calls that take reports. Each call is repeated after a refused request for memory.
+// Tests the calls that take reports. After a refused request for memory, the call is repeated.
 
 fn encoded(rt: &HostRuntime, bytes: &[u8]) -> Result<Encoded, AllocError> {
     match Encoded::new(rt.alloc(), bytes) {
@@ -44,7 +44,6 @@ fn reports(rt: &HostRuntime, report: &str) -> Result<Vec<Encoded>, AllocError> {
     Ok(reports)
 }
 
-/// True if only the first report is refused, since it is not JSON.
 fn tells_first(refused: &Refusals) -> bool {
     match refused.as_slice() {
         [(report, refusal)] => *report == 1 && refusal.reason == Reason::NotJson,
@@ -52,7 +51,7 @@ fn tells_first(refused: &Refusals) -> bool {
     }
 }
 
-/// The result of a call; None if memory was refused.
+/// None if memory was refused.
 pub(crate) fn came_to(
     rt: &HostRuntime,
     answer: Result<Refusals, Fault>,
@@ -99,11 +98,12 @@ fn a_refused_merge_has_its_front_in_the_sink(rt: HostRuntime) -> Result<(), Fail
     Ok(())
 }
 
-/// Two numbers whose rounding intervals touch, two that are apart, and a text.
+/// Two numbers whose rounding intervals touch, two whose intervals are disjoint, and a text.
 pub(crate) const THREE_SETS: &str =
     r#"{"documentInfo":{"documentType":"https://xbrl.org/2021/xbrl-json","namespaces":{"eg":"http://example.org/t"}},"facts":{"a":{"value":"100","decimals":0,"dimensions":{"concept":"eg:A"}},"b":{"value":"101","decimals":0,"dimensions":{"concept":"eg:A"}},"c":{"value":"1","decimals":0,"dimensions":{"concept":"eg:B"}},"d":{"value":"3","decimals":0,"dimensions":{"concept":"eg:B"}},"e":{"value":"Blue","dimensions":{"concept":"eg:T"}}}}"#;
 
-// Memory is requested for each line, so a later refusal leaves the earlier lines in the sink.
+// Memory is requested for each line. If a later request is refused, the sink contains the earlier
+// lines.
 pub(crate) const THREE_LINES: &[u8] =
     b"1 f1 f2 consistent common 100.5 100.5\n2 f3 f4 inconsistent apart f3 f4\n3 f5 f5 complete\n";
 

@@ -90,7 +90,6 @@ const GOOD: &[(&[u8], &[Event])] = &[
     ),
 ];
 
-/// True if each bad file is refused at its line.
 fn are_refused(alloc: Global) -> Result<bool, AllocError> {
     for (bytes, line) in BAD {
         let read = with_memory(read_events(alloc, bytes))?;
@@ -101,7 +100,6 @@ fn are_refused(alloc: Global) -> Result<bool, AllocError> {
     Ok(true)
 }
 
-/// True if each good file is read as its events.
 fn are_read(alloc: Global) -> Result<bool, AllocError> {
     for (bytes, expected) in GOOD {
         let read = with_memory(read_events(alloc, bytes))?;

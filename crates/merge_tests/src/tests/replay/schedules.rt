@@ -11,7 +11,6 @@ use oim_merge::{ReplayFault, Replayed};
 use oim_report::Sheet;
 use std::alloc::{AllocError, Global};
 
-/// A text in parts.
 type Parts = &'static [&'static str];
 
 const NOTHING: Parts = &[HEAD, MIDDLE_ALONE, END];
@@ -31,8 +30,9 @@ const ALL_THREE: Parts = &[
 
 const THREE: &[&str] = &[HUNDRED, HUNDRED_ONE, ABOVE];
 
-/// A schedule and its result. The schedule has the facts of the reports and the lines of the events.
-/// The result has the texts of the replicas, the sent texts, and the reports of the refused takes.
+/// A schedule and its result. The schedule contains the facts of the reports and the lines of the
+/// events. The result contains the texts of the replicas, the sent texts, and the reports of the
+/// refused takes.
 #[derive(Clone, Copy)]
 struct Schedule {
     reports: &'static [&'static str],
@@ -130,7 +130,6 @@ const SCHEDULES: &[Schedule] = &[
     },
 ];
 
-/// True if the replicas write exactly the texts of the schedule.
 fn have_texts(alloc: Global, replayed: &Replayed<'_>, texts: &[Parts]) -> Result<bool, AllocError> {
     for (place, parts) in texts.iter().enumerate() {
         let Some(base) = replayed.replica(place + 1) else {
@@ -147,7 +146,6 @@ fn have_texts(alloc: Global, replayed: &Replayed<'_>, texts: &[Parts]) -> Result
     )
 }
 
-/// True if exactly these texts were sent.
 fn were_sent(replayed: &Replayed<'_>, texts: &[Parts]) -> bool {
     for (place, parts) in texts.iter().enumerate() {
         match replayed.sent(place + 1) {
@@ -192,7 +190,6 @@ fn all_leave_their_texts(alloc: Global) -> Result<bool, AllocError> {
     Ok(true)
 }
 
-/// The evidence for the verdict on the first row of a base.
 fn evidence(base: &Base<'_>) -> Option<Evidence> {
     let row = base.rows().next()?;
     base.evidence(row.dimensions)
@@ -209,8 +206,7 @@ fn tells_what_is_apart(alloc: Global) -> Result<bool, AllocError> {
 }
 
 /// The number of replicas, event lines, and the first line that names something that does not
-/// exist.
-/// There are two reports.
+/// exist. There are two reports.
 const MISSING: &[(usize, &str, u64)] = &[
     (2, "receive 1 1", 1),
     (2, "take 3 1", 1),

@@ -64,7 +64,7 @@ const LEVELS: &[Table] = &[
         ],
         end: "}}",
     },
-    // every two numbers must meet
+    // every two numbers must meet, not only neighbours
     Table {
         start: FACTS,
         rows: &[
@@ -101,7 +101,7 @@ const LEVELS: &[Table] = &[
         )],
         end: "}}",
     },
-    // prefixes carry no meaning
+    // prefixes have no meaning
     Table {
         start: "",
         rows: &[(

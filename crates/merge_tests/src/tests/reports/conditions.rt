@@ -165,7 +165,7 @@ const FAULTS: Table = Table {
     end: END,
 };
 
-// Each fact has the expected fault, and one with a greater number.
+// Each fact has the expected fault, and also a fault with a greater number.
 const LEAST_FAULTS: Table = Table {
     start: FACT,
     rows: &[

@@ -223,7 +223,7 @@ fn parts_of_a_document_have_their_forms(rt: HostRuntime) -> Result<(), Fail> {
     Ok(())
 }
 
-// Each document has the expected fault, and the fault with the next number.
+// Each document has the expected fault, and also the fault with the next number.
 const TWO_FAULTS: [Table; 3] = [
     Table {
         start: "",
@@ -274,7 +274,7 @@ const TWO_FAULTS: [Table; 3] = [
     },
 ];
 
-// Each document has a refused fact besides the expected fault.
+// Each document has the expected fault, and also a refused fact.
 const BEFORE_FACTS: Table = Table {
     start: BOUND,
     rows: &[

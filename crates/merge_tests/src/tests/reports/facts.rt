@@ -41,7 +41,7 @@ const PLACES: [Table; 3] = [
         ],
         end: "}}",
     },
-    // a text is tested again where other conditions apply
+    // a text is tested again if other conditions apply to it
     Table {
         start: FACTS,
         rows: &[
@@ -179,7 +179,7 @@ const PARTS: [Table; 5] = [
         ],
         end: r#""}}}}"#,
     },
-    // a unit is one or two sides of names
+    // a unit has one or two sides, which contain names
     Table {
         start: r#"{"documentInfo":{"documentType":"https://xbrl.org/2021/xbrl-json","namespaces":{"eg":"http://example.org/t","x":"http://example.org/u","xbrli":"http://www.xbrl.org/2003/instance"}},"facts":{"a":{"value":"1","dimensions":{"concept":"eg:A","unit":""#,
         rows: &[

@@ -17,8 +17,7 @@ const DOCUMENTS: Rows<'static> = &[
     ),
     // a missing type is not reported if `documentInfo` is missing
     (r#"{"x":1,"facts":{"a":7}}"#, &[(2, 0), (3, 0)]),
-    // if the base is refused, references that need it are not reported, but other refused
-    // references are
+    // if the base is refused, only references that do not need it are reported
     (
         r#"{"documentInfo":{"documentType":"https://xbrl.org/2021/xbrl-json","baseURL":"x","taxonomy":["y"]},"facts":{"a":7}}"#,
         &[(6, 0)],
@@ -54,7 +53,7 @@ const FACTS: Rows<'static> = &[
         r#""a":{"value":1,"decimals":"x"},"b":{"value":null,"decimals":19},"c":{"value":"x","decimals":1}"#,
         &[(11, 1), (25, 1), (28, 1), (11, 2), (29, 2), (11, 3)],
     ),
-    // conditions on the content together with conditions on the form
+    // conditions on content and on form
     (
         r#""a":{"dimensions":{"concept":"q:A","noteId":1}},"b":{"value":"1","dimensions":{"concept":1}}"#,
         &[(2, 1), (10, 1), (13, 1), (2, 2)],

@@ -14,7 +14,6 @@ fn identifiers(rt: &HostRuntime, text: &str) -> Result<Vec<Text>, Reason> {
     }
 }
 
-/// Returns whether the text gives exactly these identifiers, in this order.
 fn gives(rt: &HostRuntime, text: &str, wanted: &[&str]) -> Result<bool, Reason> {
     let found = identifiers(rt, text)?;
     if found.len() != wanted.len() {
@@ -51,8 +50,7 @@ fn what_is_no_json_has_no_identifiers(rt: HostRuntime) {
 const TWO: &str =
     r#"{"documentInfo":{"documentType":"https://xbrl.org/2021/xbrl-json","namespaces":{"eg":"http://example.org/t"}},"facts":{"b":{"value":"last","dimensions":{"concept":"eg:T"}},"a":{"value":"first","dimensions":{"concept":"eg:T"}}}}"#;
 
-/// Reads a report with the identifiers of its facts. If a request is refused, the call is repeated
-/// once.
+/// If a request is refused, the call is repeated once.
 fn identified<'s>(
     rt: &HostRuntime,
     sheet: &'s Sheet,
@@ -67,7 +65,6 @@ fn identified<'s>(
     }
 }
 
-/// Returns whether the fact with this index has this identifier and this text.
 fn says(read: &(Report<'_>, Vec<Text>), place: usize, identifier: &str, text: &str) -> bool {
     let (report, identifiers) = read;
     match (report.facts().get(place), identifiers.get(place)) {

@@ -5,7 +5,7 @@ use oim_report::Sheet;
 use std::alloc::AllocError;
 use std::test::Fail;
 
-// A report in which a piece and its closing text are repeated between a start and an end.
+// A report that repeats a piece and its closing text between a start and an end.
 struct Long<'t> {
     start: &'t str,
     piece: &'t str,
@@ -28,7 +28,7 @@ const LIMITS: [Long; 5] = [
             (128, InDocument(1)),
         ],
     },
-    // a reference and its kept text have at most 65,536 bytes
+    // a reference and its resolved text have at most 65,536 bytes
     Long {
         start: r#"{"documentInfo":{"documentType":"https://xbrl.org/2021/xbrl-json","taxonomy":[""#,
         piece: "a",
@@ -51,7 +51,7 @@ const LIMITS: [Long; 5] = [
         end: r#""},"facts":{}}"#,
         counts: &[(65_523, Read), (65_524, InDocument(6))],
     },
-    // a base counts towards the limit of a kept text
+    // a base counts towards the limit of a resolved reference
     Long {
         start: r#"{"documentInfo":{"documentType":"https://xbrl.org/2021/xbrl-json","baseURL":"http://x.org/r","taxonomy":[""#,
         piece: "a",

@@ -4,15 +4,15 @@ use oim_names::Reason;
 use oim_report::Sheet;
 use std::test::Fail;
 
-// A report with parts of every kind is cut at each index, and read with other bytes there.
+// A report with every kind of part is cut at each index. It is also read with other bytes there.
 
 const EVERY_PART: &str =
     r#"{"documentInfo":{"documentType":"https://xbrl.org/2021/xbrl-json","features":{"xbrl:allowedDuplicates":"all","eg:f":7},"baseURL":"http://x.org/d/","linkTypes":{},"namespaces":{"eg":"http://example.org/t","x":"u:u","xbrl":"https://xbrl.org/2021"},"taxonomy":["b.xsd"],"eg:m":[true,-1.5e3]},"facts":{"a":{"value":"-12.50","decimals":-3,"dimensions":{"concept":"eg:A","entity":"x:A1","period":"2020-01-01T00:00:00/2020-12-31T24:00:00","unit":"(x:a*x:b)/x:c","eg:Reg":"eg:N","eg:Sku":null}},"b":{"value":"é\u00e9\ud83d\ude00\n","dimensions":{"concept":"eg:T","language":"en-GB"}},"c":{"value":"x:N","links":{},"dimensions":{"concept":"eg:Q","eg:Sku":"a b","period":"2020-12-31T24:00:00"}},"d":{"value":null,"dimensions":{"concept":"eg:A"},"eg:z":{}}}}"#;
 
-// Zero, a tab, a line feed, a backslash and a byte that never occurs in UTF-8.
+// Zero, a tab, a line feed, a backslash and a byte that is never part of UTF-8.
 const OTHERS: &[u8] = &[0, 9, 10, 92, 255];
 
-/// Returns whether the bytes are accepted or refused, and not for lack of memory.
+/// True if the bytes are accepted, or refused for another reason than memory.
 fn is_answered(rt: &HostRuntime, sheet: &Sheet, bytes: &[u8]) -> bool {
     match read(rt, sheet, bytes) {
         Ok(_) => true,
@@ -20,7 +20,6 @@ fn is_answered(rt: &HostRuntime, sheet: &Sheet, bytes: &[u8]) -> bool {
     }
 }
 
-/// Returns whether `is_answered` holds with each of these bytes at the index.
 fn are_answered(
     rt: &HostRuntime,
     sheet: &Sheet,
@@ -39,7 +38,6 @@ fn are_answered(
     true
 }
 
-/// Returns whether `is_answered` holds with each of these bytes at every index.
 fn all_are_answered(rt: &HostRuntime, others: &[u8]) -> Result<bool, Fail> {
     let sheet = read_sheet(rt, SHEET)?;
     let mut bytes = joined(rt, EVERY_PART, "", "")?.into_bytes();

@@ -91,14 +91,14 @@ const BLUE: &str =
     r#"{"value":"Blue","dimensions":{"concept":"eg:T","entity":"x:529900:A1","period":"2020-01-01T00:00:00/2020-12-31T24:00:00","language":"en-GB","eg:Reg":"eg:North","eg:Sku":"a b"}}"#;
 
 const READ: [(&str, Said); 7] = [
-    // core dimensions are read, and members by the kind of their dimension
+    // core dimensions are read; members are read by the kind of their dimension
     (BLUE, Said::Blue),
     // a typed member may be nil
     (
         r#"{"value":null,"dimensions":{"concept":"eg:Q","language":"en","eg:Sku":null}}"#,
         Said::NilMember,
     ),
-    // numbers are exact without decimals
+    // numbers without decimals are exact
     (
         r#"{"value":"1","dimensions":{"concept":"eg:A"}}"#,
         Said::Number(10_000_000_000_000_000_000, None),

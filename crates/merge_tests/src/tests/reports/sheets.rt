@@ -3,7 +3,7 @@ use oim_names::{Aliases, Name, Reason};
 use oim_report::{ConceptKind, DimensionKind, Sheet};
 use std::test::Fail;
 
-// Sheets with the reason for which they are refused, if any.
+// Sheets, each with the reason why it is refused, if any.
 const SHEETS: [(Option<Reason>, &[&str]); 9] = [
     (Some(Reason::NotJson), &["", "{"]),
     // the form of a sheet
@@ -129,7 +129,6 @@ fn read_name(rt: &HostRuntime, aliases: &Aliases, text: &str) -> Result<Name, Re
 
 type Kinds = (Option<ConceptKind>, Option<DimensionKind>);
 
-// Returns the kinds that a sheet lists for a name, as a concept and as a dimension.
 fn kinds(rt: &HostRuntime, sheet: &Sheet, aliases: &Aliases, text: &str) -> Result<Kinds, Reason> {
     let name = read_name(rt, aliases, text)?;
     Ok((sheet.concept(&name), sheet.dimension(&name)))

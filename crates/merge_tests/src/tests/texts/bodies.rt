@@ -3,7 +3,7 @@ use crate::tests::asked_again::{INFO, OPEN_INFO};
 use crate::tests::canonical_parts::{END, HEAD, MIDDLE};
 use std::test::Fail;
 
-// Whole texts.
+// Tests whole texts.
 
 /// `INFO` with `zz` instead of `eg`.
 const OTHER_INFO: &str =

@@ -25,7 +25,7 @@ const WITH_NIL: &str =
 const WIDE: &str =
     r#""f1":{"decimals":0,"dimensions":{"concept":"n1:A"},"value":"100"},"f2":{"decimals":0,"dimensions":{"concept":"n1:A"},"value":"102"}"#;
 
-/// The refusal of a text with these facts that declares this level; None if the text is accepted.
+/// Returns why a text with these facts and this declared level is refused; None if it is accepted.
 fn refusal(
     alloc: Global,
     rt: &HostRuntime,
@@ -56,7 +56,6 @@ const NO_MEMORY: Option<Refusal> = Some(Refusal {
     place: Place::Document,
 });
 
-/// True if the text is refused at the document if `refused` is set, and accepted otherwise.
 fn is_held(rt: &HostRuntime, level: &str, facts: &str, refused: bool) -> Result<bool, Fail> {
     let expected = if refused { TOO_LOW } else { None };
     let mut found = refusal(rt.alloc(), rt, level, facts)?;
@@ -115,7 +114,7 @@ const ROWS: &[Row] = &[
         ],
         &[CONSISTENT_HEAD, ONE_URI, MIDDLE, WRITTEN_BOTH, END],
     ),
-    // merged texts may declare stricter levels than the result
+    // merged texts may declare a stricter level than the result
     (
         &[
             SHEET, LINE, HEAD, ONE_URI, MIDDLE, ONE_VALUE, "101", VALUE_END, LINE, HEAD, ONE_URI,

@@ -143,7 +143,7 @@ const ROWS: &[Row] = &[
             END,
         ],
     ),
-    // a tenth fact renumbers the other nine
+    // with ten facts, all identifiers have two digits
     (
         &[
             SHEET,

@@ -14,7 +14,6 @@ const WRITTEN: &str = r#""f1":{"dimensions":{"concept":"n1:"#;
 
 const BETWEEN: &str = r#""},"value":"#;
 
-/// True if a JSON value of the concept `A`, `T` or `Q` is written as this text.
 fn writes_value<'a>(
     rt: &HostRuntime,
     concept: &'a str,
@@ -70,7 +69,7 @@ fn values_have_one_text(rt: HostRuntime) -> Result<(), Fail> {
 
 /// Facts, the namespaces that they use, and their text.
 const FACTS: &[(&str, &str, &str)] = &[
-    // a name has a new prefix
+    // a name gets a new prefix
     (
         r#""a":{"value":"x:North","dimensions":{"concept":"eg:Q"}}"#,
         TWO_URIS,
@@ -104,7 +103,6 @@ fn spellings_of_one_fact_are_one(rt: HostRuntime) -> Result<(), Fail> {
     Ok(())
 }
 
-/// True if a fact with this unit is written with this text and these namespaces.
 fn writes_unit(rt: &HostRuntime, unit: &str, namespaces: &str, text: &str) -> Result<bool, Fail> {
     let said = r#""a":{"value":"1","dimensions":{"concept":"eg:A","unit":""#;
     let written = r#""f1":{"dimensions":{"concept":"n1:A""#;
@@ -138,7 +136,6 @@ fn units_have_one_text(rt: HostRuntime) -> Result<(), Fail> {
     Ok(())
 }
 
-/// True if a fact with this period is written with this text.
 fn writes_period(rt: &HostRuntime, period: &str, text: &str) -> Result<bool, Fail> {
     let said = r#""a":{"value":"1","dimensions":{"concept":"eg:A","period":""#;
     let written = r#""f1":{"dimensions":{"concept":"n1:A","period":""#;

@@ -60,8 +60,8 @@ fn push(
     }
 }
 
-/// True if a writer of this size takes exactly the first bytes of the text, and the fault reports
-/// their number.
+/// True if a writer of this size takes the first bytes of the text, and the fault reports their
+/// number.
 fn stops_at(
     alloc: Global,
     text: &[u8],

@@ -3,7 +3,6 @@ use oim_dims::Period;
 use oim_names::Reason;
 use std::test::Fail;
 
-// Returns the seconds of an instant.
 fn second(period: &Period) -> Option<i64> {
     match period {
         Period::Instant(moment) => Some(moment.seconds()),
@@ -11,7 +10,6 @@ fn second(period: &Period) -> Option<i64> {
     }
 }
 
-// Returns whether a text is read as the instant at this second.
 fn is_instant(rt: &HostRuntime, spelled: &str, seconds: i64) -> bool {
     match period(rt, spelled) {
         Ok(period) => second(&period) == Some(seconds),
@@ -112,7 +110,6 @@ fn bounds(period: &Period) -> Option<(i64, i64)> {
     }
 }
 
-// Returns whether a period is written as this text.
 fn has_text(rt: &HostRuntime, period: &Period, plain: &str) -> bool {
     match period_text(rt, period) {
         Ok(Some(written)) => written.as_str() == plain,
@@ -120,7 +117,6 @@ fn has_text(rt: &HostRuntime, period: &Period, plain: &str) -> bool {
     }
 }
 
-// Returns whether a period is written as this text and read back from it.
 fn is_written(rt: &HostRuntime, period: &Period, plain: &str) -> bool {
     has_text(rt, period, plain) && super::period(rt, plain) == Ok(*period)
 }
@@ -133,12 +129,10 @@ fn durations_are_read_and_written(rt: HostRuntime) -> Result<(), Fail> {
     Ok(())
 }
 
-// Returns whether a text is refused because its duration ends before it starts.
 fn is_backward(rt: &HostRuntime, spelled: &str) -> bool {
     period(rt, spelled) == Err(Reason::PeriodOrder)
 }
 
-// Returns whether two texts denote the same period.
 fn are_one(rt: &HostRuntime, spelled: &str, other: &str) -> bool {
     match period(rt, spelled) {
         Ok(found) => period(rt, other) == Ok(found),

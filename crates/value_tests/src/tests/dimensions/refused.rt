@@ -41,7 +41,6 @@ fn is_unit_copied(rt: &HostRuntime, set: &Dimensions) -> bool {
     }
 }
 
-// Returns whether a set and its copies have every part.
 fn are_parts_copied(rt: &HostRuntime, aliases: &Aliases) -> bool {
     match with(rt, aliases, "eg:A", &EVERY) {
         Ok(set) => has_every_part(&set) && equals_its_copy(rt, &set) && is_unit_copied(rt, &set),
@@ -83,7 +82,6 @@ fn is_fact_copied(rt: &HostRuntime, aliases: &Aliases) -> bool {
     is_copied(rt, full_fact(rt, aliases))
 }
 
-// Returns whether a fact with the value nil equals its copy.
 fn is_nil_copied(rt: &HostRuntime, aliases: &Aliases) -> bool {
     is_copied(rt, fact(rt, aliases, "eg:B", Value::Nil))
 }

@@ -12,8 +12,8 @@ pub(super) enum Kind {
     Nil,
 }
 
-// A part of a dimension set other than its concept, spelled as in a report. A member is given by
-// the name of its dimension and by its kind.
+// A part of a dimension set other than the concept, spelled as in a report. A member has the name
+// and the kind of its dimension.
 pub(super) enum Part {
     Entity(&'static str),
     Period(&'static str),
@@ -41,7 +41,7 @@ fn add_once(
     set.add(name, member(rt, aliases, kind)?)
 }
 
-// Adds a member. The call consumes name and member, so they are made again when it is repeated.
+// The call consumes the name and the member, so both are made again when it is repeated.
 fn add(
     rt: &HostRuntime,
     set: &mut Dimensions,
@@ -86,7 +86,6 @@ fn put_all(
     Ok(())
 }
 
-// Returns dimensions with this concept and these other parts.
 pub(super) fn with(
     rt: &HostRuntime,
     aliases: &Aliases,
@@ -138,7 +137,6 @@ const UNIT: [Part; 1] = [Part::Unit("x:a")];
 
 const PURE: [Part; 1] = [Part::Unit("xbrli:pure")];
 
-// Returns whether the set with the concept eg:A and this part has exactly the expected parts.
 fn is_set(rt: &HostRuntime, aliases: &Aliases, part: &[Part], wanted: (bool, bool, bool)) -> bool {
     match with(rt, aliases, "eg:A", part) {
         Ok(set) => has_just(&set, wanted.0, wanted.1, wanted.2),
@@ -229,7 +227,6 @@ fn push_nil(
     Ok(members.push((name, Member::Nil))?)
 }
 
-// Returns nil members with these names, in the given order.
 fn listed(
     rt: &HostRuntime,
     aliases: &Aliases,
@@ -242,7 +239,6 @@ fn listed(
     Ok(members)
 }
 
-// Returns whether `set_members` accepts nil members with these names.
 fn takes(rt: &HostRuntime, aliases: &Aliases, set: &mut Dimensions, names: &[&str]) -> bool {
     match listed(rt, aliases, names) {
         Ok(members) => set.set_members(members).is_ok(),
@@ -323,11 +319,10 @@ fn kinds_of_members_are_ordered(rt: HostRuntime) -> Result<(), Fail> {
     Ok(())
 }
 
-// A concept, and the other parts of a dimension set.
 type Row = (&'static str, &'static [Part]);
 
-// Dimension sets in ascending order. Absent parts are less than present ones, earlier parts count
-// before later ones, and a list is less than a longer one that begins with it.
+// Dimension sets in ascending order. Absent parts are less than present ones, and earlier parts are
+// compared first. A list is less than a longer list that begins with it.
 const RISING: [Row; 10] = [
     ("eg:A", &[]),
     ("eg:A", &[Part::Member("eg:a", Kind::Nil)]),
@@ -362,7 +357,6 @@ fn sets_are_ordered_part_by_part(rt: HostRuntime) -> Result<(), Fail> {
     Ok(())
 }
 
-// Returns a fact with this concept and this value.
 pub(super) fn fact(
     rt: &HostRuntime,
     aliases: &Aliases,
@@ -380,7 +374,6 @@ fn text_fact(rt: &HostRuntime, aliases: &Aliases) -> Result<Fact, Reason> {
     fact(rt, aliases, "eg:A", value)
 }
 
-// Returns whether a fact is less than a fact of another concept with the value nil.
 fn is_below_nil(rt: &HostRuntime, aliases: &Aliases) -> bool {
     let low = text_fact(rt, aliases);
     do_rise(low, fact(rt, aliases, "eg:B", Value::Nil))

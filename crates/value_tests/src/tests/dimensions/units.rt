@@ -4,7 +4,6 @@ use oim_names::{Aliases, Name, Reason, Text};
 use std::alloc::AllocError;
 use std::test::Fail;
 
-// Returns the text of a unit, or `None` if it cannot be written.
 fn unit_text(rt: &HostRuntime, aliases: &Aliases, unit: &Unit) -> Result<Option<Text>, AllocError> {
     if !can_write_unit(aliases, unit) {
         return Ok(None);
@@ -25,7 +24,6 @@ fn is_same(rt: &HostRuntime, aliases: &Aliases, spelled: &str, first: &Option<Un
     }
 }
 
-// Returns whether two texts denote the same unit.
 fn are_one(rt: &HostRuntime, aliases: &Aliases, spelled: &str, other: &str) -> bool {
     match unit(rt, aliases, spelled) {
         Ok(first) => is_same(rt, aliases, other, &first),
@@ -40,7 +38,6 @@ fn is_measure(rt: &HostRuntime, aliases: &Aliases, found: &Name, spelled: &str) 
     }
 }
 
-// Returns whether the names are the expansions of the texts.
 fn are_measures(rt: &HostRuntime, aliases: &Aliases, found: &[Name], spelled: &[&str]) -> bool {
     for (name, spelled) in found.iter().zip(spelled) {
         if !is_measure(rt, aliases, name, spelled) {
@@ -50,7 +47,6 @@ fn are_measures(rt: &HostRuntime, aliases: &Aliases, found: &[Name], spelled: &[
     found.len() == spelled.len()
 }
 
-// Returns whether a text denotes a unit with exactly these numerators and denominators.
 fn has_measures(
     rt: &HostRuntime,
     aliases: &Aliases,
@@ -94,7 +90,6 @@ fn measures_are_sorted_and_repeats_kept(rt: HostRuntime) -> Result<(), Fail> {
     Ok(())
 }
 
-// Returns whether a text denotes the expected unit, or none if none is expected.
 fn is_unit(rt: &HostRuntime, aliases: &Aliases, spelled: &str, wanted: bool) -> bool {
     match unit(rt, aliases, spelled) {
         Ok(found) => found.is_some() == wanted,
@@ -148,7 +143,6 @@ const NO_UNITS: [&str; 22] = [
     "(x:a)(x:b)",
 ];
 
-// Returns whether the text is refused for this reason.
 fn is_refused(rt: &HostRuntime, aliases: &Aliases, spelled: &str, reason: Reason) -> bool {
     unit(rt, aliases, spelled) == Err(reason)
 }

@@ -44,8 +44,7 @@ fn is_key_right(map: &Many, number: i64) -> bool {
     map.get(&place(number)).is_some() == there
 }
 
-// Returns whether the keys are the multiples of two and of three, tested on a sample of the
-// numbers.
+// Tests a sample of the numbers.
 fn are_keys_right(map: &Many) -> bool {
     for number in 0..200_000i64 {
         if number % 997 == 0 && !is_key_right(map, number) {
@@ -62,7 +61,6 @@ fn has_last(map: &Many) -> bool {
     }
 }
 
-// Returns whether the keys are exactly the multiples of two and of three.
 fn has_all_keys(map: &Many) -> bool {
     map.len() == 133_333 && are_keys_right(map) && has_last(map)
 }

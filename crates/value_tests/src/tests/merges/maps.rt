@@ -21,10 +21,8 @@ fn put_item(rt: &HostRuntime, map: &mut ItemsAt, key: &str, item: &str) -> Resul
     put(rt, map, &key, &set_of(rt, &[item])?)
 }
 
-// A key and an item.
 type Row = (&'static str, &'static str);
 
-// Returns a map to which each row's item was added at the row's key.
 fn map_of(rt: &HostRuntime, rows: &[Row]) -> Result<ItemsAt, AllocError> {
     let mut map = SortedMap::new(rt.alloc());
     for (key, item) in rows {
@@ -40,7 +38,7 @@ fn has_items(map: &ItemsAt, key: &Text, items: &[&str]) -> bool {
     }
 }
 
-// Returns whether a map has exactly these items at a key, or does not have the key if there are none.
+// Returns whether a map has exactly these items at a key. Without items, the key must be missing.
 fn has_at(rt: &HostRuntime, map: &ItemsAt, key: &str, items: &[&str]) -> Result<bool, AllocError> {
     let key = text(rt, key)?;
     Ok(has_items(map, &key, items))
@@ -88,7 +86,6 @@ fn absorbs_rows(rt: &HostRuntime, rows: &[Row], others: &[Row]) -> Result<bool, 
     is_merged(rt, &map)
 }
 
-// Rows of two maps.
 const MAPS: [(&[Row], &[Row]); 4] = [
     (&[("k", "a")], &[("m", "c"), ("k", "b")]),
     (&[("m", "c"), ("k", "b")], &[("k", "a")]),
@@ -119,7 +116,6 @@ type Pair = (Items, Items);
 
 type PairsAt = SortedMap<Text, Pair>;
 
-// Returns two sets of one item each.
 fn pair(rt: &HostRuntime, left: &str, right: &str) -> Result<Pair, AllocError> {
     let first = set_of(rt, &[left])?;
     Ok((first, set_of(rt, &[right])?))
@@ -130,7 +126,6 @@ fn keyed_pair(rt: &HostRuntime, left: &str, right: &str) -> Result<(Text, Pair),
     Ok((key, pair(rt, left, right)?))
 }
 
-// Returns a map with one entry, whose value is a pair of sets with one item each.
 fn pair_at(rt: &HostRuntime, left: &str, right: &str) -> Result<PairsAt, AllocError> {
     let mut entries = room(rt)?;
     entries.push_reserved(keyed_pair(rt, left, right)?);

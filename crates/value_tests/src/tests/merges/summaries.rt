@@ -13,7 +13,6 @@ pub(super) fn finite(number: i64) -> Decimals {
     }
 }
 
-// Returns the summary of a number with decimals.
 pub(super) fn rounded(spelled: &str, places: i64) -> Summary {
     match read_fixed(spelled) {
         Ok(number) => Summary::of(&Value::Number(number, finite(places))),
@@ -21,10 +20,8 @@ pub(super) fn rounded(spelled: &str, places: i64) -> Summary {
     }
 }
 
-// A number and its decimals.
 type Rounded = (&'static str, i64);
 
-// Merges the summaries of the numbers.
 fn merge_all(
     rt: &HostRuntime,
     summary: &mut Summary,
@@ -36,7 +33,6 @@ fn merge_all(
     Ok(())
 }
 
-// Returns whether the merge of the summaries has these ends.
 fn has_ends(
     rt: &HostRuntime,
     numbers: &[Rounded],
@@ -62,7 +58,7 @@ const ENDS: [(&[Rounded], i128, i128); 5] = [
         1015 * (UNIT / 10),
         1005 * (UNIT / 10),
     ),
-    // the ends are of different numbers
+    // the two ends belong to different numbers
     (
         &[("103", 0), ("104", -2)],
         1025 * (UNIT / 10),

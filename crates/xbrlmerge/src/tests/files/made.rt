@@ -111,7 +111,6 @@ fn make_all(rt: &HostRuntime, files: &[(&str, &str, &str)]) -> Result<(), Fail> 
     Ok(())
 }
 
-/// Creates the folder and the files, and changes into the folder.
 pub(super) fn made(rt: &HostRuntime) -> Result<(), Fail> {
     fs::create_dir_all(rt, FOLDER)?;
     env::set_current_dir(rt, FOLDER)?;

@@ -17,7 +17,7 @@ const NOTHING_TWICE: &[&str] = &[
     LINE_END,
 ];
 
-/// The texts of two replicas with 100 and 101.
+/// The texts of two replicas with the facts 100 and 101.
 const BOTH_TWICE: &[&str] = &[
     CONSISTENT_HEAD,
     ONE_URI,
@@ -35,7 +35,7 @@ const BOTH_TWICE: &[&str] = &[
     LINE_END,
 ];
 
-/// The texts of one replica with 100 and one without facts.
+/// The texts of a replica with the fact 100 and of a replica without facts.
 const ONE_AND_NOTHING: &[&str] = &[
     HEAD,
     ONE_URI,
@@ -132,7 +132,7 @@ pub(super) const REPLAYED: [Row; 10] = [
     ),
 ];
 
-/// A line, a file or the sheet stops the program, and nothing else is printed.
+/// A line, a file or the sheet stops the program. Nothing else is printed.
 pub(super) const STOPPED: [Row; 15] = [
     // a line that is not an event, before any report is opened
     (

@@ -2,8 +2,8 @@ use crate::tests::canonical_parts::{
     CONSISTENT_HEAD, CONTRADICTING_HEAD, END, HEAD, MIDDLE, MIDDLE_ALONE, ONE_URI, WRITTEN_HUNDRED,
 };
 
-/// Arguments and the results: the status, the parts of the text on standard output, and the lines
-/// on standard error.
+/// Arguments and results: the status, the parts of the text on standard output, and the lines on
+/// standard error.
 pub(super) type Row = (&'static str, u8, &'static [&'static str], &'static str);
 
 /// Arguments, the number of bytes that standard output takes, and the line that reports it.
@@ -22,16 +22,16 @@ const A_FOLDER: &str = "file .: cannot be read\n";
 /// The text without facts.
 const EMPTY: &[&str] = &[HEAD, MIDDLE_ALONE, END];
 
-/// The text of 100.
+/// The text of the fact 100.
 pub(super) const ONE: &[&str] = &[HEAD, ONE_URI, MIDDLE, WRITTEN_HUNDRED, END];
 
 pub(super) const FIRST: &str =
     r#""f1":{"decimals":0,"dimensions":{"concept":"n1:A"},"value":"100"},"f2":{"decimals":0,"dimensions":{"concept":"n1:A"},"value":"#;
 
-/// The text of 100 and 101.
+/// The text of the facts 100 and 101.
 const BOTH: &[&str] = &[CONSISTENT_HEAD, ONE_URI, MIDDLE, FIRST, r#""101"}"#, END];
 
-/// The text of 100 and 102.
+/// The text of the facts 100 and 102.
 const WIDE: &[&str] = &[CONTRADICTING_HEAD, ONE_URI, MIDDLE, FIRST, r#""102"}"#, END];
 
 pub(super) const MERGED: [Row; 17] = [
@@ -99,7 +99,7 @@ pub(super) const MERGED: [Row; 17] = [
     ),
 ];
 
-/// The line for row 1 if it contains 100 and 101.
+/// The line for row 1 if the row contains 100 and 101.
 const TOUCHING: &[&str] = &["1 f1 f2 consistent common 100.5 100.5\n"];
 
 const APART: &[&str] = &["1 f1 f2 inconsistent apart f1 f2\n"];
@@ -256,7 +256,7 @@ pub(super) const LISTED: [Row; 8] = [
     ),
 ];
 
-/// A file or the sheet stops the program, and nothing else is printed.
+/// A file or the sheet stops the program. Nothing else is printed.
 pub(super) const STOPPED: [Row; 13] = [
     ("merge --sheet none", 3, &[], NOT_READ),
     ("verdicts --sheet none list", 3, &[], NOT_READ),
