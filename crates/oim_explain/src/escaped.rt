@@ -1,6 +1,5 @@
 use std::fmt;
 
-/// At most this many characters of a text are shown.
 const MOST_CHARACTERS: usize = 80;
 
 /// A text that is safe to print on a terminal. Control characters, invisible characters, and

@@ -52,7 +52,6 @@ fn is_accepted(alloc: Global, sheet: &Sheet, bytes: &[u8]) -> Result<bool, Alloc
     }
 }
 
-/// Returns the message of `serde_json` for a file that is not JSON.
 pub(crate) fn message_of(alloc: Global, error: &Error) -> Result<String, AllocError> {
     if error.is_memory() {
         return Err(AllocError);
@@ -61,7 +60,6 @@ pub(crate) fn message_of(alloc: Global, error: &Error) -> Result<String, AllocEr
     format!(in alloc; "{}", Escaped(message.as_str()))
 }
 
-/// Returns the fault of a file that is not JSON, with the message of `serde_json`.
 pub(crate) fn unread<'m>(subject: Subject<'m>, message: &'m str, bytes: &[u8]) -> Finding<'m> {
     Finding {
         message: Some(message),
@@ -124,7 +122,6 @@ fn push_of_facts(
     Ok(())
 }
 
-/// Returns the identifiers of two facts that the declared level does not allow.
 fn two_facts<'t>(
     alloc: Global,
     sheet: &Sheet,

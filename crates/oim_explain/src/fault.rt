@@ -19,7 +19,6 @@ pub(crate) struct Fault<'f, 's> {
 }
 
 impl Fault<'_, '_> {
-    /// Appends the fault as a line of text.
     pub(crate) fn push_line(
         &self,
         alloc: Global,

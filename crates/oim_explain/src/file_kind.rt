@@ -1,6 +1,5 @@
 use serde_json::Value;
 
-/// Guesses the kind of a file that is not JSON from its first bytes.
 pub(crate) fn kind_of_bytes(bytes: &[u8]) -> Option<&'static str> {
     match bytes {
         [0x1f, 0x8b, ..] => Some("a gzip file: unpack it first"),
@@ -36,8 +35,8 @@ fn kind_of_text(text: &str) -> Option<&'static str> {
     }
 }
 
-/// Returns whether a line looks like a row of a table: it has a separator, no braces or colons as
-/// in JSON, and no space after a separator as in prose.
+/// Returns whether a line looks like a row of a table. JSON contains braces or colons, and prose has
+/// spaces after its commas.
 fn is_row(line: &str) -> bool {
     line.contains([',', ';', '\t'])
         && !line.contains(['{', '}'])

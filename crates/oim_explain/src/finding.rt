@@ -5,16 +5,14 @@ use oim_report::Part;
 use serde_json::Value;
 use std::alloc::{AllocError, Global};
 
-/// What a fault is about.
 #[derive(Clone, Copy)]
 pub(crate) enum Subject<'a> {
     Sheet,
     Report,
-    /// A fact, with its number and its identifier.
+    /// The number and the identifier of a fact.
     Fact(u64, &'a str),
 }
 
-/// A refusal of a file, with the part at fault.
 #[derive(Clone, Copy)]
 pub(crate) struct Finding<'a> {
     pub subject: Subject<'a>,
@@ -27,8 +25,8 @@ pub(crate) struct Finding<'a> {
 }
 
 impl<'a> Finding<'a> {
-    /// Returns a finding. A fraction is not shown: once parsed, it would not be printed as the
-    /// file spells it.
+    /// Returns a finding. A fraction is not shown, because it may be printed in another spelling
+    /// than in the file.
     pub(crate) fn new(subject: Subject<'a>, reason: Reason, part: Option<Part<'a>>) -> Finding<'a> {
         let part = match part {
             Some(Part::Value(value)) if value.is_f64() && reason >= Reason::ValueForm =>
@@ -45,7 +43,6 @@ impl<'a> Finding<'a> {
         }
     }
 
-    /// Returns the sentence that says what is wrong.
     pub(crate) fn sentence(&self, alloc: Global) -> Result<String, AllocError> {
         let mut sentence = String::new(alloc);
         self.push_said(alloc, &mut sentence)?;
@@ -76,7 +73,7 @@ impl<'a> Finding<'a> {
         }
     }
 
-    /// Returns what is said of a whole that is not an object.
+    /// Returns the sentence for a file or a fact that is not an object.
     fn whole(&self) -> &'static str {
         match self.subject {
             Subject::Sheet => {
@@ -88,7 +85,7 @@ impl<'a> Finding<'a> {
     }
 }
 
-/// Appends a part. Texts and values are written as JSON, and cut if they are long.
+/// Appends a part, with texts and values as JSON. Long ones are cut.
 fn push_part(alloc: Global, line: &mut String, part: Part<'_>) -> Result<(), AllocError> {
     match part {
         Part::Key(text) | Part::Name(text) | Part::Entity(text) => push_text(alloc, line, text),
@@ -111,7 +108,7 @@ fn push_part(alloc: Global, line: &mut String, part: Part<'_>) -> Result<(), All
     }
 }
 
-/// Appends a text as JSON. A long text is cut after its first characters and has no closing quote.
+/// Appends a text as JSON. A long text is cut, and two dots replace its closing quote.
 pub(crate) fn push_text(alloc: Global, line: &mut String, text: &str) -> Result<(), AllocError> {
     let front = front_of(text);
     let json = Value::String(String::from_str(alloc, front)?).to_string(alloc)?;
@@ -122,7 +119,7 @@ pub(crate) fn push_text(alloc: Global, line: &mut String, text: &str) -> Result<
     write!(line, "{}..", Escaped(open))
 }
 
-/// Appends a text as `push_text` does, or the first characters of another value.
+/// Appends a value as JSON. A long value is cut, and two dots follow.
 fn push_value(alloc: Global, line: &mut String, value: &Value) -> Result<(), AllocError> {
     if let Some(text) = value.as_str() {
         return push_text(alloc, line, text);

@@ -30,7 +30,6 @@ pub struct Explained {
     pub faults: u64,
 }
 
-/// Collects the lines for a file's faults.
 #[derive(Drop)]
 pub(crate) struct Lines<'n> {
     pub alloc: Global,
@@ -49,7 +48,6 @@ impl<'n> Lines<'n> {
         }
     }
 
-    /// Adds a line for a refusal.
     pub(crate) fn push(&mut self, finding: &Finding<'_>) -> Result<(), AllocError> {
         let (place, identifier) = match finding.subject {
             Subject::Fact(number, identifier) => (Place::Fact(number), Some(identifier)),

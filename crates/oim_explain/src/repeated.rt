@@ -5,14 +5,13 @@ use oim_report::after_mark;
 use std::alloc::{AllocError, Global};
 use std::str;
 
-/// The kind of document that a file is read as.
 #[derive(Clone, Copy)]
 pub(crate) enum Role {
     Report,
     Sheet,
 }
 
-/// Adds the repeated members in the parts that are read. A file that is not JSON adds none.
+/// Adds the repeated members of the objects that are read. It adds none if the file is not JSON.
 pub(crate) fn push_repeated(
     lines: &mut Lines<'_>,
     role: Role,

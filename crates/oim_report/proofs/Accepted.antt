@@ -15,8 +15,6 @@ use Rattle.oim_report.specs.Parts.{DimensionParts, FactParts, fact_parts}
 use Rattle.oim_report.specs.Said.{concept_kind, fact_of, fact_with, said_concept, said_dimensions, said_entity, said_fact, said_language, said_members, said_period, said_unit, said_value}
 use Rattle.oim_report.specs.Sheet.{Sheet}
 
--- ---- options
-
 pub and_then_some : {A B : Type 0} (g : A → Option B) (o : Option A) (b : B) → option_and_then g o ≡ Some b → (a : A) × (o ≡ Some a) × (g a ≡ Some b)
 and_then_some g None b e = absurd (cc)
 and_then_some g (Some a) b e = (a, refl, e)
@@ -24,8 +22,6 @@ and_then_some g (Some a) b e = (a, refl, e)
 pub map_some : {A B : Type 0} (g : A → B) (o : Option A) (b : B) → option_map g o ≡ Some b → (a : A) × (o ≡ Some a) × (g a ≡ b)
 map_some g None b e = absurd (cc)
 map_some g (Some a) b e = (a, refl, cc)
-
--- ---- parts
 
 pub record EachSays (sheet : Sheet) (bs : List Binding) (kind : ConceptKind) (ds : DimensionParts) (said : DimensionSet) : Type 0 where
   pub concept : said_concept bs ds.concept ≡ Some said.concept
@@ -52,8 +48,6 @@ each_says sheet bs kind ds said e =
       language = f.1 ∙ ap (λ (s : DimensionSet). Some s.language) is;
       members = g.1 ∙ ap (λ (s : DimensionSet). Some s.members) is;
     }
-
--- ---- a fact
 
 pub record IsSaid (sheet : Sheet) (bs : List Binding) (p : FactParts) (ds : DimensionParts) (f : Fact) : Type 0 where
   pub kind : ConceptKind

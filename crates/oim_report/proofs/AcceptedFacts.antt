@@ -1,4 +1,4 @@
--- If nothing refuses an object, it says its fact member by member, and the fact fits the sheet.
+-- An accepted object says its fact, and the fact fits the sheet.
 use Rattle.std.proofs.Common.{◌≡◌, ℕ, ◌+◌, List, [], ◌∷◌, map as each_of, Some, Result, Ok, Err, refl, sym, ap, subst, ◌∙◌, arith}
 use Rattle.std.specs.Prelude.{All, option_and_then}
 use Rattle.std.specs.List.{AllZip}
@@ -74,8 +74,6 @@ module _ (sheet : Sheet) (bs : List Binding) (are : AreNamespaces bs) (p : FactP
     value = value_fits bs is.kind p.value p.decimals f.value are clean.value value_is;
   }
 
--- ---- one object
-
 pub fact_said : (sheet : Sheet) (bs : List Binding) (d : Data) (f : Fact) → AreNamespaces bs → fact_outcome sheet bs d ≡ Ok f → ObjectSays sheet bs d f
 fact_said sheet bs d f are e =
     let has = accepted sheet bs d f e in
@@ -85,8 +83,6 @@ pub fact_fits : (sheet : Sheet) (bs : List Binding) (d : Data) (f : Fact) → Ar
 fact_fits sheet bs d f are e =
     let has = accepted sheet bs d f e in
     accepted_fits sheet bs are has.parts has.dimensions f (are_clean d has.parts has.are) has.there has.said
-
--- ---- all objects
 
 pub ok_of : {A B : Type 0} (g : A → B) (r : Result A Refusal) (b : B) → map_ok g r ≡ Ok b → (a : A) × (r ≡ Ok a) × (g a ≡ b)
 ok_of g (Ok a) b e = (a, refl, cc)

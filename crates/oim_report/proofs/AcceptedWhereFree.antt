@@ -22,8 +22,6 @@ use Rattle.oim_report.proofs.AcceptedFacts.{next, ok_of}
 use Rattle.oim_report.proofs.Documents.{document_is_said, document_said, is_allowed, not_refused}
 use Rattle.oim_report.proofs.OneDocument.{says_one_document}
 
--- ---- no condition applies to an accepted report
-
 pub one_free : (sheet : Sheet) (bs : List Binding) (d : Data) (f : Fact) → fact_outcome sheet bs d ≡ Ok f → IsFree sheet bs d
 one_free = said_is_free
 
@@ -55,8 +53,6 @@ tree_accepts sheet bytes tree d read e =
 some_accepts : (sheet : Sheet) (bytes : List ℕ) (o : Option Data) (d : Document) → json bytes ≡ o → tree_outcome sheet o ≡ Ok d → Accepts sheet bytes d
 some_accepts sheet bytes None d read e = absurd (cc)
 some_accepts sheet bytes (Some tree) d read e = tree_accepts sheet bytes tree d read e
-
--- ---- a report to which no condition applies is accepted
 
 pub one_said : (sheet : Sheet) (bs : List Binding) (d : Data) → IsFree sheet bs d → (f : Fact) × (fact_outcome sheet bs d ≡ Ok f)
 one_said = free_is_said

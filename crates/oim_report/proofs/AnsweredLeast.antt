@@ -15,7 +15,6 @@ use Rattle.oim_report.specs.Least.{IsLeast, least}
 use Rattle.oim_report.proofs.LeastOf.{least_is, none_is}
 use Rattle.oim_report.proofs.SaidWhereFree.{facts_are_said}
 
--- an object to which no condition applies says a fact
 pub free_is_said : (sheet : Sheet) (bs : List Binding) (d : Data) → IsFree sheet bs d → (f : Fact) × (fact_outcome sheet bs d ≡ Ok f)
 free_is_said sheet bs d free =
     let f = facts_are_said sheet bs d free in

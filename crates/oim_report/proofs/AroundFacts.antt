@@ -86,7 +86,6 @@ lex_end s h = ap (lex between) (sym (append-nil s)) ∙ lex_spaces s [] h ∙ le
 
 -- ---- texts of members, by their tokens
 
--- white space may come before members
 led : (s a : List ℕ) (ms : Members) → AreSpaces s → Members_of a ms → Members_of (s ++ a) ms
 led s a ms h m = record {
   ls = m.ls;
@@ -102,7 +101,6 @@ keyed_body : (ms : Members) (ts : List Token) → HasSome ms → IsKeyed (body m
 keyed_body j.no_members ts h = absurd h
 keyed_body (j.member k v ms) ts h = tt
 
--- a comma with white space before it may join two texts of members
 both_members : (a s b : List ℕ) (ms ns : Members) → AreSpaces s → HasSome ns → Members_of a ms → Members_of b ns → Members_of (a ++ (s ++ 44 ∷ b)) (plus ms ns)
 both_members a s b ms ns h some m n = record {
   ls = m.ls ++ comma ∷ n.ls;
@@ -117,7 +115,6 @@ both_members a s b ms ns h some m n = record {
       ∙ sym (append_assoc (body ms) (body ns) (punctuate after_value more)) ∙ ap (λ l. l ++ punctuate after_value more) (sym (body_both ms ns));
 }
 
--- the text of the member `facts` is read as this one member
 wrapped : (s3 s4 f s5 : List ℕ) (fs : Members) → AreSpaces s3 → AreSpaces s4 → AreSpaces s5 → Members_of f fs → Members_of (facts_text s3 s4 f s5) (j.member (codes "facts") (j.object fs) j.no_members)
 wrapped s3 s4 f s5 fs h3 h4 h5 m =
     let k = codes "facts" in
@@ -188,7 +185,6 @@ facts_give s3 s4 f s5 found h3 h4 h5 g =
       shallow = omega (arith, deep);
     }
 
--- members in braces are read as an object; white space may come before the object, after it and before its closing brace
 pub document_gives : (s0 m s7 s8 : List ℕ) (found : d.Members) → AreSpaces s0 → AreSpaces s7 → AreSpaces s8 → Gives m 126 found → read (s0 ++ 123 ∷ (m ++ (s7 ++ 125 ∷ s8))) ≡ Some (d.object found)
 document_gives s0 m s7 s8 found h0 h7 h8 g =
     let all = j.object g.ms in

@@ -23,7 +23,6 @@ abbrev pub bound_after : List Binding → Members → Option (List Binding)
 bound_after bs no_members = Some bs
 bound_after bs (member key d ms) = bound_step bs key (text_of (given d)) (λ more. bound_after more ms)
 
--- no key is bound
 abbrev AreFree : List Binding → List Entry → Type 0
 AreFree bs es = AllByRecursion (λ (e : Entry). uri_of bs (string_bytes e.0) ≡ None) es
 
@@ -46,7 +45,6 @@ all_fresh : (es : List Entry) → AreFree [] es
 all_fresh [] = tt
 all_fresh (e ∷ es) = (refl, all_fresh es)
 
--- one step of the next lemma
 by_text : (bs : List Binding) (k : List ℕ) (rest : Members) (o : Option (List ℕ)) (more : List Binding → Option (List Binding)) (any : Bool)
     → uri_of bs k ≡ None
     → ((u : List ℕ) → more (bs ++ (record { prefix = k; uri = u }) ∷ []) ≡ cond any None (Some ((bs ++ (record { prefix = k; uri = u }) ∷ []) ++ bindings_in rest)))
@@ -79,14 +77,12 @@ by_other_case : (b : Bool) (bs cs : List Binding) → cond b None (Some bs) ≡ 
 by_other_case true bs cs e = absurd (cc)
 by_other_case false bs cs e = (cc, refl)
 
--- the loop fails exactly if some entry binds nothing
 pub all_refused : (es : List Entry) → IsStrictlySortedBy string_cmp (keys_of es) → bound_after [] (members_view es) ≡ None → any_member binds_nothing (members_view es) ≡ true
 all_refused es ascend e = by_case _ (bindings_in (members_view es)) (sym (bound_all es ascend) ∙ e)
 
 pub all_bound : (es : List Entry) (bs : List Binding) → IsStrictlySortedBy string_cmp (keys_of es) → bound_after [] (members_view es) ≡ Some bs → (bs ≡ bindings_in (members_view es)) × (any_member binds_nothing (members_view es) ≡ false)
 all_bound es bs ascend e = by_other_case _ (bindings_in (members_view es)) bs (sym (bound_all es ascend) ∙ e)
 
--- the loop stops at an entry that binds nothing
 pub stops_at : (bs : List Binding) (es rest : List Entry) (e : Entry) → es ≡ e ∷ rest → text_of (given (view e.1)) ≡ None → bound_after bs (members_view es) ≡ None
 stops_at bs es rest e is none = rw (is, none) refl
 

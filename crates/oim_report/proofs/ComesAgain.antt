@@ -57,7 +57,6 @@ module _ {K : Type 0} where
   some_or true v o = refl
   some_or false v o = refl
 
-  -- some name is in the map with a new entry exactly if it is the entry's name or was in the map before
   with_name : (m : FinMap name_cmp K) (n : QName) (k : K) (ns : List QName) → list_any (λ q. map.contains_key (map.insert m n k) q) ns ≡ (list_any (λ q. is_eq (name_cmp n q)) ns || list_any (λ q. map.contains_key m q) ns)
   with_name m n k [] = refl
   with_name m n k (q ∷ qs) =
@@ -67,7 +66,6 @@ module _ {K : Type 0} where
   pub put_as : (m : FinMap name_cmp K) (n : QName) (k : K) → map.contains_key m n ≡ false → (if map.contains_key m n then m else map.insert m n k) ≡ map.insert m n k
   put_as m n k new = ap (λ b. if b then m else map.insert m n k) new
 
-  -- if a name is new, only the names after it remain to be tested
   pub next : (m after : FinMap name_cmp K) (n : QName) (k : K) (ns : List QName) → map.contains_key m n ≡ false → after ≡ (if map.contains_key m n then m else map.insert m n k) → again_after after ns ≡ again_after m (n ∷ ns)
   next m after n k ns new put =
       ap (λ m. again_after m ns) (put ∙ put_as m n k new)
@@ -75,9 +73,6 @@ module _ {K : Type 0} where
       ∙ regrouped (list_any (λ q. is_eq (name_cmp n q)) ns) (list_any (λ q. map.contains_key m q) ns) (comes_again ns)
       ∙ ap (λ b. (b || list_any (λ q. map.contains_key m q) ns) || comes_again (n ∷ ns)) (sym new)
 
--- ---- names as they are read
-
--- a text that is refused names nothing
 refused_by : (bs : List Binding) (t : List ℕ) (r : Reason) (o : Option QName) → name_refusal bs t ≡ Some r → named bs t ≡ o → o ≡ None
 refused_by bs t r None refused is = refl
 refused_by bs t r (Some n) refused is = let no : None ≡ Some r = sym (named_kept is_name bs t n (stands is_name bs t n is)) ∙ refused in absurd (cc)
@@ -85,7 +80,6 @@ refused_by bs t r (Some n) refused is = let no : None ≡ Some r = sym (named_ke
 pub refused_none : (bs : List Binding) (t : List ℕ) (r : Reason) → name_refusal bs t ≡ Some r → named bs t ≡ None
 refused_none bs t r refused = refused_by bs t r (named bs t) refused refl
 
--- a text names nothing if reading it returns a refusal
 pub read_none : (bs : List Binding) (t : List ℕ) (read : Result QName Reason) → None ≡ result_ok read → read ≢ Err OutOfMemory → IfErr read (λ r. (r ≡ OutOfMemory) ⊎ (name_refusal bs t ≡ Some r)) → named bs t ≡ None
 read_none bs t (Ok m) is other e = absurd (cc)
 read_none bs t (Err r) is other (inl memory) = absurd (other (ap Err memory))

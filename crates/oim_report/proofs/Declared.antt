@@ -30,7 +30,6 @@ goes_on : (declared : Option Level) (g : Given) (gs : List Given) (l : Level) (f
 goes_on None g gs l found first again is = first_declares g gs l (sym (first refl) ∙ is)
 goes_on (Some m) g gs l found first again is = absurd (let none : found ≡ None = again refl in cc)
 
--- the loop over the features reads each declaration
 walked : (bs : List Binding) (declared : Option Level) (es rest : List Entry) (e : Entry) (key : List ℕ) (g : Given)
     → es ≡ e ∷ rest → key ≡ string_bytes e.0 → is_allowed_duplicates bs key ≡ true → g ≡ given (view e.1)
     → level_after declared (declarations bs (members_view es)) ≡ level_after declared (g ∷ declarations bs (members_view rest))
@@ -47,7 +46,6 @@ pub goes_on_at : (bs : List Binding) (declared : Option Level) (es rest : List E
 goes_on_at bs declared es rest e key g l found is name allowed value first again some =
     goes_on declared g (declarations bs (members_view rest)) l found first again some ∙ sym (walked bs declared es rest e key g is name allowed value)
 
--- the loop stops at a second declaration or an unknown level
 pub stops_at : (bs : List Binding) (declared : Option Level) (es rest : List Entry) (e : Entry) (key : List ℕ) (g : Given) (found : Option Level)
     → es ≡ e ∷ rest → key ≡ string_bytes e.0 → is_allowed_duplicates bs key ≡ true → g ≡ given (view e.1)
     → (declared ≡ None → found ≡ said_level (g ∷ [])) → found ≡ None

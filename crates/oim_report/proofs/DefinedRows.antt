@@ -26,7 +26,6 @@ use Rattle.oim_report.proofs.Naming.{expanded}
 use Rattle.oim_report.proofs.Repeated.{repeated_some}
 use Rattle.oim_report.proofs.ShownParts.{find_filter, found_any, shown_found}
 
--- the first dimension that the sheet does not list
 pub unlisted_shown : (test : List ℕ → Data → Bool) (ms : Members) → let first = find (λ m. test m.0 m.1) (defined_members ms) in
     option_map (λ m. name (a_name m.0)) (first_defined test ms) ≡ when (list_any (λ m. test m.0 m.1) (defined_members ms)) (option_map_or (λ m. name (a_name m.0)) first nothing)
 unlisted_shown test ms =
@@ -35,7 +34,6 @@ unlisted_shown test ms =
     ∙ shown_found (λ m. name (a_name m.0)) first
     ∙ ap (λ b. when b (option_map_or (λ m. name (a_name m.0)) first nothing)) (found_any (λ m. test m.0 m.1) (defined_members ms))
 
--- the first member that passes a test, or else another one
 pub either_shown : (o p : Option (List ℕ × Data)) (a b : Bool) (f g : List ℕ × Data → Shown) → is_some o ≡ a → is_some p ≡ b → option_or (option_map f o) (option_map g p) ≡ when (a || b) (option_map_or f o (option_map_or g p nothing))
 either_shown None None true b f g h k = absurd (cc)
 either_shown None None false true f g h k = absurd (cc)
@@ -59,8 +57,6 @@ module _ (sheet : Sheet) (bs : List Binding) (ms : Members) where
       ap (λ o. option_or (option_map entry o) (option_map two_of (repeated bs [] (defined_members ms)))) (find_filter (λ m. is_defined m.0) misfit (entries ms))
       ∙ either_shown (find misfit (defined_members ms)) (repeated bs [] (defined_members ms)) _ _ entry two_of (found_any misfit (defined_members ms)) (repeated_some bs (defined_members ms))
 
--- ---- keys
-
 and_true : (b : Bool) → b ≡ (b && true)
 and_true true = refl
 and_true false = refl
@@ -68,7 +64,6 @@ and_true false = refl
 pub colon_utf8 : (key : List ℕ) → IsUtf8 key → has_colon key ≡ is_defined key
 colon_utf8 key utf8 = and_true (has_colon key) ∙ ap (λ b. has_colon key && b) (sym (is_utf8-from_IsUtf8 key utf8))
 
--- reading a key returns the name that the key expands to
 as_read : (bs : List Binding) (t : List ℕ) (read : Result QName Reason) → IfOk read (Expands bs t) → IfErr read (λ r. (r ≡ OutOfMemory) ⊎ (name_refusal bs t ≡ Some r)) → read ≢ Err OutOfMemory → result_ok read ≡ named bs t
 as_read bs t (Ok n) e refused other = sym (expanded is_name bs t n e)
 as_read bs t (Err r) e refused other = sym (read_none bs t (Err r) refl other refused)
@@ -133,7 +128,6 @@ module _ (sheet : Sheet) (bs : List Binding) (fact : Data) (ms : Members) (r : R
       (either (first of_entity) _ ∙ ap (option_or (shown of_entity))
       (either (first (names_in sheet bs ms)) _ ∙ ap (option_or (shown (names_in sheet bs ms))) (either (first of_unit) (first of_value))))
 
-  -- the first name is in the part that has one, if the parts before have none
   pub from_entity : (x : Shown) → None ≡ shown of_concept → Some x ≡ shown of_entity → Some x ≡ shown (names sheet bs fact ms)
   from_entity x c e = (λ i. option_or (c i) (option_or (e i) (option_or (shown (names_in sheet bs ms)) (option_or (shown of_unit) (shown of_value))))) ∙ sym shown_parts
 

@@ -158,7 +158,6 @@ flat false false false false false true g = refl
 flat false false false false false false true = refl
 flat false false false false false false false = refl
 
--- the first refusal in the two groups
 abbrev pub grouped_refusal : Data → Option Reason
 grouped_refusal tree = first_refusal (shape_refusal tree ∷ info_refusal tree ∷ [])
 
@@ -174,7 +173,6 @@ document_least tree =
     (behind_test (is_none (base_said tree)) BaseUrl _ _ (λ based. λ i. if taxonomy_same tree based i then Some TaxonomyUrl else (if feature_same tree i then Some Feature else None))
     ∙ ap (λ b. if b then Some BaseUrl else (if document_holds tree TaxonomyUrl then Some TaxonomyUrl else (if document_holds tree Feature then Some Feature else None))) (base_same (info (codes "baseURL") tree))))
 
--- the refusal for the form is the first of its three conditions that applies
 pub shape_same : (tree : Data) → find (document_holds tree) (MemberForm ∷ UnknownMember ∷ DocumentType ∷ []) ≡ shape_refusal tree
 unfolding document_holds
 shape_same tree =

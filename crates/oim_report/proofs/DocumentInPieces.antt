@@ -32,8 +32,6 @@ use Rattle.oim_report.proofs.Texts.{passes}
 use Rattle.oim_report.specs.Pieces.{IsPiece}
 use Rattle.oim_report.specs.code.Pieces.{IsOutline}
 
--- ---- the contents that do not depend on the facts
-
 abbrev pub whole : Members → Members → Data
 whole ms fs = object (put (codes "facts") (object fs) ms)
 
@@ -110,8 +108,6 @@ not_refused_whole ms fs e =
     let shape : shape_refusal (whole ms fs) ≡ None = λ i. first_holding ((misshapen_same ms fs each.0 i, MemberForm) ∷ (unknown_same ms fs each.1 i, UnknownMember) ∷ ((type_same ms fs ∙ each.2) i, DocumentType) ∷ []) in
     sym (document_least (whole ms fs)) ∙ (λ i. first_refusal (shape i ∷ (info_refusal_same ms fs ∙ info.0) i ∷ []))
 
--- ---- the document
-
 pub whole_outcome : (sheet : Sheet) (bytes : List ℕ) (tree : Data) (ms fs : Members) (facts : List Fact) (references : List (List ℕ)) (level : Level) → tree ≡ object ms → json bytes ≡ Some (whole ms fs)
     → document_refusal tree ≡ None → facts_said sheet (bindings_of tree) fs ≡ Ok facts → references_said tree ≡ Some references → level_said tree ≡ Some level → is_lt (level_cmp level (level_of facts)) ≡ false
     → outcome sheet bytes ≡ Ok (record { facts = facts; references = references; level = level })
@@ -126,8 +122,6 @@ whole_outcome sheet bytes tree ms fs facts references level t read accepted said
     let made : document_with all facts ≡ document = λ i. record { facts = facts; references = unwrap_or (refs i) []; level = unwrap_or (lev i) AllLevel } in
     ap (tree_outcome sheet) read ∙ ap (λ o. unless_refused o (then_allowed (map_ok (document_with all) (facts_said sheet (bindings_of all) (facts_of all))))) none
     ∙ ap (λ o. then_allowed (map_ok (document_with all) o)) same ∙ ap allowed made ∙ ap (λ b. if b then Err (at AtDocument DisallowedDuplicates) else Ok document) above
-
--- ---- the result of the reader
 
 pub taken : {A E : Type 0} (r : Result A E) (x : A) (P : A → Type 0) → IfOk r P → Some x ≡ result_ok r → P x
 taken (Ok a) x P h e = let same : a ≡ x = cc in subst P same h

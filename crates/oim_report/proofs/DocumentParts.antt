@@ -17,7 +17,6 @@ use Rattle.oim_report.specs.Namespaces.{binds_nothing}
 use Rattle.oim_report.proofs.FoundWith.{flat}
 use Rattle.oim_report.proofs.ValueWords.{by_given}
 
--- an entry that cannot be bound alone is refused
 pub alone : {A : Type 0} (read : Result A Reason) (b : Bool) → ((read ≡ Err Namespace) ↔ IsTrue b) → IfErr read (λ e. (e ≡ Namespace) ⊎ (e ≡ OutOfMemory)) → read ≢ Err OutOfMemory → is_none (result_ok read) ≡ b
 alone (Ok a) true h e ne = let no : Ok a ≡ Err Namespace = h.1 refl in absurd (cc)
 alone (Ok a) false h e ne = refl
@@ -32,7 +31,6 @@ pub or_false : (b : Bool) → (b || false) ≡ b
 or_false true = refl
 or_false false = refl
 
--- an entry of `namespaces`, whose value is a text or not
 pub with_text : (key : List ℕ) (d : Data) (u : List ℕ) → text_of (given d) ≡ Some u → is_refused_binding [] key u ≡ binds_nothing key d
 with_text key d u is = or_false (not (is_part key) || bytes_eq u []) ∙ ap (λ o. not (is_part key) || option_map_or (λ t. bytes_eq t []) o true) (sym is)
 
@@ -43,7 +41,6 @@ mapped_or : (o : Option Parts) → unwrap_or (option_map Some o) None ≡ o
 mapped_or None = refl
 mapped_or (Some p) = refl
 
--- a base that is refused counts as no base
 base_or : (o : Option Data) → unwrap_or (said_base (given_of o)) None ≡ option_and_then base_url (option_and_then as_text o)
 base_or None = refl
 base_or (Some d) = by_given (λ g t w n. unwrap_or (said_base g) None ≡ option_and_then base_url t) refl (λ t. mapped_or (base_url t)) (λ n. refl) refl d
@@ -51,7 +48,6 @@ base_or (Some d) = by_given (λ g t w n. unwrap_or (said_base g) None ≡ option
 pub flat_base : (o : Option Data) → option_flatten (said_base (given_of o)) ≡ option_and_then base_url (option_and_then as_text o)
 flat_base o = flat (said_base (given_of o)) ∙ base_or o
 
--- a condition that one other condition may hide
 pub hidden : (b c : Bool) → (not b && c) ≡ (not (b || false) && c)
 hidden true c = refl
 hidden false c = refl

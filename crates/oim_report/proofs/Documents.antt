@@ -1,4 +1,4 @@
--- If nothing refuses a report, its bytes say the document that is read.
+-- The bytes of an accepted report say the document that is read.
 use Rattle.std.proofs.Common.{◌≡◌, ℕ, List, [], ◌∷◌, Bool, true, false, cond, Option, Some, None, Result, Ok, Err, refl, ap, subst, ◌∙◌}
 use Rattle.std.specs.Prelude.{All, is_none}
 use Rattle.oim_report.specs.FactFits.{FactFits}
@@ -40,7 +40,6 @@ in_members : (o : Option Members) → any_in binds_nothing o ≡ false → any_m
 in_members None e = refl
 in_members (Some ms) e = e
 
--- the prefixes of an accepted report are bound to namespaces
 pub bindings_are_namespaces : (tree : Data) → document_refusal tree ≡ None → AreNamespaces (bindings_of tree)
 bindings_are_namespaces tree e =
     let groups = none_of (shape_refusal tree) _ (document_least tree ∙ e) in
@@ -67,7 +66,6 @@ pub not_refused : (o : Option Reason) (r : Result Document Refusal) (d : Documen
 not_refused None r d e = (refl, e)
 not_refused (Some q) r d e = absurd (cc)
 
--- the bytes of an accepted report say its document
 pub document_is_said : (sheet : Sheet) (bytes : List ℕ) (tree : Data) (fs : List Fact) → json bytes ≡ Some tree → document_refusal tree ≡ None → facts_said sheet (bindings_of tree) (facts_of tree) ≡ Ok fs → SaysDocument sheet bytes (document_with tree fs)
 document_is_said sheet bytes tree fs read none said =
     let groups = none_of (shape_refusal tree) _ (document_least tree ∙ none) in
@@ -92,11 +90,8 @@ pub document_said : (sheet : Sheet) (bytes : List ℕ) (o : Option Data) (d : Do
 document_said sheet bytes None d read e = absurd (cc)
 document_said sheet bytes (Some tree) d read e = tree_says sheet bytes tree d read e
 
--- the facts of an accepted report fit the sheet
 pub report_fits : (sheet : Sheet) (tree : Data) (fs : List Fact) → document_refusal tree ≡ None → facts_said sheet (bindings_of tree) (facts_of tree) ≡ Ok fs → All (FactFits sheet) fs
 report_fits sheet tree fs none e = facts_fit sheet (bindings_of tree) (facts_of tree) fs (bindings_are_namespaces tree none) e
-
--- ---- for bytes
 
 pub outcomes_are_said : OutcomesAreSaid
 unfolding outcome

@@ -3,12 +3,11 @@ use Rattle.std.proofs.Common.{◌≡◌, List, [], ◌∷◌, Bool, true, false,
 use Rattle.std.specs.Prelude.{Option, Some, None, if◌then◌else◌}
 use Rattle.oim_names.specs.declared.reason.Reason.{Reason}
 
--- the refusal of the first condition that applies; each has a test and a refusal
+-- the first reason whose test passes
 abbrev pub first_holding : List (Bool × Reason) → Option Reason
 first_holding [] = None
 first_holding (c ∷ cs) = if c.0 then Some c.1 else first_holding cs
 
--- the first refusal, or the later one if there is none
 abbrev pub or_refusal : Option Reason → Option Reason → Option Reason
 or_refusal None later = later
 or_refusal (Some reason) later = Some reason
@@ -21,7 +20,6 @@ pub none_of : (r s : Option Reason) → or_refusal r s ≡ None → (r ≡ None)
 none_of None s e = (refl, e)
 none_of (Some r) s e = absurd (cc)
 
--- later conditions matter only if the condition before them does not apply
 pub behind_test : (b : Bool) (r : Reason) (s t : Option Reason) → (b ≡ false → s ≡ t) → (if b then Some r else s) ≡ (if b then Some r else t)
 behind_test true r s t same = refl
 behind_test false r s t same = same refl

@@ -12,7 +12,7 @@ abbrev pub facts_step : ℕ → List Fact → Result Fact Reason → (ℕ → Li
 facts_step n done (Ok fact) more = more (n + 1) (done ++ fact ∷ [])
 facts_step n done (Err reason) more = Err (at (AtFact n) reason)
 
--- the facts read so far and the facts of further objects, or the first refusal; objects are counted from n
+-- the facts so far and the facts of further objects, or the first refusal; the next object has the number n
 abbrev pub facts_after : (Data → Result Fact Reason) → ℕ → List Fact → List Data → Result (List Fact) Refusal
 facts_after read n done [] = Ok done
 facts_after read n done (d ∷ ds) = facts_step n done (read d) (λ m more. facts_after read m more ds)

@@ -32,8 +32,6 @@ use Rattle.oim_report.proofs.AcceptedWhereFree.{accepted_where_free}
 use Rattle.oim_report.proofs.AnsweredLeast.{answered_is_least}
 use Rattle.oim_report.proofs.LeastOf.{first_told}
 
--- ---- a fact object
-
 object_first : (sheet : Sheet) (bs : List Binding) (d : Data) → first (told (holds sheet bs d)) ≡ result_err (fact_outcome sheet bs d)
 object_first sheet bs d = first_told (holds sheet bs d) ∙ answered_is_least sheet bs d
 
@@ -41,12 +39,9 @@ by_told : (place : Place) (rs : List Reason) (r : Refusal) → first_of (map (at
 by_told place [] r e = absurd (cc)
 by_told place (s ∷ rs) r e = let same : at place s ≡ r = cc in ap (λ (x : Refusal). Some x.reason) same
 
--- the first fault of a fact object is its refusal
 pub refused_by_first : (sheet : Sheet) (bs : List Binding) (d : Data) (place : Place) (r : Refusal) → first_of (map (at place) (told (holds sheet bs d))) ≡ Some r → fact_outcome sheet bs d ≡ Err r.reason
 refused_by_first sheet bs d place r e =
     ap (λ o. fact_or o (option_and_then (said_fact sheet bs) (fact_parts d))) (sym (first_told (holds sheet bs d)) ∙ by_told place (told (holds sheet bs d)) r e)
-
--- ---- several fact objects
 
 none_first : (place : Place) (rs : List Reason) (later : List Refusal) → first rs ≡ None → first_of (map (at place) rs ++ later) ≡ first_of later
 none_first place [] later h = refl
@@ -67,8 +62,6 @@ next_first n rs later (Err r) os here there = some_first (AtFact n) rs later r h
 facts_first : (sheet : Sheet) (bs : List Binding) (n : ℕ) (ds : List Data) → first_of (faults_from sheet bs n ds) ≡ result_err (all_or_first n (map (fact_outcome sheet bs) ds))
 facts_first sheet bs n [] = refl
 facts_first sheet bs n (d ∷ ds) = next_first n (told (holds sheet bs d)) (faults_from sheet bs (n + 1) ds) (fact_outcome sheet bs d) (map (fact_outcome sheet bs) ds) (object_first sheet bs d) (facts_first sheet bs (n + 1) ds)
-
--- ---- a report
 
 none_else : (xs ys : List Refusal) → first_of xs ≡ None → or_else xs ys ≡ ys
 none_else [] ys h = refl
@@ -129,7 +122,6 @@ module _ (sheet : Sheet) (tree : Data) where
   at_most_one true r = refl
   at_most_one false r = refl
 
-  -- if the document and the facts have no faults, the refusal is the fault of the level
   pub level_alone : map (at AtDocument) (told (document_holds tree)) ≡ [] → found ≡ [] → option_to_list (result_err (tree_outcome sheet (Some tree))) ≡ tree_faults sheet tree
   level_alone none free =
       let last : tree_faults sheet tree ≡ level_faults sheet tree = λ i. or_else (none i) (or_else (free i) (level_faults sheet tree)) in
@@ -142,8 +134,6 @@ by_read sheet (Some tree) = tree_first sheet tree
 pub first_fault : FirstFaultIsAnswered
 unfolding faults outcome
 first_fault sheet bytes = by_read sheet (json bytes)
-
--- ---- reports without faults
 
 is_ok : (said : Result Document Refusal) → None ≡ result_err said → (d : Document) × (said ≡ Ok d)
 is_ok (Ok d) h = (d, refl)

@@ -172,7 +172,6 @@ said_entity_fits bs (text t) said are clean e =
 said_entity_fits bs (whole n) said are clean e = absurd (cc)
 said_entity_fits bs other said are clean e = absurd (cc)
 
--- moments are in range, and a duration ends after its start
 pub said_period_is : (g : Given) (said : Period) → said_period g ≡ Some said → IsPeriod said
 said_period_is absent said e = let same : Forever ≡ said = cc in subst IsPeriod same (record { moments = tt; forward = tt })
 said_period_is nil said e = absurd (cc)

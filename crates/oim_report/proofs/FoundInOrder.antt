@@ -88,7 +88,7 @@ module _ (sheet : Sheet) (bs : List Binding) where
       → AreFound sheet bs (append ms (member k d no_members)) (ss ++ s ∷ []) (fs ++ f ∷ [])
   found_one ms ss fs k d s f h e o = found_append ms (member k d no_members) ss (s ∷ []) fs (f ∷ []) h (e, o, tt)
 
-  -- ---- facts that are moved to their indices
+  -- ---- facts stored by identifier
 
   abbrev pub AreKept : Members → List (String Global × Fact) → Type 0
   AreKept ms es = AreFound sheet bs ms (map (λ e. e.0) es) (map (λ e. e.1) es)
@@ -124,7 +124,7 @@ weaker (Some x) P Q h f = f x h
 pub at_index : {X : Type 0} (xs : List X) (i : ℕ) (x : X) → i < length xs → x ≡ get_or xs i x → drop i xs ≡ x ∷ drop (i + 1) xs
 at_index xs i x l e = drop_more xs i x l ∙ ap (λ y. y ∷ drop (i + 1) xs) (sym e)
 
--- ---- facts that are moved to their indices, one after another
+-- ---- facts that are stored one after another
 
 abbrev pub put_entries : List (String Global) → List Fact → List (String Global × Fact) → List (String Global × Fact)
 put_entries [] fs es = es

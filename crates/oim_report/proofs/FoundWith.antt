@@ -9,19 +9,15 @@ use Rattle.oim_names.specs.declared.reason.Reason.TheVariants.{OutOfMemory}
 use Rattle.oim_report.specs.declared.refusal.Refusal.{Refusal}
 use Rattle.oim_report.specs.Faults.{or_else}
 
--- the contents of a part are the result of reading it
 pub found_is : {A : Type 0} (read : Result A Reason) (said : Option A) (other : Reason) → read ≢ Err OutOfMemory → IfOk read (λ a. said ≡ Some a) → IfErr read (λ r. (r ≡ OutOfMemory) ⊎ ((r ≡ other) × (said ≡ None))) → result_ok read ≡ said
 found_is (Ok a) said other ne ok err = sym ok
 found_is (Err r) said other ne ok (inl memory) = absurd (ne (ap Err memory))
 found_is (Err r) said other ne ok (inr refused) = sym refused.1
 
--- a part that is refused has no contents
 pub none_is : {A B : Type 0} (read : Result A Reason) (said : Option B) (f : A → B) (other : Reason) → read ≢ Err OutOfMemory → IfOk read (λ a. said ≡ Some (f a)) → IfErr read (λ r. (r ≡ OutOfMemory) ⊎ ((r ≡ other) × (said ≡ None))) → is_none (result_ok read) ≡ is_none said
 none_is (Ok a) said f other ne ok err = sym (ap is_none ok)
 none_is (Err r) said f other ne ok (inl memory) = absurd (ne (ap Err memory))
 none_is (Err r) said f other ne ok (inr refused) = sym (ap is_none refused.1)
-
--- ---- prefixes
 
 pub unless_bad : {A : Type 0} (bad : Bool) (bs a : A) → (a ≡ bs) × (bad ≡ false) → (if bad then None else Some bs) ≡ Some a
 unless_bad true bs a h = absurd (cc)
@@ -38,8 +34,6 @@ none_where_bad false bs = refl
 pub where_good : {A : Type 0} (bad : Bool) (bs : A) (test : A → Bool) → option_map_or test (if bad then None else Some bs) false ≡ (not bad && test bs)
 where_good true bs test = refl
 where_good false bs test = refl
-
--- ---- results of reading a part
 
 pub from_some : {A : Type 0} (o : Option A) (b : Bool) → is_some o ≡ not b → b ≡ is_none o
 from_some None true h = refl
@@ -59,8 +53,6 @@ pub nothing_said : {A B : Type 0} (read : Result A Reason) (said : Option B) (ot
 nothing_said (Ok a) said other is ne h = absurd (cc)
 nothing_said (Err r) said other is ne (inl memory) = absurd (ne (ap Err memory))
 nothing_said (Err r) said other is ne (inr refused) = refused.1
-
--- ---- a list, or another if it is empty
 
 pub filled_else : (xs ys : List Refusal) → (length xs == 0) ≡ false → xs ≡ or_else xs ys
 filled_else [] ys filled = absurd (cc)

@@ -48,8 +48,6 @@ there : {A : Type 0} (o : Option A) → is_none o ≡ false → (a : A) × (o �
 there None e = absurd (cc)
 there (Some a) e = (a, refl)
 
--- ---- names
-
 kept : (has_form : List ℕ → Bool) (bs : List Binding) (t : List ℕ) (n : QName) → named_as has_form bs t ≡ Some n → refusal_as has_form bs t ≡ None
 kept has_form bs t n e = named_kept has_form bs t n (stands has_form bs t n e)
 
@@ -77,11 +75,8 @@ all_said bs (t ∷ ts) none =
     let ns = all_said bs ts both.1 in
     (n.0 ∷ ns.0, rw (n.1, ns.1) refl)
 
--- the text of a value, as a name with this form
 abbrev pub spelled_by : (List ℕ → Spelled) → Given → List Spelled
 spelled_by form g = map form (option_to_list (text_of g))
-
--- ---- the concept
 
 pub record ConceptFree (sheet : Sheet) (bs : List Binding) (g : Given) : Type 0 where
   pub present : is_absent g ≡ false
@@ -122,8 +117,6 @@ concept_said sheet bs nil free = let no : true ≡ false = free.is_text in absur
 concept_said sheet bs (whole n) free = let no : true ≡ false = free.is_text in absurd (cc)
 concept_said sheet bs other free = let no : true ≡ false = free.is_text in absurd (cc)
 
--- ---- the entity
-
 pub record EntityFree (bs : List Binding) (g : Given) : Type 0 where
   pub is_text : is_no_text g ≡ false
   pub names : names_refusal bs (spelled_by an_entity g) ≡ None
@@ -141,8 +134,6 @@ entity_said bs (text t) free = let n = name_said is_entity bs t free.names in (S
 entity_said bs nil free = let no : true ≡ false = free.is_text in absurd (cc)
 entity_said bs (whole n) free = let no : true ≡ false = free.is_text in absurd (cc)
 entity_said bs other free = let no : true ≡ false = free.is_text in absurd (cc)
-
--- ---- the period
 
 pub record PeriodFree (g : Given) : Type 0 where
   pub is_text : is_no_text g ≡ false
@@ -181,8 +172,6 @@ period_said (text t) free = moments_said (moment_of (start_part t)) (moment_of (
 period_said nil free = let no : true ≡ false = free.is_text in absurd (cc)
 period_said (whole n) free = let no : true ≡ false = free.is_text in absurd (cc)
 period_said other free = let no : true ≡ false = free.is_text in absurd (cc)
-
--- ---- the unit
 
 -- a part that only numbers have is present
 abbrev pub is_misplaced : ConceptKind → Given → Bool
@@ -234,8 +223,6 @@ unit_said bs kind nil free = let no : true ≡ false = free.is_text in absurd (c
 unit_said bs kind (whole n) free = let no : true ≡ false = free.is_text in absurd (cc)
 unit_said bs kind other free = let no : true ≡ false = free.is_text in absurd (cc)
 
--- ---- the language
-
 pub record LanguageFree (kind : ConceptKind) (g : Given) : Type 0 where
   pub is_text : is_no_text g ≡ false
   pub form : is_some_and (λ t. not (is_language t)) (text_of g) ≡ false
@@ -266,8 +253,6 @@ language_said Name (text t) free = lower_said (is_language t) (str_to_ascii_lowe
 language_said kind nil free = let no : true ≡ false = free.is_text in absurd (cc)
 language_said kind (whole n) free = let no : true ≡ false = free.is_text in absurd (cc)
 language_said kind other free = let no : true ≡ false = free.is_text in absurd (cc)
-
--- ---- the value and the decimals
 
 pub record ValueFree (bs : List Binding) (kind : ConceptKind) (g : Given) : Type 0 where
   pub present : is_absent g ≡ false
@@ -341,9 +326,6 @@ decimals_said kind nil free = let no : true ≡ false = free.form in absurd (cc)
 decimals_said kind (text t) free = let no : true ≡ false = free.form in absurd (cc)
 decimals_said kind other free = let no : true ≡ false = free.form in absurd (cc)
 
--- ---- taxonomy-defined dimensions
-
--- the name of the member, if the dimension is explicit
 abbrev member_names : Option DimensionKind → Option (List ℕ) → List Spelled
 member_names kind t = map a_name (option_to_list (if is_some_and (same_dimension_kind Explicit) kind then t else None))
 
@@ -376,7 +358,6 @@ member_said bs Typed d =
     (λ fits names. (NoMember, refl)) (λ t fits names. (MemberText t, refl)) (λ n fits names. absurd (cc)) (λ fits names. absurd (cc)) d
 
 module _ (sheet : Sheet) (bs : List Binding) where
-  -- the key, and the member of an explicit dimension
   abbrev pub names_in : List ℕ × Data → List Spelled
   names_in m = a_name m.0 ∷ map a_name (option_to_list (explicit_text sheet bs null no_members m))
 

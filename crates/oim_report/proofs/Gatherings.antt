@@ -1,4 +1,4 @@
--- The names of a sheet while one group is apart from the others.
+-- The names of a sheet while the group of the current namespace is kept outside the map.
 use Rattle.std.proofs.Common.{◌≡◌, ◌≢◌, ℕ, List, [], ◌∷◌, ◌++◌, true, false, cond, Option, Some, None, String, string_bytes, refl, sym, ap, subst, ◌∙◌}
 use Rattle.std.specs.Prelude.{IfSome, OnOk, Result, Ok, Err, is_some, option_map, bytes_eq}
 use Rattle.std.specs.Borrow.{Bor}
@@ -25,12 +25,10 @@ use Rattle.oim_report.proofs.SheetEntries.{first_of, first_of-none}
 apart_bytes : (u v : List ℕ) → bytes_eq u v ≡ false → bytes_eq v u ≡ false
 apart_bytes u v f = bytes_not_eq v u (λ e. other_bytes u v f (sym e))
 
--- names with one prefix have one URI
 pub same_prefix : (last : Option (Bor (List ℕ))) (bs : List Binding) (p u v : List ℕ) → IfSome last (λ q. uri_of bs q.now ≡ Some u) → uri_of bs p ≡ Some v → IfSome last (λ q. q.now ≡ p → u ≡ v)
 same_prefix None bs p u v h e = tt
 same_prefix (Some q) bs p u v h e = λ same. same_Some u v (sym h ∙ ap (uri_of bs) same ∙ e)
 
--- the map has no name with this URI
 abbrev pub HasNone : {K : Type 0} → FinMap name_cmp K → List ℕ → Type 0
 HasNone m u = (l : List ℕ) → map.get m (name u l) ≡ None
 
@@ -51,11 +49,11 @@ module _ {K Y : Type 0} where
         | false ↦ λ f. ap (λ o. first_of o (map.get m (name v l))) (find_elsewhere v l u g.entries h (is_eq-slice_cmp v u ∙ apart_bytes u v f))
       ] refl
 
-  -- the group is set apart no longer
+  -- the current group is put back into the map
   pub joined : (g : Group K Y) (m n : FinMap name_cmp K) (u : List ℕ) → IsGroup u g → HasNone m u → ((v l : List ℕ) → map.get n (name v l) ≡ cond (bytes_eq u v) (kind_at g l) (map.get m (name v l))) → n ≡ with_group g m
   joined g m n u h none set = same_map name_total exact_name n (with_group g m) (λ q. set q.uri q.local_part ∙ sym (get_with g m u q.uri q.local_part h none))
 
-  -- another group is set apart
+  -- the loop turns from the group of one namespace to the group of another
   module _ (g next : Group K Y) (m m1 m2 : FinMap name_cmp K) (last u : List ℕ) (apart : last ≢ u)
       (taken : (v l : List ℕ) → map.get m1 (name v l) ≡ cond (bytes_eq u v) None (map.get m (name v l)))
       (set : (v l : List ℕ) → map.get m2 (name v l) ≡ cond (bytes_eq last v) (kind_at g l) (map.get m1 (name v l))) where
@@ -76,8 +74,6 @@ module _ {K Y : Type 0} where
           | false ↦ λ _. refl
         ] refl
         ∙ sym (get_with g m last v l h none))
-
-  -- ---- a name is added to the group
 
   still_named : (u : List ℕ) (k : String Y) (e : QName × K) (es : List (String Y × (QName × K))) → e.0 ≡ name u (string_bytes k) → AreNamed u es → AreNamed u (insert_entry string_cmp es k e)
   still_named u k e [] is h = (is, tt)
@@ -114,7 +110,6 @@ module _ {K Y : Type 0} where
         ] refl
         ∙ sym (get-insert name_total (with_group g m) (name u l) e.1 (name v j) ∙ ap (cond (eq_by_cmp name_cmp (name v j) (name u l)) (Some e.1)) (get_with g m u v j h none)))
 
-  -- a name of the current namespace
   pub get_current : (g : Group K Y) (m : FinMap name_cmp K) (u : List ℕ) (q : QName) → IsGroup u g → HasNone m u → q.uri ≡ u → map.get (with_group g m) q ≡ kind_at g q.local_part
   get_current g m u q h none same = ap (λ v. map.get (with_group g m) (name v q.local_part)) same ∙ get_apart g m u q.local_part h none
 

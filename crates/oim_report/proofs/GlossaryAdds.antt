@@ -15,16 +15,13 @@ either R g t u a b is says true same found =
     subst (λ x. R x b) ((bytes_decides t u).0 same) (subst (λ x. R t x) value says)
 either R g t u a b is says false other found = is.each u b found
 
--- a glossary stays correct if a correct meaning is added
 pub still : {A : Type 0} (R : List ℕ → A → Type 0) (g h : Glossary A) (t : List ℕ) (a : A) → IsGlossary R g → R t a → Adds g t a h → IsGlossary R h
 still R g h t a is says (inl same) = record { each = λ u b found. is.each u b (sym (same u) ∙ found) }
 still R g h t a is says (inr new) = record { each = λ u b found. either R g t u a b is says (bytes_eq t u) refl (sym (new u) ∙ found) }
 
--- an empty glossary is correct
 pub none_wrong : {A : Type 0} (R : List ℕ → A → Type 0) (g : Glossary A) → ((t : List ℕ) → meaning g t ≡ None) → IsGlossary R g
 none_wrong R g empty = record { each = λ t a found. let none = sym (empty t) ∙ found in cc }
 
--- a text was inserted into a map, or the map is unchanged
 pub after_insert : {A S E Y : Type 0} (m n : HashMap (String Y) A S) (t : List ℕ) (k : String Y) (a : A) (r : Result (Option A) E) → string_bytes k ≡ t
     → OnOk r (Updates string_eq m n k (Some a)) → OnErr r (IsUnchanged m n)
     → ((u : List ℕ) → get_by_text n u ≡ get_by_text m u) ⊎ ((u : List ℕ) → get_by_text n u ≡ update bytes_eq (get_by_text m) t (Some a) u)

@@ -1,4 +1,4 @@
--- Names in one group per namespace: what a map has, and what its groups have.
+-- A map of names has the same entries as its groups, one group for each namespace.
 use Rattle.std.proofs.Common.{◌≡◌, ◌≢◌, ℕ, List, [], ◌∷◌, ◌++◌, Bool, true, false, cond, Option, Some, None, String, string_bytes, refl, sym, ap, subst, ◌∙◌}
 use Rattle.std.specs.Prelude.{IfSome, OnOk, OnErr, Result, Ok, Err, option_map, bytes_eq}
 use Rattle.std.specs.Borrow.{Bor}
@@ -47,7 +47,6 @@ other_uri u l v k h = elim (slice_cmp nat_cmp u v) as (λ r. is_eq r ≡ false �
 abbrev pub Group : Type 0 → Type 0 → Type 0
 Group K Y = BTreeMap (String Y) (QName × K)
 
--- the value at a text
 abbrev pub at_text : {X Y : Type 0} → List ℕ → List (String Y × X) → Option X
 at_text t es = lookup (is_at (λ k. slice_cmp nat_cmp t (string_bytes k))) es
 
@@ -82,7 +81,6 @@ module _ {K Y : Type 0} where
       ap (λ b. cond b (Some e.1.1) (find name_cmp (name u l) (values_of es))) (ap (λ n. is_eq (name_cmp (name u l) n)) h.0 ∙ other_uri u l v (string_bytes e.0) apart)
       ∙ find_elsewhere u l v es h.1 apart
 
-  -- the name that is found has this URI and local part
   pub named_here : (u l : List ℕ) (es : List (String Y × (QName × K))) → AreNamed u es → IfSome (at_text l es) (λ e. e.0 ≡ name u l)
   named_here u l [] h = tt
   named_here u l (e ∷ es) h =
@@ -216,7 +214,6 @@ module _ {K : Type 0} where
   found_named None o n is named = tt
   found_named (Some e) o n is named = named ∙ ap Some (sym is)
 
--- what holds for each text and its value holds after one more was inserted, or the request for memory was refused
 pub each_after : {X Y E : Type 0} (P : List ℕ → X → Type 0) (m n : BTreeMap (String Y) X) (p : List ℕ) (k : String Y) (x : X) (r : Result (Option X) E) → OnOk r (Updates string_cmp m n k (Some x)) → OnErr r (IsUnchanged m n) → string_bytes k ≡ p
     → ((q : List ℕ) (y : X) → get_by_text m q ≡ Some y → P q y) → P p x → (q : List ℕ) (y : X) → get_by_text n q ≡ Some y → P q y
 each_after P m n p k x (Err e) put same is each here q y found = each q y (ap (at_text q) (sym same) ∙ found)

@@ -24,7 +24,6 @@ use Rattle.oim_report.proofs.OneMembers.{same_rising}
 abbrev Item : Type 0
 Item = QName × Member
 
--- a list of members with others added one by one
 abbrev pub with_each : List Item → List Item → List Item
 with_each [] es = es
 with_each (f ∷ fs) es = with_each fs (with_member f.0 f.1 es)
@@ -32,8 +31,6 @@ with_each (f ∷ fs) es = with_each fs (with_member f.0 f.1 es)
 pub with_each-push : (fs es : List Item) (f : Item) → with_each (fs ++ f ∷ []) es ≡ with_member f.0 f.1 (with_each fs es)
 with_each-push [] es f = refl
 with_each-push (g ∷ fs) es f = with_each-push fs (with_member g.0 g.1 es) f
-
--- ---- the result has exactly these members
 
 old_or_one : (fs es : List Item) (x : Item) → Contains (with_each fs es) x → Contains es x ⊎ Contains fs x
 old_or_one [] es x c = inl c
@@ -55,8 +52,6 @@ each_is_there (f ∷ fs) es x c =
     (λ later. each_is_there fs (with_member f.0 f.1 es) x later)
     (first_or_later f x fs c)
 
--- ---- names that are repeated
-
 same_there : (n : QName) (fs : List Item) → list_any (λ m. is_eq (name_cmp n m)) (names_of fs) ≡ has_name n fs
 same_there n [] = refl
 same_there n (f ∷ fs) = ap (λ b. is_eq (name_cmp n f.0) || b) (same_there n fs)
@@ -64,8 +59,6 @@ same_there n (f ∷ fs) = ap (λ b. is_eq (name_cmp n f.0) || b) (same_there n f
 pub comes_again_is : (fs : List Item) → comes_again (names_of fs) ≡ repeats fs
 comes_again_is [] = refl
 comes_again_is (f ∷ fs) = λ i. same_there f.0 fs i || comes_again_is fs i
-
--- ---- the state at the end of the loop
 
 none_left : {X : Type 0} (xs : List X) (i : ℕ) → length xs ≤ i → drop i xs ≡ []
 none_left [] zero past = refl
@@ -79,7 +72,6 @@ module _ (sheet : Sheet) (bs : List Binding) (xs : List (Bor (List ℕ) × Lent)
     pub names : names_of found ++ dimension_names bs (seen_defined (drop i xs)) ≡ dimension_names bs (seen_defined xs)
     pub members : members_with sheet bs (with_each found []) (seen_defined (drop i xs)) ≡ members_with sheet bs [] (seen_defined xs)
 
-  -- at the end, sorting the members gives the same list as adding them one after another
   pub put_in_order : (i : ℕ) → length xs ≤ i → AreFound i → (sorted : List Item) → repeats found ≡ false → IsPermutation found sorted → IsTrue (rises sorted) → said_members sheet bs (seen_defined xs) ≡ Some sorted
   put_in_order i past are sorted once moved up =
       let nothing : drop i xs ≡ [] = none_left xs i past in
@@ -92,7 +84,6 @@ module _ (sheet : Sheet) (bs : List Binding) (xs : List (Bor (List ℕ) × Lent)
       (λ x c. Contains-permutation found sorted x moved (⊎_elim (λ old. absurd (none_in x old)) (λ one. one) (old_or_one found [] x c)))
       (λ x c. each_is_there found [] x (Contains-permutation sorted found x (IsPermutation-sym found sorted moved) c)))
 
--- the state after one more member is found
 pub found_more : (sheet : Sheet) (bs : List Binding) (xs : List (Bor (List ℕ) × Lent)) (found new : List Item) (i : ℕ) (x : Bor (List ℕ) × Lent) (within : i < length xs) (kind : DimensionKind) (n : QName) (m : Member) → let d = seen_item (get_or xs i x) in
     dimension_kind sheet bs d.0 ≡ Some kind → named bs d.0 ≡ Some n → said_member bs (Some kind) d.1 ≡ Some m → new ≡ found ++ (n, m) ∷ [] → AreFound sheet bs xs found i → AreFound sheet bs xs new (i + 1)
 found_more sheet bs xs found new i x within kind n m known names said pushed are =

@@ -1,4 +1,4 @@
--- Two texts of members make one text with the members of both, if each is read alone.
+-- If each of two texts is read as members, the two joined by a comma are read as the members of both.
 use Rattle.std.proofs.Common.{◌≡◌, ℕ, suc, ◌-◌, ◌≤◌, Bool, true, false, List, [], ◌∷◌, ◌++◌, Some, inl, inr, ◌⊎◌, refl, sym, ap, ◌∙◌, subst, arith, append_assoc, append-nil}
 use Rattle.std.proofs.lemmas.List.{append_cancel_right}
 use Rattle.std.proofs.lemmas.Bool.{false≢true}
@@ -62,7 +62,6 @@ rest_of : (b : Bool) (t : Token) (k : Place → List Token) (next : Place) → N
 rest_of true t k next h = h.1
 rest_of false t k next h = absurd (false≢true h.0)
 
--- if no token is bad, none after the first is bad
 behind : (p : Place) (t : Token) (c : Bool) (k : Place → List Token) → NoBad (place_token p t c k) → (q : Place) × NoBad (k q)
 behind p begin_object c k h = (fresh, rest_of (may_begin p) begin_object k fresh h)
 behind p end_object c k h = (after_value, rest_of (may_close p) end_object k after_value h)
@@ -187,7 +186,6 @@ lex_ending : lex between (125 ∷ 93 ∷ []) ≡ ending
 unfolding lex
 lex_ending = refl
 
--- an object is closed only after a value
 closes_at : (p : Place) (ms : Members) (ts : List Token) → HasSome ms → (p ≡ fresh → opened true ts ≡ true) → ts ++ punctuate p ending ≡ members_tokens ms ++ end_array ∷ [] → (p ≡ after_value) × (ts ≡ body ms)
 unfolding punctuate
 closes_at fresh j.no_members ts some f e = absurd some
@@ -219,7 +217,7 @@ members_of d a ms c some e =
       goes = λ more f. s.goes more f ∙ (λ i. at.1 i ++ punctuate (at.0 i) more);
     }
 
--- ---- both
+-- ---- the joined text
 
 abbrev pub IsKeyed : List Token → Type 0
 IsKeyed [] = ⊥
@@ -269,8 +267,6 @@ after_one ls = refl
 pub room : (d : ℕ) (a : List ℕ) (ms : Members) → Reads d a ms → suc (suc (members_depth ms)) ≤ d
 room d a ms e = let deep : depth (one ms) ≤ d = value-depth d (tokens (alone a)) [] (one ms) e in omega (arith, deep)
 
--- Take two texts that end with a closing brace and are each read as members. With a comma between them they are read as the
--- members of both.
 pub joined : (d : ℕ) (a b : List ℕ) (ms ns : Members) → Closed a → HasSome ms → HasSome ns → Reads d a ms → Reads d b ns → Reads d (a ++ 44 ∷ b) (plus ms ns)
 joined d a b ms ns c some more e f =
     let m = members_of d a ms c some e in

@@ -1,4 +1,4 @@
--- Texts of members as `serde_json` reads them, and two of them joined by a comma.
+-- Two texts of members, joined by a comma, as `serde_json` reads them.
 use Rattle.std.proofs.Common.{ℕ, List, ◌∷◌, ◌++◌}
 use Rattle.serde_json.specs.Data.{Members}
 use Rattle.serde_json.specs.Read.{max_depth}
@@ -8,8 +8,6 @@ use Rattle.oim_report.proofs.JoinedMembers.{plus, joined}
 use Rattle.oim_report.proofs.PieceTrees.{ReadAs, some_read}
 use Rattle.oim_report.proofs.MembersPut.{both_found}
 
--- Take two texts that are each read as members. Joined by a comma, they are read as the first text's members with the second
--- text's members added.
 pub joined_as : (a b : List ℕ) (found more : Members) → Closed a → HasMember found → HasMember more → ReadAs a found → ReadAs b more → ReadAs (a ++ 44 ∷ b) (put_all more found)
 joined_as a b found more closed some some_more r s = record {
   ms = plus r.ms s.ms;

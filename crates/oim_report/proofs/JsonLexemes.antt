@@ -261,6 +261,5 @@ piece n [] t le nq c g = record { ls = []; lexed = λ b. refl }
 piece zero (x ∷ xs) t le nq c g = let no : ⊥ = omega arith in absurd no
 piece (suc n) (x ∷ xs) t le nq c g = at_class (class x) n x xs t le nq c refl (subst AllGood (lexc x (class x) refl (xs ++ t)) g) (λ r l d k. piece n r t l nq d k)
 
--- the lexemes of a prefix that ends with a closing brace are good if they are good before some text without quotes
 pub piece_of : (a t : List ℕ) → NoQuote t → Closed a → AllGood (lex between (a ++ t)) → Piece a
 piece_of a t = piece (length a) a t (omega arith)

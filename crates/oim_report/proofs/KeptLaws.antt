@@ -12,8 +12,6 @@ use Rattle.url.specs.declared.scheme.SchemeType.TheVariants.{SpecialNotFile}
 use Rattle.url.proofs.Theorems.{parse_url-serialize_special}
 use Rattle.oim_report.specs.Kept.{is_web, web_url, is_web_text, web_text, kept_by, kept, is_within_limit, is_text_within_limit, is_reference_refused, KeptIsKept, KeptIsAccepted, KeptIsUtf8}
 
--- ---- http and https URLs
-
 http_kind : scheme_type (codes "http") ≡ SpecialNotFile
 unfolding scheme_type default_port
 http_kind = refl
@@ -36,11 +34,9 @@ web_kind url h =
 same_bytes : (xs : List ℕ) → bytes_eq xs xs ≡ true
 same_bytes xs = (bytes_eq-Decides xs xs).1 refl
 
--- the text of a valid URL parses as that URL
 pub web_text-parsed : (url : Parts) → IsValid url → is_web url ≡ true → parse_url None (serialize url) ≡ Ok url
 web_text-parsed url valid web = parse_url-serialize_special url None valid (web_kind url web)
 
--- the text of a valid http or https URL is its serialization
 pub web_text-valid : (url : Parts) → IsValid url → IsUtf8 (serialize url) → is_web url ≡ true → web_text (Some url) ≡ Some (serialize url)
 web_text-valid url valid utf8 web =
     let reads : web_url (parse_url None (serialize url)) ≡ Some url =
@@ -49,8 +45,6 @@ web_text-valid url valid utf8 web =
     ap (λ o. option_map_or (λ u. bytes_eq (serialize u) (serialize url)) o false) reads ∙ same_bytes (serialize url) in
     cond-true _ _ _ (and_from _ _ (is_utf8-from_IsUtf8 (serialize url) utf8) same)
 
--- ---- the law
-
 -- the parsed text is an http or https URL with this text
 abbrev has_text : List ℕ → Parsed Parts → Bool
 has_text text r = option_map_or (λ url. bytes_eq (serialize url) text) (web_url r) false
@@ -58,7 +52,6 @@ has_text text r = option_map_or (λ url. bytes_eq (serialize url) text) (web_url
 never : (P : Type 0) → false ≡ true → P
 never P h = cc
 
--- the text of an http or https URL is kept unchanged
 itself : (r : Parsed Parts) (text : List ℕ) → parse_url None text ≡ r → is_web_text text ≡ true → kept_by r None text ≡ Some text
 itself (Ok url) text reads h =
     let parsed : has_text text (Ok url) ≡ true = ap (has_text text) (sym reads) ∙ (and_parts _ _ h).1 in
@@ -102,21 +95,17 @@ not_false : (b : Bool) → not b ≡ false → b ≡ true
 not_false true h = refl
 not_false false h = cc
 
--- the kept text of an accepted reference is within the limit
 pub kept_limit : (base : Option Parts) (reference text : List ℕ) → is_reference_refused base reference ≡ false → kept base reference ≡ Some text → is_within_limit text ≡ true
 kept_limit base reference text accepted h =
     let both = and_parts (is_within_limit reference) (is_text_within_limit (kept base reference)) (not_false _ accepted) in
     sym (ap is_text_within_limit h) ∙ both.1
 
--- a text that is kept unchanged and is within the limit is accepted
 pub accepted_itself : (text : List ℕ) → kept None text ≡ Some text → is_within_limit text ≡ true → is_reference_refused None text ≡ false
 accepted_itself text itself limit = ap not (and_from _ _ limit (ap is_text_within_limit itself ∙ limit))
 
 pub accepted_again : KeptIsAccepted
 accepted_again base reference text accepted h =
     accepted_itself text (kept_again base reference text h) (kept_limit base reference text accepted h)
-
--- ---- kept texts are UTF-8
 
 web_utf8 : (found : Option Parts) (text : List ℕ) → web_text found ≡ Some text → is_utf8 text ≡ true
 web_utf8 None text h = cc

@@ -20,7 +20,6 @@ string_utf8 : (s t : List ℕ) (b : Bool) → is_utf8 s ≡ b → text_of (cond 
 string_utf8 s t true u e = let same : s ≡ t = cc in ap is_utf8 (sym same) ∙ u
 string_utf8 s t false u e = absurd (cc)
 
--- a given text is UTF-8
 pub text_utf8 : (d : Data) (t : List ℕ) → text_of (given d) ≡ Some t → is_utf8 t ≡ true
 text_utf8 null t e = absurd (cc)
 text_utf8 (boolean b) t e = absurd (cc)
@@ -60,6 +59,5 @@ under_base : (o : Option (Option Parts)) (ds : Items) (rs : List (List ℕ)) →
 under_base None ds rs e = absurd (cc)
 under_base (Some base) ds rs e = items_kept base ds rs e
 
--- each reference of a report is a kept reference
 pub references_kept : (tree : Data) (rs : List (List ℕ)) → references_said tree ≡ Some rs → All IsKeptReference rs
 references_kept tree rs e = under_base (base_said tree) (taxonomy_of tree) rs e

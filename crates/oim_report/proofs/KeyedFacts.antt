@@ -11,7 +11,6 @@ use Rattle.oim_report.specs.Info.{bindings_of, facts_of}
 use Rattle.oim_report.specs.Sheet.{Sheet}
 use Rattle.oim_report.proofs.Documents.{outcomes_are_said}
 
--- if the objects say the facts, so do the members with their keys
 keyed_say : (sheet : Sheet) (bs : List Binding) (ms : Members) (fs : List Fact) → AllZip (ObjectSays sheet bs) (values ms) fs → AllZip (IdentifierSays sheet bs) (entries ms) fs
 keyed_say sheet bs no_members fs says = says
 keyed_say sheet bs (member key d ms) [] says = says

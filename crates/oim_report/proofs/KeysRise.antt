@@ -1,4 +1,4 @@
--- The keys of each object that was read ascend by bytes.
+-- The keys of an object that was read ascend in byte order.
 use Rattle.std.proofs.Common.{◌≡◌, ℕ, List, Bool, true, false, cond, Option, Some, None, option_and_then, subst, Less, Equal, Greater}
 use Rattle.std.specs.Prelude.{codes, ⊤}
 use Rattle.std.specs.List.{AllByRecursion}
@@ -18,7 +18,6 @@ use Rattle.oim_report.specs.PlainJson.{IsBefore}
 use Rattle.oim_report.proofs.PutMembers.{Ascends, ascends_put}
 use Rattle.oim_report.proofs.ReadUtf8.{Has, has_mapped, has_then, any}
 
--- if a value is an object, its keys ascend
 abbrev ObjectAscends : Data → Type 0
 ObjectAscends d = Has Ascends (as_object d)
 
@@ -26,11 +25,8 @@ abbrev EachAscends : Members → Type 0
 EachAscends no_members = ⊤
 EachAscends (member k d ms) = ObjectAscends d × EachAscends ms
 
--- if a value is an object, the keys of each object in it ascend
 abbrev HasAscending : Data → Type 0
 HasAscending d = Has EachAscends (as_object d)
-
--- ---- members are added one after another
 
 members_ascend : (ms : json.Members) (found : Members) → Ascends found → Has Ascends (of_members ms found)
 members_ascend json.no_members found h = h
@@ -65,8 +61,6 @@ has_ascending (json.string s) = tt
 has_ascending (json.array js) = has_mapped (λ ds. ⊤) HasAscending array (λ ds x. tt) (of_items js) (any (of_items js))
 has_ascending (json.object ms) = has_mapped EachAscends HasAscending object (λ m x. x) (of_members ms no_members) (each_ascends ms no_members tt)
 
--- ---- the bytes of a file
-
 by_test : (b : Bool) (o : Option Data) → Has HasAscending o → Has HasAscending (cond b o None)
 by_test true o h = h
 by_test false o h = tt
@@ -75,8 +69,6 @@ text_ascends : (text : List ℕ) → Has HasAscending (json_text text)
 text_ascends text =
     let parsed : Option json.Json = option_and_then (λ p. json.if_last p.0 p.1) (json.value max_depth (tokens text)) in
     by_test (is_utf8 text) (read text) (has_then (λ j. ⊤) HasAscending of_json (λ j x. has_ascending j) parsed (any parsed))
-
--- ---- the facts
 
 found_ascends : (key : List ℕ) (ms : Members) → EachAscends ms → Has ObjectAscends (get_member key ms)
 found_ascends key no_members h = tt

@@ -23,23 +23,17 @@ abbrev pub last_at : List ℕ → Option Data → Members → Option Data
 last_at name found no_members = found
 last_at name found (member key d ms) = last_at name (if bytes_eq name key then Some d else found) ms
 
--- ---- a member with another key
-
 pub last_other : (name : List ℕ) (found : Option Data) (key : List ℕ) (d : Data) (ms : Members) → bytes_eq name key ≡ false → last_at name found ms ≡ last_at name found (member key d ms)
 last_other name found key d ms other = ap (λ b. last_at name (cond b (Some d) found) ms) (sym other)
 
--- a key with a colon differs from a key without one
 pub colon_other : (name key : List ℕ) → has_colon name ≡ false → has_colon key ≡ true → bytes_eq name key ≡ false
 colon_other name key plain colon = bytes_not_eq name key (λ same. false≢true (sym plain ∙ ap has_colon same ∙ colon))
 
 pub colon_known : (known : List (List ℕ)) (key : List ℕ) (d : Data) → has_colon key ≡ true → is_unknown known key d ≡ false
 colon_known known key d colon = ap (λ b. not b && not (list_any (λ k. bytes_eq k key) known)) colon
 
--- a text that is the key and differs from the name shows that name and key differ
 pub text_other : (name key t : List ℕ) → t ≡ key → t ≢ name → bytes_eq name key ≡ false
 text_other name key t is differ = bytes_not_eq name key (λ same. differ (is ∙ sym same))
-
--- ---- all members of an object
 
 other_key : (name key : List ℕ) → slice_cmp nat_cmp name key ≡ Less → bytes_eq name key ≡ false
 other_key name key less = sym (is_eq-slice_cmp name key) ∙ ap is_eq less
@@ -56,8 +50,6 @@ last_is name (member key d ms) rises =
       | Equal ↦ λ o. ap (λ b. last_at name (cond b (Some d) None) ms) (sym (is_eq-slice_cmp name key) ∙ ap is_eq o) ∙ last_past name (Some d) ms (subst (λ k. IsBefore k ms) (sym (exact_bytes name key o)) rises.0)
       | Greater ↦ λ o. ap (λ b. last_at name (cond b (Some d) None) ms) (sym (is_eq-slice_cmp name key) ∙ ap is_eq o) ∙ last_is name ms rises.1
     ] refl
-
--- ---- the entries of a map
 
 before_rest : (key : String Global) (es : List Entry) → AllByRecursion (λ y. string_cmp key y ≡ Less) (keys_of es) → IsBefore (string_bytes key) (members_view es)
 before_rest key [] h = tt

@@ -22,7 +22,7 @@ nth [] k = None
 nth (r ∷ rs) zero = Some r
 nth (r ∷ rs) (suc k) = nth rs k
 
--- the numbers ascend by one, from n on
+-- the numbers ascend by one, from n
 abbrev rises : ℕ → List Reason → Bool
 rises n [] = true
 rises n (r ∷ rs) = (number r == n) && rises (n + 1) rs

@@ -82,8 +82,6 @@ module _ {K : Type 0} (kind_named : List ℕ → Option K) (same : K → K → B
     (λ s. is_had ms n k (or_parts (any_in (names_no_kind kind_named same) (Some ms)) (has_two_kinds kind_named same bs ms) good).1 s),
   )
 
--- ---- an accepted sheet
-
 kinds_good : (tree : Data) → least (sheet_holds tree) ≡ None → (has_bad_kind concept_kind_named same_concept_kind (sheet_bindings tree) (sheet_concepts tree) ≡ false) × (has_bad_kind dimension_kind_named same_dimension_kind (sheet_bindings tree) (sheet_dimensions tree) ≡ false)
 unfolding sheet_holds
 kinds_good tree e = or_parts _ _ ((none_is (sheet_holds tree)).0 e SheetKind)

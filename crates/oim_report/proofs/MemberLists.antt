@@ -16,13 +16,9 @@ use Rattle.oim_report.specs.Said.{dimension_kind, dimension_names, members_with,
 use Rattle.oim_report.specs.code.SeenParts.{seen_defined}
 use Rattle.oim_report.specs.Sheet.{Sheet}
 
--- the names of members
 abbrev pub names_of : List (QName × Member) → List QName
 names_of es = map (λ e. e.0) es
 
--- ---- the steps of the loop
-
--- an item as contracts see it
 abbrev pub seen_item : Bor (List ℕ) × Lent → List ℕ × Given
 seen_item x = (x.0.now, seen x.1)
 

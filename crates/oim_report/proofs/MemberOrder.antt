@@ -1,4 +1,4 @@
--- Members that are added one after another, in any order, are sorted by name.
+-- Members that are added in any order are sorted by name.
 use Rattle.std.proofs.Common.{◌≡◌, ◌≢◌, ⊎_elim, true, false, cond, List, [], ◌∷◌, refl, sym, ap, ◌∙◌}
 use Rattle.std.specs.Prelude.{All}
 use Rattle.std.specs.Cmp.{tied_itself}
@@ -21,7 +21,6 @@ less_is Less h = refl
 less_is Equal h = cc
 less_is Greater h = cc
 
--- of two different names, one is below the other
 one_way : (a b : QName) → a ≢ b → is_lt (name_cmp a b) ≡ false → is_lt (name_cmp b a) ≡ true
 one_way a b other h =
     elim (name_cmp a b) as (λ o. name_cmp a b ≡ o → is_lt o ≡ false → is_lt (name_cmp b a) ≡ true) [
@@ -30,18 +29,15 @@ one_way a b other h =
       | Greater ↦ λ o l. ap is_lt (name_total.antisymm b a ∙ ap ordering_reverse o)
     ] refl h
 
--- two names are not each below the other
 pub other_way : (a b : QName) → is_lt (name_cmp a b) ≡ true → is_lt (name_cmp b a) ≡ false
 other_way a b h = ap is_lt (name_total.antisymm b a ∙ ap ordering_reverse (less_is _ h))
 
--- a member goes before an entry with a greater name, and after any other
 goes_before : (n : QName) (m : Member) (e : Entry) (es : List Entry) → is_lt (name_cmp n e.0) ≡ true → with_member n m (e ∷ es) ≡ (n, m) ∷ e ∷ es
 goes_before n m e es h = ap (λ b. cond b ((n, m) ∷ e ∷ es) (e ∷ with_member n m es)) h
 
 goes_after : (n : QName) (m : Member) (e : Entry) (es : List Entry) → is_lt (name_cmp n e.0) ≡ false → with_member n m (e ∷ es) ≡ e ∷ with_member n m es
 goes_after n m e es h = ap (λ b. cond b ((n, m) ∷ e ∷ es) (e ∷ with_member n m es)) h
 
--- two members of different names can be added in either order
 in_order : (a b : Entry) (es : List Entry) → is_lt (name_cmp a.0 b.0) ≡ true → with_member a.0 a.1 (with_member b.0 b.1 es) ≡ with_member b.0 b.1 (with_member a.0 a.1 es)
 in_order a b [] below = goes_before a.0 a.1 b [] below ∙ sym (goes_after b.0 b.1 a [] (other_way a.0 b.0 below))
 in_order a b (e ∷ es) below =
@@ -71,12 +67,10 @@ either_first a b es other =
     (λ above. sym (in_order b a es (one_way a.0 b.0 other above)))
     (cases_Bool (is_lt (name_cmp a.0 b.0)))
 
--- a member below all others is inserted before them
 pub goes_first : (e : Entry) (es : List Entry) → is_below e.0 es ≡ true → with_member e.0 e.1 es ≡ e ∷ es
 goes_first e [] h = refl
 goes_first e (f ∷ es) h = goes_before e.0 e.1 f es (and_parts (is_lt (name_cmp e.0 f.0)) (is_below e.0 es) h).0
 
--- a name below all names of a list is not in it
 pub below_apart : (n : QName) (es : List Entry) → is_below n es ≡ true → All (λ (e : Entry). e.0 ≢ n) es
 below_apart n [] h = All-nil (λ (e : Entry). e.0 ≢ n)
 below_apart n (e ∷ es) h =
@@ -85,7 +79,6 @@ below_apart n (e ∷ es) h =
     (λ same. let tie : name_cmp n e.0 ≡ Equal = ap (name_cmp n) same ∙ tied_itself name_total n in cc (sym (less_is _ b.0) ∙ tie))
     (below_apart n es b.1)
 
--- several members, added one after another
 abbrev pub each_added : List Entry → List Entry → List Entry
 each_added es [] = es
 each_added es (f ∷ fs) = each_added (with_member f.0 f.1 es) fs
@@ -96,7 +89,6 @@ added_late e (f ∷ fs) es h =
     ap (λ xs. each_added xs fs) (either_first f e es (All-head (λ (g : Entry). g.0 ≢ e.0) f fs h))
     ∙ added_late e fs (with_member f.0 f.1 es) (All-tail (λ (g : Entry). g.0 ≢ e.0) f fs h)
 
--- sorted members are the result of adding them one after another
 pub all_added : (es : List Entry) → rises es ≡ true → each_added [] es ≡ es
 all_added [] h = refl
 all_added (e ∷ es) h =

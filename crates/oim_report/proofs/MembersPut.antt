@@ -20,12 +20,10 @@ cmp k l = slice_cmp nat_cmp k l
 flipped : (k l : List ℕ) (o : Ordering) → cmp k l ≡ o → cmp l k ≡ ordering_reverse o
 flipped k l o e = nat_list_cmp_total.antisymm l k ∙ ap ordering_reverse e
 
--- the key is less than each key of the members
 abbrev pub IsBefore : List ℕ → Members → Type 0
 IsBefore k no_members = ⊤
 IsBefore k (member l d ms) = (cmp k l ≡ Less) × IsBefore k ms
 
--- each key is less than all later keys
 abbrev pub IsRising : Members → Type 0
 IsRising no_members = ⊤
 IsRising (member k d ms) = IsBefore k ms × IsRising ms
@@ -72,7 +70,6 @@ below_both k l d e (member m x ms) less =
           ] refl
     ] refl
 
--- members with two keys can be added in either order
 pub either_first : (k l : List ℕ) (d e : Data) (ms : Members) → (k ≡ l → ⊥) → put k d (put l e ms) ≡ put l e (put k d ms)
 either_first k l d e ms other =
     elim (cmp k l) as (λ o. cmp k l ≡ o → put k d (put l e ms) ≡ put l e (put k d ms)) [
@@ -81,7 +78,6 @@ either_first k l d e ms other =
       | Greater ↦ λ h. sym (below_both l k e d ms (flipped k l Greater h))
     ] refl
 
--- the last of two members with the same key stays
 put_again : (k : List ℕ) (d e : Data) (ms : Members) → put k d (put k e ms) ≡ put k d ms
 put_again k d e no_members = put_equal k k d e no_members (tied_itself nat_list_cmp_total k)
 put_again k d e (member l x ms) =
@@ -94,7 +90,6 @@ put_again k d e (member l x ms) =
 
 -- ---- all members of an object
 
--- no member has the key
 abbrev pub Lacks : List ℕ → Members → Type 0
 Lacks k no_members = ⊤
 Lacks k (member l d ms) = (k ≡ l → ⊥) × Lacks k ms
@@ -118,12 +113,10 @@ put_first : (k : List ℕ) (d : Data) (ms : Members) → IsBefore k ms → put k
 put_first k d no_members h = refl
 put_first k d (member l e ms) h = put_less k l d e ms h.0
 
--- adding members with ascending keys to an empty object gives these members
 pub rising_stays : (ms : Members) → IsRising ms → put_all ms no_members ≡ ms
 rising_stays no_members h = refl
 rising_stays (member k d ms) h = put_all_later k d ms no_members (lacks_before k ms h.0) ∙ ap (put k d) (rising_stays ms h.1) ∙ put_first k d ms h.0
 
--- a member may be added before or after the others are added to an object
 pub put_onto : (k : List ℕ) (d : Data) (ms onto : Members) → IsRising ms → put_all (put k d ms) onto ≡ put k d (put_all ms onto)
 put_onto k d no_members onto h = refl
 put_onto k d (member l e ms) onto h =
@@ -183,7 +176,6 @@ of_members-plus (j.member k v ms) ns old = after (of_json v) (λ d. of_members-p
     after None same = refl
     after (Some d) same = same d
 
--- Two texts together have the first text's members with the second text's members added.
 pub both_found : (ms ns : j.Members) (found more : Members) → of_members ms no_members ≡ Some found → of_members ns no_members ≡ Some more → of_members (plus ms ns) no_members ≡ Some (put_all more found)
 both_found ms ns found more e f = of_members-plus ms ns no_members ∙ ap (option_and_then (of_members ns)) e ∙ found_onto ns more found f
 

@@ -1,4 +1,4 @@
--- The result has exactly the members that the keys say, and they fit.
+-- `said_members` returns exactly the members that the keys say, and they fit.
 use Rattle.std.proofs.Common.{◌≡◌, ◌≢◌, ◌⊎◌, inl, inr, ⊎_elim, ℕ, zero, suc, ◌<◌, length, get_or, List, [], ◌∷◌, Bool, true, false, Option, Some, None, refl, sym, ap, subst, ◌∙◌, arith}
 use Rattle.std.specs.Prelude.{All, Contains, IsTrue, if◌then◌else◌, option_and_then}
 use Rattle.std.specs.List.{list_any}
@@ -56,7 +56,7 @@ dimension_says sheet bs d n m name says =
       member = k.2;
     }
 
--- ---- all members: they ascend, each name is in a single key, and each member is said by some key
+-- ---- all members
 
 abbrev IsApart : List Binding → List (QName × Member) → List (List ℕ × Given) → Type 0
 IsApart bs es ds = (n : QName) → Contains (dimension_names bs ds) n → ¬ (IsTrue (has_name n es))
@@ -87,7 +87,6 @@ module _ {X : Type 0} where
   pub none_in : (x : X) → Contains [] x → ⊥
   none_in x c = absurd (omega (arith, c.1))
 
--- the names of all keys begin with the name of the first
 names_here : (bs : List Binding) (d : List ℕ × Given) (ds : List (List ℕ × Given)) (n : QName) → named bs d.0 ≡ Some n → dimension_names bs (d ∷ ds) ≡ n ∷ dimension_names bs ds
 names_here bs d ds n e = rw e refl
 
@@ -140,7 +139,6 @@ walk sheet bs (d ∷ ds) es new up once apart e =
 
 -- ---- starting with no members
 
--- if the members are said, no name is repeated
 pub once_said : (again : Bool) (o : Option (List (QName × Member))) (es : List (QName × Member)) → (if again then None else o) ≡ Some es → (again ≡ false) × (o ≡ Some es)
 once_said true o es e = absurd (cc)
 once_said false o es e = (refl, e)
@@ -153,7 +151,6 @@ walked sheet bs ds es e =
 pub members_rise : (sheet : Sheet) (bs : List Binding) (ds : List (List ℕ × Given)) (es : List (QName × Member)) → said_members sheet bs ds ≡ Some es → IsTrue (rises es)
 members_rise sheet bs ds es e = (walked sheet bs ds es e).rising
 
--- each member is said by some key
 by_key : (sheet : Sheet) (bs : List Binding) (ds : List (List ℕ × Given)) (es : List (QName × Member)) → IsWalked sheet bs ds [] es → (e : QName × Member) → Contains es e → (d : List ℕ × Given) × Contains ds d × SaysDimension sheet bs d e
 by_key sheet bs ds es walk e c = ⊎_elim (λ none. absurd (none_in e none)) (λ found. found) (walk.others e c)
 

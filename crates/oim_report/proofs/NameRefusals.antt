@@ -50,8 +50,6 @@ are_free bs ns e =
 pub none_refused : (bs : List Binding) (ns : List Spelled) → AreFree bs ns → names_refusal bs ns ≡ None
 none_refused bs ns free = λ i. by_any (free.form i) (free.prefix i) (free.namespace i)
 
--- ---- one more name
-
 pub first_free : (bs : List Binding) (n : Spelled) (ns : List Spelled) → names_refusal bs (n ∷ ns) ≡ None → (refusal_as n.has_form bs n.text ≡ None) × (names_refusal bs ns ≡ None)
 first_free bs n ns e =
     let free = are_free bs (n ∷ ns) e in
@@ -67,8 +65,6 @@ name_more bs n ns here there =
     let one = one_free (n.has_form n.text) (is_unbound bs n.text) (is_reserved bs n.text) here in
     let free = are_free bs ns there in
     none_refused bs (n ∷ ns) (record { form = λ i. one.0 i || free.form i; prefix = λ i. one.1 i || free.prefix i; namespace = λ i. one.2 i || free.namespace i })
-
--- ---- two lists
 
 refused_in : (r : Reason) (bs : List Binding) (xs ys : List Spelled) → refuses_some r bs (xs ++ ys) ≡ false → (refuses_some r bs xs ≡ false) × (refuses_some r bs ys ≡ false)
 refused_in r bs xs ys e = or_parts (refuses_some r bs xs) (refuses_some r bs ys) (sym (list_any-append (refuses r bs) xs ys) ∙ e)

@@ -1,4 +1,4 @@
--- The name that a text expands to, as a function and as a relation, and why it is refused.
+-- The function `named_as` agrees with the relation `ExpandsAs`.
 use Rattle.std.proofs.Common.{◌≡◌, ◌≢◌, ◌⊎◌, inl, inr, ℕ, List, Bool, true, false, refl, sym, ap, subst}
 use Rattle.std.specs.Prelude.{◌↔◌, if◌then◌else◌, IsTrue, Option, Some, None, option_and_then}
 use Rattle.std.specs.Str.{bytes_eq}
@@ -10,7 +10,6 @@ use Rattle.oim_names.specs.declared.reason.Reason.TheVariants.{OutOfMemory}
 use Rattle.oim_names.proofs.Bytes.{other_bytes, bytes_not_eq}
 use Rattle.oim_report.specs.Names.{in_namespace, named_as}
 
--- if a text expands to a name, the function returns it
 pub expanded : (has_form : List ℕ → Bool) (bs : List Binding) (t : List ℕ) (n : QName) → ExpandsAs has_form bs t n → named_as has_form bs t ≡ Some n
 expanded has_form bs t n e =
     let free : bytes_eq n.uri reserved_uri ≡ false = bytes_not_eq n.uri reserved_uri e.allowed in
@@ -39,7 +38,6 @@ made true (Some u) t n h =
     let is = in_allowed u t n h in
     record { form = refl; uri = ap Some is.0; allowed = subst (λ v. v ≢ reserved_uri) is.0 is.1; part = is.2 }
 
--- if the function returns a name, the text expands to it
 pub stands : (has_form : List ℕ → Bool) (bs : List Binding) (t : List ℕ) (n : QName) → named_as has_form bs t ≡ Some n → ExpandsAs has_form bs t n
 stands has_form bs t n h =
     let is = made (has_form t) (uri_of bs (prefix_part t)) t n h in
@@ -48,7 +46,6 @@ stands has_form bs t n h =
 pub named_exactly : (has_form : List ℕ → Bool) (bs : List Binding) (t : List ℕ) (n : QName) → (named_as has_form bs t ≡ Some n) ↔ ExpandsAs has_form bs t n
 named_exactly has_form bs t n = (stands has_form bs t n, expanded has_form bs t n)
 
--- if there is no refusal, the only error is out of memory
 pub only_memory : (refusal : Option Reason) (r : Reason) → refusal ≡ None → (r ≡ OutOfMemory) ⊎ (refusal ≡ Some r) → r ≡ OutOfMemory
 only_memory refusal r none (inl memory) = memory
 only_memory refusal r none (inr refused) = absurd (cc)

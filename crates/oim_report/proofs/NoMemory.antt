@@ -27,7 +27,6 @@ abbrev is_memory : Reason → Bool
 is_memory OutOfMemory = true
 is_memory r = false
 
--- the reason, if any, is not `OutOfMemory`
 abbrev IsOther : Option Reason → Type 0
 IsOther None = Unit {0}
 IsOther (Some r) = is_memory r ≡ false
@@ -51,8 +50,6 @@ fact_other sheet bs d e = let yes : holds sheet bs d OutOfMemory ≡ true = ((re
 document_other : (tree : Data) → IsOther (document_refusal tree)
 unfolding document_holds
 document_other tree = by_least (document_holds tree) (document_refusal tree) refl refl
-
--- ---- a document
 
 at_other : (r : Reason) (p q : Place) → r ≢ OutOfMemory → at p r ≢ at q OutOfMemory
 at_other r p q h e = h (ap (λ (f : Refusal). f.reason) e)
@@ -92,8 +89,6 @@ tree_other sheet (Some tree) p =
 pub outcomes_want_no_memory : OutcomesWantNoMemory
 unfolding outcome
 outcomes_want_no_memory sheet bytes place = tree_other sheet (json bytes) place
-
--- ---- a sheet
 
 sheet_other : (tree : Data) → IsOther (least (sheet_holds tree))
 unfolding sheet_holds

@@ -31,8 +31,6 @@ use Rattle.oim_report.specs.Parts.{DimensionParts, FactParts, fact_parts}
 use Rattle.oim_report.specs.Sheet.{Sheet}
 use Rattle.oim_report.proofs.OneMembers.{given_name, no_text, one_list, one_some, one_text}
 
--- ---- the core dimensions
-
 one_text_or : (C IfP IfQ : Type 0) (g : Given) (P Q : List ℕ → Type 0) → GivesTextOr IfP g P → GivesTextOr IfQ g Q → (IfP → IfQ → C) → ((t : List ℕ) → P t → Q t → C) → C
 one_text_or C IfP IfQ absent P Q a b none both = none a b
 one_text_or C IfP IfQ (text t) P Q a b none both = both t a b
@@ -83,8 +81,6 @@ one_set sheet bs ds x y a b =
     let members = one_list sheet bs ds.defined x.members y.members a.set.members b.set.members a.members b.members in
     λ i. record { concept = concept i; entity = entity i; period = period i; unit = unit i; language = language i; members = members i }
 
--- ---- the value
-
 one_places : (g : Given) (x y : Option ℤ) → SaysDecimals g x → SaysDecimals g y → x ≡ y
 one_places absent x y a b = a ∙ sym b
 one_places (whole n) x y a b = a.1 ∙ sym b.1
@@ -125,8 +121,6 @@ one_value bs Name g decimals (AText s) w a b = absurd a
 one_value bs Name g decimals v (Number n q) a b = absurd b
 one_value bs Name g decimals v (AText t) a b = absurd b
 
--- ---- the facts
-
 one_fact : (sheet : Sheet) (bs : List Binding) (p : FactParts) (f g : Fact) → SaysFact sheet bs p f → SaysFact sheet bs p g → f ≡ g
 one_fact sheet bs p f g a b =
     let parts : a.parts ≡ b.parts = one_some p.dimensions a.parts b.parts a.there b.there in
@@ -150,8 +144,6 @@ same_facts sheet bs (d ∷ ds) (f ∷ fs) (g ∷ gs) a b =
     let one = one_said sheet bs d f g a.0 b.0 in
     let rest = same_facts sheet bs ds fs gs a.1 b.1 in
     λ i. one i ∷ rest i
-
--- ---- the document
 
 pub says_one_document : SaysOneDocument
 says_one_document sheet bytes d e a b =

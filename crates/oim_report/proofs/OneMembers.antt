@@ -1,4 +1,4 @@
--- Keys say one list of members, sorted by name.
+-- Keys say only one list of members that is sorted by name.
 use Rattle.std.proofs.Common.{◌≡◌, ⊎_elim, ℕ, List, [], ◌∷◌, true, Option, Some, refl, sym, ap, subst, ◌∙◌}
 use Rattle.std.specs.Prelude.{Any, Contains, IsTrue}
 use Rattle.std.specs.Ordering.{is_lt}
@@ -24,8 +24,6 @@ use Rattle.oim_report.specs.Json.{Given, absent, nil, text, whole, other}
 use Rattle.oim_report.specs.Sheet.{Sheet}
 use Rattle.oim_report.proofs.MembersSay.{first_in, later_in, first_or_later, none_in}
 
--- ---- ascending lists with the same members are equal
-
 less_is : (o : Ordering) → is_lt o ≡ true → o ≡ Less
 less_is Less h = refl
 less_is Equal h = cc
@@ -43,11 +41,9 @@ below_each n (e ∷ es) x below c =
 not_below_itself : (n : QName) → name_cmp n n ≡ Less → ⊥
 not_below_itself n h = let tie = tied_itself name_total n in absurd (cc)
 
--- the first item of an ascending list is not among its other items
 not_later : (e : QName × Member) (es : List (QName × Member)) → is_below e.0 es ≡ true → Contains es e → ⊥
 not_later e es below c = not_below_itself e.0 (below_each e.0 es e below c)
 
--- if one list contains another with the same first member, its rest contains the other's rest
 in_rest : (e f : QName × Member) (es fs : List (QName × Member)) → e ≡ f → is_below e.0 es ≡ true → ((x : QName × Member) → Contains (e ∷ es) x → Contains (f ∷ fs) x) → (x : QName × Member) → Contains es x → Contains fs x
 in_rest e f es fs one below to x c =
     ⊎_elim
@@ -76,8 +72,6 @@ same_rising (e ∷ es) (f ∷ fs) up_e up_f to back =
     let rest = same_rising es fs rising_e.1 rising_f.1 (in_rest e f es fs one rising_e.0 to) (in_rest f e fs es (sym one) rising_f.0 back) in
     λ i. one i ∷ rest i
 
--- ---- a given value says only one member
-
 pub one_some : {X : Type 0} (o : Option X) (x y : X) → o ≡ Some x → o ≡ Some y → x ≡ y
 one_some o x y p q = cc
 
@@ -94,8 +88,6 @@ one_text C absent P Q a b both = absurd a
 one_text C nil P Q a b both = absurd a
 one_text C (whole n) P Q a b both = absurd a
 one_text C other P Q a b both = absurd a
-
--- ---- a key says one member
 
 pub given_name : (bs : List Binding) (g : Given) (m n : QName) → GivesText g (λ t. Expands bs t m) → GivesText g (λ t. Expands bs t n) → m ≡ n
 given_name bs g m n a b = one_text (m ≡ n) g (λ t. Expands bs t m) (λ t. Expands bs t n) a b (λ t p q. names_one is_name bs t m n p q)
@@ -120,8 +112,6 @@ one_dimension sheet bs d e f a b =
     let kind : a.kind ≡ b.kind = one_some (map.get sheet.dimensions f.0) a.kind b.kind (subst (λ n. map.get sheet.dimensions n ≡ Some a.kind) name a.listed) b.listed in
     let member : e.1 ≡ f.1 = one_member bs b.kind d.1 e.1 f.1 (subst (λ k. SaysMember bs k d.1 e.1) kind a.member) b.member in
     λ i. (name i, member i)
-
--- ---- keys say one list of members
 
 is_among : (sheet : Sheet) (bs : List Binding) (ds : List (List ℕ × Given)) (es fs : List (QName × Member)) → SaysMembers sheet bs ds es → SaysMembers sheet bs ds fs → (e : QName × Member) → Contains es e → Contains fs e
 is_among sheet bs ds es fs a b e c =

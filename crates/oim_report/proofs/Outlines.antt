@@ -1,4 +1,4 @@
--- A document, read in pieces of its text.
+-- A document that is read in pieces.
 use Rattle.std.proofs.Common.{◌≡◌, ℕ, codes, List, [], ◌∷◌, ◌++◌, Option, Some, None, refl, sym, ap, ◌∙◌, subst, append_assoc}
 use Rattle.std.specs.Ordering.{nat_cmp, match_ordering}
 use Rattle.std.specs.Cmp.Lexicographic.{slice_cmp}
@@ -165,7 +165,6 @@ module _ (text facts : List ℕ) (fs : Members) (p : IsPiece facts fs) where
       (both_give b h.s1 _ 126 found (put_all more own_member) h.are.1 (less_deep b found (piece_gives b found q)) (behind_facts (Some b) e more s v))
       ∙ ap (λ l. Some (object l)) (ap (λ l. put_all l found) (later e more v lacking) ∙ put_onto (codes "facts") (object fs) more found (rising_piece e more v))
 
-  -- the text is read as its other members with the member `facts` added
   pub document_read : (before behind : Option (List ℕ)) (found : Members) → IsSplit text before facts behind → IsBeside before behind found → Lacks (codes "facts") found → read text ≡ Some (object (put (codes "facts") (object fs) found))
   document_read None None found s is lack = absurd is
   document_read (Some b) None found s is lack = before_only b found s is

@@ -127,7 +127,7 @@ all_are_allowed fs = allowed_each AllLevel fs (λ i j d under within. let f : Fa
     or_true true = refl
     or_true false = refl
 
--- a test passes exactly if its level is no stricter than the first level that passes
+-- whether a level passes, given the results of the three tests
 abbrev pub test_at : Level → Bool → Bool → Bool → Bool
 test_at Unique u c s = u
 test_at Complete u c s = c
@@ -195,7 +195,6 @@ and_true : (a : Bool) → (a && true) ≡ a
 and_true true = refl
 and_true false = refl
 
--- one more fact must be allowed beside each fact before it
 pub allows_each-push : (l : Level) (fs : List Fact) (g : Fact) → allows_each l (fs ++ g ∷ []) ≡ (allows_each l fs && list_all (λ f. allows l f g) fs)
 allows_each-push l [] g = refl
 allows_each-push l (f ∷ fs) g =

@@ -26,11 +26,8 @@ or_false : (b : Bool) → (b || false) ≡ b
 or_false true = refl
 or_false false = refl
 
--- the value behind an optional reference
 abbrev pub lent : Option (Bor Value) → Option Data
 lent = option_map (λ v. view v.now)
-
--- ---- `dimensions`
 
 abbrev pub dimensions_found : (c e p u l n : Option Data) → List (List ℕ × Given) → Bool → DimensionParts
 dimensions_found c e p u l n ds unknown = record {
@@ -44,7 +41,7 @@ dimensions_found c e p u l n ds unknown = record {
   unknown = unknown;
 }
 
--- the parts after these members, given the parts that were found before them
+-- the parts after these members are read, given the parts that were found before
 abbrev pub dimensions_after : (c e p u l n : Option Data) → List (List ℕ × Given) → Bool → Members → DimensionParts
 dimensions_after c e p u l n ds unknown ms = record {
   concept = given_of (last_at (codes "concept") c ms);
@@ -103,8 +100,6 @@ dimensions_whole es c e p u l n ds unknown sorted so_far =
       unknown = or_false (any_member (is_unknown core_keys) ms) i;
     })
 
--- ---- a fact
-
 abbrev pub fact_found : (v p ds ls : Option Data) → Bool → FactParts
 fact_found v p ds ls unknown = record {
   value = given_of v;
@@ -115,7 +110,6 @@ fact_found v p ds ls unknown = record {
   unknown = unknown;
 }
 
--- the parts after these members, given the parts that were found before them
 abbrev pub fact_after : (v p ds ls : Option Data) → Bool → Members → FactParts
 fact_after v p ds ls unknown ms = fact_found (last_at (codes "value") v ms) (last_at (codes "decimals") p ms) (last_at (codes "dimensions") ds ms) (last_at (codes "links") ls ms) (any_member (is_unknown fact_keys) ms || unknown)
 

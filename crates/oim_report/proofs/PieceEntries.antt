@@ -1,4 +1,4 @@
--- A piece and the library's value for it.
+-- A piece, and the value that `serde_json` returns for it.
 use Rattle.std.proofs.Common.{◌≡◌, ℕ, zero, suc, ◌-◌, List, [], ◌∷◌, ◌++◌, length, slice_get, Option, Some, Vec, BTreeMap, String, Global, refl, sym, ap, ◌∙◌, arith}
 use Rattle.std.specs.Option.{option_to_list}
 use Rattle.std.proofs.lemmas.List.{length-append}
@@ -31,7 +31,6 @@ last_only : (rest : List Value) (x : Value) → length (rest ++ x ∷ []) ≡ 1 
 last_only [] x l = refl
 last_only (y ∷ rest) x l = absurd (omega (arith, l, length-append rest (x ∷ [])))
 
--- the only item of an array, taken from its end
 pub taken_object : (value : Value) (v : Vec Value Global) (rest : List Value) (r : Option Value) (x : Value) (m : BTreeMap (String Global) Value) → value ≡ Array v → v.items ≡ rest ++ option_to_list r → r ≡ Some x → x ≡ Object m → length v.items ≡ 1
     → view value ≡ one_data (members_view m.entries)
 taken_object value v rest r x m a e s o l =

@@ -10,13 +10,11 @@ use Rattle.serde_json.specs.Read.{of_json, of_items, of_members, number_of, max_
 use Rattle.oim_report.specs.Pieces.{alone, one_data, HasMember}
 use Rattle.oim_report.proofs.JoinedMembers.{one, Reads, HasSome}
 
--- `serde_json` reads the text as members, whose data are these members
+-- `serde_json` reads the text as JSON members, and their data are `found`
 pub record ReadAs (a : List ℕ) (found : d.Members) : Type 0 where
   pub ms : Members
   pub reads : Reads max_depth a ms
   pub gives : of_members ms d.no_members ≡ Some found
-
--- ---- options
 
 pub mapped_some : {A B : Type 0} (f : A → B) (o : Option A) (b : B) → option_map f o ≡ Some b → (a : A) × (o ≡ Some a) × (f a ≡ b)
 mapped_some f None b e = absurd (Prim.cc)
@@ -25,8 +23,6 @@ mapped_some f (Some a) b e = (a, refl, Prim.cc)
 pub then_some : {A B : Type 0} (f : A → Option B) (o : Option A) (b : B) → option_and_then f o ≡ Some b → (a : A) × (o ≡ Some a) × (f a ≡ Some b)
 then_some f None b e = absurd (Prim.cc)
 then_some f (Some a) b e = (a, refl, e)
-
--- ---- the data of a JSON value
 
 number_only : (s : List ℕ) (x : Data) → of_json (j.number s) ≡ Some x → (n : d.Num) × (d.number n ≡ x)
 number_only s x e = let m = mapped_some d.number (number_of s) x e in (m.0, m.2)
@@ -76,21 +72,17 @@ of_array (j.array vs) found e =
     (o.0, ap j.array o.1, o.2)
 of_array (j.object ms) found e = let m = mapped_some d.object (of_members ms d.no_members) _ e in let is : d.object m.0 ≡ one_data found = m.2 in absurd (Prim.cc)
 
--- ---- the whole text
-
 whole_some : (o : Option (Json × List Token)) (x : Data) → option_and_then of_json (option_and_then (λ p. if_last p.0 p.1) o) ≡ Some x → (v : Json) × (o ≡ Some (v, [])) × (of_json v ≡ Some x)
 whole_some None x e = absurd (Prim.cc)
 whole_some (Some (v, [])) x e = (v, refl, e)
 whole_some (Some (v, t ∷ ts)) x e = absurd (Prim.cc)
 
--- the result of `Value::from_str` for the text of an array of one object
 pub read_as : (a : List ℕ) (found : d.Members) → read (alone a) ≡ Some (one_data found) → ReadAs a found
 read_as a found e =
     let w = whole_some (value max_depth (tokens (alone a))) (one_data found) e in
     let o = of_array w.0 found w.2 in
     record { ms = o.0; reads = w.1 ∙ ap (λ v. Some (v, [])) o.1; gives = o.2 }
 
--- if the data has a member, so has the text
 pub some_read : (ms : Members) (found : d.Members) → of_members ms d.no_members ≡ Some found → HasMember found → HasSome ms
 some_read j.no_members d.no_members e h = h
 some_read j.no_members (d.member k x found) e h = absurd (Prim.cc)

@@ -12,8 +12,6 @@ use Rattle.oim_report.proofs.PieceTrees.{ReadAs, read_as}
 use Rattle.oim_report.proofs.MembersPut.{found_onto}
 use Rattle.oim_report.proofs.JoinedPieces.{joined_as}
 
--- ---- the last byte
-
 pub ends_closed : (xs : List ℕ) → EndsWithBrace xs → Closed xs
 ends_closed [] h = absurd h
 ends_closed (x ∷ []) h = h
@@ -27,8 +25,6 @@ ends_behind : (xs ys : List ℕ) → EndsWithBrace ys → EndsWithBrace (xs ++ y
 ends_behind [] ys h = h
 ends_behind (x ∷ xs) ys h = ends_later x (xs ++ ys) (ends_behind xs ys h)
 
--- ---- a piece has a member
-
 has_put : (k : List ℕ) (d : Data) (ms : Members) → HasMember (put k d ms)
 has_put k d no_members = tt
 has_put k d (member l e ms) =
@@ -41,8 +37,6 @@ has_put k d (member l e ms) =
 has_put_all : (ms onto : Members) → HasMember onto → HasMember (put_all ms onto)
 has_put_all no_members onto h = h
 has_put_all (member k d ms) onto h = has_put_all ms (put k d onto) (has_put k d onto)
-
--- ---- two pieces
 
 pub piece_as : (a : List ℕ) (found : Members) → IsPiece a found → ReadAs a found
 piece_as a found p = read_as a found p.reads
@@ -59,8 +53,6 @@ both_pieces a b found more p q = record {
   reads = read_back (a ++ 44 ∷ b) (put_all more found) (joined_as a b found more (ends_closed a p.closed) p.some q.some (piece_as a found p) (piece_as b more q));
 }
 
--- ---- one more piece
-
 pub append_none : (ms : Members) → append ms no_members ≡ ms
 append_none no_members = refl
 append_none (member k d ms) = ap (member k d) (append_none ms)
@@ -69,7 +61,6 @@ put_append : (ms ns onto : Members) → put_all (append ms ns) onto ≡ put_all 
 put_append no_members ns onto = refl
 put_append (member k d ms) ns onto = put_append ms ns (put k d onto)
 
--- adding the members of a piece to an empty object gives these members
 pub alone_same : (a : List ℕ) (found : Members) → IsPiece a found → put_all found no_members ≡ found
 alone_same a found p =
     let r = piece_as a found p in

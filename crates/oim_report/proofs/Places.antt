@@ -25,15 +25,12 @@ use Rattle.oim_report.proofs.Pairs.{level_ignores_order}
 use Rattle.oim_report.specs.code.Beside.{both_common, interval_at, level_beside}
 use Rattle.oim_report.proofs.Runs.{RisesFrom, walk, walk-duplicate, walk-nil, walk-other, walk_from_first}
 
--- the facts at some indices
 abbrev pub facts_at : List Fact → List ℕ → List Fact
 facts_at facts places = filter_map (slice_get facts) places
 
--- the first index gives the first fact
 pub facts_at-cons : (facts : List Fact) (place : ℕ) (places : List ℕ) (d : Fact) → place < length facts → facts_at facts (place ∷ places) ≡ get_or facts place d ∷ facts_at facts places
 facts_at-cons facts place places d within = ap (λ (o : Option Fact). cons_option o (facts_at facts places)) (slice_get-get_or facts place d within)
 
--- each index is in range
 pub places_within : (facts : List Fact) (places : List ℕ) → IsOrderOf facts places → All (λ place. place < length facts) places
 places_within facts places order =
     let n : ℕ = length facts in
@@ -46,7 +43,6 @@ mapped facts d (place ∷ places) within =
     facts_at-cons facts place places d (All-head (λ p. p < length facts) place places within)
     ∙ ap (λ fs. get_or facts place d ∷ fs) (mapped facts d places (All-tail (λ p. p < length facts) place places within))
 
--- the facts at the indices of an order are all facts in another order
 reordered : (facts : List Fact) (d : Fact) (places : List ℕ) → IsOrderOf facts places → IsPermutation facts (facts_at facts places)
 reordered facts d places order =
     let n : ℕ = length facts in
@@ -58,7 +54,6 @@ reordered facts d places order =
 pub level_at_order : (facts : List Fact) (d : Fact) (places : List ℕ) → IsOrderOf facts places → level_of facts ≡ level_of (facts_at facts places)
 level_at_order facts d places order = level_ignores_order facts (facts_at facts places) (reordered facts d places order)
 
--- the facts at the indices of an order are sorted
 turned : (r : Ordering) → is_lt r ≡ false → is_gt (ordering_reverse r) ≡ false
 turned Less h = h
 turned Equal h = refl
@@ -83,11 +78,9 @@ rises_from_first facts place (next ∷ places) d within up =
     let later : RisesFrom y (facts_at facts places) = rises_from_first facts next places d rest (sorted_tail facts place (next ∷ places) up) in
     subst (RisesFrom x) (sym (facts_at-cons facts next places d ln)) (first, later)
 
--- indices are ordered by their facts
 pub place_cmp_ranks : (facts : List Fact) → IsStrictWeakOrder (λ i j. is_lt (place_cmp facts i j))
 place_cmp_ranks facts = ranks_by (options_total fact_cmp_total) (slice_get facts)
 
--- facts with an empty order have the level `Unique`
 pub level_of_none : (facts : List Fact) (places : List ℕ) → IsOrderOf facts places → length places ≡ 0 → Unique ≡ level_of facts
 unfolding level_of
 level_of_none [] places order none = refl
@@ -96,7 +89,6 @@ level_of_none (f ∷ fs) places order none =
     let count = length-range_with_len 0 (length (f ∷ fs)) in
     absurd (omega (arith, long, count, none))
 
--- the loop's invariant holds at the first index
 pub pass_starts : (facts : List Fact) (places rest : List ℕ) (first : ℕ) (last : Fact) → IsOrderOf facts places → places ≡ first ∷ rest → last ≡ get_or facts first last → walk last (interval_at last.value) Unique (facts_at facts rest) ≡ level_of facts
 pass_starts facts places rest first last order split is =
     let within : All (λ p. p < length facts) (first ∷ rest) = subst (All (λ p. p < length facts)) split (places_within facts places order) in
@@ -106,7 +98,6 @@ pass_starts facts places rest first last order split is =
     let all : facts_at facts (first ∷ rest) ≡ last ∷ facts_at facts rest = facts_at-cons facts first rest last here ∙ ap (λ f. f ∷ facts_at facts rest) (sym is) in
     walk_from_first last (facts_at facts rest) rises ∙ ap level_of (sym all) ∙ ap (λ ps. level_of (facts_at facts ps)) (sym split) ∙ sym (level_at_order facts last places order)
 
--- an index of the rest is in range
 pub rest_within : (facts : List Fact) (places rest : List ℕ) (first i : ℕ) → IsOrderOf facts places → places ≡ first ∷ rest → i < length rest → get_or rest i 0 < length facts
 rest_within facts places rest first i order split here =
     let within : All (λ p. p < length facts) (first ∷ rest) = subst (All (λ p. p < length facts)) split (places_within facts places order) in
@@ -115,7 +106,6 @@ rest_within facts places rest first i order split here =
 pub first_within : (facts : List Fact) (places rest : List ℕ) (first : ℕ) → IsOrderOf facts places → places ≡ first ∷ rest → first < length facts
 first_within facts places rest first order split = All-head (λ p. p < length facts) first rest (subst (All (λ p. p < length facts)) split (places_within facts places order))
 
--- the facts from the i-th index on begin with the fact at that index
 pub facts_at-drop : (facts : List Fact) (rest : List ℕ) (i : ℕ) (f : Fact) → i < length rest → get_or rest i 0 < length facts → f ≡ get_or facts (get_or rest i 0) f → facts_at facts (drop i rest) ≡ f ∷ facts_at facts (drop (i + 1) rest)
 facts_at-drop facts rest i f here within is =
     let next : i + 1 ≡ suc i = omega arith in
@@ -124,7 +114,6 @@ facts_at-drop facts rest i f here within is =
     ∙ ap (λ x. x ∷ facts_at facts (drop (suc i) rest)) (sym is)
     ∙ ap (λ k. f ∷ facts_at facts (drop k rest)) (sym next)
 
--- the loop's invariant holds after one more fact
 pub pass_with_duplicate : (facts : List Fact) (rest : List ℕ) (i : ℕ) (last f : Fact) (shared : Option Interval) (level : Level) → i < length rest → get_or rest i 0 < length facts → f ≡ get_or facts (get_or rest i 0) f → are_duplicates last f ≡ true → walk last shared level (facts_at facts (drop i rest)) ≡ level_of facts → walk f (both_common shared (interval_at f.value)) (ord_max level_cmp level (level_beside last.value shared f.value)) (facts_at facts (drop (i + 1) rest)) ≡ level_of facts
 pass_with_duplicate facts rest i last f shared level here within is same known =
     sym (walk-duplicate last f shared level (facts_at facts (drop (i + 1) rest)) same) ∙ ap (walk last shared level) (sym (facts_at-drop facts rest i f here within is)) ∙ known
@@ -133,6 +122,5 @@ pub pass_with_other : (facts : List Fact) (rest : List ℕ) (i : ℕ) (last f : 
 pass_with_other facts rest i last f shared level here within is other known =
     sym (walk-other last f shared level (facts_at facts (drop (i + 1) rest)) other) ∙ ap (walk last shared level) (sym (facts_at-drop facts rest i f here within is)) ∙ known
 
--- at the end of the loop, the level is the level of all facts
 pub pass_ends : (facts : List Fact) (rest : List ℕ) (i : ℕ) (last : Fact) (shared : Option Interval) (level : Level) → length rest ≤ i → walk last shared level (facts_at facts (drop i rest)) ≡ level_of facts → level ≡ level_of facts
 pass_ends facts rest i last shared level past known = sym (walk-nil last shared level) ∙ ap (λ ps. walk last shared level (facts_at facts ps)) (sym (drop_all i rest past)) ∙ known

@@ -34,8 +34,6 @@ use Rattle.oim_report.proofs.Spelled.{spelled_utf8}
 use Rattle.oim_report.proofs.WrittenTexts.{plain_utf8, period_utf8}
 use Rattle.oim_report.proofs.WrittenParts.{entity_texts, language_texts, unit_texts}
 
--- ---- one more member
-
 record IsKept (d : Data) (n : ℕ) : Type 0 where
   plain : IsPlain d
   utf8 : HasUtf8 d
@@ -78,8 +76,6 @@ kept_text : (k : List ℕ) (t : Option (List ℕ)) (ms : Members) (n : ℕ) → 
 kept_text k None ms n utf8 here h = h
 kept_text k (Some t) ms n utf8 here h = kept_put k (string t) ms n utf8 (text_kept t n here) h
 
--- ---- the dimensions
-
 member_kept : (bs : List Binding) (spelled : QName → List ℕ) (kind : DimensionKind) (m : Member) → MemberFits kind m → SpellsMember bs spelled m → IsKept (member_data spelled m) 0
 member_kept bs spelled Explicit (MemberName n) fits s = text_kept (spelled n) 0 (spelled_utf8 bs spelled n s fits.utf8)
 member_kept bs spelled Explicit (MemberText t) fits s = absurd fits
@@ -114,8 +110,6 @@ dimensions_kept spelled d h =
     (kept_text (codes "period") (period_text d.period) _ 0 (IsUtf8-are_ascii _ refl) h.period
     (kept_text (codes "unit") (option_unit_text spelled d.unit) _ 0 (IsUtf8-are_ascii _ refl) h.unit
     (kept_put (codes "concept") (string (spelled d.concept)) no_members 0 (IsUtf8-are_ascii _ refl) (text_kept (spelled d.concept) 0 h.concept) (none_kept 0))))))
-
--- ---- the value, with its decimals
 
 value_kept : (bs : List Binding) (spelled : QName → List ℕ) (kind : ConceptKind) (v : Value) → ValueFits kind v → SpellsValue bs spelled v → IsKept (value_data spelled v) 1
 value_kept bs spelled kind Nil fits s = record { plain = tt; utf8 = tt; shallow = omega arith }

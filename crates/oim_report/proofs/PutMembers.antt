@@ -18,8 +18,6 @@ use Rattle.oim_report.specs.Parts.{defined_in}
 use Rattle.oim_report.specs.PlainJson.{IsBefore}
 use Rattle.oim_report.specs.ReadBack.{with_given}
 
--- ---- ascending keys
-
 abbrev pub Ascends : Members → Type 0
 Ascends no_members = ⊤
 Ascends (member k d ms) = IsBefore k ms × Ascends ms
@@ -45,8 +43,6 @@ ascends_put k d (member l e ms) h =
       | Equal ↦ λ o. h
       | Greater ↦ λ o. (before_put l k d ms (nat_list_cmp_total.antisymm l k ∙ ap ordering_reverse o) h.0, ascends_put k d ms h.1)
     ] refl
-
--- ---- the members whose keys have a colon
 
 abbrev is_defined : List ℕ → Bool
 is_defined key = has_colon key && is_utf8 key
@@ -90,8 +86,6 @@ undefined_put key d (member l e ms) plain =
       | Greater ↦ λ o. ap (λ ds. cond (is_defined l) ((l, given e) ∷ ds) ds) (undefined_put key d ms plain)
     ] refl
 
--- ---- unknown members
-
 pub known_put : (known : List (List ℕ)) (key : List ℕ) (d : Data) (ms : Members) → is_unknown known key d ≡ false → any_member (is_unknown known) ms ≡ false → any_member (is_unknown known) (put key d ms) ≡ false
 known_put known key d no_members is h = or_from (is_unknown known key d) false is refl
 known_put known key d (member l e ms) is h =
@@ -101,8 +95,6 @@ known_put known key d (member l e ms) is h =
       | Equal ↦ h
       | Greater ↦ or_from (is_unknown known l e) (any_member (is_unknown known) (put key d ms)) b.0 (known_put known key d ms is b.1)
     ]
-
--- ---- an optional text
 
 pub text_there : (key : List ℕ) (t : Option (List ℕ)) (ms : Members) → get_member key ms ≡ None → get_member key (put_text key t ms) ≡ option_map string t
 text_there key None ms none = none

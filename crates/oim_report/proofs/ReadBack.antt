@@ -1,4 +1,4 @@
--- Part by part: the written text says exactly the part.
+-- Each written part is read back as that part.
 use Rattle.std.specs.Prelude.{◌≡◌, ℕ, List, All, IsTrue, Option, Some, IfSome}
 use Rattle.std.specs.FinMap as map
 use Rattle.oim_names.specs.QName.{QName}
@@ -55,7 +55,6 @@ pub record LanguageReadsBack (kind : ConceptKind) (language : Option (List ℕ))
 abbrev pub LanguagesReadBack : Type 0
 LanguagesReadBack = (kind : ConceptKind) (language : Option (List ℕ)) → LanguageFits kind language → LanguageReadsBack kind language
 
--- several dimensions at once, of both kinds, each with its member
 pub record MembersReadBack (sheet : Sheet) (bs : List Binding) (spelled : QName → List ℕ) (es : List (QName × Member)) : Type 0 where
   pub says : SaysMembers sheet bs (defined_given spelled es) es
   pub said : said_members sheet bs (defined_given spelled es) ≡ Some es
@@ -67,6 +66,5 @@ pub record ValueReadsBack (bs : List Binding) (spelled : QName → List ℕ) (ki
   pub says : SaysValue bs kind (value_given spelled v) (decimals_given spelled v) v
   pub said : said_value bs kind (value_given spelled v) (decimals_given spelled v) ≡ Some v
 
--- values of every kind are read back
 abbrev pub ValuesReadBack : Type 0
 ValuesReadBack = (bs : List Binding) (spelled : QName → List ℕ) (kind : ConceptKind) (v : Value) → ValueFits kind v → SpellsValue bs spelled v → ValueReadsBack bs spelled kind v

@@ -29,8 +29,6 @@ use Rattle.oim_report.proofs.ReadValues.{value_part_back}
 use Rattle.oim_report.proofs.SaidWhereFree.{said_free, said_outcome}
 use Rattle.oim_report.proofs.WrittenParts.{parts_back}
 
--- ---- the form
-
 text_or_nothing : (t : Option (List ℕ)) → is_no_text (option_given t) ≡ false
 text_or_nothing None = refl
 text_or_nothing (Some t) = refl
@@ -49,8 +47,6 @@ form_accepted spelled f =
       value = value_there spelled f.value;
       texts = λ i. text_or_nothing (option_spelled spelled d.entity) i || text_or_nothing (period_text d.period) i || text_or_nothing (option_unit_text spelled d.unit) i || text_or_nothing d.language i;
     }
-
--- ---- properties of a fact's parts
 
 is_period : (p : Period) → HasMoments p → EndsAfterStart p → IsPeriod p
 is_period Forever h fits = record { moments = h; forward = fits }
@@ -89,8 +85,6 @@ module _ (sheet : Sheet) (bs : List Binding) (spelled : QName → List ℕ) (f :
   value : ValueReadsBack bs spelled fits.kind f.value
   value = value_part_back bs spelled fits.kind f.value fits.value s.value
 
-  -- ---- the object says the fact
-
   says_dimensions : SaysDimensions sheet bs given f.dimensions
   says_dimensions = record {
     concept = concept.says;
@@ -111,8 +105,6 @@ module _ (sheet : Sheet) (bs : List Binding) (spelled : QName → List ℕ) (f :
     listed = fits.listed;
     value = value.says;
   }
-
-  -- ---- the object says no other fact
 
   dimensions_said : said_dimensions sheet bs fits.kind given ≡ Some f.dimensions
   dimensions_said = rw (concept.said, entity.said, period.said, unit.said, language.said, members.said) refl

@@ -53,14 +53,12 @@ says_member bs spelled Typed (MemberName n) fits s = absurd fits
 says_member bs spelled Typed (MemberText t) fits s = refl
 says_member bs spelled Typed NoMember fits s = refl
 
--- two steps have the same result if they agree on each value
 same_steps : {A B C : Type 0} (a : Option A) (b : Option B) (f g : A → B → Option C) → ((x : A) → a ≡ Some x → (y : B) → f x y ≡ g x y) → option_and_then (λ x. option_and_then (f x) b) a ≡ option_and_then (λ x. option_and_then (g x) b) a
 same_steps None b f g h = refl
 same_steps (Some x) None f g h = refl
 same_steps (Some x) (Some y) f g h = h x refl y
 
 module _ (sheet : Sheet) (bs : List Binding) where
-  -- the key does not name this dimension
   abbrev NamesNo : QName → Keyed → Type 0
   NamesNo n d = (o : QName) → named bs d.0 ≡ Some o → o ≢ n
 
@@ -137,7 +135,6 @@ module _ (sheet : Sheet) (bs : List Binding) where
   -- ---- the dimensions of a fact
 
   module _ (spelled : QName → List ℕ) where
-    -- the properties of a written dimension
     record IsWritten (e : Entry) : Type 0 where
       fits : DimensionFits sheet e
       spells : SpellsDimension bs spelled e
@@ -159,7 +156,6 @@ module _ (sheet : Sheet) (bs : List Binding) where
       member = says_member bs spelled w.fits.kind e.1 w.fits.member w.spells.member;
     }
 
-    -- the keys of members with other names do not name this dimension
     other_names : (n : QName) (es : List Entry) → All IsWritten es → All (λ (e : Entry). e.0 ≢ n) es → All (NamesNo n) (defined_given spelled es)
     other_names n [] w h = All-nil (NamesNo n)
     other_names n (e ∷ es) w h =
@@ -181,7 +177,6 @@ module _ (sheet : Sheet) (bs : List Binding) where
     rest : (e : Entry) (es : List Entry) → rises (e ∷ es) ≡ true → rises es ≡ true
     rest e es h = (and_parts (is_below e.0 es) (rises es) h).1
 
-    -- the keys say the members, whatever the order of the keys
     all_said : (es found : List Entry) → rises es ≡ true → All IsWritten es → members_with sheet bs found (defined_given spelled es) ≡ Some (each_added found es)
     all_said [] found h w = refl
     all_said (e ∷ es) found h w =
@@ -224,7 +219,6 @@ module _ (sheet : Sheet) (bs : List Binding) where
         let ws = All-tail IsWritten e es w in
         distinct_with (spelled e.0) (member_given spelled e.1) e.0 (key_back e (All-head IsWritten e es w)) (defined_given spelled es) (other_names e.0 es ws (apart e es h)) (all_distinct es (rest e es h) ws)
 
-    -- no name is repeated, so the members are said
     said_once : (es : List Entry) → rises es ≡ true → All IsWritten es → said_members sheet bs (defined_given spelled es) ≡ Some es
     said_once es h w =
         let ds = defined_given spelled es in

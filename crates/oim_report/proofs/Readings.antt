@@ -1,4 +1,4 @@
--- The result of reading a part is the part that is said.
+-- Reading a part returns the part that the object says.
 use Rattle.std.proofs.Common.{◌≡◌, ℕ, ℤ, List, Bool, true, false, not, ◌&&◌, cond, Result, Ok, Err, refl, sym, ap, ◌∙◌}
 use Rattle.std.specs.Prelude.{Option, Some, None, IfOk, IfSome, if◌then◌else◌}
 use Rattle.oim_names.specs.Bindings.{Binding}

@@ -1,4 +1,4 @@
--- The refusal that a reading returns, in terms of the table's row that applies.
+-- A reading returns a reason exactly if the table's row for this reason applies.
 use Rattle.std.proofs.Common.{◌≡◌, ℕ, ℤ, List, Bool, true, false, not, ◌||◌, ◌&&◌, Ok, Err, refl}
 use Rattle.std.specs.Prelude.{Option, Some, None, is_none, int_lt, if◌then◌else◌}
 use Rattle.std.specs.Option.{option_eq}

@@ -34,7 +34,6 @@ whole (Some ts) = refl
 pub kept_all : (base : Option Parts) (ds : Items) → kept_after base [] ds ≡ said_references base ds
 kept_all base ds = after base ds [] ∙ whole (said_references base ds)
 
--- the loop over an array stops at a refused reference, and otherwise at the end
 pub stops : (base : Option Parts) (done : List (List ℕ)) (items : List Value) (i : ℕ) (v : Value) → i < length items → v ≡ get_or items i v → said_reference base (view v) ≡ None → kept_after base done (items_view (drop i items)) ≡ None
 stops base done items i v h is none =
     ap (λ vs. kept_after base done (items_view vs)) (drop-cons items i v h)

@@ -24,8 +24,6 @@ use Rattle.oim_report.proofs.AcceptedWhereFree.{all_free, all_ok, one_free, one_
 use Rattle.oim_report.proofs.Documents.{document_is_said}
 use Rattle.oim_report.proofs.OneDocument.{says_one_document}
 
--- ---- the first object that is refused
-
 err_of : {A B : Type 0} (g : A → B) (r : Result A Refusal) (q : Refusal) → map_ok g r ≡ Err q → r ≡ Err q
 err_of g (Ok a) q e = absurd (cc)
 err_of g (Err p) q e = cc
@@ -60,8 +58,6 @@ behind_free sheet bs n (d ∷ ds) one after reason free e =
 first_answered : (sheet : Sheet) (bs : List Binding) (n : ℕ) (ds : List Data) (r : Refusal) → RefusesOne sheet bs n ds r → all_or_first n (map (fact_outcome sheet bs) ds) ≡ Err r
 first_answered sheet bs n ds r h =
     ap (λ x. all_or_first n (map (fact_outcome sheet bs) x)) h.are ∙ behind_free sheet bs n h.before h.object h.after h.reason h.free ((refused_is_least sheet bs h.object h.reason).1 h.refused) ∙ ap Err (sym h.answer)
-
--- ---- a document
 
 is_above : (b : Bool) (d : Document) (r : Refusal) → cond b (Err (at AtDocument DisallowedDuplicates)) (Ok d) ≡ Err r → (b ≡ true) × (r ≡ at AtDocument DisallowedDuplicates)
 is_above true d r e = (refl, cc)

@@ -32,8 +32,6 @@ abbrev pub repeated_in : List Binding → Names → List Entry → Option Entry
 repeated_in bs m [] = None
 repeated_in bs m (e ∷ es) = option_map_or (λ n. if map.contains_key m n then Some e else repeated_in bs (map.insert m n Explicit) es) (named bs e.0) (repeated_in bs m es)
 
--- ---- the map has the names in a list
-
 abbrev Has : Names → List QName → Type 0
 Has m ns = (q : QName) → map.contains_key m q ≡ list_any (λ o. is_eq (name_cmp q o)) ns
 
@@ -52,8 +50,6 @@ in_list bs m ns (e ∷ es) h = at_one bs m ns e es (named bs e.0) h (in_list bs 
 pub in_none : (bs : List Binding) (m : Names) (es : List Entry) → m ≡ map.empty → repeated_in bs m es ≡ repeated bs [] es
 in_none bs m es is = in_list bs m [] es (λ q. ap (λ x. map.contains_key x q) is ∙ ap is_some (get-empty name_cmp q))
 
--- ---- some member is found exactly if a name is repeated
-
 module _ (bs : List Binding) (m : Names) (e : Entry) (es : List Entry) where
   known : (n : QName) (b : Bool) → map.contains_key m n ≡ b → is_some (repeated_in bs (map.insert m n Explicit) es) ≡ again_after (map.insert m n Explicit) (names_of bs es)
       → is_some (if b then Some e else repeated_in bs (map.insert m n Explicit) es) ≡ again_after m (n ∷ names_of bs es)
@@ -71,8 +67,6 @@ some_again bs m (e ∷ es) = at_again bs m e es (named bs e.0) (some_again bs m 
 
 pub repeated_some : (bs : List Binding) (es : List Entry) → is_some (repeated bs [] es) ≡ comes_again (names_of bs es)
 repeated_some bs es = ap is_some (sym (in_none bs map.empty es refl)) ∙ some_again bs map.empty es ∙ none_before map.empty (names_of bs es) refl
-
--- ---- one member of `dimensions`
 
 module _ (bs : List Binding) (m : Names) (k : List ℕ) (d : Data) (es : List Entry) where
   abbrev pub rest : Bool → Option Entry

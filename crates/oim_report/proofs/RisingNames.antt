@@ -1,4 +1,4 @@
--- The order of names, and what a map has after a name is added.
+-- The order of names, and a map after a name is added.
 use Rattle.std.proofs.Common.{◌≡◌, cond, Option, Some, None, sym, ap, ◌∙◌}
 use Rattle.std.specs.Prelude.{is_some, if◌then◌else◌}
 use Rattle.std.specs.Ordering.{is_eq}
@@ -12,7 +12,6 @@ pub name_total : IsTotalOrder name_cmp
 name_total = then_total (on_total (λ (n : QName). n.uri) nat_list_cmp_total) (on_total (λ (n : QName). n.local_part) nat_list_cmp_total)
 
 module _ {X : Type 0} where
-  -- adding a listed name does not change the map
   pub listed_stays : (m : FinMap name_cmp X) (q : QName) (v k : X) → map.get m q ≡ Some k → m ≡ (if map.contains_key m q then m else map.insert m q v)
   listed_stays m q v k h = sym (ap (λ (a : Option X). cond (is_some a) m (map.insert m q v)) h)
 

@@ -23,7 +23,6 @@ use Rattle.oim_dims.proofs.Orders.{dimensions_cmp_total, fact_cmp_exact}
 use Rattle.oim_report.proofs.Pairs.{allows_each-push, complete_are_consistent, level_of_is, strictest, unique_are_complete}
 use Rattle.oim_report.proofs.ValuesMeet.{both_meet-both_common, lesser_meets, values_meet_self}
 
--- the order of two facts by dimensions alone
 abbrev dims : Fact → Fact → Ordering
 dims f g = dimensions_cmp f.dimensions g.dimensions
 
@@ -57,8 +56,8 @@ up_then_less {K} {R} o x y z up less = up_cases (R x y) up (λ e. o.trans x y z 
 
 -- ---- the loop, step by step
 
--- the level of a sorted list after some of its facts: it needs the last fact, the common part of the intervals in its dimension
--- set, and the level so far
+-- the level of a sorted list when some of its facts are read. The state has the last fact, the common part of the intervals in
+-- its dimension set, and the level so far.
 unfoldable pub walk : Fact → Option Interval → Level → List Fact → Level
 walk last shared level [] = level
 walk last shared level (f ∷ fs) =
@@ -99,11 +98,9 @@ each_from : {X : Type 0} (p q : X → Bool) → ((x : X) → p x ≡ true → q 
 each_from p q f [] h = refl
 each_from p q f (x ∷ xs) h = let both = and_parts (p x) (list_all p xs) h in and_from (q x) (list_all q xs) (f x both.0) (each_from p q f xs both.1)
 
--- a test of all items of a list after one more is appended
 each_push : {X : Type 0} (p : X → Bool) (xs : List X) (x : X) → list_all p (xs ++ x ∷ []) ≡ (list_all p xs && p x)
 each_push p xs x = list_all-append p xs (x ∷ []) ∙ ap (λ b. list_all p xs && b) (and_true (p x))
 
--- facts of lesser dimensions are allowed at every level
 apart_allowed : (l : Level) (f g : Fact) → dims f g ≡ Less → allows l f g ≡ true
 apart_allowed l f g h = ap (λ (o : Ordering). not (is_eq o) || allows_values l f.value g.value) h
 
@@ -112,11 +109,9 @@ apart_each l fs last h below less =
     each_from (λ f. not (is_gt (dims f last))) (λ f. allows l f h)
     (λ f up. apart_allowed l f h (up_then_less dimensions_cmp_total f.dimensions last.dimensions h.dimensions (not-true _ up) less)) fs below
 
--- facts with the same dimensions are tested by value
 same_allowed : (l : Level) (f g : Fact) → dims f g ≡ Equal → allows l f g ≡ allows_values l f.value g.value
 same_allowed l f g h = ap (λ (o : Ordering). not (is_eq o) || allows_values l f.value g.value) h
 
--- two different facts with the same dimensions are consistent exactly if their intervals meet
 lesser_allowed : (f g : Fact) → dims f g ≡ Equal → value_cmp f.value g.value ≡ Less → allows Consistent f g ≡ both_meet (interval_at f.value) (interval_at g.value)
 lesser_allowed f g same less = same_allowed Consistent f g same ∙ lesser_meets f.value g.value less
 
@@ -170,7 +165,6 @@ level_grown fs f = level_of_is (fs ++ f ∷ []) ∙ (λ i. strictest (allows_eac
 three : {a b c x y z : Bool} → a ≡ x → b ≡ y → c ≡ z → strictest a b c ≡ strictest x y z
 three p q r = λ i. strictest (p i) (q i) (r i)
 
--- a fact with other dimensions does not change the level
 level_other : (before : List Fact) (last f : Fact) (shared : Option Interval) → Knows before last shared → dims last f ≡ Less → level_of ((before ++ last ∷ []) ++ f ∷ []) ≡ level_of (before ++ last ∷ [])
 level_other before last f shared known less =
     let fs : List Fact = before ++ last ∷ [] in
@@ -179,13 +173,11 @@ level_other before last f shared known less =
     free : (l : Level) → (allows_each l (before ++ last ∷ []) && list_all (λ g. allows l g f) (before ++ last ∷ [])) ≡ allows_each l (before ++ last ∷ [])
     free l = ap (λ b. allows_each l (before ++ last ∷ []) && b) (apart_each l (before ++ last ∷ []) last f known.below less) ∙ and_true (allows_each l (before ++ last ∷ []))
 
--- a level that does not allow a fact beside the last one does not allow the list
 refused_at_end : (l : Level) (before : List Fact) (last f : Fact) → allows l last f ≡ false → (allows_each l (before ++ last ∷ []) && list_all (λ g. allows l g f) (before ++ last ∷ [])) ≡ false
 refused_at_end l before last f h =
     ap (λ b. allows_each l (before ++ last ∷ []) && b) (each_push (λ g. allows l g f) before last ∙ ap (λ b. list_all (λ g. allows l g f) before && b) h ∙ and_false _)
     ∙ and_false _
 
--- a level that allows the last fact twice allows it again in the list
 again : (l : Level) (before : List Fact) (last : Fact) → allows l last last ≡ true → (allows_each l (before ++ last ∷ []) && list_all (λ g. allows l g last) (before ++ last ∷ [])) ≡ allows_each l (before ++ last ∷ [])
 again l before last h = absorbed _ _ (λ each. each_push (λ g. allows l g last) before last ∙ and_from _ _ (and_parts (allows_each l before) _ (sym (allows_each-push l before last) ∙ each)).1 h)
   where
@@ -213,7 +205,6 @@ differing true true false m p q = gone (q refl)
 differing false true false m p q = gone (q refl)
 differing true false s m p q = gone (p refl)
 
--- the level after the last fact is repeated
 level_repeated : (before : List Fact) (last : Fact) (shared : Option Interval) → level_of ((before ++ last ∷ []) ++ last ∷ []) ≡ ord_max level_cmp (level_of (before ++ last ∷ [])) (level_beside last.value shared last.value)
 level_repeated before last shared =
     let fs : List Fact = before ++ last ∷ [] in
@@ -225,7 +216,6 @@ level_repeated before last shared =
     ∙ repeated (allows_each Unique fs) (allows_each Complete fs) (allows_each Consistent fs) (unique_are_complete fs)
     ∙ (λ i. ord_max level_cmp (sym (level_of_is fs) i) (sym beside i))
 
--- the level after one more value for the same dimensions
 level_differing : (before : List Fact) (last f : Fact) (shared : Option Interval) → Knows before last shared → dims last f ≡ Equal → value_cmp last.value f.value ≡ Less → level_of ((before ++ last ∷ []) ++ f ∷ []) ≡ ord_max level_cmp (level_of (before ++ last ∷ [])) (level_beside last.value shared f.value)
 level_differing before last f shared known same less =
     let fs : List Fact = before ++ last ∷ [] in
@@ -266,7 +256,6 @@ walk_is (f ∷ fs) before last shared known rises =
     ∙ walk_is fs (before ++ last ∷ []) f (both_common shared (interval_at f.value)) (knows_duplicate before last f shared known equal up) rises.1
     ∙ ap level_of (append_assoc before (last ∷ []) (f ∷ fs)))
 
--- the loop from the first fact on returns the level of all facts
 pub walk_from_first : (first : Fact) (fs : List Fact) → RisesFrom first fs → walk first (interval_at first.value) Unique fs ≡ level_of (first ∷ fs)
 unfolding level_of
 walk_from_first first fs rises = walk_is fs [] first (interval_at first.value) (knows_first first) rises

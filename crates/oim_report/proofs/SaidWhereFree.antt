@@ -35,7 +35,7 @@ use Rattle.oim_report.proofs.ValueWords.{absent_same, defined_same, no_text_same
 
 -- ---- the parts of an object that says a fact
 
--- no condition on one of the parts applies; `xs` are the taxonomy-defined dimensions
+-- no condition on the parts applies; `xs` are the taxonomy-defined dimensions
 record PartsFree (sheet : Sheet) (bs : List Binding) (kind : ConceptKind) (p : FactParts) (ds : DimensionParts) (xs : List (List ℕ × Data)) : Type 0 where
   concept : ConceptFree sheet bs ds.concept
   entity : EntityFree bs ds.entity
@@ -332,7 +332,6 @@ said_outcome sheet bs d p ds f are form said =
 
 -- ---- a fact object to which no condition applies
 
--- the dimensions are an object
 dimensions_are : (o : Option Data) → is_no_object o ≡ false → is_none o ≡ false → (ms : Members) × (option_and_then as_object o ≡ Some ms)
 dimensions_are None shaped some = absurd (cc)
 dimensions_are (Some (object ms)) shaped some = (ms, refl)

@@ -18,7 +18,6 @@ all_push P [] x all p = (p, tt)
 all_push P (y ∷ ys) x all p = (all.0, all_push P ys x all.1 p)
 
 module _ {Y X : Type 0} (P : List ℕ → X → Type 0) where
-  -- what holds for each entry holds for the value that is found
   at_found : (t : List ℕ) (es : List (String Y × X)) (x : X) → AllByRecursion (λ e. P (string_bytes e.0) e.1) es → at_text t es ≡ Some x → P t x
   at_found t [] x all found = absurd (cc)
   at_found t (e ∷ es) x all found =
@@ -31,7 +30,6 @@ module _ {K Y : Type 0} where
   abbrev pub kind_in : Option (Group K Y) → List ℕ → Option K
   kind_in group l = option_map (λ e. e.1) (in_group group l)
 
-  -- the group has the name of an entry, with its kind
   abbrev pub IsThere : Option (Group K Y) → List ℕ → QName × K → Type 0
   IsThere group l e = kind_in group l ≡ Some e.1
 
@@ -42,16 +40,13 @@ module _ {K Y : Type 0} where
         | Some e ↦ λ found same. at_found (IsThere group) l other.entries e all found ∙ same
       ] refl is
 
-  -- the map has the names of a group
   abbrev pub HasGroup : FinMap name_cmp K → List ℕ → Group K Y → Type 0
   HasGroup m u g = (l : List ℕ) (k : K) → option_map (λ e. e.1) (get_by_text g l) ≡ Some k → map.get m (name u l) ≡ Some k
 
-  -- a group of a listing whose names the map has
   pub group_within : (m : FinMap name_cmp K) (gs : BTreeMap (String Y) (Group K Y)) → AreGroups gs → (u : List ℕ) (g : Group K Y) → get_by_text gs u ≡ Some g
       → ((q : QName) (k : K) → map.get (map_of gs) q ≡ Some k → map.get m q ≡ Some k) → HasGroup m u g
   group_within m gs are u g found within l k is = within (name u l) k (get_grouped gs are u l ∙ ap (λ o. kind_in o l) found ∙ is)
 
-  -- the map has the names of a group exactly if its own group has each of them
   pub has_group : (m : FinMap name_cmp K) (u v : List ℕ) (own : Option (Group K Y)) (g : Group K Y) → v ≡ u → IsGroupOf m v own → HasGroup m u g → HasEach own g
   has_group m u v own g same is has l k found = (is l).0 ∙ ap (λ w. map.get m (name w l)) same ∙ has l k found
 
@@ -70,7 +65,6 @@ module _ {K : Type 0} where
   abbrev pub IsWithin : FinMap name_cmp K → FinMap name_cmp K → Type 0
   IsWithin m n = (q : QName) (k : K) → map.get m q ≡ Some k → map.get n q ≡ Some k
 
-  -- maps that are within each other are equal
   pub within_both : (m n : FinMap name_cmp K) → IsWithin m n → IsWithin n m → m ≡ n
   within_both m n there back = same_map name_total exact_name m n (λ q.
       elim (map.get m q) as (λ o. map.get m q ≡ o → o ≡ map.get n q) [

@@ -1,4 +1,4 @@
--- If the function says a part, the relation says it member by member.
+-- If a function returns a part, the relation holds for that part.
 use Rattle.std.proofs.Common.{◌≡◌, ℕ, ℤ, List, Bool, true, false, ◌&&◌, cond, Option, Some, None, Result, Ok, Err, refl, sym, subst}
 use Rattle.std.specs.Prelude.{IsTrue}
 use Rattle.std.specs.Option.{option_map}
@@ -27,8 +27,6 @@ use Rattle.oim_report.specs.Said.{said_concept, said_decimals, said_entity, said
 use Rattle.oim_report.proofs.Accepted.{and_then_some, map_some}
 use Rattle.oim_report.proofs.Naming.{stands}
 
--- ---- a given text
-
 pub text_is : (g : Given) (t : List ℕ) → text_of g ≡ Some t → g ≡ text t
 text_is absent t e = absurd (cc)
 text_is nil t e = absurd (cc)
@@ -39,14 +37,10 @@ text_is other t e = absurd (cc)
 gives : (g : Given) (P : List ℕ → Type 0) (t : List ℕ) → g ≡ text t → P t → GivesText g P
 gives g P t is p = subst (λ h. GivesText h P) (sym is) p
 
--- ---- concept
-
 pub concept_says : (bs : List Binding) (g : Given) (n : QName) → said_concept bs g ≡ Some n → GivesText g (λ t. Expands bs t n)
 concept_says bs g n e =
     let t = and_then_some (named bs) (text_of g) n e in
     gives g (λ s. Expands bs s n) t.0 (text_is g t.0 t.1) (stands is_name bs t.0 n t.2)
-
--- ---- entity, period, language
 
 pub entity_says : (bs : List Binding) (g : Given) (said : Option QName) → said_entity bs g ≡ Some said → SaysEntity bs g said
 entity_says bs absent said e = (let same : None ≡ said = cc in sym same)
@@ -80,8 +74,6 @@ language_says Text (text t) said e = lower t said (is_language t) refl e
 language_says Name (text t) said e = lower t said (is_language t) refl e
 language_says kind (whole n) said e = absurd (cc)
 language_says kind other said e = absurd (cc)
-
--- ---- value
 
 in_range : (n : ℤ) (places : Option ℤ) (b : Bool) → is_finite_decimals n ≡ b → cond b (Some (Some n)) None ≡ Some places → SaysDecimals (whole n) places
 in_range n places true u e = (u, cc)

@@ -19,7 +19,6 @@ use Rattle.oim_report.specs.Sheet.{key_names, kind_in, entries_in, listed, names
 use Rattle.oim_report.proofs.NameRefusals.{first_free}
 use Rattle.oim_report.proofs.RisingNames.{name_total}
 
--- the first of two values, if it exists, otherwise the second
 abbrev pub first_of : {A : Type 0} → Option A → Option A → Option A
 first_of None b = b
 first_of (Some a) b = Some a
@@ -36,12 +35,10 @@ module _ {X : Type 0} where
   abbrev pub with_entry : FinMap name_cmp X → QName × X → FinMap name_cmp X
   with_entry m e = if map.contains_key m e.0 then m else map.insert m e.0 e.1
 
-  -- adds several entries in order
   abbrev pub onto : FinMap name_cmp X → List (QName × X) → FinMap name_cmp X
   onto m [] = m
   onto m (e ∷ es) = onto (with_entry m e) es
 
-  -- a look-up in a map with a new entry finds the entries of the map first
   at_one : (m : FinMap name_cmp X) (e : QName × X) (q : QName) (rest : Option X) → first_of (map.get (with_entry m e) q) rest ≡ first_of (map.get m q) (cond (eq_by_cmp name_cmp q e.0) (Some e.1) rest)
   at_one m e q rest =
       elim (map.get m e.0) as (λ o. map.get m e.0 ≡ o → first_of (map.get (cond (is_some o) m (map.insert m e.0 e.1)) q) rest ≡ first_of (map.get m q) (cond (eq_by_cmp name_cmp q e.0) (Some e.1) rest)) [
@@ -60,7 +57,6 @@ module _ {X : Type 0} where
   get-onto m [] q = sym (first_of-none (map.get m q))
   get-onto m (e ∷ es) q = get-onto (with_entry m e) es q ∙ at_one m e q (find name_cmp q es)
 
-  -- entries of the map stay when others are added
   pub stays : (m : FinMap name_cmp X) (es : List (QName × X)) (q : QName) (k : X) → map.get m q ≡ Some k → map.get (onto m es) q ≡ Some k
   stays m es q k h = get-onto m es q ∙ ap (λ o. first_of o (find name_cmp q es)) h
 
@@ -78,11 +74,9 @@ module _ {K : Type 0} (kind_named : List ℕ → Option K) (same : K → K → B
   pub begins : (bs : List Binding) (all : Members) → names_refusal bs (key_names all) ≡ None → Lists bs all all map.empty
   begins bs all names = record { names = names; map_is = onto_empty (entries_in kind_named same bs all); kinds = refl; others = refl }
 
-  -- the state at the next member
   pub at_next : (bs : List Binding) (all : Members) (m : FinMap name_cmp K) (es : List Entry) (e : Entry) (rest : List Entry) → Lists bs all (members_view es) m → es ≡ e ∷ rest → Lists bs all (member (string_bytes e.0) (view e.1) (members_view rest)) m
   at_next bs all m es e rest l steps = subst (λ fs. Lists bs all (members_view fs) m) steps l
 
-  -- the key of the next member is a name
   pub key_is_name : (bs : List Binding) (all rest : Members) (m : FinMap name_cmp K) (key : List ℕ) (d : Data) → Lists bs all (member key d rest) m → (refusal_as is_name bs key ≡ None) × (names_refusal bs (key_names rest) ≡ None)
   key_is_name bs all rest m key d l = first_free bs (a_name key) (key_names rest) l.names
 
@@ -93,11 +87,9 @@ module _ {K : Type 0} (kind_named : List ℕ → Option K) (same : K → K → B
   other true b h = refl
   other false b h = h
 
-  -- a value that names no kind is refused
   pub no_kind : (bs : List Binding) (all rest : Members) (m : FinMap name_cmp K) (key : List ℕ) (d : Data) → Lists bs all (member key d rest) m → kind_in kind_named same d ≡ None → has_bad_kind kind_named same bs all ≡ true
   no_kind bs all rest m key d l none = either _ _ (sym l.kinds ∙ either _ _ (ap (λ k. not (is_some k)) none))
 
-  -- a name with another kind is refused
   pub other_kind : (bs : List Binding) (all rest : Members) (m : FinMap name_cmp K) (key : List ℕ) (d : Data) (n : QName) (k known : K) → Lists bs all (member key d rest) m → named bs key ≡ Some n → kind_in kind_named same d ≡ Some k → map.get (with_entry m (n, k)) n ≡ Some known → same k known ≡ false → has_bad_kind kind_named same bs all ≡ true
   other_kind bs all rest m key d n k known l name kind here differs =
       let es = entries_in kind_named same bs rest in
@@ -121,6 +113,5 @@ module _ {K : Type 0} (kind_named : List ℕ → Option K) (same : K → K → B
         others = sym (ap (list_any (has_other_kind kind_named same (listed kind_named same bs all))) first ∙ ap (λ b. b || list_any (has_other_kind kind_named same (listed kind_named same bs all)) es) test) ∙ l.others;
       }
 
-  -- the state after the last member
   pub all_listed : (bs : List Binding) (all : Members) (m : FinMap name_cmp K) → Lists bs all no_members m → (m ≡ listed kind_named same bs all) × (has_bad_kind kind_named same bs all ≡ false)
   all_listed bs all m l = (l.map_is, ap (λ a. a || has_two_kinds kind_named same bs all) (sym l.kinds) ∙ sym l.others)

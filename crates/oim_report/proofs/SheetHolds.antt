@@ -44,9 +44,6 @@ sheet_least tree =
     let names = sheet_names tree in
     flat (sheet_holds tree MemberForm) (sheet_holds tree UnknownMember) (any_in binds_nothing (sheet_namespaces tree)) (refuses_some NameForm bs names) (refuses_some UnboundPrefix bs names) (refuses_some ReservedNamespace bs names) (sheet_holds tree SheetKind)
 
--- ---- the order in which a sheet is read
-
--- a sheet with a bad kind is refused for it if no earlier condition applies
 pub kinds_refused : (tree : Data) (bs : List Binding) (ns cs ds : Option Members) → None ≡ find (sheet_holds tree) (MemberForm ∷ UnknownMember ∷ [])
     → ns ≡ object_at (codes "namespaces") tree → (bs ≡ bindings_in (members ns)) × (any_in binds_nothing ns ≡ false)
     → cs ≡ object_at (codes "concepts") tree → ds ≡ object_at (codes "dimensions") tree → None ≡ names_refusal bs (key_names (members cs) ++ key_names (members ds))
@@ -56,8 +53,6 @@ kinds_refused tree bs ns cs ds form at_ns bound at_cs at_ds names bad =
     sym (sheet_least tree)
     ∙ (λ i. first_refusal (sym form i ∷ first_holding ((any_in binds_nothing (sym at_ns i), Namespace) ∷ []) ∷ names_refusal (is i) (key_names (members (sym at_cs i)) ++ key_names (members (sym at_ds i))) ∷ first_holding ((has_bad_kind concept_kind_named same_concept_kind (is i) (members (sym at_cs i)) || has_bad_kind dimension_kind_named same_dimension_kind (is i) (members (sym at_ds i)), SheetKind) ∷ []) ∷ []))
     ∙ (λ i. first_refusal (None ∷ first_holding ((bound.1 i, Namespace) ∷ []) ∷ sym names i ∷ first_holding ((bad i, SheetKind) ∷ []) ∷ []))
-
--- ---- for bytes
 
 refused_for : (o : Option Reason) (said : Sheet) (r : Reason) → unless o said ≡ Err r → o ≡ Some r
 refused_for None said r e = absurd (cc)

@@ -16,14 +16,11 @@ use Rattle.oim_report.specs.Namespaces.{binds_nothing}
 use Rattle.oim_report.specs.Sheet.{concept_kind_named, dimension_kind_named, same_concept_kind, same_dimension_kind, sheet_bindings, sheet_concepts, sheet_dimensions, sheet_holds, sheet_namespaces}
 use Rattle.oim_report.specs.Shown.{Shown, entry, first_shown, kindless, name, nothing, seen, sheet_shown, two_kinds}
 
--- a part, or nothing
 pub or_nothing : {A : Type 0} (o : Option Part) (f : A → Shown) (found : Option A) → option_map seen o ≡ option_map f found → seen (unwrap_or o Nothing) ≡ option_map_or f found nothing
 or_nothing None f None is = refl
 or_nothing None f (Some a) is = absurd (cc)
 or_nothing (Some p) f None is = absurd (cc)
 or_nothing (Some p) f (Some a) is = cc
-
--- ---- names
 
 at_first : (x : Shown) (o p : Option Spelled) → Some x ≡ option_map name o → x ≡ option_map_or name (option_or o p) nothing
 at_first x None p is = absurd (cc)
@@ -38,8 +35,6 @@ name_first test ns os x is = at_first x (find test ns) (find test os) is ∙ ap 
 
 pub name_second : (test : Spelled → Bool) (ns os : List Spelled) (o : Option Part) → None ≡ option_map name (find test ns) → option_map seen o ≡ option_map name (find test os) → seen (unwrap_or o Nothing) ≡ option_map_or name (find test (ns ++ os)) nothing
 name_second test ns os o free is = at_second o (find test ns) (find test os) free is ∙ ap (λ o. option_map_or name o nothing) (sym (find-append test ns os))
-
--- ---- kinds
 
 module _ (tree : Data) where
   abbrev pub one : Option Shown
@@ -74,13 +69,10 @@ module _ (tree : Data) where
   unfolding sheet_shown
   kind_last o a b c d = last_shown o ∙ (λ i. first_shown (a i ∷ b i ∷ c i ∷ d i ∷ []))
 
--- ---- namespaces
-
 pub refused_if : {A : Type 0} (bad : Bool) (a : A) → None ≡ (if bad then None else Some a) → bad ≡ true
 refused_if true a is = refl
 refused_if false a is = absurd (cc)
 
--- a sheet whose namespaces are refused is refused for them, or for an earlier condition
 by_tests : (a b c : Bool) (later : Option Reason) (r : Reason) → c ≡ true → (if a then Some MemberForm else (if b then Some UnknownMember else (if c then Some Namespace else later))) ≡ Some r → r ≢ MemberForm → r ≢ UnknownMember → r ≢ Namespace → ⊥
 by_tests true b c later r bad is form known bound = let same : MemberForm ≡ r = cc in form (sym same)
 by_tests false true c later r bad is form known bound = let same : UnknownMember ≡ r = cc in known (sym same)

@@ -1,4 +1,4 @@
--- The first part for which a condition applies, and whether there is one.
+-- The first part to which a condition applies, and whether there is one.
 use Rattle.std.proofs.Common.{◌≡◌, ℕ, List, [], ◌∷◌, map, Bool, true, false, cond, not, ◌||◌, ◌&&◌, refl, sym, ap, ◌∙◌}
 use Rattle.std.specs.Prelude.{Option, Some, None, codes, if◌then◌else◌, is_some, option_and_then, option_map}
 use Rattle.std.specs.Option.{option_map_or}
@@ -22,7 +22,6 @@ is_found : {A : Type 0} (b : Bool) (x : A) (o : Option A) → is_some (cond b (S
 is_found true x o = refl
 is_found false x o = refl
 
--- something is found exactly if some element passes the test
 pub found_any : {A : Type 0} (p : A → Bool) (xs : List A) → is_some (find p xs) ≡ list_any p xs
 found_any p [] = refl
 found_any p (x ∷ xs) = is_found (p x) x (find p xs) ∙ ap (λ b. p x || b) (found_any p xs)
@@ -35,7 +34,6 @@ pub any_found_in : (test : List ℕ → Data → Bool) (ms : Option Members) →
 any_found_in test None = refl
 any_found_in test (Some ms) = any_found test ms
 
--- what is found is shown
 pub shown_found : {A : Type 0} (f : A → Shown) (o : Option A) → option_map f o ≡ when (is_some o) (option_map_or f o nothing)
 shown_found f None = refl
 shown_found f (Some a) = refl
@@ -49,8 +47,6 @@ some_item test (item d ds) = is_found (test d) d (first_item test ds) ∙ ap (λ
 
 pub item_shown : (test : Data → Bool) (ds : Items) → option_map value (first_item test ds) ≡ when (any_item test ds) (value_or_nothing (first_item test ds))
 item_shown test ds = shown_found value (first_item test ds) ∙ ap (λ b. when b (value_or_nothing (first_item test ds))) (some_item test ds)
-
--- ---- the first of the members that pass another test
 
 only : {A : Type 0} (b : Bool) (t : A → Bool) (x : A) (xs : List A) (o : Option A) → o ≡ find t xs → cond (b && t x) (Some x) o ≡ find t (cond b (x ∷ xs) xs)
 only true t x xs o is = ap (λ o. cond (t x) (Some x) o) is
@@ -68,18 +64,14 @@ pub find_map : {A B : Type 0} (p : B → Bool) (f : A → B) (xs : List A) → f
 find_map p f [] = refl
 find_map p f (x ∷ xs) = ap (cond (p (f x)) (Some (f x))) (find_map p f xs) ∙ mapped (p (f x)) f x (find (λ x. p (f x)) xs)
 
--- a name is shown if it is refused
 pub name_shown : (r : Reason) (bs : List Binding) (ns : List Spelled) → let first = find (refuses r bs) ns in option_map name first ≡ when (refuses_some r bs ns) (option_map_or name first nothing)
 name_shown r bs ns = let first = find (refuses r bs) ns in shown_found name first ∙ ap (λ b. when b (option_map_or name first nothing)) (found_any (refuses r bs) ns)
 
--- the part that is shown tells whether a condition applies
 pub part_some : (o : Option Part) (b : Bool) (x : Shown) → option_map seen o ≡ when b x → is_some o ≡ b
 part_some None true x is = absurd (cc)
 part_some None false x is = refl
 part_some (Some p) true x is = refl
 part_some (Some p) false x is = absurd (cc)
-
--- ---- the feature
 
 unless_hidden : {A : Type 0} (bad c : Bool) (a : A) (f : A → Option Shown) (x : Shown) → f a ≡ when c x → option_and_then f (if bad then None else Some a) ≡ when (not (bad || false) && c) x
 unless_hidden true c a f x is = refl

@@ -1,4 +1,4 @@
--- Spelled names expand to the names that they spell, are UTF-8, and have a colon.
+-- A spelled name expands to the name that it spells, is UTF-8, and has a colon.
 use Rattle.std.proofs.Common.{◌≡◌, ◌≢◌, ◌<◌, ℕ, suc, List, [], ◌∷◌, length, Bool, true, not, Some, refl, sym, ap, ◌∙◌, arith}
 use Rattle.std.specs.Prelude.{◌==◌, IsUtf8}
 use Rattle.std.specs.List.{list_all}
@@ -18,8 +18,6 @@ use Rattle.oim_report.specs.Json.{has_colon}
 use Rattle.oim_report.specs.Names.{named_as, named, entity_named}
 use Rattle.oim_report.specs.FactFits.{FitsName, FitsEntity}
 use Rattle.oim_report.specs.ReadBack.{SpellsName}
-
--- ---- the prefix
 
 simple_byte : (c : ℕ) → is_ascii_alphanumeric c ≡ true → is_name_byte c ≡ true
 simple_byte c h = grind (arith, nat_tests)
@@ -48,8 +46,6 @@ some_bytes (c ∷ cs) some = some_number (length cs)
 
 prefix_form : (p : List ℕ) → p ≢ [] → list_all is_ascii_alphanumeric p ≡ true → is_part p ≡ true
 prefix_form p some h = and_from (list_all is_name_byte p) (not (length p == 0)) (simple_bytes p h) (some_bytes p some)
-
--- ---- the name that a spelled name expands to
 
 module _ (bs : List Binding) (spelled : QName → List ℕ) (n : QName) (s : SpellsName bs spelled n) where
   before : is_part s.prefix ≡ true
@@ -80,15 +76,12 @@ module _ (bs : List Binding) (spelled : QName → List ℕ) (n : QName) (s : Spe
     local_part = sym its_local;
   }
 
-  -- the bytes of a spelled name are UTF-8
   pub spelled_utf8 : IsUtf8 n.local_part → IsUtf8 (spelled n)
   spelled_utf8 utf8 =
       rw s.text (IsUtf8-append s.prefix (58 ∷ n.local_part) (IsUtf8-from_ascii s.prefix (simple_ascii s.prefix s.simple)) (IsUtf8-append (58 ∷ []) n.local_part (IsUtf8-from_ascii (58 ∷ []) (IsAscii-cons 58 [] (omega arith) IsAscii-nil)) utf8))
 
   pub spelled_colon : has_colon (spelled n) ≡ true
   spelled_colon = rw s.text (list_any-append is_colon s.prefix (58 ∷ n.local_part) ∙ or_right _ _ refl)
-
--- ---- the functions return the name that a spelled name expands to
 
 pub named_back : (has_form : List ℕ → Bool) (bs : List Binding) (t : List ℕ) (n : QName) → ExpandsAs has_form bs t n → named_as has_form bs t ≡ Some n
 named_back has_form bs t n e =
@@ -102,7 +95,6 @@ name_back bs spelled n fits s = named_back is_name bs (spelled n) n (expands bs 
 pub entity_back : (bs : List Binding) (spelled : QName → List ℕ) (n : QName) → FitsEntity n → SpellsName bs spelled n → entity_named bs (spelled n) ≡ Some n
 entity_back bs spelled n fits s = named_back is_entity bs (spelled n) n (expands_entity bs spelled n s fits)
 
--- different names have different spellings
 pub spelled_apart : (bs : List Binding) (spelled : QName → List ℕ) (m n : QName) → FitsName m → FitsName n → SpellsName bs spelled m → SpellsName bs spelled n → m ≢ n → spelled m ≢ spelled n
 spelled_apart bs spelled m n fm fn sm sn other same =
     let one : Some m ≡ Some n = sym (name_back bs spelled m fm sm) ∙ ap (named bs) same ∙ name_back bs spelled n fn sn in

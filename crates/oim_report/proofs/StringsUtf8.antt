@@ -14,7 +14,6 @@ abbrev pub IsUtf8Behind : List ℕ → Option (List ℕ) → Type 0
 IsUtf8Behind run None = ⊤
 IsUtf8Behind run (Some s) = IsUtf8 (run ++ s)
 
--- the text after an ASCII character is UTF-8
 pub behind : (x : ℕ) (xs : List ℕ) → x < 128 → IsUtf8 (x ∷ xs) → IsUtf8 xs
 behind x xs ascii utf8 = (both_utf8 [] xs x ascii utf8).1
 
@@ -37,8 +36,6 @@ after run (Some s) u h = IsUtf8-append run s u h
 put_before : (a : List ℕ) (o : Option (List ℕ)) → IsUtf8 a → IsUtf8Behind [] o → IsUtf8Behind [] (prepend a o)
 put_before a None u h = tt
 put_before a (Some s) u h = IsUtf8-append a s u h
-
--- ---- escapes
 
 hex_ascii : (x : ℕ) → is_digit x 16 ≡ true → x < 128
 hex_ascii x h = grind (arith, nat_tests, h)
@@ -92,8 +89,6 @@ IsUtf8-one c ascii =
     let scalar : IsScalar c = grind (arith, nat_tests) in
     let is : encode_utf8 c ≡ c ∷ [] = grind (arith, nat_tests) in
     subst IsUtf8 is (IsUtf8-encode c scalar)
-
--- ---- a string
 
 -- the bytes of an unfinished character; there are none after an escape has begun
 abbrev open_run : Within → List ℕ → List ℕ

@@ -66,7 +66,5 @@ mutual
   members_plain no_members h = refl
   members_plain (member k d ms) h = or_both (has_float d) (members_have_float ms) (has_float-plain d h.0) (members_plain ms h.2)
 
--- ---- as the bytes of a file
-
 pub object_text_back : PlainTextReadsBack
 object_text_back ms h = passes (compact_text (object ms)) (read (compact_text (object ms))) (IsUtf8-compact_text (object ms) h.plain h.utf8) ∙ read-compact_text (object ms) h.plain h.shallow

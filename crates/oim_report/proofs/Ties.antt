@@ -22,7 +22,6 @@ equal_values_tie v w = values_match v w ∙ ap is_eq (values_agree v w)
 pub equal_dimensions_tie : (x y : DimensionSet) → dimensions_eq.it x y ≡ is_eq (dimensions_cmp x y)
 equal_dimensions_tie x y = dimensions_match x y ∙ ap is_eq (dimensions_agree x y)
 
--- both orders give the same maximum of two levels
 pub level_max_is : (l m : Level) → ord_max derived.it l m ≡ ord_max level_cmp l m
 level_max_is l m = ap (λ o. cond (is_lt o) l m) (levels_agree m l)
   where

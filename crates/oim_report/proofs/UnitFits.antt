@@ -22,7 +22,6 @@ use Rattle.oim_report.proofs.Fitting.{AreNamespaces, IsClean, bound_uri, name_fi
 use Rattle.oim_report.proofs.UnitSays.{HasSides, IsSide, alone, sides, unit}
 use Rattle.oim_report.proofs.Utf8Parts.{denominators_utf8, numerators_utf8}
 
--- the rest of a text without reserved characters has none
 no_mark_after : (n : ℕ) (p : List ℕ) → list_any is_mark p ≡ false → list_any is_mark (drop n p) ≡ false
 no_mark_after zero p h = h
 no_mark_after (suc n) [] h = refl
@@ -32,7 +31,6 @@ was_false : (b : Bool) → not b ≡ true → b ≡ false
 was_false true e = absurd (cc)
 was_false false e = refl
 
--- a measure satisfies the conditions of a unit and of a fact
 abbrev IsGood : QName → Type 0
 IsGood n = IsMeasure n × FitsName n
 
@@ -91,7 +89,6 @@ unit_is_one bs Name (text t) u are clean e = absurd (cc)
 unit_is_one bs kind (whole n) u are clean e = absurd (cc)
 unit_is_one bs kind other u are clean e = absurd (cc)
 
--- only numbers have units
 measures_fit : (bs : List Binding) (t : List ℕ) (u : Option Measures) → HasSides bs t u → AreNamespaces bs → IsUtf8 t → UnitFits Numeric u
 measures_fit bs t u has are utf8 = elim has.made [
   | alone none pure ↦ subst (UnitFits Numeric) (sym none) tt

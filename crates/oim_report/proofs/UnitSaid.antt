@@ -1,4 +1,4 @@
--- The unit that a text denotes is the result of the function.
+-- If a text denotes a unit, `unit_of` returns it.
 use Rattle.std.proofs.Common.{◌≡◌, ◌≢◌, ℕ, zero, suc, ◌+◌, List, [], ◌∷◌, true, false, refl, ap, ◌∙◌, arith}
 use Rattle.std.specs.Prelude.{Option, Some, None, IfSome, option_map}
 use Rattle.std.specs.List.{AllZip}
@@ -17,8 +17,6 @@ use Rattle.oim_dims.specs.Unit.{Measures, NamesEach, HasMeasures, UnitOf, IsUnit
 use Rattle.oim_dims.proofs.SortedOnce.{sorted_once}
 use Rattle.oim_report.specs.Said.{all_named, in_order, side_of, unit_of, unit_with, with_name}
 use Rattle.oim_report.proofs.Naming.{expanded}
-
--- ---- sorted names
 
 with_same : (n : QName) (ms : List QName) → IsPermutation (n ∷ ms) (with_name n ms)
 with_same n [] = IsPermutation-refl (n ∷ [])
@@ -75,8 +73,6 @@ pub sorted : (xs : List QName) → ordered xs → IsSorted name_cmp xs
 sorted [] c = λ k d low within. absurd (omega arith)
 sorted (x ∷ xs) c = sorted_from x xs c
 
--- ---- sides
-
 spelled : (bs : List Binding) (ps : List (List ℕ)) (ns : List QName) → AllZip (Expands bs) ps ns → all_named bs ps ≡ Some ns
 spelled bs [] [] z = refl
 spelled bs [] (n ∷ ns) z = absurd z
@@ -91,8 +87,6 @@ side bs ps ns each up =
 both_sides : (bs : List Binding) (t : List ℕ) (m : Measures) → HasMeasures bs t m → IsSorted name_cmp m.numerators → IsSorted name_cmp m.denominators → unit_of bs t ≡ Some (unit_with m.numerators m.denominators)
 both_sides bs t m has up down =
     rw (has.form, side bs (numerator_pieces t) m.numerators has.numerators up, side bs (denominator_pieces t) m.denominators has.denominators down) refl
-
--- ---- `pure` alone
 
 alone_sorted : IsSorted name_cmp (pure_name ∷ [])
 alone_sorted = sorted_from pure_name [] tt

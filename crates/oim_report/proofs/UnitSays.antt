@@ -1,4 +1,4 @@
--- The result of the function is the unit that the text denotes, and it fits.
+-- If `unit_of` returns a unit, the text denotes it.
 use Rattle.std.proofs.Common.{◌≡◌, ◌≢◌, ℕ, List, [], ◌∷◌, Bool, true, false, cond, Option, Some, None, refl, sym, ap, subst, ◌∙◌}
 use Rattle.std.specs.Prelude.{option_map, option_and_then}
 use Rattle.std.specs.List.{AllZip}
@@ -21,8 +21,6 @@ use Rattle.oim_report.proofs.Accepted.{and_then_some, map_some}
 use Rattle.oim_report.proofs.Naming.{stands}
 use Rattle.oim_report.proofs.UnitSaid.{is_ordered, order_same, sorted}
 
--- ---- the names of pieces
-
 each_named : (bs : List Binding) (ps : List (List ℕ)) (ns : List QName) → all_named bs ps ≡ Some ns → AllZip (Expands bs) ps ns
 each_named bs [] ns e = let same : [] ≡ ns = cc in subst (AllZip (Expands bs) []) same tt
 each_named bs (p ∷ ps) ns e =
@@ -43,12 +41,10 @@ side_is bs ps ns e =
       order = sorted (in_order a.0) (is_ordered a.0);
     })
 
--- ---- both sides
-
 abbrev pub unit_made : List QName → List QName → Measures
 unit_made ns ds = record { numerators = ns; denominators = ds }
 
--- `pure` alone, or any other unit
+-- u is None for `pure` alone, or else the unit with these sides
 pub data Made (ns ds : List QName) (u : Option Measures) : Type 0 where
   alone : u ≡ None → unit_made ns ds ≡ pure_alone → Made ns ds u
   unit : u ≡ Some (unit_made ns ds) → unit_made ns ds ≢ pure_alone → Made ns ds u
@@ -75,7 +71,6 @@ made (n ∷ []) [] u e =
 made (n ∷ []) (d ∷ ds) u e = unit (sym e) (λ same. let h : d ∷ ds ≡ [] = denominators_of (unit_made (n ∷ []) (d ∷ ds)) pure_alone same in absurd (cc))
 made (n ∷ m ∷ ns) ds u e = unit (sym e) (λ same. let h : n ∷ m ∷ ns ≡ pure_name ∷ [] = numerators_of (unit_made (n ∷ m ∷ ns) ds) pure_alone same in absurd (cc))
 
--- the sides of a text that denotes a unit
 pub record HasSides (bs : List Binding) (t : List ℕ) (u : Option Measures) : Type 0 where
   pub form : is_unit_text t ≡ true
   pub numerators : List QName

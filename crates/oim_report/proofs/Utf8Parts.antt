@@ -1,4 +1,4 @@
--- A text in UTF-8 that is cut at ASCII characters has parts in UTF-8.
+-- If a UTF-8 text is cut at ASCII characters, its parts are UTF-8.
 use Rattle.std.proofs.Common.{◌≡◌, ℕ, suc, ◌+◌, ◌-◌, ◌<◌, ◌≤◌, List, [], ◌∷◌, ◌++◌, length, get_or, take, drop, Bool, true, false, ◌==◌, ◌&&◌, cond, refl, sym, ap, subst, arith, length-append}
 use Rattle.std.specs.Prelude.{All}
 use Rattle.std.specs.List.{after_first, before_first, join_with_byte, list_any, position_or_len}
@@ -15,7 +15,6 @@ use Rattle.oim_dims.specs.Separators.{is_slash}
 use Rattle.oim_dims.specs.Unit.{inner, side_pieces, numerator_pieces, denominator_pieces}
 use Rattle.oim_names.specs.QName.{is_colon}
 
--- a test that only ASCII characters pass
 abbrev pub OnlyAscii : (ℕ → Bool) → Type 0
 OnlyAscii p = (c : ℕ) → p c ≡ true → c < 128
 
@@ -23,7 +22,6 @@ module _ (p : ℕ → Bool) (ascii : OnlyAscii p) (t : List ℕ) (utf8 : IsUtf8 
   passed : position_or_len p t < length t → get_or t (position_or_len p t) 0 < 128
   passed lt = ascii _ (passes_at_first p t 0 lt)
 
-  -- the texts before and after the first character that passes are UTF-8
   pub after_utf8 : IsUtf8 (after_first p t)
   after_utf8 = elim (cases_lt (position_or_len p t) (length t)) [
     | inl lt ↦ IsUtf8-drop t (position_or_len p t + 1) utf8 (IsCharBoundary-after_ascii t (position_or_len p t) utf8 lt (passed lt))
@@ -36,7 +34,6 @@ module _ (p : ℕ → Bool) (ascii : OnlyAscii p) (t : List ℕ) (utf8 : IsUtf8 
     | inr ge ↦ subst IsUtf8 (sym (take_all (position_or_len p t) t (omega (arith, ge)))) utf8
   ]
 
--- the texts before and after an ASCII character are UTF-8
 at_seam : (xs ys : List ℕ) (c : ℕ) → get_or (xs ++ c ∷ ys) (length xs) 0 ≡ c
 at_seam [] ys c = refl
 at_seam (x ∷ xs) ys c = at_seam xs ys c
@@ -63,8 +60,6 @@ joined_utf8 : (c : ℕ) → c < 128 → (ps : List (List ℕ)) → IsUtf8 (join_
 joined_utf8 c ascii [] utf8 = λ k d lt. absurd (omega (arith, lt))
 joined_utf8 c ascii (p ∷ []) utf8 = All-cons IsUtf8 p [] utf8 (λ k d lt. absurd (omega (arith, lt)))
 joined_utf8 c ascii (p ∷ q ∷ ps) utf8 = let both = both_utf8 p (join_with_byte c (q ∷ ps)) c ascii utf8 in All-cons IsUtf8 p (q ∷ ps) both.0 (joined_utf8 c ascii (q ∷ ps) both.1)
-
--- ---- the pieces of a unit
 
 same_number : (m n : ℕ) → (m == n) ≡ true → m ≡ n
 same_number m n h = grind (arith, nat_tests, h)

@@ -1,4 +1,4 @@
--- The words of the table of conditions, in terms of the given value.
+-- The table of conditions tests `Data`, and the reader tests `Given`. Both tests agree.
 use Rattle.std.proofs.Common.{◌≡◌, ℕ, ℤ, pos, List, ◌∷◌, map, Bool, true, false, not, ◌&&◌, cond, refl, ap}
 use Rattle.std.specs.Prelude.{⊤, Option, Some, None, is_none, is_some, option_and_then, if◌then◌else◌}
 use Rattle.std.specs.List.{filter}
@@ -9,7 +9,7 @@ use Rattle.oim_report.specs.Json.{Given, absent, entries, given, given_of, has_c
 use Rattle.oim_report.specs.Parts.{defined_in}
 use Rattle.oim_report.specs.Holds.{as_text, as_whole, is_some_and, no_text, no_text_or_null}
 
--- a property of the given value and of the table's words holds for each value if it holds for the four kinds
+-- it is enough to look at null, texts, whole numbers and all other values
 pub by_given : (P : Given → Option (List ℕ) → Option ℤ → Option ⊤ → Type 0) → P nil None None (Some tt) → ((t : List ℕ) → P (text t) (Some t) None None) → ((n : ℤ) → P (whole n) None (Some n) None) → P other None None None
     → (d : Data) → P (given d) (as_text d) (as_whole d) (as_null d)
 by_given P of_nil of_text of_whole of_other null = of_nil
@@ -38,7 +38,7 @@ pub no_text_same : (o : Option Data) → is_some_and no_text o ≡ is_no_text (g
 no_text_same None = refl
 no_text_same (Some d) = by_given (λ g t w n. is_none t ≡ is_no_text g) refl (λ t. refl) (λ n. refl) refl d
 
--- whether there is a value that is neither a text nor null
+-- there is a value that is neither a text nor null
 abbrev pub no_value : Given → Bool
 no_value absent = false
 no_value nil = false
@@ -50,7 +50,6 @@ pub no_value_same : (o : Option Data) → is_some_and no_text_or_null o ≡ no_v
 no_value_same None = refl
 no_value_same (Some d) = by_given (λ g t w n. (is_none t && is_none n) ≡ no_value g) refl (λ t. refl) (λ n. refl) refl d
 
--- the given whole number, if there is one
 abbrev pub whole_of : Given → Option ℤ
 whole_of absent = None
 whole_of nil = None
@@ -62,7 +61,6 @@ pub whole_same : (o : Option Data) → option_and_then as_whole o ≡ whole_of (
 whole_same None = refl
 whole_same (Some d) = by_given (λ g t w n. w ≡ whole_of g) refl (λ t. refl) (λ n. refl) refl d
 
--- whether there is a value that is not a whole number
 abbrev pub no_whole : Given → Bool
 no_whole absent = false
 no_whole nil = true
@@ -74,9 +72,6 @@ pub no_whole_same : (o : Option Data) → is_some_and (λ v. is_none (as_whole v
 no_whole_same None = refl
 no_whole_same (Some d) = by_given (λ g t w n. is_none w ≡ no_whole g) refl (λ t. refl) (λ n. refl) refl d
 
--- ---- the taxonomy-defined dimensions
-
--- a member as the reader sees it
 abbrev pub seen_member : List ℕ × Data → List ℕ × Given
 seen_member m = (m.0, given m.1)
 
@@ -84,7 +79,6 @@ kept_same : (b : Bool) (key : List ℕ) (d : Data) (xs : List (List ℕ × Data)
 kept_same true key d xs ys same = ap (λ l. (key, given d) ∷ l) same
 kept_same false key d xs ys same = same
 
--- the table and the reader find the same members whose keys have a colon
 pub defined_same : (ms : Members) → defined_in ms ≡ map seen_member (filter (λ m. has_colon m.0 && is_utf8 m.0) (entries ms))
 defined_same no_members = refl
 defined_same (member key d ms) = kept_same (has_colon key && is_utf8 key) key d _ _ (defined_same ms)

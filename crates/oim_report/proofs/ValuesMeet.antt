@@ -53,7 +53,6 @@ turned v w h = (values_meet_is_meets w v).1 (meets_is_symmetric v w ((values_mee
 pub values_meet_turns : (v w : Value) → values_meet v w ≡ values_meet w v
 values_meet_turns v w = both_ways (values_meet v w) (values_meet w v) (turned v w) (turned w v)
 
--- if one value is less than another, they meet exactly if their intervals do
 pub lesser_meets : (v w : Value) → value_cmp v w ≡ Less → values_meet v w ≡ both_meet (interval_at v) (interval_at w)
 lesser_meets Nil Nil h = cc
 lesser_meets (Number m d) (Number n e) h = refl
@@ -78,7 +77,6 @@ le_from x y h = grind (arith, ints)
 le_to : (x y : ℤ) → x ≤ℤ y → int_le x y ≡ true
 le_to x y h = grind (arith, ints)
 
--- an interval that meets the common part of two intervals meets both
 meets_each : (i j k : Interval) → intervals_meet (common_part i j) k ≡ true → (intervals_meet i k && intervals_meet j k) ≡ true
 meets_each i j k h =
     let both = and_parts (int_le (int_max i.low j.low) k.high) (int_le k.low (int_min i.high j.high)) h in
@@ -87,7 +85,6 @@ meets_each i j k h =
     and_from _ _ (and_from _ _ (le_to i.low k.high (omega (arith, ints, clamps))) (le_to k.low i.high (omega (arith, ints, clamps))))
     (and_from _ _ (le_to j.low k.high (omega (arith, ints, clamps))) (le_to k.low j.high (omega (arith, ints, clamps))))
 
--- an interval that meets two intervals meets their common part
 meets_common : (i j k : Interval) → (intervals_meet i k && intervals_meet j k) ≡ true → intervals_meet (common_part i j) k ≡ true
 meets_common i j k h =
     let both = and_parts (intervals_meet i k) (intervals_meet j k) h in

@@ -26,12 +26,8 @@ use Rattle.oim_report.proofs.Spelled.{simple_small}
 byte_utf8 : (c : ℕ) (t : List ℕ) → c < 128 → IsUtf8 t → IsUtf8 (c ∷ t)
 byte_utf8 c t small h = IsUtf8-append (c ∷ []) t (IsUtf8-from_ascii (c ∷ []) (IsAscii-cons c [] small IsAscii-nil)) h
 
--- ---- numbers
-
 pub plain_utf8 : (units : ℤ) → IsShort units → IsUtf8 (plain units)
 plain_utf8 units h = IsUtf8-from_ascii (plain units) (plain_is_ascii units (short_is_writable units h))
-
--- ---- periods
 
 matched_small : (c x : ℕ) → matches_picture (c, x) ≡ true → c < 128 → x < 128
 matched_small c x h small = grind (arith, nat_tests)
@@ -75,8 +71,6 @@ period_utf8 (Instant m) h = IsUtf8-from_ascii (moment_text m) (moment_ascii m h)
 period_utf8 (Duration start end) h =
     IsUtf8-append (moment_text start) (47 ∷ moment_text end) (IsUtf8-from_ascii (moment_text start) (moment_ascii start h.0)) (byte_utf8 47 (moment_text end) (omega arith) (IsUtf8-from_ascii (moment_text end) (moment_ascii end h.1)))
 
--- ---- languages
-
 abbrev is_simple : List ℕ → Bool
 is_simple = list_all is_ascii_alphanumeric
 
@@ -108,8 +102,6 @@ pub language_utf8 : (t : List ℕ) → is_language t ≡ true → IsUtf8 t
 language_utf8 t h =
     let b = and_parts (list_all is_group (slice_split is_hyphen t)) _ h in
     IsUtf8-from_ascii t (groups_ascii t (groups_simple (slice_split is_hyphen t) b.0))
-
--- ---- units
 
 module _ (f : QName → List ℕ) where
   abbrev HasUtf8 : QName → Type 0

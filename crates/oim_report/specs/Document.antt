@@ -11,8 +11,8 @@ use Rattle.oim_report.specs.Json.{json, values}
 use Rattle.oim_report.specs.Parts.{FactParts, fact_parts}
 use Rattle.oim_report.specs.Sheet.{Sheet}
 
--- the facts with their repeats, in byte order of their identifiers (law `identifiers_rise`); the kept texts of the references in
--- `taxonomy`, in their order; and the declared level of duplicates
+-- a report's facts with repeats, in byte order of their identifiers (law `identifiers_rise`); the kept texts of its references,
+-- in the order of `taxonomy`; and its declared level of duplicates
 pub record Document : Type 0 where
   pub facts : List Fact
   pub references : List (List ℕ)

@@ -41,7 +41,7 @@ abbrev pub allows_each : Level → List Fact → Bool
 allows_each l [] = true
 allows_each l (f ∷ fs) = list_all (allows l f) fs && allows_each l fs
 
--- the strictest level that allows the facts of a list with their repeats
+-- the strictest level that allows each pair of facts in a list, repeats included
 unfoldable pub level_of : List Fact → Level
 level_of fs =
     if allows_each Unique fs then Unique else (if allows_each Complete fs then Complete else (if allows_each Consistent fs then Consistent else All))

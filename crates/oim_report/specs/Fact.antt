@@ -42,7 +42,7 @@ GivesTextOr IfAbsent nil Says = ⊥
 GivesTextOr IfAbsent (whole n) Says = ⊥
 GivesTextOr IfAbsent other Says = ⊥
 
--- the values of the optional core dimensions
+-- the optional core dimensions; an absent period is forever
 abbrev pub SaysEntity : List Binding → Given → Option QName → Type 0
 SaysEntity bs g said = GivesTextOr (said ≡ None) g (λ t. (n : QName) × (said ≡ Some n) × ExpandsEntity bs t n)
 
@@ -102,7 +102,7 @@ SaysValue bs kind g decimals said = ⊥
 
 -- ---- the fact
 
--- the members of `dimensions` say this dimension set, under a sheet that lists the names in it
+-- the members of `dimensions` say this dimension set; the sheet lists its taxonomy-defined dimensions
 pub record SaysDimensions (sheet : Sheet) (bs : List Binding) (ds : DimensionParts) (said : DimensionSet) : Type 0 where
   pub concept : GivesText ds.concept (λ t. Expands bs t said.concept)
   pub entity : SaysEntity bs ds.entity said.entity

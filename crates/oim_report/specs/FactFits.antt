@@ -86,7 +86,7 @@ pub record DimensionFits (sheet : Sheet) (e : QName × Member) : Type 0 where
 
 -- ---- values
 
--- a value is nil or of the concept's kind; numbers are short and have decimals in range
+-- a value is nil or has the kind of its concept; a number is short and its decimals are in range
 abbrev pub ValueFits : ConceptKind → Value → Type 0
 ValueFits kind Nil = ⊤
 ValueFits Numeric (Number units places) = IsShort units × AreDecimals places

@@ -96,7 +96,7 @@ module _ (sheet : Sheet) (bs : List Binding) (fact : Data) (dimensions : Members
   abbrev pub is_kind : ConceptKind → Bool
   is_kind k = is_some_and (same_concept_kind k) (option_and_then (map.get sheet.concepts) concept)
 
-  -- taxonomy-defined dimensions are the members whose keys have a colon, and the sheet lists their kinds
+  -- the taxonomy-defined dimensions: the members whose keys contain a colon
   abbrev pub defined : List (List ℕ × Data)
   defined = filter (λ m. has_colon m.0 && is_utf8 m.0) (entries dimensions)
 
@@ -115,7 +115,7 @@ module _ (sheet : Sheet) (bs : List Binding) (fact : Data) (dimensions : Members
       ++ (map a_name (option_map_or pieces (text_at (codes "unit")) [])
       ++ map a_name (if is_kind Name then option_to_list value_text else []))))
 
-  -- the condition applies (own: no links or notes, few digits, decimals in a range)
+  -- the condition applies (own: links and notes are refused, digits and decimals are limited)
   abbrev pub holds_with : Reason → Bool
   holds_with MemberForm =
       not (is_object fact) || is_none (get (codes "value") fact)

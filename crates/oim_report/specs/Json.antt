@@ -8,7 +8,7 @@ use Rattle.serde_json.specs.Data.{Data, null, boolean, number, string, array, ob
 use Rattle.serde_json.specs.Find.{get, get_member, as_array, as_integer, as_object}
 use Rattle.serde_json.specs.Read.{read}
 
--- the bytes after at most one byte order mark
+-- the bytes, without the byte order mark if they begin with one
 abbrev pub without_mark : List ℕ → List ℕ
 without_mark bytes = if bytes_eq (take 3 bytes) (0xef ∷ 0xbb ∷ 0xbf ∷ []) then drop 3 bytes else bytes
 
@@ -20,8 +20,9 @@ json_text text = if is_utf8 text then read text else None
 abbrev pub json : List ℕ → Option Data
 json bytes = json_text (without_mark bytes)
 
--- ---- the value at a key, by the kinds that sheets and reports distinguish; a text is a UTF-8 string, like every string that
--- was read
+-- ---- the value at a key
+
+-- the kinds of values that sheets and reports distinguish; a text is a UTF-8 string, like every string that was read
 
 pub data Given : Type 0 where
   absent : Given
@@ -83,7 +84,7 @@ within outer key d = option_and_then (get key) (get outer d)
 abbrev pub members : Option Members → Members
 members ms = unwrap_or ms no_members
 
--- the values of members with their keys, in byte order of the keys
+-- each key with its value, in byte order of the keys
 abbrev pub entries : Members → List (List ℕ × Data)
 entries no_members = []
 entries (member key d ms) = (key, d) ∷ entries ms

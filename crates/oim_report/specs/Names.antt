@@ -1,4 +1,4 @@
--- The names in an object, and why they are refused.
+-- The names in an object, and why they are refused (XML Namespaces 1.0, section 4; own where marked).
 use Rattle.std.specs.Prelude.{ℕ, List, [], ◌∷◌, Bool, false, ◌||◌, if◌then◌else◌, Option, Some, None, option_and_then}
 use Rattle.std.specs.List.{find, list_any}
 use Rattle.std.specs.Ordering.{is_eq}
@@ -10,7 +10,7 @@ use Rattle.oim_names.specs.declared.reason.Reason.{Reason}
 use Rattle.oim_names.specs.declared.reason.Reason.TheVariants.{NameForm, UnboundPrefix, ReservedNamespace}
 use Rattle.oim_value.specs.ValueOrder.{name_cmp}
 
--- whether one of several names is refused for this reason
+-- some name is refused for this reason
 abbrev pub refuses_some : Reason → List Binding → List Spelled → Bool
 refuses_some reason bs names = list_any (refuses reason bs) names
 
@@ -24,7 +24,7 @@ in_namespace u t = if bytes_eq u reserved_uri then None else Some (record { uri 
 abbrev pub named_as : (List ℕ → Bool) → List Binding → List ℕ → Option QName
 named_as has_form bs t = if has_form t then option_and_then (λ u. in_namespace u t) (uri_of bs (prefix_part t)) else None
 
--- the name that a text expands to (XML Namespaces 1.0, section 4), as in `Expands`
+-- the name that a text expands to, as in `Expands`
 abbrev pub named : List Binding → List ℕ → Option QName
 named = named_as is_name
 

@@ -61,11 +61,11 @@ parts_of ms = record {
   unknown = any_member (is_unknown fact_keys) ms;
 }
 
--- the parts of a value that is an object
+-- the parts of a value, if it is an object
 abbrev pub fact_parts : Data → Option FactParts
 fact_parts d = option_map parts_of (as_object d)
 
--- the dimensions are an object, and no part is misshapen, unknown, a link or a note
+-- the dimensions are an object, and there are no misshapen or unknown parts, links or notes
 pub record HasForm (p : FactParts) (ds : DimensionParts) : Type 0 where
   pub there : p.dimensions ≡ Some ds
   pub shaped : p.misshapen ≡ false

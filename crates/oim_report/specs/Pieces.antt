@@ -21,7 +21,7 @@ EndsWithBrace [] = ⊥
 EndsWithBrace (x ∷ []) = x ≡ 125
 EndsWithBrace (x ∷ y ∷ xs) = EndsWithBrace (y ∷ xs)
 
--- the piece is the text of these members, of which there is at least one, and it ends with a brace
+-- the piece is the text of these members; there is at least one, and the piece ends with a brace
 pub record IsPiece (piece : List ℕ) (found : Members) : Type 0 where
   pub closed : EndsWithBrace piece
   pub some : HasMember found

@@ -1,4 +1,5 @@
--- The fact that a fact object says, as a function. Each part is None if its form, the concept's kind or a repeat forbids it.
+-- The fact that a fact object says, as a function (sources in `Fact`). A part is None if its form, the kind of the concept or a
+-- repeat forbids it.
 use Rattle.std.specs.Prelude.{ℕ, ℤ, List, [], ◌∷◌, not, ◌&&◌, if◌then◌else◌, Option, Some, None, option_map, option_and_then}
 use Rattle.std.specs.FinMap as map
 use Rattle.std.specs.List.{filter_map}
@@ -103,7 +104,7 @@ said_member bs (Some Typed) (text t) = Some (MemberText t)
 said_member bs (Some Typed) nil = Some NoMember
 said_member bs kind g = None
 
--- the members `es` and the members of several keys
+-- the members `es` with the members of several keys added
 abbrev pub members_with : Sheet → List Binding → List (QName × Member) → List (List ℕ × Given) → Option (List (QName × Member))
 members_with sheet bs es [] = Some es
 members_with sheet bs es (d ∷ ds) =

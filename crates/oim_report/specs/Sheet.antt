@@ -88,7 +88,7 @@ module _ {K : Type 0} (kind_named : List ℕ → Option K) (same : K → K → B
   abbrev pub names_no_kind : List ℕ → Data → Bool
   names_no_kind key d = not (is_some (kind_in d))
 
-  -- a name has two kinds if one of its kinds is not the one in the map
+  -- the map does not list the name of the entry with its kind
   abbrev pub has_other_kind : FinMap name_cmp K → QName × K → Bool
   has_other_kind m e = not (option_map_or (same e.1) (map.get m e.0) false)
 

@@ -1,4 +1,4 @@
--- The conditions that are told, and the part that is shown for each: the first part for which the condition applies (own).
+-- The conditions that are shown, each with the first part to which it applies (own).
 use Rattle.std.specs.Prelude.{ℕ, List, [], ◌∷◌, map, Bool, true, not, ◌&&◌, if◌then◌else◌, codes, Option, Some, None, is_none, option_and_then, option_map}
 use Rattle.std.specs.Option.{option_map_or}
 use Rattle.std.specs.List.{find, list_any}
@@ -33,7 +33,7 @@ is_shown holds r = not (list_any holds (hidden_by r)) && holds r
 
 -- ---- parts
 
--- what a part shows: nothing, the whole, or a member, a key, a name or a value of it
+-- the part that is shown: nothing, the whole, or one of its members, keys, names or values; `two` has two keys
 pub data Shown : Type 0 where
   nothing : Shown
   whole : Shown
@@ -75,11 +75,11 @@ abbrev pub first_of : List (Bool × Shown) → Shown
 first_of [] = nothing
 first_of (t ∷ ts) = if t.0 then t.1 else first_of ts
 
--- the first key that is not known
+-- the first member whose key is unknown
 abbrev pub unknown_in : List (List ℕ) → Option Members → Option (List ℕ × Data)
 unknown_in known ms = find (λ m. is_unknown known m.0 m.1) (entries (members ms))
 
--- a key of the whole, or else of the object at another key
+-- the first unknown key of the whole, or else of the object at `place`
 abbrev pub unknown_key : List (List ℕ) → Data → List (List ℕ) → List ℕ → Shown
 unknown_key known d inner place =
     option_map_or (λ m. key m.0) (unknown_in known (as_object d)) (option_map_or (λ m. key_in m.0 place) (unknown_in inner (object_at place d)) nothing)
@@ -92,11 +92,11 @@ unbound_entry ms = option_map_or entry (find (λ m. binds_nothing m.0 m.1) (entr
 abbrev pub spell_same : List Binding → List ℕ → List ℕ → Bool
 spell_same bs k l = is_some_and (λ n. is_some_and (λ o. is_eq (name_cmp n o)) (named bs l)) (named bs k)
 
--- the first key that spells the name of a key, and that key
+-- the first key that spells the same name as k, and k
 abbrev pub beside_first : List Binding → List (List ℕ × Data) → List ℕ → Shown
 beside_first bs ms k = two (option_map_or (λ m. m.0) (find (λ m. spell_same bs k m.0) ms) k) k
 
--- the first member whose key spells the name of an earlier one; the list has the earlier names
+-- the first member whose key spells the name of an earlier one; `before` has the earlier names
 abbrev pub repeated : List Binding → List QName → List (List ℕ × Data) → Option (List ℕ × Data)
 repeated bs before [] = None
 repeated bs before (m ∷ ms) = option_map_or (λ n. if list_any (λ o. is_eq (name_cmp n o)) before then Some m else repeated bs (n ∷ before) ms) (named bs m.0) (repeated bs before ms)
@@ -149,11 +149,11 @@ module _ (sheet : Sheet) (bs : List Binding) (fact : Data) (dimensions : Members
       (option_map_or (λ m. beside_first bs (entries dimensions) m.0) (repeated bs [] (defined sheet bs fact dimensions)) nothing)
   shown_with r = value_or_nothing (subject r)
 
--- what is shown if a condition applies to a fact object
+-- the part of a fact object that is shown for a condition
 unfoldable pub fact_shown : Sheet → List Binding → Data → Reason → Shown
 fact_shown sheet bs fact = shown_with sheet bs fact (members (object_at (codes "dimensions") fact))
 
--- the part of a fact object that is shown for a condition, if it applies
+-- the part from `fact_shown`, if the condition applies
 abbrev pub fact_part : Sheet → List Binding → Data → Reason → Option Shown
 fact_part sheet bs fact r = when (holds sheet bs fact r) (fact_shown sheet bs fact r)
 
@@ -167,7 +167,7 @@ first_item test (item d ds) = if test d then Some d else first_item test ds
 abbrev pub declares_no_level : List ℕ × Data → Bool
 declares_no_level m = is_none (option_and_then level_with (as_text m.1))
 
--- what is shown if a condition applies to a document
+-- the part of a document that is shown for a condition
 unfoldable pub document_shown : Data → Reason → Shown
 document_shown tree MemberForm = first_of (
     (not (is_object tree), whole)
@@ -186,7 +186,7 @@ document_shown tree TaxonomyUrl = value_or_nothing (first_item (λ v. option_map
 document_shown tree Feature = option_map_or entry (find declares_no_level (declared tree)) (value_or_nothing (info (codes "features") tree))
 document_shown tree r = nothing
 
--- the part of a document that is shown for a condition, if it applies and is not hidden
+-- the part from `document_shown`, if the condition applies and is not hidden
 abbrev pub document_part : Data → Reason → Option Shown
 document_part tree r = when (is_shown (document_holds tree) r) (document_shown tree r)
 
@@ -205,7 +205,7 @@ module _ {K : Type 0} (kind_named : List ℕ → Option K) (same : K → K → B
   abbrev pub with_kind : FinMap name_cmp K → QName × K → FinMap name_cmp K
   with_kind kinds e = if map.contains_key kinds e.0 then kinds else map.insert kinds e.0 e.1
 
-  -- the first entry that gives another kind to the name of an earlier one; the map has the kinds of the earlier names
+  -- the first entry that gives another kind to the name of an earlier one; `kinds` has the kinds of the earlier names
   abbrev pub other_kind : List Binding → FinMap name_cmp K → List (List ℕ × Data) → Option (List ℕ × Data)
   other_kind bs kinds [] = None
   other_kind bs kinds (m ∷ ms) =
@@ -222,7 +222,7 @@ first_shown (o ∷ os) = option_map_or (λ part. part) o (first_shown os)
 abbrev pub refused_key : Data → Reason → Shown
 refused_key tree r = option_map_or name (find (refuses r (sheet_bindings tree)) (sheet_names tree)) nothing
 
--- what is shown if a condition applies to a sheet
+-- the part of a sheet that is shown for a condition
 unfoldable pub sheet_shown : Data → Reason → Shown
 sheet_shown tree MemberForm = first_of (
     (not (is_object tree), whole)
@@ -243,6 +243,6 @@ sheet_shown tree UnboundPrefix = refused_key tree UnboundPrefix
 sheet_shown tree ReservedNamespace = refused_key tree ReservedNamespace
 sheet_shown tree r = nothing
 
--- the refusal of a sheet, and the part that is shown for it
+-- the refusal of a sheet, with the part that is shown for it
 abbrev pub sheet_part : Data → Option (Reason × Shown)
 sheet_part tree = option_map (λ r. (r, sheet_shown tree r)) (least (sheet_holds tree))

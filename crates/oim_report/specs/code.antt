@@ -1,4 +1,4 @@
--- Definitions that only private code cites: how values are stored, and intermediate laws. No public contract uses them.
+-- Definitions that no public contract uses: how values are stored, and intermediate laws.
 pub mod Beside
 pub mod Findings
 pub mod FoundFacts

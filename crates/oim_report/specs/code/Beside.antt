@@ -9,17 +9,14 @@ use Rattle.oim_value.specs.declared.level.Level.TheVariants.{Complete, Consisten
 use Rattle.oim_value.specs.declared.value.Value.{Value}
 use Rattle.oim_value.specs.declared.value.Value.TheVariants.{Number}
 
--- the interval of a number; no other value has one
 abbrev pub interval_at : Value → Option Interval
 interval_at (Number units decimals) = Some (interval units decimals)
 interval_at other = None
 
--- the common part of two intervals, if both exist
 abbrev pub both_common : Option Interval → Option Interval → Option Interval
 both_common (Some i) (Some j) = Some (common_part i j)
 both_common i j = None
 
--- both intervals exist and meet
 abbrev pub both_meet : Option Interval → Option Interval → Bool
 both_meet (Some i) (Some j) = intervals_meet i j
 both_meet i j = false

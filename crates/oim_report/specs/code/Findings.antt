@@ -1,17 +1,15 @@
--- Tests in the code that refuses reports, and the refusals that follow from them.
+-- The tests by which the code refuses reports (own).
 use Rattle.std.specs.Prelude.{ℕ, List, Bool, false, bytes_eq, is_none, if◌then◌else◌, Option, Some, None}
 use Rattle.std.specs.Option.{option_map_or}
 use Rattle.oim_names.specs.declared.reason.Reason.{Reason}
 use Rattle.oim_report.specs.Json.{Given, text_of}
 use Rattle.oim_report.specs.Kept.{base_url}
 
--- the given value is this text
 abbrev pub is_text : List ℕ → Given → Bool
 is_text t g = option_map_or (λ u. bytes_eq u t) (text_of g) false
 
 abbrev pub is_base_refused : List ℕ → Bool
 is_base_refused text = is_none (base_url text)
 
--- the refusal, if its condition applies
 abbrev pub when : Bool → Reason → Option Reason
 when holds reason = if holds then Some reason else None

@@ -19,7 +19,6 @@ AreFound sheet bs (member k d ms) [] fs = ⊥
 AreFound sheet bs (member k d ms) (s ∷ ss) [] = ⊥
 AreFound sheet bs (member k d ms) (s ∷ ss) (f ∷ fs) = (string_bytes s ≡ k) × (fact_outcome sheet bs d ≡ Ok f) × AreFound sheet bs ms ss fs
 
--- a key is greater than the last one, if there is one
 abbrev pub is_above : Option (List ℕ) → List ℕ → Bool
 is_above None key = true
 is_above (Some last) key = is_lt (slice_cmp nat_cmp last key)

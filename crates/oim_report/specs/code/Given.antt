@@ -1,4 +1,4 @@
--- The value that the code's `Given` represents.
+-- The value that the code's `Given` represents (own).
 use Rattle.oim_report.specs.Json.{Given, absent, nil, text, whole, other}
 use Rattle.oim_report.specs.declared.fact.given.Given.{Given as Lent}
 use Rattle.oim_report.specs.declared.fact.given.Given.TheVariants.{Absent, Nil, Text, Whole, Other}

@@ -9,7 +9,6 @@ use Rattle.oim_dims.specs.declared.member.Member.{Member}
 use Rattle.oim_dims.specs.declared.period.Period.TheVariants.{Forever}
 use Rattle.oim_report.specs.declared.fact.glossary.Glossary.{Glossary}
 
--- the meaning of a text, if it was added
 abbrev pub meaning : {A : Type 0} → Glossary A → List ℕ → Option A
 meaning g t = get_by_text g.meanings t
 
@@ -17,10 +16,8 @@ meaning g t = get_by_text g.meanings t
 abbrev pub Adds : {A : Type 0} → Glossary A → List ℕ → A → Glossary A → Type 0
 Adds g t a h = ((u : List ℕ) → meaning h u ≡ meaning g u) ⊎ ((u : List ℕ) → meaning h u ≡ update bytes_eq (meaning g) t (Some a) u)
 
--- R holds for each text and its meaning
 pub record IsGlossary {A : Type 0} (R : List ℕ → A → Type 0) (g : Glossary A) : Type 0 where
   pub each : (t : List ℕ) (a : A) → meaning g t ≡ Some a → R t a
 
--- dimensions with this concept and these members, and nothing else
 abbrev pub concept_with : QName → List (QName × Member) → DimensionSet
 concept_with concept members = record { concept = concept; entity = None; period = Forever; unit = None; language = None; members = members }

@@ -25,16 +25,14 @@ module _ {K Y : Type 0} where
   abbrev pub HasEach : Option (BTreeMap (String Y) (QName × K)) → BTreeMap (String Y) (QName × K) → Type 0
   HasEach group other = (l : List ℕ) (k : K) → option_map (λ e. e.1) (get_by_text other l) ≡ Some k → option_map (λ e. e.1) (in_group group l) ≡ Some k
 
-  -- the entries of several groups
   abbrev pub grouped_entries : List (String Y × BTreeMap (String Y) (QName × K)) → List (QName × K)
   grouped_entries [] = []
   grouped_entries (e ∷ es) = values e.1 ++ grouped_entries es
 
-  -- the names of a group, and the names of a map
   abbrev pub with_group : BTreeMap (String Y) (QName × K) → FinMap name_cmp K → FinMap name_cmp K
   with_group g m = map.from_entries (values g ++ map.entries m)
 
-  -- each URI has one group
+  -- each URI has at most one group, and its names have this URI
   pub record AreGroups (m : BTreeMap (String Y) (BTreeMap (String Y) (QName × K))) : Type 0 where
     pub ordered : IsOrdered string_cmp m
     pub each : AllByRecursion (λ e. IsGroup (string_bytes e.0) e.1) m.entries

@@ -14,7 +14,6 @@ use Rattle.oim_report.specs.code.Groups.{IsGroupOf}
 use Rattle.oim_report.specs.Names.{named}
 
 module _ {K : Type 0} (m : FinMap name_cmp K) (bs : List Binding) where
-  -- the kind of the name that a text names
   abbrev pub kind_of : List ℕ → Option K
   kind_of t = option_and_then (map.get m) (named bs t)
 

@@ -94,7 +94,7 @@ pub record IsSplit (text : List ℕ) (before : Option (List ℕ)) (facts : List 
   pub head_is : IsHead head before
   pub tail_is : IsTail tail facts behind
 
--- each text is a piece, and both joined by a comma are the piece with the members `all`
+-- each text is a piece; with a comma between them they are a piece with the members `all`
 pub record AreBoth (before behind : List ℕ) (all : Members) : Type 0 where
   pub found : Members
   pub more : Members
@@ -109,6 +109,6 @@ IsBeside (Some before) None found = IsPiece before found
 IsBeside None (Some behind) found = IsPiece behind found
 IsBeside (Some before) (Some behind) found = AreBoth before behind found
 
--- `text` is read as `tree` with a member `facts` put into it; the members of that member are in the text `facts`
+-- if `facts` is a piece, `text` is read as `tree` with the members of this piece at the key `facts`
 abbrev pub IsOutline : List ℕ → Data → List ℕ → Type 0
 IsOutline text tree facts = (before : Members) × (tree ≡ object before) × ((found : Members) → IsPiece facts found → read text ≡ Some (object (put (codes "facts") (object found) before)))

@@ -1,4 +1,4 @@
--- Tests from the table of conditions, for one member of `dimensions`.
+-- Tests from the table of conditions, for one member of `dimensions` (own).
 use Rattle.std.specs.Prelude.{ℕ, List, [], ◌∷◌, map, Bool, ◌&&◌, Option, None, if◌then◌else◌, codes, is_none}
 use Rattle.std.specs.Option.{option_map_or, option_to_list}
 use Rattle.std.specs.List.{filter, find, flat_map}
@@ -16,7 +16,6 @@ use Rattle.oim_names.specs.Expansion.{Spelled, a_name}
 use Rattle.oim_report.specs.Sheet.{Sheet}
 use Rattle.oim_report.specs.Shown.{Shown, declares_no_level, entry, value_or_nothing, when}
 
--- the value at a key is not a text
 abbrev pub lacks_text : List ℕ → Members → Bool
 lacks_text key ms = is_some_and no_text (get_member key ms)
 
@@ -24,7 +23,6 @@ lacks_text key ms = is_some_and no_text (get_member key ms)
 abbrev pub is_defined : List ℕ → Bool
 is_defined key = has_colon key && is_utf8 key
 
--- the first taxonomy-defined dimension that passes a test
 abbrev pub first_defined : (List ℕ → Data → Bool) → Members → Option (List ℕ × Data)
 first_defined test ms = find (λ m. is_defined m.0 && test m.0 m.1) (entries ms)
 
@@ -32,23 +30,18 @@ first_defined test ms = find (λ m. is_defined m.0 && test m.0 m.1) (entries ms)
 abbrev pub names_at : Sheet → List Binding → List ℕ × Data → List Spelled
 names_at sheet bs m = if is_defined m.0 then a_name m.0 ∷ map a_name (option_to_list (explicit_text sheet bs null no_members m)) else []
 
--- the names in all taxonomy-defined dimensions
 abbrev pub names_in : Sheet → List Binding → Members → List Spelled
 names_in sheet bs ms = flat_map (names_at sheet bs) (entries ms)
 
--- the sheet does not list the dimension
 abbrev pub is_unlisted : Sheet → List Binding → List ℕ → Bool
 is_unlisted sheet bs key = is_some_and (λ n. is_none (map.get sheet.dimensions n)) (named bs key)
 
--- the dimension cannot have this member
 abbrev pub is_misfit : Sheet → List Binding → List ℕ → Data → Bool
 is_misfit sheet bs key d = is_some_and (λ kind. misfits kind d) (dimension_kind sheet bs null no_members key)
 
--- the name of a taxonomy-defined dimension
 abbrev pub defined_name : List Binding → List ℕ → Option QName
 defined_name bs key = if is_defined key then named bs key else None
 
--- the taxonomy-defined dimensions
 abbrev pub defined_members : Members → List (List ℕ × Data)
 defined_members ms = filter (λ m. is_defined m.0) (entries ms)
 

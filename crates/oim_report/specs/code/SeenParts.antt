@@ -1,4 +1,4 @@
--- The values that the code's borrowed parts represent.
+-- The values that the code's borrowed parts represent (own).
 use Rattle.std.specs.Prelude.{List, ℕ, map, option_map}
 use Rattle.std.specs.Borrow.{Bor}
 use Rattle.oim_report.specs.declared.fact.given.Given.{Given as Lent}

@@ -1,4 +1,4 @@
--- An injective encoding of sheets.
+-- An injective encoding of sheets (own).
 use Rattle.std.specs.Prelude.{◌≡◌, ℕ, zero, suc, List, refl}
 use Rattle.std.specs.Coded.{Coded, code_by, coded×, coded_ℕ, coded_list}
 use Rattle.std.specs.FinMap as map
@@ -38,7 +38,6 @@ pub dimension_back : (k : DimensionKind) → dimension_of_number (dimension_numb
 dimension_back Explicit = refl
 dimension_back Typed = refl
 
--- an encoding of maps from names to kinds
 abbrev pub listing_code : {K : Type 0} → Coded K → Coded (FinMap name_cmp K)
 listing_code kinds = map.code (code_by (List ℕ × List ℕ) (coded× (coded_list coded_ℕ) (coded_list coded_ℕ)) (λ (n : QName). (n.uri, n.local_part)) (λ p. record { uri = p.0; local_part = p.1 }) (λ _. refl)) kinds
 

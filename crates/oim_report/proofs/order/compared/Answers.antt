@@ -8,7 +8,6 @@ use Rattle.oim_dims.specs.declared.fact.Fact.{Fact}
 use Rattle.oim_dims.specs.FactOrder.{fact_cmp}
 use Rattle.oim_report.proofs.order.compared.Goals as goal
 
--- the result of a look-up is the fact at the index
 looked_up : (facts : List Fact) (i : ℕ) (r : Option (Bor Fact)) → MatchOption r (length facts ≤ i) (λ x. (i < length facts) × HoldsAt (λ y. x.now ≡ y) facts i) → option_map (λ x. x.now) r ≡ slice_get facts i
 looked_up facts i None h = sym (slice_get_past facts i h)
 looked_up facts i (Some x) h = sym (slice_get-get_or facts i x.now h.0 ∙ ap Some (sym (h.1 x.now)))

@@ -5,6 +5,5 @@ use Rattle.oim_report.proofs.pieces.spaces.back_start.Given as goal
 abbrev pub invariant-loop-at : goal.invariant-loop-at
 invariant-loop-at l = (l.at ≤ length l.bytes) × AreSpaces (drop l.at l.bytes)
 
--- the index falls
 abbrev pub decreases-loop-at : goal.decreases-loop-at
 decreases-loop-at l = l.at

@@ -5,6 +5,5 @@ use Rattle.oim_report.proofs.pieces.spaces.front_end.Given as goal
 abbrev pub invariant-loop-at : goal.invariant-loop-at
 invariant-loop-at l = (l.at ≤ length l.bytes) × AreSpaces (take l.at l.bytes)
 
--- the number of bytes left falls
 abbrev pub decreases-loop-at : goal.decreases-loop-at
 decreases-loop-at l = length l.bytes - l.at
