@@ -18,7 +18,7 @@ use Rattle.oim_dims.specs.declared.fact.Fact.{Fact}
 use Rattle.oim_dims.proofs.Orders.{fact_cmp_exact, fact_cmp_total}
 use Rattle.oim_report.specs.Document.{Document}
 use Rattle.oim_report.specs.Identifiers.{IdentifierSays, identifiers, identifiers_in}
-use Rattle.oim_report.specs.Json.{keyed}
+use Rattle.oim_report.specs.Json.{entries}
 use Rattle.oim_report.specs.Info.{bindings_of, facts_of}
 use Rattle.oim_report.specs.Outcome.{outcome}
 use Rattle.oim_report.specs.Sheet.{Sheet}
@@ -173,8 +173,8 @@ each_object_is_mentioned sheet n bytes d tree accepted read =
     let has = each_fact_has_an_identifier sheet bytes d accepted in
     let said = has.2.tree in
     let same : said ≡ tree = ap (λ o. unwrap_or o said) (sym has.2.read ∙ read) in
-    let told : AllZip (IsMentionOf sheet (bindings_of said) n) (keyed (facts_of said)) (mentions_in n has.0 d.facts) =
-    subst (λ ids. AllZip (IsMentionOf sheet (bindings_of said) n) (keyed (facts_of said)) (mentions_in n ids d.facts)) has.2.are (mentioned_in sheet (bindings_of said) n (keyed (facts_of said)) d.facts has.2.say) in
-    subst (λ t. AllZip (IsMentionOf sheet (bindings_of t) n) (keyed (facts_of t)) (mentions_of n (identifiers bytes) (outcome sheet bytes))) same
-    (subst (λ ms. AllZip (IsMentionOf sheet (bindings_of said) n) (keyed (facts_of said)) ms)
+    let told : AllZip (IsMentionOf sheet (bindings_of said) n) (entries (facts_of said)) (mentions_in n has.0 d.facts) =
+    subst (λ ids. AllZip (IsMentionOf sheet (bindings_of said) n) (entries (facts_of said)) (mentions_in n ids d.facts)) has.2.are (mentioned_in sheet (bindings_of said) n (entries (facts_of said)) d.facts has.2.say) in
+    subst (λ t. AllZip (IsMentionOf sheet (bindings_of t) n) (entries (facts_of t)) (mentions_of n (identifiers bytes) (outcome sheet bytes))) same
+    (subst (λ ms. AllZip (IsMentionOf sheet (bindings_of said) n) (entries (facts_of said)) ms)
     (sym ((λ i. mentions_of n (has.1 i) (accepted i)))) told)

@@ -11,7 +11,7 @@ use Rattle.oim_dims.specs.FactOrder.{fact_cmp}
 use Rattle.oim_dims.specs.declared.fact.Fact.{Fact}
 use Rattle.oim_report.specs.Document.{Document, ObjectSays}
 use Rattle.oim_report.specs.Identifiers.{identifiers}
-use Rattle.oim_report.specs.Json.{keyed, json}
+use Rattle.oim_report.specs.Json.{entries, json}
 use Rattle.oim_report.specs.Info.{bindings_of, facts_of}
 use Rattle.oim_report.specs.Outcome.{outcome}
 use Rattle.oim_report.specs.Sheet.{Sheet}
@@ -99,7 +99,7 @@ pub record IsMentionOf (sheet : Sheet) (bs : List Binding) (n : ℕ) (object : L
 abbrev pub EachObjectIsMentioned : Type 0
 EachObjectIsMentioned =
     (sheet : Sheet) (n : ℕ) (bytes : List ℕ) (d : Document) (tree : Data) → outcome sheet bytes ≡ Ok d → json bytes ≡ Some tree →
-    AllZip (IsMentionOf sheet (bindings_of tree) n) (keyed (facts_of tree)) (mentions_of n (identifiers bytes) (outcome sheet bytes))
+    AllZip (IsMentionOf sheet (bindings_of tree) n) (entries (facts_of tree)) (mentions_of n (identifiers bytes) (outcome sheet bytes))
 
 -- a mention with the bytes of its report instead of the number
 pub record Saying : Type 0 where
