@@ -6,6 +6,7 @@ mod arguments;
 mod commands;
 mod console;
 mod error;
+mod fault_format;
 mod inputs;
 mod lines;
 mod output;

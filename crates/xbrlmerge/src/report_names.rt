@@ -1,4 +1,4 @@
-use crate::arguments::{LIST, NULL, REPORTS};
+use crate::arguments::{LIST, NULL, REPORT};
 use crate::error::Error;
 use clap::ArgMatches;
 use oim_merge::ReadFault;
@@ -28,16 +28,12 @@ impl<'w> ReportNames<'w> {
         alloc: Global,
         matches: &ArgMatches<'w>,
     ) -> Result<ReportNames<'w>, AllocError> {
-        let words = match matches.get_strs(REPORTS.name) {
+        let words = match matches.get_strs(REPORT) {
             Some(names) => Vec::from_slice(alloc, names)?,
             None => Vec::new(alloc),
         };
-        let end = if matches.get_flag(NULL.name) {
-            '\0'
-        } else {
-            '\n'
-        };
-        let list = matches.get_str(LIST.name);
+        let end = if matches.get_flag(NULL) { '\0' } else { '\n' };
+        let list = matches.get_str(LIST);
         Ok(ReportNames { words, list, end })
     }
 

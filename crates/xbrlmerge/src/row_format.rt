@@ -1,6 +1,7 @@
-use crate::arguments::{Argument, OPTION, Takes};
-use clap::ArgMatches;
+use clap::builder::ValueParser;
+use clap::{Arg, ArgAction, ArgMatches, Command};
 use row_formats::RowFormat;
+use std::alloc::{AllocError, Global};
 
 /// The format of printed rows.
 #[derive(Clone, Copy, Debug)]
@@ -11,26 +12,34 @@ pub(crate) enum PrintFormat {
     Rows(RowFormat),
 }
 
-pub(crate) const FORMAT: Argument = Argument {
-    name: "format",
-    takes: Takes::OneOf("FORMAT", &["lines", "json", "csv"], "lines"),
-    help: "The output format",
-    ..OPTION
-};
+const FORMAT: &str = "format";
 
 /// The option for texts that a spreadsheet would read as formulas.
-pub(crate) const SPREADSHEET: Argument = Argument {
-    name: "spreadsheet",
-    needs: Some("format"),
-    help: "In CSV, put a ' before each text that a spreadsheet would read as a formula",
-    ..OPTION
-};
+const SPREADSHEET: &str = "spreadsheet";
+
+static FORMATS: [&str; 3] = ["lines", "json", "csv"];
+
+/// Adds the options for the format of rows to a command.
+pub(crate) fn with_format<'w>(
+    alloc: Global,
+    command: Command<'w>,
+) -> Result<Command<'w>, AllocError> {
+    let format = Arg::new(alloc, FORMAT)
+        .long(FORMAT)
+        .value_name("FORMAT")
+        .value_parser(ValueParser::Names(FORMATS.as_slice()))
+        .default_value("lines")
+        .help("The output format");
+    let spreadsheet = Arg::new(alloc, SPREADSHEET)
+        .long(SPREADSHEET)
+        .action(ArgAction::SetTrue)
+        .help("In CSV, put a ' before each text that a spreadsheet would read as a formula")
+        .requires_arg(FORMAT)?;
+    command.arg(format)?.arg(spreadsheet)
+}
 
 pub(crate) fn print_format_of(found: &ArgMatches<'_>) -> Option<PrintFormat> {
-    match (
-        found.get_str(FORMAT.name)?,
-        found.get_flag(SPREADSHEET.name),
-    ) {
+    match (found.get_str(FORMAT)?, found.get_flag(SPREADSHEET)) {
         ("lines", _) => Some(PrintFormat::Lines),
         ("json", _) => Some(PrintFormat::Rows(RowFormat::Json)),
         ("csv", false) => Some(PrintFormat::Rows(RowFormat::Csv)),

@@ -1,6 +1,7 @@
-use crate::arguments::{CommandWords, OUTPUT, QUIET, SHEET, command};
+use crate::arguments::{OUTPUT, QUIET, SHEET};
 use crate::commands::{check, explain, merge, replay, sources, verdicts};
 use crate::error::Error;
+use crate::fault_format::format_of;
 use crate::report_names::ReportNames;
 use crate::request::{Args, Request, Subcommand};
 use crate::row_format::print_format_of;
@@ -32,13 +33,14 @@ Status of each command; if several apply, the highest:
   3  not done, or not completed: invalid arguments, a refused sheet or event, a file or device
      that failed, or out of memory";
 
-const COMMANDS: [CommandWords; 6] = [
-    merge::WORDS,
-    verdicts::WORDS,
-    sources::WORDS,
-    check::WORDS,
-    explain::WORDS,
-    replay::WORDS,
+/// The commands, in the order of the help.
+const COMMANDS: [&str; 6] = [
+    merge::NAME,
+    verdicts::NAME,
+    sources::NAME,
+    check::NAME,
+    explain::NAME,
+    replay::NAME,
 ];
 
 /// Parses the arguments after the program's name.
@@ -118,19 +120,19 @@ fn args_of<'w>(alloc: Global, matches: &ArgMatches<'w>) -> Result<Option<Args<'w
     Ok(Some(Args {
         request,
         reports: ReportNames::of(alloc, matches)?,
-        output: matches.get_str(OUTPUT.name),
-        is_quiet: matches.get_flag(QUIET.name),
+        output: matches.get_str(OUTPUT),
+        is_quiet: matches.get_flag(QUIET),
     }))
 }
 
 fn request_of<'w>(name: &str, matches: &ArgMatches<'w>) -> Option<Request<'w>> {
-    let sheet = matches.get_str(SHEET.name)?;
+    let sheet = matches.get_str(SHEET)?;
     let subcommand = match name {
         merge::NAME => merge::of(matches)?,
         verdicts::NAME => Subcommand::Verdicts(print_format_of(matches)?),
         sources::NAME => Subcommand::Sources(print_format_of(matches)?),
         check::NAME => check::of(matches)?,
-        explain::NAME => return Some(Request::Explain(sheet, explain::format_of(matches))),
+        explain::NAME => return Some(Request::Explain(sheet, format_of(matches))),
         replay::NAME => replay::of(matches)?,
         _ => return None,
     };
@@ -148,8 +150,20 @@ fn described<'w>(alloc: Global) -> Result<Command<'w>, AllocError> {
 
 fn program<'w>(alloc: Global) -> Result<Command<'w>, AllocError> {
     let mut program = described(alloc)?;
-    for words in &COMMANDS {
-        program = program.subcommand(command(alloc, words)?)?;
+    for name in COMMANDS {
+        program = program.subcommand(words_of(alloc, name)?)?;
     }
     Ok(program)
+}
+
+/// Returns the arguments of the command with this name.
+fn words_of<'w>(alloc: Global, name: &str) -> Result<Command<'w>, AllocError> {
+    match name {
+        merge::NAME => merge::words(alloc),
+        verdicts::NAME => verdicts::words(alloc),
+        sources::NAME => sources::words(alloc),
+        check::NAME => check::words(alloc),
+        explain::NAME => explain::words(alloc),
+        _ => replay::words(alloc),
+    }
 }

@@ -1,16 +1,16 @@
 ghost use Rattle.std.specs.Prelude.{◌-◌, ◌^◌, ◌<◌};
 
-use crate::arguments::{CommandWords, OUTPUT, REPORT, SHEET};
+use crate::arguments::{REPORT, command, output_argument, report_argument};
 use crate::error::{Error, Success, ended};
 use crate::inputs::Inputs;
 use crate::lines::put_text;
 use crate::request::Subcommand;
-use clap::ArgMatches;
+use clap::{ArgMatches, Command};
 use oim_merge::{Checked, Fault, Refusals, check_report};
 use oim_names::Reason;
 use oim_report::{Refusal, Sheet};
 use oim_write::{Sink, WriteFault};
-use std::alloc::Global;
+use std::alloc::{AllocError, Global};
 use std::io::Write;
 use std::rt::Files;
 
@@ -43,16 +43,16 @@ Status:
   3  not checked: invalid arguments, a refused sheet, a file or device that failed, or out of
      memory";
 
-pub(crate) const WORDS: CommandWords = CommandWords {
-    name: NAME,
-    about: ABOUT,
-    more: MORE,
-    arguments: &[SHEET, OUTPUT, REPORT],
-};
+/// Returns the arguments of this command, with its help.
+pub(crate) fn words<'w>(alloc: Global) -> Result<Command<'w>, AllocError> {
+    command(alloc, NAME, ABOUT, MORE)?
+        .arg(output_argument(alloc))?
+        .arg(report_argument(alloc))
+}
 
 /// Returns the command, or None if a required argument is missing.
 pub(crate) fn of<'w>(matches: &ArgMatches<'w>) -> Option<Subcommand<'w>> {
-    matches.get_str(REPORT.name).map(Subcommand::Check)
+    matches.get_str(REPORT).map(Subcommand::Check)
 }
 
 /// Reads the report with this name and writes a line to `out` if it is accepted. A refused report

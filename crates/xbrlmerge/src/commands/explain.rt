@@ -1,12 +1,11 @@
 ghost use Rattle.std.specs.Prelude.{◌≡◌, ◌-◌, ◌^◌, ◌<◌, OnOk};
 
-use crate::arguments::{
-    Argument, CommandWords, LIST, NULL, OPTION, OUTPUT, QUIET, REPORTS, SHEET, Takes,
-};
+use crate::arguments::{command, with_reports};
 use crate::error::{Error, Success};
+use crate::fault_format::format_argument;
 use crate::inputs::{Inputs, sheet_of};
 use crate::lines::put_text;
-use clap::ArgMatches;
+use clap::Command;
 use oim_explain::{Explained, Format, Input, explain, explain_repeated, explain_sheet};
 use oim_report::Sheet;
 use oim_write::{Sink, WriteFault};
@@ -55,25 +54,10 @@ Status:
   3  not every report was read: invalid arguments, a refused sheet, a file or device that failed,
      or out of memory";
 
-const FORMAT: Argument = Argument {
-    name: "format",
-    takes: Takes::OneOf("FORMAT", &["text", "json"], "text"),
-    help: "The output format",
-    ..OPTION
-};
-
-pub(crate) const WORDS: CommandWords = CommandWords {
-    name: NAME,
-    about: ABOUT,
-    more: MORE,
-    arguments: &[SHEET, FORMAT, LIST, NULL, OUTPUT, QUIET, REPORTS],
-};
-
-pub(crate) fn format_of(found: &ArgMatches<'_>) -> Format {
-    match found.get_str(FORMAT.name) {
-        Some("json") => Format::Json,
-        _ => Format::Text,
-    }
+/// Returns the arguments of this command, with its help.
+pub(crate) fn words<'w>(alloc: Global) -> Result<Command<'w>, AllocError> {
+    let command = command(alloc, NAME, ABOUT, MORE)?;
+    with_reports(alloc, command.arg(format_argument(alloc))?)
 }
 
 /// Reads the sheet and the reports, one after another, and writes the lines for each file to `out`.

@@ -1,26 +1,23 @@
 ghost use Rattle.std.specs.Prelude.{◌-◌, ◌^◌, ◌<◌};
 
-use crate::arguments::{
-    Argument, CommandWords, LIST, NULL, OPTION, OUTPUT, QUIET, REPORTS, SHEET, Takes,
-};
+use crate::arguments::{command, with_reports};
 use crate::error::{Error, Success, ended};
 use crate::inputs::Inputs;
 use crate::request::Subcommand;
-use clap::ArgMatches;
+use clap::builder::ValueParser;
+use clap::{Arg, ArgMatches, Command};
 use oim_report::Sheet;
 use oim_value::Level;
 use oim_write::Sink;
+use std::alloc::{AllocError, Global};
 use std::io::Write;
 use std::rt::Files;
 
 pub(crate) const NAME: &str = "merge";
 
-const ALLOW: Argument = Argument {
-    name: "allow",
-    takes: Takes::OneOf("LEVEL", &["none", "complete", "consistent", "all"], "all"),
-    help: "The loosest level that a row may have",
-    ..OPTION
-};
+const ALLOW: &str = "allow";
+
+static LEVELS: [&str; 4] = ["none", "complete", "consistent", "all"];
 
 const ABOUT: &str = "Writes one canonical report with the facts of all reports";
 
@@ -45,16 +42,20 @@ Status:
   3  not done, or not completed: invalid arguments, a refused sheet, a file or device that
      failed, or out of memory";
 
-pub(crate) const WORDS: CommandWords = CommandWords {
-    name: NAME,
-    about: ABOUT,
-    more: MORE,
-    arguments: &[SHEET, ALLOW, LIST, NULL, OUTPUT, QUIET, REPORTS],
-};
+/// Returns the arguments of this command, with its help.
+pub(crate) fn words<'w>(alloc: Global) -> Result<Command<'w>, AllocError> {
+    let allow = Arg::new(alloc, ALLOW)
+        .long(ALLOW)
+        .value_name("LEVEL")
+        .value_parser(ValueParser::Names(LEVELS.as_slice()))
+        .default_value("all")
+        .help("The loosest level that a row may have");
+    with_reports(alloc, command(alloc, NAME, ABOUT, MORE)?.arg(allow)?)
+}
 
 /// Returns the command, or None if the arguments contain no level.
 pub(crate) fn of<'w>(matches: &ArgMatches<'w>) -> Option<Subcommand<'w>> {
-    let allow = matches.get_str(ALLOW.name).and_then(Level::read)?;
+    let allow = matches.get_str(ALLOW).and_then(Level::read)?;
     Some(Subcommand::Merge(allow))
 }
 

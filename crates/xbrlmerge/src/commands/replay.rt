@@ -1,40 +1,27 @@
 ghost use Rattle.std.specs.Prelude.{◌≡◌, ◌-◌, ◌^◌, ◌<◌, OnOk};
 
-use crate::arguments::{
-    Argument, CommandWords, LIST, NULL, OPTION, OUTPUT, QUIET, REPORTS, SHEET, Takes,
-};
+use crate::arguments::{command, with_reports};
 use crate::error::{Error, Success, ended};
 use crate::inputs::Inputs;
 use crate::lines::put_text;
 use crate::request::Subcommand;
-use clap::ArgMatches;
+use clap::builder::ValueParser;
+use clap::{Arg, ArgMatches, Command};
 use fact_base::Base;
 use oim_merge::{Events, Fault, Refusals, Replayed, read_events, replay};
 use oim_report::Sheet;
 use oim_write::{Sink, WriteFault, write_to};
-use std::alloc::Global;
+use std::alloc::{AllocError, Global};
 use std::io::Write;
 use std::rt::Files;
 
 pub(crate) const NAME: &str = "replay";
 
+const REPLICAS: &str = "replicas";
+
+const EVENTS: &str = "events";
+
 const MOST_REPLICAS: i64 = 64;
-
-const REPLICAS: Argument = Argument {
-    name: "replicas",
-    takes: Takes::UpTo("N", MOST_REPLICAS),
-    is_required: true,
-    help: "The number of replicas, from 1 to 64",
-    ..OPTION
-};
-
-const EVENTS: Argument = Argument {
-    name: "events",
-    takes: Takes::Text("EVENTS"),
-    is_required: true,
-    help: "The file of the schedule, one event a line",
-    ..OPTION
-};
 
 const ABOUT: &str = "Runs a schedule on replicas that exchange merged reports";
 
@@ -66,17 +53,18 @@ Status:
      an event or names something that does not exist, a file or device that failed, or out of
      memory";
 
-pub(crate) const WORDS: CommandWords = CommandWords {
-    name: NAME,
-    about: ABOUT,
-    more: MORE,
-    arguments: &[SHEET, REPLICAS, EVENTS, LIST, NULL, OUTPUT, QUIET, REPORTS],
-};
+/// Returns the arguments of this command, with its help.
+pub(crate) fn words<'w>(alloc: Global) -> Result<Command<'w>, AllocError> {
+    let command = command(alloc, NAME, ABOUT, MORE)?
+        .arg(replicas_argument(alloc))?
+        .arg(events_argument(alloc))?;
+    with_reports(alloc, command)
+}
 
 /// Returns the command, or None if a required argument is missing.
 pub(crate) fn of<'w>(matches: &ArgMatches<'w>) -> Option<Subcommand<'w>> {
-    let replicas = matches.get_one(REPLICAS.name)?;
-    let events = matches.get_str(EVENTS.name)?;
+    let replicas = matches.get_one(REPLICAS)?;
+    let events = matches.get_str(EVENTS)?;
     Some(Subcommand::Replay(replicas, events))
 }
 
@@ -128,6 +116,25 @@ fn put_replayed<S: Sink>(
     let refused = replayed.into_refused();
     put?;
     Ok(refused)
+}
+
+/// Returns the required option for the number of replicas.
+fn replicas_argument<'w>(alloc: Global) -> Arg<'w> {
+    Arg::new(alloc, REPLICAS)
+        .long(REPLICAS)
+        .value_name("N")
+        .required(true)
+        .value_parser(ValueParser::Signed(1, MOST_REPLICAS))
+        .help("The number of replicas, from 1 to 64")
+}
+
+/// Returns the required option for the schedule.
+fn events_argument<'w>(alloc: Global) -> Arg<'w> {
+    Arg::new(alloc, EVENTS)
+        .long(EVENTS)
+        .value_name("EVENTS")
+        .required(true)
+        .help("The file of the schedule, one event a line")
 }
 
 /// Errors: out of memory, and `Device`. `run` reports how many bytes of all texts were written.

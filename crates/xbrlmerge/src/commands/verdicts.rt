@@ -1,12 +1,14 @@
 ghost use Rattle.std.specs.Prelude.{◌-◌, ◌^◌, ◌<◌};
 
-use crate::arguments::{CommandWords, LIST, NULL, OUTPUT, QUIET, REPORTS, SHEET};
+use crate::arguments::{command, with_reports};
 use crate::error::{Error, Success, ended};
 use crate::inputs::Inputs;
-use crate::row_format::{FORMAT, PrintFormat, SPREADSHEET};
+use crate::row_format::{PrintFormat, with_format};
+use clap::Command;
 use oim_report::Sheet;
 use oim_write::Sink;
 use row_formats::finish_rows_last;
+use std::alloc::{AllocError, Global};
 use std::io::Write;
 use std::rt::Files;
 
@@ -44,21 +46,11 @@ Status:
   3  not done, or not completed: invalid arguments, a refused sheet, a file or device that
      failed, or out of memory";
 
-pub(crate) const WORDS: CommandWords = CommandWords {
-    name: NAME,
-    about: ABOUT,
-    more: MORE,
-    arguments: &[
-        SHEET,
-        FORMAT,
-        SPREADSHEET,
-        LIST,
-        NULL,
-        OUTPUT,
-        QUIET,
-        REPORTS,
-    ],
-};
+/// Returns the arguments of this command, with its help.
+pub(crate) fn words<'w>(alloc: Global) -> Result<Command<'w>, AllocError> {
+    let command = command(alloc, NAME, ABOUT, MORE)?;
+    with_reports(alloc, with_format(alloc, command)?)
+}
 
 /// Reads and adds the reports, and writes the line of each row to `out`. Returns the refused
 /// reports with their numbers, from 1.
