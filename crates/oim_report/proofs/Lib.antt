@@ -20,6 +20,7 @@ pub mod Ties
 pub mod ValuesMeet
 pub mod Pairs
 pub mod Runs
+pub mod Passed
 pub mod Places
 pub mod Facts
 pub mod NoMemory

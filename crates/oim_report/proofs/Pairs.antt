@@ -173,7 +173,7 @@ test_at_is Complete fs = refl
 test_at_is Consistent fs = refl
 test_at_is AllLevel fs = sym (all_are_allowed fs)
 
-passes_is : (l : Level) (fs : List Fact) → is_le (level_cmp (level_of fs) l) ≡ allows_each l fs
+pub passes_is : (l : Level) (fs : List Fact) → is_le (level_cmp (level_of fs) l) ≡ allows_each l fs
 unfolding level_of
 passes_is l fs = strictest_passes l (allows_each Unique fs) (allows_each Complete fs) (allows_each Consistent fs) (unique_are_complete fs) (complete_are_consistent fs) ∙ test_at_is l fs
 

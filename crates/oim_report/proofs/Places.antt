@@ -1,29 +1,24 @@
 -- Facts at the indices of their order.
-use Rattle.std.proofs.Common.{◌≡◌, ℕ, suc, ◌<◌, ◌≤◌, ◌+◌, true, false, List, [], ◌∷◌, length, map, drop, drop-cons, get_or, refl, sym, ap, subst, ◌∙◌, arith, All, Option, Some, filter_map, slice_get, IsPermutation, IsSorted}
+use Rattle.std.proofs.Common.{◌≡◌, ℕ, suc, ◌<◌, ◌+◌, false, List, [], ◌∷◌, length, map, drop, drop-cons, get_or, refl, sym, ap, subst, ◌∙◌, arith, All, Option, Some, filter_map, slice_get, IsPermutation, IsSorted}
 use Rattle.std.specs.List.{cons_option, range_with_len}
 use Rattle.std.specs.Cmp.{IsStrictWeakOrder}
 use Rattle.std.specs.Cmp.Lexicographic.{options_total}
 use Rattle.std.specs.Option.{option_cmp}
-use Rattle.std.specs.Ordering.{is_gt, is_lt, ord_max, ordering_reverse}
+use Rattle.std.specs.Ordering.{is_gt, is_lt, ordering_reverse}
 use Rattle.std.specs.declared.cmp.Ordering.{Ordering}
 use Rattle.std.specs.declared.cmp.Ordering.TheVariants.{Less, Equal, Greater}
-use Rattle.std.proofs.lemmas.List.{drop_all}
 use Rattle.std.proofs.lemmas.List.Elements.{All-head, All-tail, All-from_get_or}
 use Rattle.std.proofs.lemmas.List.FromFn.{fill_by_all, length-range_with_len, get_or-range_with_len}
 use Rattle.std.proofs.lemmas.List.Sorted.{All-permutation, IsPermutation-map, length_permutation, ranks_by}
 use Rattle.std.proofs.lemmas.Option.{slice_get-get_or}
-use Rattle.oim_value.specs.Level.{level_cmp}
-use Rattle.oim_value.specs.declared.interval.Interval.{Interval}
-use Rattle.oim_value.specs.declared.level.Level.{Level}
 use Rattle.oim_value.specs.declared.level.Level.TheVariants.{Unique}
 use Rattle.oim_dims.specs.FactOrder.{fact_cmp}
 use Rattle.oim_dims.specs.declared.fact.Fact.{Fact}
-use Rattle.oim_report.specs.Duplicates.{are_duplicates, level_of}
+use Rattle.oim_report.specs.Duplicates.{level_of}
 use Rattle.oim_report.specs.Report.{IsOrderOf, place_cmp}
 use Rattle.oim_dims.proofs.Orders.{fact_cmp_total}
 use Rattle.oim_report.proofs.Pairs.{level_ignores_order}
-use Rattle.oim_report.specs.code.Beside.{both_common, interval_at, level_beside}
-use Rattle.oim_report.proofs.Runs.{RisesFrom, walk, walk-duplicate, walk-nil, walk-other, walk_from_first}
+use Rattle.oim_report.proofs.Runs.{RisesFrom}
 
 abbrev pub facts_at : List Fact → List ℕ → List Fact
 facts_at facts places = filter_map (slice_get facts) places
@@ -89,15 +84,6 @@ level_of_none (f ∷ fs) places order none =
     let count = length-range_with_len 0 (length (f ∷ fs)) in
     absurd (omega (arith, long, count, none))
 
-pub pass_starts : (facts : List Fact) (places rest : List ℕ) (first : ℕ) (last : Fact) → IsOrderOf facts places → places ≡ first ∷ rest → last ≡ get_or facts first last → walk last (interval_at last.value) Unique (facts_at facts rest) ≡ level_of facts
-pass_starts facts places rest first last order split is =
-    let within : All (λ p. p < length facts) (first ∷ rest) = subst (All (λ p. p < length facts)) split (places_within facts places order) in
-    let here : first < length facts = All-head (λ p. p < length facts) first rest within in
-    let up : IsSorted (place_cmp facts) (first ∷ rest) = subst (IsSorted (place_cmp facts)) split order.rising in
-    let rises : RisesFrom last (facts_at facts rest) = subst (λ f. RisesFrom f (facts_at facts rest)) (sym is) (rises_from_first facts first rest last within up) in
-    let all : facts_at facts (first ∷ rest) ≡ last ∷ facts_at facts rest = facts_at-cons facts first rest last here ∙ ap (λ f. f ∷ facts_at facts rest) (sym is) in
-    walk_from_first last (facts_at facts rest) rises ∙ ap level_of (sym all) ∙ ap (λ ps. level_of (facts_at facts ps)) (sym split) ∙ sym (level_at_order facts last places order)
-
 pub rest_within : (facts : List Fact) (places rest : List ℕ) (first i : ℕ) → IsOrderOf facts places → places ≡ first ∷ rest → i < length rest → get_or rest i 0 < length facts
 rest_within facts places rest first i order split here =
     let within : All (λ p. p < length facts) (first ∷ rest) = subst (All (λ p. p < length facts)) split (places_within facts places order) in
@@ -113,14 +99,3 @@ facts_at-drop facts rest i f here within is =
     ∙ facts_at-cons facts (get_or rest i 0) (drop (suc i) rest) f within
     ∙ ap (λ x. x ∷ facts_at facts (drop (suc i) rest)) (sym is)
     ∙ ap (λ k. f ∷ facts_at facts (drop k rest)) (sym next)
-
-pub pass_with_duplicate : (facts : List Fact) (rest : List ℕ) (i : ℕ) (last f : Fact) (shared : Option Interval) (level : Level) → i < length rest → get_or rest i 0 < length facts → f ≡ get_or facts (get_or rest i 0) f → are_duplicates last f ≡ true → walk last shared level (facts_at facts (drop i rest)) ≡ level_of facts → walk f (both_common shared (interval_at f.value)) (ord_max level_cmp level (level_beside last.value shared f.value)) (facts_at facts (drop (i + 1) rest)) ≡ level_of facts
-pass_with_duplicate facts rest i last f shared level here within is same known =
-    sym (walk-duplicate last f shared level (facts_at facts (drop (i + 1) rest)) same) ∙ ap (walk last shared level) (sym (facts_at-drop facts rest i f here within is)) ∙ known
-
-pub pass_with_other : (facts : List Fact) (rest : List ℕ) (i : ℕ) (last f : Fact) (shared : Option Interval) (level : Level) → i < length rest → get_or rest i 0 < length facts → f ≡ get_or facts (get_or rest i 0) f → are_duplicates last f ≡ false → walk last shared level (facts_at facts (drop i rest)) ≡ level_of facts → walk f (interval_at f.value) level (facts_at facts (drop (i + 1) rest)) ≡ level_of facts
-pass_with_other facts rest i last f shared level here within is other known =
-    sym (walk-other last f shared level (facts_at facts (drop (i + 1) rest)) other) ∙ ap (walk last shared level) (sym (facts_at-drop facts rest i f here within is)) ∙ known
-
-pub pass_ends : (facts : List Fact) (rest : List ℕ) (i : ℕ) (last : Fact) (shared : Option Interval) (level : Level) → length rest ≤ i → walk last shared level (facts_at facts (drop i rest)) ≡ level_of facts → level ≡ level_of facts
-pass_ends facts rest i last shared level past known = sym (walk-nil last shared level) ∙ ap (λ ps. walk last shared level (facts_at facts ps)) (sym (drop_all i rest past)) ∙ known

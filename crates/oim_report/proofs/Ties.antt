@@ -1,8 +1,9 @@
 -- The derived comparisons agree with the definitions.
 use Rattle.std.proofs.Common.{◌≡◌, cond, refl, ap, ◌∙◌}
-use Rattle.std.specs.Ordering.{is_eq, is_lt, ord_max}
+use Rattle.std.specs.Ordering.{is_eq, is_lt, ord_max, partial_lt}
 use Rattle.oim_value.specs.Level.{level_cmp}
 use Rattle.oim_value.specs.contracts.level.LevelOrd.TheImpl.{cmp-value as derived}
+use Rattle.oim_value.specs.contracts.level.LevelPartialOrd.TheImpl.{partial_cmp-value as partial}
 use Rattle.oim_value.specs.declared.level.Level.{Level}
 use Rattle.oim_value.specs.declared.level.Level.TheVariants.{Unique, Complete, Consistent, All}
 use Rattle.oim_value.proofs.ValueOrders.{values_agree}
@@ -32,3 +33,12 @@ level_max_is l m = ap (λ o. cond (is_lt o) l m) (levels_agree m l)
       | Consistent ↦ elim [ Unique ↦ refl | Complete ↦ refl | Consistent ↦ refl | All ↦ refl ]
       | All ↦ elim [ Unique ↦ refl | Complete ↦ refl | Consistent ↦ refl | All ↦ refl ]
     ]
+
+-- a level that the derived order puts below another one is stricter
+pub lesser_levels_tie : (l m : Level) → partial_lt partial.it l m ≡ is_lt (level_cmp l m)
+lesser_levels_tie = elim [
+  | Unique ↦ elim [ Unique ↦ refl | Complete ↦ refl | Consistent ↦ refl | All ↦ refl ]
+  | Complete ↦ elim [ Unique ↦ refl | Complete ↦ refl | Consistent ↦ refl | All ↦ refl ]
+  | Consistent ↦ elim [ Unique ↦ refl | Complete ↦ refl | Consistent ↦ refl | All ↦ refl ]
+  | All ↦ elim [ Unique ↦ refl | Complete ↦ refl | Consistent ↦ refl | All ↦ refl ]
+]

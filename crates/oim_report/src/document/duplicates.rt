@@ -1,6 +1,8 @@
-ghost use Rattle.std.specs.Prelude.{◌≡◌};
+ghost use Rattle.std.specs.Prelude.{◌≡◌, false, IfErr, IfOk, IsTrue};
+ghost use Rattle.std.specs.List.{list_any};
 ghost use Rattle.std.specs.Ordering.{is_lt};
 ghost use Rattle.oim_value.specs.Level.{level_cmp};
+ghost use Rattle.oim_report.specs.Apart.{are_apart};
 ghost use Rattle.oim_report.specs.code.Beside.{both_common, both_meet, interval_at, level_beside};
 ghost use Rattle.oim_report.specs.Duplicates.{level_of};
 ghost use Rattle.oim_report.specs.Report.{IsOrderOf};
@@ -8,7 +10,8 @@ ghost use Rattle.oim_report.specs.Report.{IsOrderOf};
 use oim_dims::Fact;
 use oim_value::{Interval, Level, Value, common, interval_of, meets};
 
-/// If the declared level is `All`, any facts are allowed, so their level is not computed.
+/// Returns whether the facts have duplicates above this level. `All` allows any facts, so their
+/// level is not determined.
 pub(crate) fn is_above(declared: Level, facts: &[Fact], order: &[usize]) -> bool
     requires { IsOrderOf facts.now order.now }
     ensures { result ≡ is_lt (level_cmp declared (level_of facts.now)) }
@@ -17,14 +20,29 @@ pub(crate) fn is_above(declared: Level, facts: &[Fact], order: &[usize]) -> bool
 }
 
 /// Finds the strictest level that allows the facts (`xbrl:allowedDuplicates` of OIM Common 1.0).
-/// One visit to each fact suffices: values meet pairwise exactly if all are equal, or all are
-/// numbers whose intervals have a common part.
 pub(crate) fn level_of(facts: &[Fact], order: &[usize]) -> Level
     requires { IsOrderOf facts.now order.now }
     ensures { result ≡ level_of facts.now }
 {
+    match level_within(Level::All, facts, order) {
+        Ok(level) => level,
+        Err(_) => Level::All,
+    }
+}
+
+/// Finds the level of the facts. If it is above `limit`, the error is the index of the first fact in
+/// sorted order that `limit` does not allow beside an earlier one. One visit to each fact suffices:
+/// values meet pairwise exactly if all are equal, or all are numbers whose intervals have a common
+/// part.
+pub(crate) fn level_within(limit: Level, facts: &[Fact], order: &[usize]) -> Result<Level, usize>
+    requires { IsOrderOf facts.now order.now }
+    ensures level { IfOk result (λ level. level ≡ level_of facts.now) }
+    ensures within { IfOk result (λ level. is_lt (level_cmp limit level) ≡ false) }
+    ensures above { IfErr result
+        (λ last. IsTrue (list_any (λ one. are_apart limit facts.now one last) order.now)) }
+{
     let Some((first, rest)) = order.split_first() else {
-        return Level::Unique;
+        return Ok(Level::Unique);
     };
     let mut level = Level::Unique;
     let mut last = &facts[*first];
@@ -39,12 +57,15 @@ pub(crate) fn level_of(facts: &[Fact], order: &[usize]) -> Level
             shared = interval;
         }
         last = fact;
+        if limit < level {
+            return Err(*place);
+        }
     }
-    level
+    Ok(level)
 }
 
 // Returns the strictest level that allows `value` after earlier values with the same dimensions.
-// `last` is the last of these, and `shared` is the common part of their intervals.
+// It needs only the last of these and the common part of their intervals.
 fn level_beside(last: &Value, shared: Option<Interval>, value: &Value) -> Level
     ensures { result ≡ level_beside last.now shared value.now }
 {

@@ -1,22 +1,26 @@
-ghost use Rattle.std.specs.Prelude.{◌≡◌, Some, IfOk, IfSome, IsTrue};
+ghost use Rattle.std.specs.Prelude.{◌≡◌, Some, false, IfNone, IfOk, IfSome, IsSome, IsTrue};
+ghost use Rattle.std.specs.List.{list_any};
+ghost use Rattle.std.specs.Ordering.{is_lt};
+ghost use Rattle.oim_value.specs.Level.{level_cmp};
 ghost use Rattle.serde_json.specs.View.{view};
-ghost use Rattle.oim_report.specs.Apart.{AreFactsApart, are_apart};
+ghost use Rattle.oim_report.specs.Apart.{AreFactsApart, HasFactsApart, are_apart};
 ghost use Rattle.oim_report.specs.Info.{bindings_of, level_said};
-ghost use Rattle.oim_report.specs.Duplicates.{allows, allows_values};
+ghost use Rattle.oim_report.specs.Duplicates.{allows, allows_values, level_of};
+ghost use Rattle.oim_report.specs.Report.{IsOrderOf};
 
+use crate::document::duplicates::level_within;
 use crate::document::info::read_info;
 use crate::fact::facts_reader::read_facts;
 use crate::order::order_of;
 use crate::sheet::Sheet;
 use oim_dims::Fact;
 use oim_names::{Aliases, Reason};
-use oim_value::{Level, Value as Said, interval_of, value_meets};
+use oim_value::{Level, Value as Said, value_meets};
 use serde_json::Value;
 use std::alloc::{AllocError, Global};
 
-/// Returns the indices, counted from 0, of two facts that the declared level does not allow
-/// together (own). It returns `None` if there are none, or if the report is refused for another
-/// reason.
+/// Returns the indices, counted from 0, of two facts that the declared level does not allow together
+/// (own). It finds two if the report is refused for its duplicates, and otherwise returns `None`.
 ///
 /// Errors: out of memory.
 pub fn facts_apart(
@@ -24,7 +28,9 @@ pub fn facts_apart(
     sheet: &Sheet,
     tree: &Value,
 ) -> Result<Option<(usize, usize)>, AllocError>
-    ensures { IfOk result (λ two. IfSome two (λ t. AreFactsApart sheet.now (view tree.now) t.0 t.1)) }
+    ensures apart { IfOk result
+        (λ two. IfSome two (λ t. AreFactsApart sheet.now (view tree.now) t.0 t.1)) }
+    ensures found { IfOk result (λ two. HasFactsApart sheet.now (view tree.now) → IsSome two) }
 {
     match read_info(alloc, tree) {
         Ok(info) => apart_under(alloc, sheet, tree, &info.aliases, info.level),
@@ -42,7 +48,9 @@ fn apart_under(
 ) -> Result<Option<(usize, usize)>, AllocError>
     requires aliases { aliases.now ≡ bindings_of (view tree.now) }
     requires level { level_said (view tree.now) ≡ Some level }
-    ensures { IfOk result (λ two. IfSome two (λ t. AreFactsApart sheet.now (view tree.now) t.0 t.1)) }
+    ensures apart { IfOk result
+        (λ two. IfSome two (λ t. AreFactsApart sheet.now (view tree.now) t.0 t.1)) }
+    ensures found { IfOk result (λ two. HasFactsApart sheet.now (view tree.now) → IsSome two) }
 {
     match read_facts(alloc, sheet, aliases, tree) {
         Ok(facts) => {
@@ -54,26 +62,26 @@ fn apart_under(
     }
 }
 
-// Returns the indices of two facts that the level does not allow together. Only two earlier facts
-// need a test: the one whose interval ends first, and the one whose interval begins last.
+// Visits each fact at most twice: the first walk finds the later fact of the pair, the second one
+// the earlier fact.
 fn first_apart(facts: &[Fact], order: &[usize], level: Level) -> Option<(usize, usize)>
-    ensures { IfSome result (λ t. IsTrue (are_apart level facts.now t.0 t.1)) }
+    requires { IsOrderOf facts.now order.now }
+    ensures apart { IfSome result (λ t. IsTrue (are_apart level facts.now t.0 t.1)) }
+    ensures found { IfNone result (is_lt (level_cmp level (level_of facts.now)) ≡ false) }
 {
-    let (first, rest) = order.split_first()?;
-    let (mut lowest, mut highest) = (*first, *first);
-    for place in rest {
-        if are_apart(facts, lowest, *place, level) {
-            return Some((lowest, *place));
-        }
-        if are_apart(facts, highest, *place, level) {
-            return Some((highest, *place));
-        }
-        let is_duplicate = are_apart(facts, lowest, *place, Level::Unique);
-        if !is_duplicate || high(facts, *place) < high(facts, lowest) {
-            lowest = *place;
-        }
-        if !is_duplicate || low(facts, *place) > low(facts, highest) {
-            highest = *place;
+    let last = level_within(level, facts, order).err()?;
+    let one = first_beside(facts, order, last, level)?;
+    Some((one, last))
+}
+
+fn first_beside(facts: &[Fact], order: &[usize], last: usize, level: Level) -> Option<usize>
+    ensures apart { IfSome result (λ one. IsTrue (are_apart level facts.now one last)) }
+    ensures found { IfNone result
+        (list_any (λ one. are_apart level facts.now one last) order.now ≡ false) }
+{
+    for one in order {
+        if are_apart(facts, *one, last, level) {
+            return Some(*one);
         }
     }
     None
@@ -102,19 +110,5 @@ fn allows_values(level: Level, value: &Said, other: &Said) -> bool
         Level::Complete => value == other,
         Level::Consistent => value_meets(value, other),
         Level::All => true,
-    }
-}
-
-fn low(facts: &[Fact], place: usize) -> Option<i128> {
-    match &facts.get(place)?.value {
-        Said::Number(number, decimals) => Some(interval_of(*number, *decimals).low),
-        _ => None,
-    }
-}
-
-fn high(facts: &[Fact], place: usize) -> Option<i128> {
-    match &facts.get(place)?.value {
-        Said::Number(number, decimals) => Some(interval_of(*number, *decimals).high),
-        _ => None,
     }
 }

@@ -199,7 +199,7 @@ const FACTS: [Table<'static>; 1] = [Table {
         ),
         (
             r#""p":{"value":"1","decimals":0,"dimensions":{"concept":"eg:A"}},"q":{"value":"1.2","decimals":1,"dimensions":{"concept":"eg:A"}},"r":{"value":"3","dimensions":{"concept":"eg:A"}}"#,
-            "r: 31 DisallowedDuplicates: the facts \"q\" and \"r\" have the same dimensions, and the report's own \"allowedDuplicates\" does not allow both\n",
+            "r: 31 DisallowedDuplicates: the facts \"p\" and \"r\" have the same dimensions, and the report's own \"allowedDuplicates\" does not allow both\n",
         ),
         // ten different faults
         (TEN, TOLD),

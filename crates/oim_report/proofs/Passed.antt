@@ -1,0 +1,153 @@
+-- The loop over sorted facts up to some fact: the level so far is that of the facts so far.
+use Rattle.std.proofs.Common.{◌≡◌, ℕ, ◌<◌, ◌≤◌, ◌+◌, Bool, true, false, not, ◌&&◌, List, [], ◌∷◌, ◌++◌, append_assoc, append-nil, length, drop, get_or, refl, sym, ap, subst, ◌∙◌, All, Option, Some, None, slice_get, ◌||◌}
+use Rattle.std.specs.List.{list_all, list_any}
+use Rattle.std.specs.Ordering.{is_le, is_lt}
+use Rattle.std.proofs.lemmas.Bool.{false≢true}
+use Rattle.std.proofs.lemmas.List.{drop_all}
+use Rattle.std.proofs.lemmas.List.Elements.{All-head, All-tail}
+use Rattle.std.proofs.lemmas.List.Folds.{list_all-append}
+use Rattle.std.proofs.lemmas.Option.{slice_get-get_or}
+use Rattle.std.specs.Option.{option_map_or}
+use Rattle.std.proofs.Common.{IsSorted}
+use Rattle.oim_value.specs.Level.{level_cmp}
+use Rattle.oim_value.specs.declared.interval.Interval.{Interval}
+use Rattle.oim_value.specs.declared.level.Level.{Level}
+use Rattle.oim_value.specs.declared.level.Level.TheVariants.{Unique, Complete, Consistent, All as AllLevel}
+use Rattle.oim_dims.specs.declared.fact.Fact.{Fact}
+use Rattle.oim_report.specs.Apart.{are_apart}
+use Rattle.oim_report.specs.code.Beside.{interval_at}
+use Rattle.oim_report.specs.Duplicates.{allows, allows_each, are_duplicates, level_of}
+use Rattle.oim_report.specs.Report.{IsOrderOf, place_cmp}
+use Rattle.oim_report.proofs.Pairs.{allows_each-push, passes_is}
+use Rattle.oim_report.proofs.Places.{facts_at, facts_at-cons, facts_at-drop, level_at_order, places_within, rises_from_first}
+use Rattle.oim_report.proofs.Runs.{RisesFrom, walk, walk-nil, walk_from_first}
+
+-- the facts in order are the facts so far, and then those from the i-th index of the rest on; the loop over more facts gives the
+-- level of the facts so far and these
+pub record Passed (facts : List Fact) (order rest : List ℕ) (i : ℕ) (last : Fact) (shared : Option Interval) (level : Level) : Type 0 where
+  pub first : Fact
+  pub before : List Fact
+  pub are : facts_at facts order ≡ first ∷ (before ++ facts_at facts (drop i rest))
+  pub rises : RisesFrom first (before ++ facts_at facts (drop i rest))
+  pub so_far : (fs : List Fact) → walk last shared level fs ≡ walk first (interval_at first.value) Unique (before ++ fs)
+
+-- ---- the loop
+
+pub passed_none : (facts : List Fact) (order rest : List ℕ) (place : ℕ) (first : Fact) → IsOrderOf facts order → order ≡ place ∷ rest → first ≡ get_or facts place first → Passed facts order rest 0 first (interval_at first.value) Unique
+passed_none facts order rest place first sorted split is =
+    let within : All (λ p. p < length facts) (place ∷ rest) = subst (All (λ p. p < length facts)) split (places_within facts order sorted) in
+    let up : IsSorted (place_cmp facts) (place ∷ rest) = subst (IsSorted (place_cmp facts)) split sorted.rising in
+    record {
+      first = first;
+      before = [];
+      are = ap (facts_at facts) split ∙ facts_at-cons facts place rest first (All-head (λ p. p < length facts) place rest within) ∙ ap (λ f. f ∷ facts_at facts rest) (sym is);
+      rises = subst (λ f. RisesFrom f (facts_at facts rest)) (sym is) (rises_from_first facts place rest first within up);
+      so_far = λ fs. refl;
+    }
+
+pub passed_one : (facts : List Fact) (order rest : List ℕ) (i : ℕ) (last f : Fact) (shared later : Option Interval) (level found : Level) → i < length rest → get_or rest i 0 < length facts → f ≡ get_or facts (get_or rest i 0) f
+    → ((fs : List Fact) → walk last shared level (f ∷ fs) ≡ walk f later found fs) → Passed facts order rest i last shared level → Passed facts order rest (i + 1) f later found
+passed_one facts order rest i last f shared later level found here within is step passed =
+    let after : List Fact = facts_at facts (drop (i + 1) rest) in
+    let one : passed.before ++ facts_at facts (drop i rest) ≡ (passed.before ++ f ∷ []) ++ after = ap (λ fs. passed.before ++ fs) (facts_at-drop facts rest i f here within is) ∙ sym (append_assoc passed.before (f ∷ []) after) in
+    record {
+      first = passed.first;
+      before = passed.before ++ f ∷ [];
+      are = passed.are ∙ ap (λ fs. passed.first ∷ fs) one;
+      rises = subst (RisesFrom passed.first) one passed.rises;
+      so_far = λ fs. sym (step fs) ∙ passed.so_far (f ∷ fs) ∙ ap (walk passed.first (interval_at passed.first.value) Unique) (sym (append_assoc passed.before (f ∷ []) fs));
+    }
+
+-- ---- the level so far
+
+rises_before : (last : Fact) (fs gs : List Fact) → RisesFrom last (fs ++ gs) → RisesFrom last fs
+rises_before last [] gs rises = tt
+rises_before last (f ∷ fs) gs rises = (rises.0, rises_before f fs gs rises.1)
+
+pub level_so_far : (facts : List Fact) (order rest : List ℕ) (i : ℕ) (last : Fact) (shared : Option Interval) (level : Level) (passed : Passed facts order rest i last shared level) → level ≡ level_of (passed.first ∷ passed.before)
+level_so_far facts order rest i last shared level passed =
+    sym (walk-nil last shared level)
+    ∙ passed.so_far []
+    ∙ ap (walk passed.first (interval_at passed.first.value) Unique) (append-nil passed.before)
+    ∙ walk_from_first passed.first passed.before (rises_before passed.first passed.before (facts_at facts (drop i rest)) passed.rises)
+
+-- at the end of the loop, the level is that of all facts
+pub passed_all : (facts : List Fact) (order rest : List ℕ) (i : ℕ) (last : Fact) (shared : Option Interval) (level : Level) → IsOrderOf facts order → length rest ≤ i → Passed facts order rest i last shared level → level ≡ level_of facts
+passed_all facts order rest i last shared level sorted past passed =
+    level_so_far facts order rest i last shared level passed
+    ∙ ap (λ fs. level_of (passed.first ∷ fs)) (sym (ap (λ ps. passed.before ++ facts_at facts ps) (drop_all i rest past) ∙ append-nil passed.before))
+    ∙ ap level_of (sym passed.are)
+    ∙ sym (level_at_order facts passed.first order sorted)
+
+-- ---- a fact at which the level exceeds the limit
+
+within_limit : (l m : Level) → is_le (level_cmp m l) ≡ not (is_lt (level_cmp l m))
+within_limit = elim [
+  | Unique ↦ elim [ Unique ↦ refl | Complete ↦ refl | Consistent ↦ refl | AllLevel ↦ refl ]
+  | Complete ↦ elim [ Unique ↦ refl | Complete ↦ refl | Consistent ↦ refl | AllLevel ↦ refl ]
+  | Consistent ↦ elim [ Unique ↦ refl | Complete ↦ refl | Consistent ↦ refl | AllLevel ↦ refl ]
+  | AllLevel ↦ elim [ Unique ↦ refl | Complete ↦ refl | Consistent ↦ refl | AllLevel ↦ refl ]
+]
+
+pub unique_is_within : (l : Level) → is_lt (level_cmp l Unique) ≡ false
+unique_is_within = elim [ Unique ↦ refl | Complete ↦ refl | Consistent ↦ refl | AllLevel ↦ refl ]
+
+allowed_within : (limit level : Level) (fs : List Fact) → level ≡ level_of fs → allows_each limit fs ≡ not (is_lt (level_cmp limit level))
+allowed_within limit level fs is = sym (passes_is limit fs) ∙ within_limit limit (level_of fs) ∙ ap (λ l. not (is_lt (level_cmp limit l))) (sym is)
+
+second_false : (a b : Bool) → a ≡ true → (a && b) ≡ false → b ≡ false
+second_false true b h both = both
+second_false false b h both = absurd (false≢true h)
+
+left_false : (a b : Bool) → a ≡ false → (a && b) ≡ false
+left_false false b h = refl
+left_false true b h = absurd (false≢true (sym h))
+
+-- a fact that one of the facts does not allow is apart from the fact at an index
+pub one_apart : (l : Level) (facts : List Fact) (place : ℕ) (f : Fact) → slice_get facts place ≡ Some f → (places : List ℕ) → All (λ p. p < length facts) places → list_all (λ g. allows l g f) (facts_at facts places) ≡ false → list_any (λ one. are_apart l facts one place) places ≡ true
+one_apart l facts place f here [] within h = absurd (false≢true (sym h))
+one_apart l facts place f here (p ∷ ps) within h =
+    let lp : p < length facts = All-head (λ p. p < length facts) p ps within in
+    let g : Fact = get_or facts p f in
+    let apart : are_apart l facts p place ≡ not (allows l g f) = apart_is g (slice_get facts p) (slice_get facts place) (slice_get-get_or facts p f lp) here in
+    either (allows l g f) (list_all (λ g. allows l g f) (facts_at facts ps)) (are_apart l facts p place) (list_any (λ one. are_apart l facts one place) ps)
+    apart (one_apart l facts place f here ps (All-tail (λ p. p < length facts) p ps within)) (ap (list_all (λ g. allows l g f)) (sym (facts_at-cons facts p ps f lp)) ∙ h)
+  where
+    apart_is : (g : Fact) (a b : Option Fact) → a ≡ Some g → b ≡ Some f → option_map_or (λ x. option_map_or (λ y. not (allows l x y)) b false) a false ≡ not (allows l g f)
+    apart_is g a b one other = (λ k. option_map_or (λ x. option_map_or (λ y. not (allows l x y)) (other k) false) (one k) false)
+
+    either : (a b x y : Bool) → x ≡ not a → (b ≡ false → y ≡ true) → (a && b) ≡ false → (x || y) ≡ true
+    either true b x y is later h = ap (λ z. z || y) is ∙ later h
+    either false b x y is later h = ap (λ z. z || y) is
+
+-- the fact at which the level exceeds the limit is apart from an earlier one
+pub passed_above : (facts : List Fact) (order rest : List ℕ) (i : ℕ) (limit : Level) (last f : Fact) (shared later : Option Interval) (level found : Level) → IsOrderOf facts order → i < length rest → get_or rest i 0 < length facts → f ≡ get_or facts (get_or rest i 0) f
+    → is_lt (level_cmp limit level) ≡ false → is_lt (level_cmp limit found) ≡ true → (passed : Passed facts order rest i last shared level) → ((fs : List Fact) → walk last shared level (f ∷ fs) ≡ walk f later found fs)
+    → list_any (λ one. are_apart limit facts one (get_or rest i 0)) order ≡ true
+unfolding passed_one
+passed_above facts order rest i limit last f shared later level found sorted here within is low high passed step =
+    let earlier : List Fact = passed.first ∷ passed.before in
+    let after : List Fact = facts_at facts (drop (i + 1) rest) in
+    let next = passed_one facts order rest i last f shared later level found here within is step passed in
+    let allowed : allows_each limit earlier ≡ true = allowed_within limit level earlier (level_so_far facts order rest i last shared level passed) ∙ ap not low in
+    let refused : allows_each limit (earlier ++ f ∷ []) ≡ false = allowed_within limit found (earlier ++ f ∷ []) (level_so_far facts order rest (i + 1) f later found next) ∙ ap not high in
+    let apart : list_all (λ g. allows limit g f) earlier ≡ false = second_false _ _ allowed (sym (allows_each-push limit earlier f) ∙ refused) in
+    let all : list_all (λ g. allows limit g f) (facts_at facts order) ≡ false =
+    ap (list_all (λ g. allows limit g f)) passed.are
+    ∙ list_all-append (λ g. allows limit g f) earlier (facts_at facts (drop i rest))
+    ∙ left_false _ _ apart in
+    one_apart limit facts (get_or rest i 0) f (slice_get-get_or facts (get_or rest i 0) f within ∙ ap Some (sym is)) order (places_within facts order sorted) all
+
+-- the level `All` keeps no facts apart
+pub none_apart : (facts : List Fact) (place : ℕ) (places : List ℕ) → list_any (λ one. are_apart AllLevel facts one place) places ≡ false
+none_apart facts place [] = refl
+none_apart facts place (p ∷ ps) = ap (λ b. b || list_any (λ one. are_apart AllLevel facts one place) ps) (never (slice_get facts p) (slice_get facts place)) ∙ none_apart facts place ps
+  where
+    free : (b : Bool) → not (not b || true) ≡ false
+    free true = refl
+    free false = refl
+
+    never : (a b : Option Fact) → option_map_or (λ f. option_map_or (λ g. not (allows AllLevel f g)) b false) a false ≡ false
+    never None b = refl
+    never (Some f) None = refl
+    never (Some f) (Some g) = free (are_duplicates f g)
