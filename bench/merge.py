@@ -1,9 +1,9 @@
 #!/usr/bin/env python3
 """Measures xbrlmerge on reports that it makes itself: bench/merge [FOLDER]
 
-There are three workloads, each in two sizes: one report, reports of 50 facts, and eight providers of the same facts. A peer
-runs beside it: a program of a few lines that reads each report with serde_json and writes it back. The ratio shows the cost
-beyond reading and writing JSON. Growth is the exponent: 1 if ten times the facts take ten times as long. It is computed from
+There are three workloads, each in two sizes: one report, reports of 50 facts, and eight providers of the same facts. For
+comparison, a peer runs on the same reports: a short program that reads each report with serde_json and writes it back. The
+ratio shows the cost beyond reading and writing JSON. Growth is the exponent: 1 if ten times the facts take ten times as long. It is computed from
 instructions if valgrind is installed, otherwise from processor time. Each written text is checked: it must contain every
 fact once. FOLDER keeps the bundles and texts.
 

@@ -27,7 +27,8 @@ from support import built_program, bytes_of
 NOBODY, LIMIT, ENDLESS_LIMIT = 65534, 20, 180
 # the command that returns the size of a pipe; Python has a name for it since 3.10
 PIPE_SIZE = 1032
-# kilobytes of address space: too little for an endless file, and enough for any other
+# kilobytes: LITTLE of address space is too little for an endless file, and enough for any other; with less than MUCH of free
+# memory, endless files are left out
 LITTLE, MUCH = 150_000, 6_000_000
 
 GOOD, REFUSED, NOTHING_TAKEN = (0, ""), (1, "report 2: 1 NotJson at document\n"), (3, "device: 0 bytes written\n")

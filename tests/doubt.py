@@ -15,7 +15,7 @@ that say enough about it. FORMAT may use all that DOUBT lists, and may list word
 - the number of lines on a page is wrong, or the headline has more than 600 lines.
 
 Definitions of the kit are not followed. A record field does not hide a definition of the same name; a variable does, in its
-scope. --format prints the format, --quiet nothing. --write updates the entries, the conditions and the numbers of lines, but
+scope. With --format it prints the definitions that docs/FORMAT.md lists; with --quiet it prints none. --write updates the entries, the conditions and the numbers of lines, but
 not the words.
 """
 import glob

@@ -215,7 +215,7 @@ class Room:
 
 
 def expecting(tool):
-    """Returns a tool that fails if it raises an unexpected exception, which a process would turn into a line."""
+    """Returns the tool, changed so that an unexpected exception fails the case. A process would only print a line."""
     def main():
         try:
             return tool.main()

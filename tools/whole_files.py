@@ -82,7 +82,7 @@ def write_beside(path: str, pieces: Iterable[str], folders: contextlib.ExitStack
 
 
 def copy_permissions(place: str, file: int) -> None:
-    """Gives an open file the owner, group and permissions of the file at a place, if that is permitted."""
+    """Copies the owner, group and permissions of the file at a path to an open file, each if permitted."""
     if os.path.exists(place):
         old = os.stat(place)
         for owner, group in ((old.st_uid, -1), (-1, old.st_gid)):

@@ -194,7 +194,7 @@ def start_of_cut(values: Iterable[Value]) -> int:
 
 
 def details(row: Row) -> Iterator[tuple[str, str]]:
-    """Yields the dimensions of a row, each with a heading."""
+    """Yields the dimensions of a row except its concept, each after its heading."""
     of, last = dimensions_of(row), [*row.facts.values()][-1]  # nil comes first, so the last is not nil
     start, _, end = of.period.rpartition("/")
     since = f"{day(start, False)} to " if start else "at the end of " * end.endswith("T00:00:00")

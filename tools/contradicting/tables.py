@@ -1,4 +1,4 @@
-"""The table of contradictions. Names are {URI}local, and no cell can be read as a formula."""
+"""The tables of contradictions and of all rows. Names are {URI}local, and no cell can be read as a formula."""
 from __future__ import annotations
 
 import csv
