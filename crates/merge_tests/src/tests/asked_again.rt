@@ -3,8 +3,7 @@ use oim_report::Sheet;
 use std::alloc::{AllocError, Global};
 
 // Repeats a call after a refused request for memory. A line on standard error reports the refusal
-// to `tests/refused_memory`: `refused here` if the test itself made the request, otherwise
-// `refused`.
+// to `tests/refused_memory`: `refused`, or `refused here` if the setup of the test was refused.
 
 const ROOM: usize = 1 << 12;
 
@@ -37,7 +36,7 @@ pub(crate) fn read_sheet(rt: &HostRuntime) -> Result<Sheet, Reason> {
     }
 }
 
-/// Returns the result of the call, which is repeated if memory is refused.
+/// Returns whether the call returns true. If memory is refused, the call is repeated.
 pub(crate) fn holds<F: Fn(Global) -> Result<bool, AllocError>>(rt: &HostRuntime, call: F) -> bool
     requires { F.IsAlwaysCallable call }
 {

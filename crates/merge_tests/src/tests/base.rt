@@ -50,7 +50,7 @@ fn take(rt: &HostRuntime, base: &mut Base<'_>, report: &Report<'_>) -> bool {
     base.take(report).is_ok()
 }
 
-// Takes a report with this text, or returns false if it is refused.
+// Returns false if the report cannot be read or taken.
 fn take_text(rt: &HostRuntime, base: &mut Base<'_>, text: &str) -> bool {
     match read(rt, base.sheet(), text) {
         Some(report) => take(rt, base, &report),
@@ -58,8 +58,7 @@ fn take_text(rt: &HostRuntime, base: &mut Base<'_>, text: &str) -> bool {
     }
 }
 
-// Adds a report whose text has three parts, of which only the second differs between reports.
-// Returns false if the report is refused.
+// Takes a report whose text has three parts. Only the second part differs between reports.
 fn add(rt: &HostRuntime, base: &mut Base<'_>, start: &str, text: &str, end: &str) -> bool {
     match joined(rt, start, text, end) {
         Ok(report) => take_text(rt, base, report.as_str()),

@@ -10,7 +10,8 @@ use oim_write::{Encoded, StdSink};
 use std::alloc::{AllocError, Global};
 use std::test::Fail;
 
-// Tests the calls of the library. After a refused request for memory, the call is repeated.
+// Tests `consolidate`, `verdict_lines` and `check_report`. After a refused request for memory, the
+// call is repeated.
 
 pub(crate) const HUNDRED: &str =
     r#""a":{"value":"100","decimals":0,"dimensions":{"concept":"eg:A"}}"#;
@@ -57,7 +58,7 @@ fn tells_second(refused: &Refusals) -> bool {
     told && refused.next().is_none()
 }
 
-/// True if row 1 is above the level and nothing is written.
+/// True if row 1 is above the level, nothing is written, and only the second report is refused.
 fn are_too_loose(alloc: Global, sheet: &Sheet, reports: &[Encoded]) -> Result<bool, AllocError> {
     let mut sink = StdSink::new(Expecting::just(b""));
     match consolidate(alloc, sheet, reports, Level::Consistent, &mut sink) {

@@ -16,7 +16,8 @@ use std::test::Fail;
 /// A report in parts, the number of its facts, their level, and whether the report is canonical.
 type Row = (&'static [&'static str], u64, Level, bool);
 
-/// Texts in both forms, and reports whose facts are spelled as in a canonical text.
+/// Canonical texts, texts in the earlier form, and texts that differ from a canonical text only
+/// outside the facts.
 const ROWS: [Row; 9] = [
     (&[HEAD, MIDDLE_ALONE, END], 0, Level::Unique, true),
     (
@@ -64,7 +65,7 @@ const ROWS: [Row; 9] = [
     ),
 ];
 
-/// Other spellings of the fact 100.
+/// Reports with the fact 100 that are not canonical, each for another reason.
 const SPELLED: [&[&str]; 9] = [
     // members in another order
     &[
@@ -108,7 +109,7 @@ const SPELLED: [&[&str]; 9] = [
     ],
     // the prefix of the feature is not bound
     &[HEAD, ONE_URI, EARLIER_MIDDLE, WRITTEN_HUNDRED, END],
-    // another reference
+    // a reference in another spelling
     &[
         HEAD,
         ONE_URI,
@@ -116,7 +117,7 @@ const SPELLED: [&[&str]; 9] = [
         WRITTEN_HUNDRED,
         END,
     ],
-    // a report that another program wrote, with ascending facts
+    // a report as another program writes it
     &[
         INFO,
         r#""a":{"value":"100","decimals":0,"dimensions":{"concept":"eg:A"}}"#,
@@ -124,7 +125,7 @@ const SPELLED: [&[&str]; 9] = [
     ],
 ];
 
-/// A sheet that lists more concepts, with another prefix.
+/// A sheet with another prefix. It lists the concept of the fact 100 and three others.
 const MORE: &str =
     r#"{"namespaces":{"q":"http://example.org/t","z":"http://example.org/z"},"concepts":{"q:A":"numeric","q:B":"numeric","z:C":"text","q:Q":"name"}}"#;
 

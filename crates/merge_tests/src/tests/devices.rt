@@ -136,7 +136,7 @@ impl Write for TestWriter {
     }
 }
 
-/// Takes bytes like the writer above, but compares them with a text instead of keeping them.
+/// Takes bytes like `TestWriter`, but compares them with a text instead of keeping them.
 #[derive(Clone, Copy)]
 pub struct ComparingWriter<'a> {
     left: &'a [u8],

@@ -10,7 +10,7 @@ use std::test::Fail;
 // After a refused request for memory, the call is repeated on a new device. A line on standard
 // error reports the refusal.
 
-/// The result of `read_all`, the number of its requests, and the number of the source's failures.
+/// The result of `read_all`, the number of its reads, and the number of the source's failures.
 fn read(
     rt: &HostRuntime,
     reader: TestReader<'_>,
@@ -27,7 +27,7 @@ fn read(
     (answer, source.into_inner().calls, failures)
 }
 
-/// True if `read_all` returns this result after at most `limit` + 2 calls. A failing source must
+/// True if `read_all` returns this result after at most `limit` + 2 reads. A failing source must
 /// fail exactly once.
 fn answers(
     rt: &HostRuntime,
@@ -149,7 +149,7 @@ fn sources_are_read_to_their_end(rt: HostRuntime) -> Result<(), Fail> {
 
 const LONG: u32 = 200_000;
 
-/// The number of requests to an endless source. None if the result is not `TooLong`.
+/// The number of reads of an endless source. None if the result is not `TooLong`.
 fn calls_of_endless(rt: &HostRuntime) -> Option<u64> {
     let reader = TestReader::new(b"", Step::Few(30_000), Then::GoesOn);
     let (answer, calls, _) = read(rt, reader, LONG);

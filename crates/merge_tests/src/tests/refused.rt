@@ -59,7 +59,7 @@ fn base_of<'s>(rt: &HostRuntime, sheet: &'s Sheet, report: &[u8]) -> Option<Base
     take_first(rt, &report)
 }
 
-/// True if the sink took exactly `written` bytes without a failure, and the text has that length.
+/// True if the sink took exactly `written` bytes without a failure, and the text is not shorter.
 fn holds(sink: &StdSink<Expecting<'_>>, text: &[u8], written: u64) -> bool {
     sink.taken() == written && sink.failures() == 0 && written <= text.len() as u64
 }
@@ -187,13 +187,13 @@ fn a_refused_base_comes_back(rt: HostRuntime) -> Result<(), Fail> {
 /// Fifty letters.
 const LETTERS: &str = "abcdefghijklmnopqrstuvwxyzabcdefghijklmnopqrstuvwx";
 
-// The last text is longer than the others. Memory for it is requested after the sink took them.
+// The last text is longer than the others. Memory for it is requested after the sink took a chunk.
 
 const MANY: usize = 400;
 
 const MORE: usize = 1_200;
 
-/// The text before and after the value of a long text.
+/// The text of a fact with a long value, before and after the value.
 const OPEN_TEXT: [&str; 2] = [r#"":{"value":""#, r#"","dimensions":{"concept":"eg:T"}}"#];
 
 const LONG_ROOM: usize = 1 << 18;

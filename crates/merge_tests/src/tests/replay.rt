@@ -8,12 +8,12 @@ use oim_report::Sheet;
 use oim_write::text;
 use std::alloc::{AllocError, Global};
 
-// Tests schedules that replicas run. After a refused request for memory, the call is repeated.
+// Tests `read_events` and `replay`. After a refused request for memory, the calls are repeated.
 
 /// A fact that `calls` does not have.
 const HUNDRED_ONE: &str = r#""a":{"value":"101","decimals":0,"dimensions":{"concept":"eg:A"}}"#;
 
-/// Three replicas each take a report, exchange texts and join.
+/// Three replicas each take a report. Two of them receive texts, and one joins another.
 const NINE_EVENTS: &str =
     "take 1 1\nsend 1\ntake 2 2\nreceive 2 1\nsend 2\ntake 3 3\nreceive 3 2\nreceive 3 1\njoin 1 2\n";
 

@@ -75,7 +75,7 @@ const NO_FACTS: &str = r#"},"facts":{}}"#;
 const FACTS: &str =
     r#"{"documentInfo":{"documentType":"https://xbrl.org/2021/xbrl-json","namespaces":{"eg":"http://example.org/t","x":"http://example.org/u","xbrli":"http://www.xbrl.org/2003/instance","xbrl":"https://xbrl.org/2021"}},"facts":{"#;
 
-// The start of a report up to its one fact object. Two prefixes have one URI.
+// The start of a report up to its first fact object. Two prefixes have one URI.
 const FACT: &str =
     r#"{"documentInfo":{"documentType":"https://xbrl.org/2021/xbrl-json","namespaces":{"eg":"http://example.org/t","zz":"http://example.org/t","x":"http://example.org/u","xbrli":"http://www.xbrl.org/2003/instance","xbrl":"https://xbrl.org/2021"}},"facts":{"f":"#;
 
@@ -88,7 +88,7 @@ enum Answer<'t> {
     InDocument(u8),
     InFact(u8, u64),
     Read,
-    /// It is accepted, and its level is not declared. It has this number of facts and this level.
+    /// It is accepted, and declares `all` or no level. It has this number of facts and this level.
     HasLevel(usize, Level),
     Declares(Level),
     /// It has these references.

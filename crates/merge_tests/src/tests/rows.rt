@@ -8,8 +8,8 @@ use row_formats::{RowFormat, finish_rows, finish_rows_last, source_rows, verdict
 use std::alloc::{AllocError, Global};
 use std::test::Fail;
 
-// Compares the output of each call, for rows of every kind, with output written by hand. After a
-// refused request for memory, the call is repeated.
+// Compares the output of the calls of `row_formats` with output written by hand. The rows have
+// every verdict and every kind of value. After a refused request for memory, the call is repeated.
 
 const FIRST: &[u8] =
     br#"{"documentInfo":{"documentType":"https://xbrl.org/2021/xbrl-json","namespaces":{"eg":"http://example.org/t","x":"http://example.org/u"}},"facts":{"p":{"value":"100","decimals":0,"dimensions":{"concept":"eg:A","entity":"x:E1","period":"2024-01-01T00:00:00/2025-01-01T00:00:00","unit":"eg:USD","eg:Reg":"eg:N"}},"-q":{"value":"=1, \"x\"","dimensions":{"concept":"eg:T","language":"en"}},"r":{"value":null,"dimensions":{"concept":"eg:B","eg:Sku":"s,1"}},"s":{"value":"eg:N","dimensions":{"concept":"eg:Q"}}}}"#;

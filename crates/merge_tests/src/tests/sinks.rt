@@ -7,7 +7,7 @@ use oim_write::{StdSink, WriteFault, prefixes, write_to};
 use std::alloc::{AllocError, Global};
 use std::test::Fail;
 
-// A call is repeated after a refused request for memory.
+// After a refused request for memory, the call is repeated.
 
 /// Two numbers whose rounding intervals touch.
 pub(crate) const TOUCHING: &str =

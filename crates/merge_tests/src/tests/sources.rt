@@ -9,16 +9,15 @@ use oim_write::{Encoded, StdSink};
 use std::alloc::{AllocError, Global};
 use std::test::Fail;
 
-// A call is repeated after a refused request for memory.
+// After a refused request for memory, the call is repeated.
 
-/// Two facts whose identifiers are not in the order of the facts. JSON escapes one identifier.
+/// Two facts whose identifiers are not in the order of the facts. One identifier needs an escape.
 const TWO: &str =
     r#""\n":{"value":"102","decimals":0,"dimensions":{"concept":"eg:A"}},"b":{"value":"100","decimals":0,"dimensions":{"concept":"eg:A"}}"#;
 
 const LINES: &[u8] = b"f1 1 \"b\"\nf1 3 \"a\"\nf2 1 \"\\n\"\n";
 
-/// True if each fact object in the accepted reports has its line, and only the second report is
-/// refused.
+/// True if exactly `LINES` is written, and only the second report is refused.
 fn are_told(alloc: Global, sheet: &Sheet, reports: &[Encoded]) -> Result<bool, AllocError> {
     let mut sink = StdSink::new(Expecting::just(LINES));
     match source_lines(alloc, sheet, reports, &mut sink) {
@@ -36,8 +35,8 @@ fn tells_each_source(alloc: Global) -> Result<bool, AllocError> {
     are_told(alloc, &sheet, &reports)
 }
 
-/// True if a sink with room for this many bytes contains the first bytes, and the fault reports
-/// their number.
+/// True if a sink with room for this many bytes contains the first bytes of `LINES`, and the fault
+/// reports their number.
 fn holds_front(
     alloc: Global,
     sheet: &Sheet,

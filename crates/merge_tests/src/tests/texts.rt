@@ -57,7 +57,7 @@ fn all_give(rt: &HostRuntime, rows: &[Row]) -> Result<bool, Fail> {
     Ok(all)
 }
 
-/// True if one report with these facts is written with these namespaces and this text.
+/// True if the merged text of a report with these facts has these namespaces and these fact texts.
 fn writes(rt: &HostRuntime, facts: &str, namespaces: &str, text: &str) -> Result<bool, Fail> {
     let bundle = [SHEET, LINE, INFO, facts, END];
     gives(rt, &bundle, &[HEAD, namespaces, MIDDLE, text, END])

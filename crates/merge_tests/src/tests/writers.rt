@@ -13,8 +13,8 @@ use oim_write::{Encoded, Sink, StdSink, write_to};
 use std::alloc::{AllocError, Global};
 use std::test::Fail;
 
-// Tests each call with writers that stop at each byte of its text. After a refused request for
-// memory, the row is repeated.
+// Tests calls that write a text. For each number of bytes up to the whole text, writers stop after
+// that many bytes. After a refused request for memory, the row is tested again.
 
 /// The call that writes a text.
 #[derive(Clone, Copy)]
@@ -52,7 +52,7 @@ fn whole(refusals: &Refusals) -> Ended {
 }
 
 /// Makes the call on a new sink over the writer. Returns its result, the number of the sink's
-/// failures, and whether the sink took the text.
+/// failures, and whether the writer took exactly the bytes that it expects.
 fn called(
     alloc: Global,
     call: Call<'_, '_>,
@@ -75,8 +75,8 @@ fn called(
     Ok((ended, failures, sink.into_inner().is_met()))
 }
 
-/// True if a writer with room for this many bytes takes the first bytes of the text, and the call
-/// reports their number.
+/// True if a writer with room for this many bytes takes the first bytes of the text. If the room is
+/// too small for the whole text, the call must report their number.
 fn holds_the_front(
     alloc: Global,
     call: Call<'_, '_>,
@@ -106,7 +106,8 @@ fn holds_each_front(alloc: Global, call: Call<'_, '_>, text: &[u8]) -> Result<bo
     Ok(true)
 }
 
-// The sheet and the report are short because most calls read them again for each writer.
+// The sheet and the report are short: three calls read the report again for each writer, and one of
+// them also reads the sheet again.
 
 const SHORT_SHEET: &str =
     r#"{"namespaces":{"eg":"http://example.org/t"},"concepts":{"eg:A":"numeric"}}"#;

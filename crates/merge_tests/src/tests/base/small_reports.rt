@@ -1,5 +1,5 @@
-// Adds small reports after a large one. Their facts are collected in lists, which are sorted
-// whenever their length has doubled.
+// Adds small reports after a large one. Their facts and references are collected in two lists. A
+// list is sorted when it has more than doubled.
 
 use crate::tests::asked_again::{read_sheet, tell_refused};
 use fact_base::{Base, Gathering};
@@ -13,8 +13,8 @@ const LARGE: &str =
     r#"{"documentInfo":{"documentType":"https://xbrl.org/2021/xbrl-json","namespaces":{"eg":"http://example.org/t"}},"facts":{"a":{"value":"0","decimals":0,"dimensions":{"concept":"eg:A"}},"b":{"value":"1","decimals":0,"dimensions":{"concept":"eg:A"}},"c":{"value":"2","decimals":0,"dimensions":{"concept":"eg:A"}},"d":{"value":"3","decimals":0,"dimensions":{"concept":"eg:A"}},"e":{"value":"4","decimals":0,"dimensions":{"concept":"eg:A"}},"f":{"value":"5","decimals":0,"dimensions":{"concept":"eg:A"}},"g":{"value":"6","decimals":0,"dimensions":{"concept":"eg:A"}},"h":{"value":"7","decimals":0,"dimensions":{"concept":"eg:A"}},"i":{"value":"8","decimals":0,"dimensions":{"concept":"eg:A"}},"j":{"value":"9","decimals":0,"dimensions":{"concept":"eg:A"}}}}"#;
 
 // The parts of a small report's text: up to its reference, between reference and value, and after
-// the value. The last part may add one more fact, so that the lists have more dimension sets than
-// the large report.
+// the value. The last part may add one more fact, so that the small reports have more dimension
+// sets than the large report.
 const REFERENCE: &str =
     r#"{"documentInfo":{"documentType":"https://xbrl.org/2021/xbrl-json","namespaces":{"eg":"http://example.org/t"},"taxonomy":[""#;
 
@@ -92,7 +92,7 @@ fn take_small(
     take(rt, base, text.as_str())
 }
 
-// Returns whether both bases have the same facts and references after the first takes the small
+// Returns whether both bases have the same facts and references after the first takes all these
 // reports.
 fn takes_each(
     rt: &HostRuntime,
@@ -112,8 +112,8 @@ fn are_gathered_once(rt: &HostRuntime, sheet: &Sheet, facts: &str) -> Result<boo
     takes_each(rt, &mut Base::new(rt.alloc(), sheet), &other, facts)
 }
 
-// Returns whether the reports are gathered as they are taken one by one. If a request for memory is
-// refused, all starts again.
+// Returns whether gathering the reports gives the same base as taking them one by one. If memory is
+// refused, both are repeated.
 fn are_gathered(rt: &HostRuntime, sheet: &Sheet, facts: &str) -> bool {
     match are_gathered_once(rt, sheet, facts) {
         Err(Reason::OutOfMemory) => {

@@ -15,7 +15,7 @@ use std::test::Fail;
 // Tests reports that are added one at a time. After a refused request for memory, the report is
 // added again. It must be counted once, and its facts must be added once.
 
-/// One of the facts of `THREE_SETS`.
+/// A report with one of the facts of `THREE_SETS`.
 const ONE_OF_THREE: &str =
     r#"{"documentInfo":{"documentType":"https://xbrl.org/2021/xbrl-json","namespaces":{"eg":"http://example.org/t"}},"facts":{"d":{"value":"3","decimals":0,"dimensions":{"concept":"eg:B"}}}}"#;
 

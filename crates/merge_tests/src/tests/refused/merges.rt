@@ -102,8 +102,8 @@ fn a_refused_merge_has_its_front_in_the_sink(rt: HostRuntime) -> Result<(), Fail
 pub(crate) const THREE_SETS: &str =
     r#"{"documentInfo":{"documentType":"https://xbrl.org/2021/xbrl-json","namespaces":{"eg":"http://example.org/t"}},"facts":{"a":{"value":"100","decimals":0,"dimensions":{"concept":"eg:A"}},"b":{"value":"101","decimals":0,"dimensions":{"concept":"eg:A"}},"c":{"value":"1","decimals":0,"dimensions":{"concept":"eg:B"}},"d":{"value":"3","decimals":0,"dimensions":{"concept":"eg:B"}},"e":{"value":"Blue","dimensions":{"concept":"eg:T"}}}}"#;
 
-// Memory is requested for each line. If a later request is refused, the sink contains the earlier
-// lines.
+// Memory is requested for each line. If the request for a line is refused, the sink must contain
+// the earlier lines.
 pub(crate) const THREE_LINES: &[u8] =
     b"1 f1 f2 consistent common 100.5 100.5\n2 f3 f4 inconsistent apart f3 f4\n3 f5 f5 complete\n";
 

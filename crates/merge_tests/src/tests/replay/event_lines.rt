@@ -5,7 +5,7 @@ use std::alloc::{AllocError, Global};
 
 /// Bytes, and the number of their first line that is not an event.
 const BAD: &[(&[u8], u64)] = &[
-    // leading zeros, missing numbers and numbers that are too large
+    // numbers that are zero, too large, or not only digits without a leading zero
     (b"take 01 1", 1),
     (b"take 1 01\n", 1),
     (b"take 0 1\n", 1),
@@ -20,7 +20,7 @@ const BAD: &[(&[u8], u64)] = &[
     (b"send 0x1\n", 1),
     (b"send one\n", 1),
     (b"send \xd9\xa1\n", 1),
-    // spaces
+    // spaces and other separators
     (b"take 1  1\n", 1),
     (b"take  1 1\n", 1),
     (b" take 1 1\n", 1),
@@ -30,7 +30,7 @@ const BAD: &[(&[u8], u64)] = &[
     (b"take 1,1\n", 1),
     (b"take\xc2\xa01 1\n", 1),
     (b"send 1\r\n", 1),
-    // words
+    // wrong words
     (b"Take 1 1\n", 1),
     (b"sent 1\n", 1),
     (b"send1\n", 1),

@@ -31,8 +31,8 @@ const ALL_THREE: Parts = &[
 const THREE: &[&str] = &[HUNDRED, HUNDRED_ONE, ABOVE];
 
 /// A schedule and its result. The schedule contains the facts of the reports and the lines of the
-/// events. The result contains the texts of the replicas, the sent texts, and the reports of the
-/// refused takes.
+/// events. The result contains the texts of the replicas, the sent texts, and for each refused take
+/// the number of its report.
 #[derive(Clone, Copy)]
 struct Schedule {
     reports: &'static [&'static str],
@@ -43,7 +43,7 @@ struct Schedule {
 }
 
 const SCHEDULES: &[Schedule] = &[
-    // reports that arrive twice, and by two routes
+    // a text is received twice, and facts arrive by two routes
     Schedule {
         reports: THREE,
         lines: "take 1 1\nsend 1\ntake 2 2\nreceive 2 1\nreceive 2 1\njoin 1 2\n",
@@ -96,7 +96,7 @@ const SCHEDULES: &[Schedule] = &[
         sent: &[],
         refused: &[],
     },
-    // a replica joins itself and takes its own text
+    // a replica joins itself and receives its own text
     Schedule {
         reports: THREE,
         lines: "take 1 1\njoin 1 1\nsend 1\nreceive 1 1\njoin 2 2\n",
@@ -120,7 +120,7 @@ const SCHEDULES: &[Schedule] = &[
         sent: &[ONE, NOTHING],
         refused: &[],
     },
-    // a replica that joined another keeps its facts after the other restarts
+    // a replica keeps the facts of another that restarts later
     Schedule {
         reports: THREE,
         lines: "take 1 1\ntake 2 2\njoin 2 1\nrestart 1\njoin 1 2\nrestart 2",

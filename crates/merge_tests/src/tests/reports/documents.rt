@@ -171,7 +171,7 @@ const INFO: [Table; 3] = [
         ],
         end: "}}}",
     },
-    // the base is an http or https URL
+    // the base URL is an http or https URL
     Table {
         start: BOUND,
         rows: &[
@@ -190,7 +190,7 @@ const INFO: [Table; 3] = [
         ],
         end: NO_FACTS,
     },
-    // references are resolved or refused
+    // references are texts, and with a base URL they are resolved
     Table {
         start: BOUND,
         rows: &[
@@ -223,7 +223,8 @@ fn parts_of_a_document_have_their_forms(rt: HostRuntime) -> Result<(), Fail> {
     Ok(())
 }
 
-// Each document has the expected fault, and also the fault with the next number.
+// Each document has the expected fault. All except the one with the reference `a.xsd` also have the
+// fault with the next number.
 const TWO_FAULTS: [Table; 3] = [
     Table {
         start: "",
@@ -274,7 +275,7 @@ const TWO_FAULTS: [Table; 3] = [
     },
 ];
 
-// Each document has the expected fault, and also a refused fact.
+// Each document has a refused fact. A fault of the document has precedence over it.
 const BEFORE_FACTS: Table = Table {
     start: BOUND,
     rows: &[

@@ -101,7 +101,7 @@ const PARTS: [Table; 5] = [
         ],
         end: "}}",
     },
-    // numbers have the form of a number, and at most 18 significant digits
+    // numbers have the form of a number, and at most 18 digits that count
     Table {
         start: r#"{"documentInfo":{"documentType":"https://xbrl.org/2021/xbrl-json","namespaces":{"eg":"http://example.org/t"}},"facts":{"a":{"dimensions":{"concept":"eg:A"},"value":""#,
         rows: &[

@@ -17,7 +17,7 @@ const DOCUMENTS: Rows<'static> = &[
     ),
     // a missing type is not reported if `documentInfo` is missing
     (r#"{"x":1,"facts":{"a":7}}"#, &[(2, 0), (3, 0)]),
-    // if the base is refused, only references that do not need it are reported
+    // if the base URL is refused, references are tested as if there were none
     (
         r#"{"documentInfo":{"documentType":"https://xbrl.org/2021/xbrl-json","baseURL":"x","taxonomy":["y"]},"facts":{"a":7}}"#,
         &[(6, 0)],
@@ -26,7 +26,7 @@ const DOCUMENTS: Rows<'static> = &[
         r#"{"documentInfo":{"documentType":"https://xbrl.org/2021/xbrl-json","baseURL":"x","taxonomy":[1]}}"#,
         &[(6, 0), (7, 0)],
     ),
-    // if a prefix is refused, a level that needs prefixes is not reported
+    // if a prefix is refused, the declared level is not tested
     (
         r#"{"documentInfo":{"documentType":"https://xbrl.org/2021/xbrl-json","namespaces":{"a":"","xbrl":"https://xbrl.org/2021"},"features":{"xbrl:allowedDuplicates":1}}}"#,
         &[(5, 0)],
@@ -43,7 +43,7 @@ const START: &str =
 const FACTS: Rows<'static> = &[
     ("", &[]),
     (r#""a":{"value":"1","dimensions":{"concept":"eg:A"}}"#, &[]),
-    // all conditions on a fact's form
+    // several conditions on a fact's form
     (
         r#""a":{"x":1,"dimensions":[],"links":{"y":1}},"b":7,"c":{"links":[]}"#,
         &[(2, 1), (3, 1), (9, 1), (2, 2), (2, 3), (11, 3)],
@@ -94,7 +94,7 @@ const FACTS: Rows<'static> = &[
         r#""a":{"value":"x","dimensions":{"concept":"eg:A"}},"b":{"value":"1","dimensions":{"concept":"eg:A"}},"c":{"value":"1234567890123456789","dimensions":{"concept":"eg:A"}}"#,
         &[(26, 1), (27, 3)],
     ),
-    // duplicates are reported if nothing else is wrong
+    // duplicates are reported only if nothing else is wrong
     (
         r#""a":{"value":"1","dimensions":{"concept":"eg:A"}},"b":{"value":"1","dimensions":{"concept":"eg:A"}}"#,
         &[(31, 0)],

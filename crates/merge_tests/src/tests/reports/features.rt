@@ -121,7 +121,7 @@ const DUPLICATES: [Table; 5] = [
         ],
         end: r#"}},"facts":{"a":{"value":"1","dimensions":{"concept":"eg:A"}},"b":{"value":null,"dimensions":{"concept":"eg:A"}}}}"#,
     },
-    // facts without duplicates need `none`
+    // facts without duplicates satisfy every level
     Table {
         start: DECLARED,
         rows: &[(

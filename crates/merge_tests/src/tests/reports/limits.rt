@@ -43,7 +43,7 @@ const LIMITS: [Long; 5] = [
         end: r#""]}}"#,
         counts: &[(21_841, Read), (21_842, InDocument(7))],
     },
-    // a base has at most 65,536 bytes
+    // a base URL has at most 65,536 bytes
     Long {
         start: r#"{"documentInfo":{"documentType":"https://xbrl.org/2021/xbrl-json","baseURL":"http://x.org/"#,
         piece: "a",
@@ -51,7 +51,7 @@ const LIMITS: [Long; 5] = [
         end: r#""},"facts":{}}"#,
         counts: &[(65_523, Read), (65_524, InDocument(6))],
     },
-    // a base counts towards the limit of a resolved reference
+    // the limit of a reference applies after it is resolved against the base URL
     Long {
         start: r#"{"documentInfo":{"documentType":"https://xbrl.org/2021/xbrl-json","baseURL":"http://x.org/r","taxonomy":[""#,
         piece: "a",

@@ -17,7 +17,8 @@ const LONG: [(Answer, &str); 6] = [
         HasLevel(2, Unique),
         "\n{ \"documentInfo\" : {\n \"documentType\" : \"https://xbrl.org/2021/xbrl-json\", \"namespaces\" : {\n \"eg\" : \"http://example.org/t\" } },\n \"facts\" : {\n \"a\" : {\n \"value\" : \"@\",\n \"dimensions\" : { \"concept\" : \"eg:T\" }\n },\n \"b\" : { \"value\" : \"@\",\n \"dimensions\" : { \"concept\" : \"eg:T\", \"language\" : \"en\" }\n }\n } }\n",
     ),
-    // values and identifiers that look like the start or the end of a fact; one fact is repeated
+    // values and identifiers that look like the start or the end of a fact; one identifier is
+    // repeated
     (
         HasLevel(7, All),
         r#"{"documentInfo":{"documentType":"https://xbrl.org/2021/xbrl-json","namespaces":{"eg":"http://example.org/t"}},"facts":{"f,":{"value":"@},","dimensions":{"concept":"eg:T"}},"f}":{"value":"@\"","dimensions":{"concept":"eg:T"}},"f},":{"value":"@\\","dimensions":{"concept":"eg:T"}},"f\"":{"value":"@},\"","dimensions":{"concept":"eg:T"}},"f}},":{"value":"@\\\"","dimensions":{"concept":"eg:T"}},"f{":{"value":"@:{","dimensions":{"concept":"eg:T"}},"f},\"":{"value":"@[","dimensions":{"concept":"eg:T"}},"f}":{"value":"}},","dimensions":{"concept":"eg:T"}}}}"#,

@@ -30,7 +30,7 @@ const SHEETS: [(Option<Reason>, &[&str]); 9] = [
             r#"{"namespaces":{"eg":1},"concepts":{"A":"text"}}"#,
         ],
     ),
-    // keys of a sheet are names
+    // concepts and dimensions are names
     (
         Some(Reason::NameForm),
         &[
@@ -65,7 +65,7 @@ const SHEETS: [(Option<Reason>, &[&str]); 9] = [
             r#"{"namespaces":{"eg":"u:t"},"concepts":{"eg:A":null}}"#,
             r#"{"namespaces":{"eg":"u:t"},"dimensions":{"eg:A":"numeric"}}"#,
             r#"{"namespaces":{"eg":"u:t"},"dimensions":{"eg:A":{}}}"#,
-            // a name has one kind
+            // a concept or a dimension has one kind
             r#"{"namespaces":{"eg":"u:t","zz":"u:t"},"concepts":{"eg:A":"numeric","zz:A":"text"}}"#,
             r#"{"namespaces":{"eg":"u:t","zz":"u:t"},"concepts":{"eg:A":"text","zz:A":"name","zz:B":"name"}}"#,
             r#"{"namespaces":{"eg":"u:t","zz":"u:t"},"dimensions":{"eg:A":"typed","zz:A":"explicit"}}"#,

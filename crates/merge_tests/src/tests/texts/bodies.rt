@@ -3,7 +3,7 @@ use crate::tests::asked_again::{INFO, OPEN_INFO};
 use crate::tests::canonical_parts::{END, HEAD, MIDDLE};
 use std::test::Fail;
 
-// Tests whole texts.
+// Compares merged texts with expected ones.
 
 /// `INFO` with `zz` instead of `eg`.
 const OTHER_INFO: &str =
@@ -38,7 +38,7 @@ const BLUE: &str =
 const REFERENCE: &str =
     r#"{"documentInfo":{"documentType":"https://xbrl.org/2021/xbrl-json","features":{"xbrl:allowedDuplicates":"none"},"namespaces":{"xbrl":"https://xbrl.org/2021"},"taxonomy":["a.xsd"]},"facts":{}}"#;
 
-/// The text between the namespaces and the references, if no URI is used.
+/// The text from the namespace of `xbrl` up to the references.
 const NO_URI: &str = r#""xbrl":"https://xbrl.org/2021"},"taxonomy":["#;
 
 /// The text after `documentInfo` if there are no facts.
@@ -80,7 +80,7 @@ const ROWS: &[Row] = &[
         &[BOTH_TEXT],
     ),
     (&[SHEET, LINE, BOTH_TEXT], &[BOTH_TEXT]),
-    // every dimension is written
+    // every dimension that a text may have is written
     (
         &[
             SHEET,
@@ -95,7 +95,7 @@ const ROWS: &[Row] = &[
         &[SHEET, LINE, HEAD, TWO_URIS, MIDDLE, BLUE, END],
         &[HEAD, TWO_URIS, MIDDLE, BLUE, END],
     ),
-    // references are resolved, sorted and written; a written reference does not change
+    // references are resolved, sorted and written once; those of a merged text do not change
     (
         &[
             SHEET,

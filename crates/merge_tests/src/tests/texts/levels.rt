@@ -84,7 +84,7 @@ fn a_text_is_held_to_its_level(rt: HostRuntime) -> Result<(), Fail> {
     Ok(())
 }
 
-/// The text of one fact, before and after its value.
+/// The text of one fact up to its value, and the rest of the report after the value.
 const ONE_VALUE: &str = r#""f1":{"decimals":0,"dimensions":{"concept":"n1:A"},"value":""#;
 
 const VALUE_END: &str = r#""}}}"#;

@@ -3,7 +3,8 @@ use crate::tests::asked_again::INFO;
 use crate::tests::canonical_parts::{CONTRADICTING_HEAD, END, HEAD, MIDDLE, ONE_URI};
 use std::test::Fail;
 
-// Tests the order of facts and their identifiers. Reports list the facts in reverse order.
+// Tests the order of facts and their identifiers. In the first four rows, the report lists the
+// facts in reverse order.
 
 /// The facts 1 to 9.
 const NINE: &str =

@@ -3,7 +3,7 @@ use crate::tests::asked_again::INFO;
 use crate::tests::canonical_parts::{END, HEAD, MIDDLE, ONE_URI};
 use std::test::Fail;
 
-// Tests the parts of a fact in all their spellings.
+// Tests values, units and periods in several spellings.
 
 const THREE_URIS: &str =
     r#""n1":"http://example.org/t","n2":"http://example.org/u","n3":"http://www.xbrl.org/2003/instance""#;
@@ -30,7 +30,7 @@ fn writes_value<'a>(
 /// A concept, a value in a report, and the value that is written for it.
 const VALUES: &[(&str, &str, &str)] = &[
     ("Q", r#""eg:North""#, r#""n1:North""#),
-    // all spellings of a number give one text
+    // numbers are written in their shortest spelling
     ("A", r#""1.""#, r#""1""#),
     ("A", r#""0.10000000000000000000""#, r#""0.1""#),
     (
@@ -40,11 +40,11 @@ const VALUES: &[(&str, &str, &str)] = &[
     ),
     ("A", r#""000999999999999999999""#, r#""999999999999999999""#),
     ("A", r#""-.50""#, r#""-0.5""#),
-    // nil is null
+    // nil is written as null
     ("A", "null", "null"),
     ("T", "null", "null"),
     ("Q", "null", "null"),
-    // texts are escaped
+    // only characters that need an escape are escaped
     ("T", r#""""#, r#""""#),
     ("T", r#""a\"b""#, r#""a\"b""#),
     ("T", r#""\\\/""#, r#""\\/""#),
@@ -75,13 +75,13 @@ const FACTS: &[(&str, &str, &str)] = &[
         TWO_URIS,
         r#""f1":{"dimensions":{"concept":"n1:Q"},"value":"n2:North"}"#,
     ),
-    // all spellings of zero are one fact
+    // different spellings of zero are one fact
     (
         r#""a":{"value":"-0","dimensions":{"concept":"eg:A"}},"b":{"value":"+0.00","dimensions":{"concept":"eg:A"}},"c":{"value":".0","dimensions":{"concept":"eg:A"}},"d":{"value":"0","dimensions":{"concept":"eg:A"}}"#,
         ONE_URI,
         r#""f1":{"dimensions":{"concept":"n1:A"},"value":"0"}"#,
     ),
-    // nil has no decimals
+    // the decimals of nil are dropped
     (
         r#""a":{"value":null,"dimensions":{"concept":"eg:A"}},"b":{"value":null,"decimals":3,"dimensions":{"concept":"eg:A"}}"#,
         ONE_URI,
@@ -122,7 +122,7 @@ const UNITS: &[(&str, &str, &str)] = &[
     ("x:b*x:b/(x:a)", TWO_URIS, r#","unit":"(n2:b*n2:b)/n2:a""#),
     ("x:b*eg:c*x:a", TWO_URIS, r#","unit":"n1:c*n2:a*n2:b""#),
     ("(x:a)", TWO_URIS, r#","unit":"n2:a""#),
-    // the unit `pure` is not written
+    // the unit `pure` alone is not written
     ("xbrli:pure", ONE_URI, ""),
     ("(xbrli:pure)", ONE_URI, ""),
     ("xbrli:pure/x:c", THREE_URIS, r#","unit":"n3:pure/n2:c""#),

@@ -5,7 +5,7 @@ use std::test::Fail;
 
 // Prefixes are numbered in the byte order of their URIs, not in the order of first use.
 
-// One fact uses all URIs, in its concept and its measures.
+// Parts of reports and texts with one fact, which uses all URIs in its concept and its measures.
 
 const BOUND: &str = r#","namespaces":{"eg":"http://example.org/t","#;
 

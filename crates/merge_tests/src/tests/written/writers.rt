@@ -7,10 +7,10 @@ use std::alloc::{AllocError, Global};
 use std::io::{self, ErrorKind, Write};
 use std::test::Fail;
 
-// Tests writers that stop at each byte of a text, with and without a buffer.
+// Tests writers that stop after part of a text or all of it, with and without a buffer.
 
 /// The result of a run: the length that the fault reported, the bytes taken, the failures of the
-/// sink, and whether the whole text was taken.
+/// sink, and whether the writer took exactly the bytes that it expects.
 type Left = (Option<u64>, u64, u64, bool);
 
 fn left(told: Option<u64>, sink: StdSink<ComparingWriter<'_>>) -> Left {
@@ -60,8 +60,8 @@ fn push(
     }
 }
 
-/// True if a writer of this size takes the first bytes of the text, and the fault reports their
-/// number.
+/// True if a writer of this size takes the first bytes of the text. If it is too small for the
+/// whole text, the fault must report their number.
 fn stops_at(
     alloc: Global,
     text: &[u8],
@@ -107,7 +107,7 @@ fn stops_anywhere(alloc: Global) -> Result<bool, AllocError> {
     Ok(true)
 }
 
-/// Sizes around the end of a chunk and around both ends of the text.
+/// Sizes around the end of a chunk, the end of a piece, and both ends of the text.
 const LONG_ROOMS: [usize; 9] = [0, 1, 65_535, 65_536, 65_537, 65_989, 65_990, 65_999, 66_000];
 
 fn stops_about_a_chunk(alloc: Global) -> Result<bool, AllocError> {
