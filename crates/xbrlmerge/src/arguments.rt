@@ -51,7 +51,7 @@ fn sheet_argument<'w>(alloc: Global) -> Arg<'w> {
         .help("The sheet: a file that lists the concepts and dimensions of the reports")
 }
 
-/// Returns a command that reads any number of reports and writes a text.
+/// Adds the arguments for any number of reports, for the output file and for the progress line.
 pub(crate) fn with_reports<'w>(
     alloc: Global,
     command: Command<'w>,

@@ -53,7 +53,8 @@ impl<E: Write> Console<E> {
         self.bytes = self.bytes.saturating_add(bytes as u64);
     }
 
-    /// Prints the progress line again, with the reports and bytes read so far.
+    /// Prints the progress line over the previous one. It prints nothing if the line is suppressed
+    /// or standard error is not a terminal.
     pub(crate) fn show(&mut self, all: usize) {
         if self.is_terminal && !self.is_quiet {
             let (read, megabytes) = (self.read, self.bytes / 1_000_000);

@@ -25,20 +25,20 @@ pub(crate) fn ended<'n>(answer: Result<Refusals, Fault>) -> Result<Success, Erro
 pub(crate) enum Error<'n> {
     /// The arguments are not valid. The error has clap's message.
     Usage(clap::Error),
-    /// The file with this name was not read. The name `-` is standard input. The text is the cause,
-    /// if it is known.
+    /// The file with this name was not read. Standard input has the name `-`. The text is the
+    /// cause, if it is known.
     Unread(&'n str, ReadFault, Option<&'static str>),
-    /// The file with this name should list reports but lists none.
+    /// The file with this name should list reports, but neither it nor the arguments name one.
     NoNames(&'n str),
     /// The file with this name cannot be written.
     Unwritten(&'n str),
     /// The line with this number, from 1, is not an event, or names something that does not exist.
     Event(u64),
-    /// The sheet is refused. The text contains the lines that `explain` prints about it.
+    /// The sheet is refused. `explain` adds its lines about the sheet.
     Sheet(Reason, Option<String>),
     /// The row with this number is above the allowed level.
     TooLoose(u64, Refusals),
-    /// Standard output failed after this many bytes.
+    /// The output failed after this many bytes.
     Device(u64),
     OutOfMemory,
 }

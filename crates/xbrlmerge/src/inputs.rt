@@ -13,7 +13,7 @@ use std::rt::Files;
 
 const MOST_BYTES: u32 = 2_147_483_648;
 
-/// The name of standard input, in arguments and in printed lines.
+/// The name of standard input after `--reports-from` and in printed lines.
 pub(crate) const STANDARD_INPUT: &str = "-";
 
 /// The inputs of a command, and its progress. The sink is not a field. Otherwise the contract of
@@ -22,7 +22,7 @@ pub(crate) const STANDARD_INPUT: &str = "-";
 pub(crate) struct Inputs<'n, F, E> {
     pub alloc: Global,
     pub files: &'n F,
-    /// The bundle; empty if there are arguments.
+    /// The bundle; not used if there are arguments.
     pub bundle: &'n [u8],
     pub names: &'n [&'n str],
     pub console: &'n mut Console<E>,

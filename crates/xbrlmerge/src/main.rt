@@ -1,5 +1,4 @@
-//! The command line of `oim_merge`: arguments, files, printed lines and exit statuses. The
-//! libraries do the merging.
+//! The program: arguments, files, printed lines and exit statuses. The libraries do the merging.
 #![tactic(auto)]
 
 mod arguments;

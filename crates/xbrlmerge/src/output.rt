@@ -13,8 +13,9 @@ use std::rt::Files;
 /// setuid and setgid are not among them.
 const KEPT_BITS: u32 = 0o777;
 
-/// Writes the text of the request to standard output, and flushes it unless the program stopped. If
-/// standard output fails, the fault contains the number of bytes written in this run.
+/// Writes the text of the request to standard output. It flushes if the command ran to its end or a
+/// row was above the allowed level. If standard output fails, the fault contains the number of
+/// bytes that it took in this run.
 pub(crate) fn write_out<'n, F: Files, E: Write, O: Write + Drop>(
     request: &Request<'n>,
     inputs: &mut Inputs<'n, F, E>,
@@ -76,11 +77,11 @@ fn settle<'n, F: Files>(
 
 type Named<F> = (String, F);
 
-/// Creates a file that will replace the file with this name. It is in the same folder and has the
-/// same mode.
+/// Creates a file that will replace the file with this name. It is in the same folder. If the name
+/// belongs to a file, the new one gets its mode bits within `KEPT_BITS`.
 ///
-/// Errors: `Unwritten` if it cannot be created, or if the name belongs to anything but a regular
-/// file, such as a symbolic link; out of memory.
+/// Errors: `Unwritten` if it cannot be created, its mode cannot be set, the name is invalid, or it
+/// belongs to anything but a regular file, such as a symbolic link; out of memory.
 fn new_beside<'w, F: Files>(
     alloc: Global,
     files: &F,
@@ -116,7 +117,8 @@ fn remove<F: Files>(files: &F, name: &str) {
 
 /// Returns None if no file has this name.
 ///
-/// Errors: `Unwritten` if the name is invalid or belongs to anything but a regular file.
+/// Errors: `Unwritten` if the name is invalid, cannot be looked up, or belongs to anything but a
+/// regular file.
 fn old_mode<'w, F: Files>(files: &F, name: &'w str) -> Result<Option<Permissions>, Error<'w>> {
     match fs::symlink_metadata(files, name) {
         Ok(old) if old.is_file() => {
@@ -128,8 +130,8 @@ fn old_mode<'w, F: Files>(files: &F, name: &'w str) -> Result<Option<Permissions
     }
 }
 
-/// The name has the first free number. Lower numbers belong to running programs, and to programs
-/// that a signal ended.
+/// The name has the first free number. Files with lower numbers belong to running programs, and to
+/// programs that a signal ended.
 fn first_new<F: Files>(
     alloc: Global,
     files: &F,

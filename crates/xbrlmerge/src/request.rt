@@ -55,7 +55,7 @@ pub(crate) enum Request<'w> {
     Under(&'w str, Subcommand<'w>),
 }
 
-/// A command that needs an accepted sheet, with its own arguments.
+/// A command that runs only if the sheet is accepted, with its own arguments.
 #[derive(Clone, Copy)]
 pub(crate) enum Subcommand<'w> {
     Merge(Level),

@@ -1,4 +1,4 @@
-/// The standard streams, and which of them are terminals.
+/// The standard streams, and whether standard input and standard error are terminals.
 pub struct Streams<R, O, E> {
     pub input: R,
     pub out: O,

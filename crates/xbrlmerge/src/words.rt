@@ -13,8 +13,8 @@ use std::convert::AsStr;
 
 const PROGRAM: &str = "xbrlmerge";
 
-// Between releases this is the next version with `-dev`. tests/tools compares all places that state
-// it.
+// Between releases this is the next version with `-dev`. `tests/tools/test_version.py` compares it
+// with the other places that state it.
 const VERSION: &str = "0.3.0-dev";
 
 const ABOUT: &str = "Merges xBRL-JSON reports, and finds where they contradict each other";
@@ -62,7 +62,7 @@ pub(crate) fn read_words<W: AsStr>(alloc: Global, words: &[W]) -> Result<Args<'_
     }
 }
 
-/// Escapes the texts of the arguments, since clap prints them unescaped.
+/// Returns the error for the escaped arguments, since clap prints arguments unescaped.
 fn error_shown<W: AsStr>(
     alloc: Global,
     words: &[W],

@@ -141,7 +141,7 @@ impl Counts {
     }
 }
 
-/// Returns the number of lines.
+/// Writes the lines and returns their number.
 fn put_explained<S: Sink>(
     out: &mut S,
     explained: Result<Explained, AllocError>,
@@ -158,7 +158,7 @@ fn put_explained<S: Sink>(
     }
 }
 
-/// `faults` is the number of faults that were printed before.
+/// `faults` is the number of lines about the sheet, which were printed before.
 fn put_each<'n, F: Files, E: Write, S: Sink>(
     sheet: &Sheet,
     format: Format,

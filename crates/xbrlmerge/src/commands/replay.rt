@@ -137,7 +137,8 @@ fn events_argument<'w>(alloc: Global) -> Arg<'w> {
         .help("The file of the schedule, one event a line")
 }
 
-/// Errors: out of memory, and `Device`. `run` reports how many bytes of all texts were written.
+/// Errors: out of memory, and `Device` with the bytes taken of one text. `write_out` replaces them
+/// with the bytes taken of all texts.
 fn put_replicas<S: Sink>(
     alloc: Global,
     out: &mut S,

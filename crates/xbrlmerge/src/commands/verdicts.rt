@@ -52,8 +52,8 @@ pub(crate) fn words<'w>(alloc: Global) -> Result<Command<'w>, AllocError> {
     with_reports(alloc, with_format(alloc, command)?)
 }
 
-/// Reads and adds the reports, and writes the line of each row to `out`. Returns the refused
-/// reports with their numbers, from 1.
+/// Reads and adds the reports, and writes each row to `out`. Returns the refused reports with their
+/// numbers, from 1.
 ///
 /// Errors: `Unread`, and the errors of `Consolidation::finish_lines_last` and `finish_rows_last`.
 pub(crate) fn run<'n, F: Files, E: Write, S: Sink>(

@@ -12,7 +12,7 @@ pub(crate) const CONSISTENT_HEAD: &str =
 pub(crate) const CONTRADICTING_HEAD: &str =
     r#"{"documentInfo":{"documentType":"https://xbrl.org/2021/xbrl-json","features":{"xbrl:allowedDuplicates":"all"},"namespaces":{"#;
 
-/// The text between the namespaces and the facts.
+/// The text from the namespace of `xbrl` up to the facts, after other namespaces.
 pub(crate) const MIDDLE: &str = r#","xbrl":"https://xbrl.org/2021"},"taxonomy":[]},"facts":{"#;
 
 /// The same text, if `xbrl` is the only namespace.
@@ -21,7 +21,7 @@ pub(crate) const MIDDLE_ALONE: &str = r#""xbrl":"https://xbrl.org/2021"},"taxono
 /// The text after the facts. It also ends a report.
 pub(crate) const END: &str = "}}";
 
-/// The namespace of one concept.
+/// The namespace of the concept.
 pub(crate) const ONE_URI: &str = r#""n1":"http://example.org/t""#;
 
 /// The fact 100 with `decimals` 0.

@@ -5,12 +5,12 @@ use oim_report::Sheet;
 use std::alloc::AllocError;
 use std::test::Fail;
 
-// Tests the sentence for each fault. The program is run again after a refused request for memory.
+// Tests the sentences about faults. After a refused request for memory, the call is repeated.
 
 const SHEET: &str =
     r#"{"namespaces":{"eg":"http://example.org/t"},"concepts":{"eg:A":"numeric","eg:T":"text","eg:Q":"name"},"dimensions":{"eg:Reg":"explicit","eg:Sku":"typed"}}"#;
 
-// The beginning of a report, up to its facts; duplicates are not allowed.
+// The beginning of a report, up to its facts. It allows consistent duplicates.
 const START: &str =
     r#"{"documentInfo":{"documentType":"https://xbrl.org/2021/xbrl-json","namespaces":{"eg":"http://example.org/t","x":"http://example.org/u","zz":"http://example.org/t","xbrl":"https://xbrl.org/2021"},"features":{"xbrl:allowedDuplicates":"consistent"}},"facts":{"#;
 
@@ -69,7 +69,7 @@ const DOCUMENTS: [Table<'static>; 2] = [
                 "{\0\"\0",
                 "r: 1 NotJson: the file is not JSON, or nests deeper than 127 levels: invalid JSON at line 1 column 2; the file looks like text in UTF-16: convert it to UTF-8\n",
             ),
-            // the repeated members of this file are not read
+            // repeated members are not reported if the file is not JSON
             (
                 r#"{"documentInfo":{},"facts":{"a":1,"a":2},"x:y":1e999}"#,
                 "r: 1 NotJson: the file is not JSON, or nests deeper than 127 levels: number out of range at line 1 column 53\n",
@@ -222,7 +222,7 @@ const FACTS: [Table<'static>; 1] = [Table {
     end: "}}",
 }];
 
-// Files that are not UTF-8, and their kinds.
+// Files in other encodings, compressed files and archives, and the lines about them.
 const BYTES: [(&[u8], &str); 5] = [
     (
         b"\xff\xfe{\0",

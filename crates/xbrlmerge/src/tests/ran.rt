@@ -40,7 +40,7 @@ pub(crate) fn words_of<'t>(rt: &HostRuntime, line: &'t str) -> Result<Vec<&'t st
 }
 
 /// Returns whether the program ends with this status and writes this, without reading standard
-/// input. If not, the actual results are printed.
+/// input. If not, the status and the numbers of missing bytes are printed.
 pub(crate) fn ends(
     rt: &HostRuntime,
     words: &[&str],
@@ -79,7 +79,7 @@ fn ends_once(
     Some(same)
 }
 
-/// Returns whether the program stops with this line if it has this standard output.
+/// Returns whether the program, with this standard output, stops with this line on standard error.
 pub(crate) fn stops<O: Write + Copy + Drop>(
     rt: &HostRuntime,
     words: &[&str],

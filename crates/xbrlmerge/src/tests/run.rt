@@ -50,7 +50,7 @@ fn run_in(rt: &HostRuntime, input: TestReader<'_>, room: usize) -> Result<Ran, A
     Ok(ran)
 }
 
-/// If the results differ, the actual ones are printed.
+/// If a result differs, the actual status is printed.
 fn gives(
     rt: &HostRuntime,
     parts: &[&str],
@@ -80,14 +80,14 @@ fn no_report_gives_the_empty_text(rt: HostRuntime) -> Result<(), Fail> {
     Ok(())
 }
 
-/// The text of the only fact.
+/// The text of the fact 100.
 const HUNDRED_TEXT: &[&str] = &[HEAD, ONE_URI, MIDDLE, WRITTEN_HUNDRED, END];
 
 /// Three facts. The prefix of the second is not bound.
 const SECOND_UNBOUND: &str =
     r#""a":{"value":"1","dimensions":{"concept":"eg:A"}},"b":{"value":"1","dimensions":{"concept":"q:A"}},"c":{"value":"2","dimensions":{"concept":"eg:A"}}"#;
 
-/// An accepted report with these facts, between others that are refused.
+/// A bundle with an accepted report between two refused ones.
 const BETWEEN_REFUSED: &[&str] = &[
     SHEET,
     "\n\n",
@@ -141,8 +141,8 @@ fn a_refused_sheet_ends_the_run(rt: HostRuntime) -> Result<(), Fail> {
     Ok(())
 }
 
-/// Returns whether the run stops with this line when standard output has this much room, and
-/// whether standard output then contains the first part of the text.
+/// Returns whether the run stops with this line and standard output contains exactly this text, if
+/// standard output has this much room.
 fn stops(
     rt: &HostRuntime,
     input: TestReader<'_>,
@@ -180,7 +180,7 @@ fn is_unread(rt: &HostRuntime, input: TestReader<'_>) -> Option<bool> {
     Some(status == 3 && out.is_met() && err.0.is_met())
 }
 
-/// Returns whether inputs that fail after these bytes are reported as unread, at each step.
+/// Returns whether inputs that fail after these bytes are reported as unread, with each step.
 fn are_unread(rt: &HostRuntime, front: &[u8]) -> bool {
     for step in STEPS {
         for then in [Then::Fails, Then::IsInterrupted] {

@@ -21,7 +21,7 @@ fn shows_once(rt: &HostRuntime, words: &[&str], input: &str, lines: &str) -> boo
     status == 3 && err.is_met()
 }
 
-// The program is run again after a refused request for memory.
+// The program is run again if the lines differ, since memory may have been refused.
 fn shows(rt: &HostRuntime, words: &[&str], input: &str, lines: &str) -> bool {
     if shows_once(rt, words, input, lines) {
         return true;

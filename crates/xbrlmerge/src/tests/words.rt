@@ -3,7 +3,7 @@ use crate::tests::expecting::Expecting;
 use crate::tests::ran::{ends, stops, words_of};
 use std::test::Fail;
 
-// Help and usage are printed by clap.
+// clap prints help and usage.
 
 /// Returns whether the arguments are refused, with clap's text on standard error only.
 fn is_usage(rt: &HostRuntime, words: &[&str]) -> bool {

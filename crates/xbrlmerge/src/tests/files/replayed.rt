@@ -86,7 +86,7 @@ pub(super) const REPLAYED: [Row; 10] = [
         &[HEAD, MIDDLE_ALONE, END, LINE_END],
         "",
     ),
-    // a report that no event takes is only opened and read
+    // a report that no event takes is not refused
     (
         "replay --sheet sheet --replicas 2 --events empty unbound empty",
         0,
@@ -263,7 +263,7 @@ pub(super) const FULL: [Full; 6] = [
     ),
 ];
 
-/// Standard output takes all bytes, but the flush fails.
+/// Standard output takes all bytes, but the flush fails. A run with a refused event does not flush.
 pub(super) const UNFLUSHED: [(&str, &str); 2] = [
     (
         "replay --sheet sheet --replicas 2 --events once unbound",

@@ -311,7 +311,8 @@ pub(super) const FULL: [Full; 4] = [
     ),
 ];
 
-/// Standard output takes all bytes, but the flush fails. A run that stops earlier does not flush.
+/// Standard output takes all bytes, but the flush fails. A run that cannot read a file does not
+/// flush.
 pub(super) const UNFLUSHED: [(&str, &str); 7] = [
     ("merge --sheet sheet 100", "device: 276 bytes written\n"),
     (
