@@ -1,5 +1,5 @@
--- Contradictions between facts of a numeric dimension set, in terms of numbers only (XBRL working group note on duplicate facts;
--- nil is own).
+-- Contradictions between facts of a numeric dimension set, defined by their intervals and by nil (XBRL working group note on
+-- duplicate facts; nil is own).
 use Rattle.std.specs.Prelude.{◌≡◌, ◌↔◌, ⊤, ℤ, List, Some, Contains}
 use Rattle.std.specs.FinMap as map
 use Rattle.oim_value.specs.Interval.{IsCommonPoint, interval}

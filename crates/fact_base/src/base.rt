@@ -109,7 +109,7 @@ impl<'s> Base<'s> {
         Ok(())
     }
 
-    /// Does the same as `take`, but moves the facts of the report.
+    /// Does the same as `take`, but consumes the report, so that fewer facts are copied.
     ///
     /// Errors: out of memory; the base is then unchanged, and the report is lost.
     pub fn absorb_report(&mut self, report: Report<'_>) -> Result<(), AllocError>
@@ -140,7 +140,7 @@ impl<'s> Base<'s> {
         Ok(())
     }
 
-    /// Does the same as `join`, but moves the new facts and references.
+    /// Does the same as `join`, but consumes the other base, so that fewer facts are copied.
     ///
     /// Errors: out of memory; the base is then unchanged, and the other is lost.
     pub fn absorb(&mut self, other: Base<'_>) -> Result<(), AllocError>
@@ -181,7 +181,7 @@ impl<'s> Base<'s> {
         count_of(&self.entries)
     }
 
-    /// Returns the references of all taxonomies in byte order, each once.
+    /// Returns the taxonomy references in byte order, each once.
     pub fn taxonomy(&self) -> &[Text]
         ensures { result.now ≡ self.now.body.references }
     {

@@ -20,7 +20,7 @@ use oim_names::Copied;
 use oim_value::{Level, Value};
 use std::alloc::{AllocError, Global};
 
-/// The contents of a base: its dimension sets in order, each with its values and their summary.
+/// The facts of a base: its dimension sets in order, each with its values and their summary.
 pub(crate) type Entries = SortedMap<Dimensions, (SortedSet<Value>, Summary)>;
 
 type Entry = (Dimensions, (SortedSet<Value>, Summary));
@@ -42,7 +42,7 @@ pub(crate) fn entries_of(
     Ok(SortedMap::of_rising(entries))
 }
 
-/// Does the same as `entries_of`, but moves the facts.
+/// Does the same as `entries_of`, but moves the first fact of each dimension set.
 pub(crate) fn entries_from(
     alloc: Global,
     facts: Vec<Fact>,

@@ -17,10 +17,11 @@ use std::marker::Model;
 /// Collects reports that are read under one sheet, and returns them as one base. A gathering
 /// borrows its sheet.
 ///
-/// The base absorbs a report that has at least half as many facts and references as the base. If
-/// providers report the same figures, each fact then costs one look-up. Absorbing a smaller report
-/// would walk the whole base, so its facts and references are appended to two lists instead. When a
-/// list has doubled, it is sorted and repeats are removed.
+/// The base absorbs a report that has at least half as many facts and references as the base,
+/// rounded down. If providers report the same figures, each fact then costs one look-up. Absorbing a
+/// smaller report would walk the whole base, so its facts and references are appended to two lists
+/// instead. When a list has more than doubled since it was last sorted, it is sorted again and
+/// repeats are removed.
 ///
 /// References count like facts. Otherwise the base would absorb reports of the same facts with
 /// different references one by one.
@@ -31,8 +32,8 @@ pub struct Gathering<'s> {
     base: Base<'s>,
     // the number of facts and references in the base
     size: u128,
-    // the facts and references of smaller reports, in lists that are sorted whenever they have
-    // doubled
+    // the facts and references of smaller reports, and how many there were when they were last
+    // sorted
     facts: Vec<Fact>,
     settled_facts: usize,
     references: Vec<Text>,
@@ -79,7 +80,7 @@ impl<'s> Gathering<'s> {
         self.base.sheet()
     }
 
-    /// Adds a report that was read under an equal sheet. Its facts are moved.
+    /// Adds a report that was read under an equal sheet, and consumes it.
     ///
     /// Errors: out of memory; the gathering is then unchanged, and the report is lost.
     pub fn add(&mut self, report: Report<'_>) -> Result<(), AllocError>
