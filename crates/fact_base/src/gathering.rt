@@ -18,10 +18,10 @@ use std::marker::Model;
 /// borrows its sheet.
 ///
 /// The base absorbs a report that has at least half as many facts and references as the base,
-/// rounded down. If providers report the same figures, each fact then costs one look-up. Absorbing a
-/// smaller report would walk the whole base, so its facts and references are appended to two lists
-/// instead. When a list has more than doubled since it was last sorted, it is sorted again and
-/// repeats are removed.
+/// rounded down. If providers report the same figures, each fact then costs one look-up. Absorbing
+/// a smaller report would walk the whole base, so its facts and references are appended to two
+/// lists instead. When a list has more than doubled since it was last sorted, it is sorted again
+/// and repeats are removed.
 ///
 /// References count like facts. Otherwise the base would absorb reports of the same facts with
 /// different references one by one.

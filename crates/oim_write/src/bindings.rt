@@ -9,7 +9,7 @@ use fact_base::Base;
 use oim_names::Aliases;
 use std::alloc::{AllocError, Global};
 
-/// Returns the prefixes of a base's text: `n1`, `n2` and so on for the URIs of its names, in byte
+/// Returns the prefixes of the names in a base's text: `n1`, `n2` and so on for their URIs, in byte
 /// order. All numbers are padded with zeros to the same width (own).
 ///
 /// Errors: out of memory.

@@ -91,7 +91,7 @@ impl Spelling for PrefixTable {
     }
 }
 
-// Caches the index of each URI. If several URIs share a class, the last is cached.
+// Caches the indices of the URIs. If several URIs share a class, only the last is cached.
 fn places_of(uris: &[Text]) -> PositionCache {
     let mut cache = PositionCache::new();
     for (place, uri) in uris.iter().enumerate() {

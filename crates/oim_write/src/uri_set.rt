@@ -15,8 +15,8 @@ use std::alloc::{AllocError, Global};
 use std::marker::Model;
 
 /// The URIs of names. Contracts see them distinct and in byte order. In memory, a sorted part is
-/// followed by new URIs in order of arrival. Once the new ones outnumber the sorted ones, all are
-/// sorted.
+/// followed by later URIs in order of arrival. When the list has more than doubled since it was
+/// last sorted, it is sorted again.
 #[derive(Drop)]
 pub(crate) struct UriSet {
     uris: Vec<Text>,
@@ -139,8 +139,7 @@ impl UriSet {
         }
     }
 
-    // Requests memory only for a new URI. Most URIs are at the index that is cached for their
-    // class.
+    // Most URIs are at the index that is cached for their class. They request no memory.
     fn add(&mut self, alloc: Global, name: &Name) -> Result<(), AllocError>
         ensures { OnOk result (Gains self.old (name.now ∷ []) self.new) }
     {
