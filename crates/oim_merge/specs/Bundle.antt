@@ -1,4 +1,4 @@
--- A bundle: a sheet and reports in one file (own). In bytes, a line end is 10.
+-- A bundle: its first line is a sheet, and each later line that is not empty is a report (own). In bytes, a line end is 10.
 use Rattle.std.specs.Prelude.{ℕ, List, length, drop, filter, Bool, not, ◌==◌}
 use Rattle.std.specs.List.{before_first, slice_split}
 
@@ -8,7 +8,7 @@ is_line_end c = c == 10
 abbrev pub is_filled : List ℕ → Bool
 is_filled piece = not (length piece == 0)
 
--- the pieces between line ends
+-- the pieces that line ends separate
 abbrev pub line_pieces : List ℕ → List (List ℕ)
 line_pieces bytes = slice_split is_line_end bytes
 

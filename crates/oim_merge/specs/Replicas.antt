@@ -93,7 +93,7 @@ wire sheet writers reports = record {
 abbrev pub base_named : Sheet → List (List ℕ) → Numbers → Contents
 base_named sheet reports numbers = base_of sheet (documents_named sheet reports numbers)
 
--- each replica has the base of the documents that reached it; each sent text is accepted and has its sender's body
+-- each replica has the base of the documents that reached it; each sent text is read as the body that its sender had then
 pub record Agree (sheet : Sheet) (reports : List (List ℕ)) (sets : World Numbers Numbers) (bases : World Contents (List ℕ)) : Type 0 where
   pub replicas : bases.replicas ≡ map (base_named sheet reports) sets.replicas
   pub sent : AllZip (λ bytes numbers. IsReadAsBody sheet bytes (body (documents_named sheet reports numbers))) bases.sent sets.sent

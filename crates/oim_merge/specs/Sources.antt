@@ -110,11 +110,11 @@ pub record Saying : Type 0 where
 abbrev pub saying : List (List ℕ) → Mention → Saying
 saying reports m = record { bytes = get_or reports (m.report - 1) []; identifier = m.identifier; fact = m.fact }
 
--- two lists of reports have the same facts and the same mentions, except for the report numbers
+-- two lists of reports have the same facts and, in any order, the same mentions except for the report numbers
 pub record TellTheSame (sheet : Sheet) (reports others : List (List ℕ)) : Type 0 where
   pub facts : (merged sheet reports).facts ≡ (merged sheet others).facts
   pub sayings : IsPermutation (map (saying reports) (mentions_by_fact sheet reports)) (map (saying others) (mentions_by_fact sheet others))
 
--- reordering the reports changes only the report numbers
+-- reordering the reports changes only the report numbers and the order of the mentions
 abbrev pub SourcesIgnoreOrder : Type 0
 SourcesIgnoreOrder = (sheet : Sheet) (reports others : List (List ℕ)) → IsPermutation reports others → TellTheSame sheet reports others

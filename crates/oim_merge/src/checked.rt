@@ -20,7 +20,7 @@ pub struct Checked {
     pub facts: u64,
     /// The strictest level of duplicates that its facts satisfy.
     pub level: Level,
-    /// True if its bytes are the canonical text of its facts.
+    /// True if its bytes are the canonical text of its facts and references.
     pub canonical: bool,
 }
 

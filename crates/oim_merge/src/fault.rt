@@ -4,12 +4,12 @@ use crate::refusals::Refusals;
 use oim_names::Reason;
 use oim_write::WriteFault;
 
-/// Why reports were not merged. Counts of written bytes saturate.
+/// Why reports were not merged or listed. Counts of written bytes saturate.
 #[derive(Debug, Drop)]
 pub enum Fault {
-    /// Memory was refused.
+    /// Memory was refused after this many bytes were written.
     OutOfMemory(u64),
-    /// The sink failed.
+    /// The sink failed after this many bytes were written.
     Device(u64),
     /// A dimension set has duplicates above the allowed level, so nothing is written.
     TooLoose {

@@ -9,7 +9,7 @@ use std::alloc::{AllocError, Global};
 /// number of all facts.
 #[derive(Clone, Copy)]
 pub struct Identifiers {
-    /// The memory for the identifiers.
+    /// The allocator for the identifiers.
     pub alloc: Global,
     /// The number of facts before the row.
     pub before: u128,

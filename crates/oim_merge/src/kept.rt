@@ -12,8 +12,7 @@ use oim_write::Encoded;
 use std::alloc::{AllocError, Global};
 
 /// The cached result of reading a text under a sheet: none yet, a base, or a refusal. A base is
-/// cached instead of a report: taking a report copies all its facts, but joining a base copies only
-/// new ones.
+/// cached instead of a report, since joining a base copies fewer facts than taking a report.
 pub(crate) type Kept<'s> = Option<Result<Base<'s>, Refusal>>;
 
 pub(crate) fn none_kept<'s>(alloc: Global, texts: usize) -> Result<Vec<Kept<'s>>, AllocError>

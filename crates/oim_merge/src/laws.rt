@@ -108,7 +108,8 @@ pub fn sources_are_whole()
     ensures said { EachFactIsSaid }
 {}
 
-/// If the reports are reordered, only the report numbers that `source_lines` writes differ.
+/// If the reports are reordered, the lines of `source_lines` differ only in the report numbers and
+/// in their order.
 pub fn sources_ignore_order()
     ensures { SourcesIgnoreOrder }
 {}

@@ -40,7 +40,8 @@ pub fn verdict_lines<S: Sink>(
     consolidation.finish_lines(out)
 }
 
-/// Appends the rows of a base to the sink in this format, and returns the given refusals.
+/// Appends the header and the rows of a base to the sink in this format, and returns the given
+/// refusals.
 ///
 /// Errors: `Device` if the sink failed; `OutOfMemory`.
 pub fn write_verdicts<S: Sink, F: VerdictFormat>(

@@ -19,7 +19,7 @@ pub struct Merged<'s> {
 }
 
 impl<'s> Merged<'s> {
-    /// Reads the reports in order.
+    /// Reads and merges the reports in order.
     ///
     /// Errors: out of memory.
     pub fn of(

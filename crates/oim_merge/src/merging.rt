@@ -19,8 +19,9 @@ use std::alloc::{AllocError, Global};
 use std::marker::Model;
 use std::mem;
 
-/// Merges reports one at a time. It stores the facts of the accepted reports, the refusals, and the
-/// count of all reports, but no bytes of a report. It borrows the sheet under which it reads them.
+/// Merges reports one at a time. It stores the facts and references of the accepted reports, the
+/// refusals, and the count of all reports, but no bytes of a report. It borrows the sheet under
+/// which it reads them.
 #[derive(Drop)]
 pub struct Consolidation<'s> {
     alloc: Global,

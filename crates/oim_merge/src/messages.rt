@@ -19,7 +19,7 @@ use std::cmp::Ordering;
 pub(crate) struct Messages<'s> {
     /// The distinct texts, in the order of first sending.
     pub texts: Vec<Encoded>,
-    /// The result of reading each text.
+    /// For each distinct text, the cached result of reading it.
     pub kept: Vec<Kept<'s>>,
     /// The indices of the texts, in the byte order of the texts.
     pub order: Vec<usize>,
@@ -93,7 +93,7 @@ impl<'s> Messages<'s> {
         }
     }
 
-    /// The index of an equal text, or the index at which a new text must be inserted.
+    /// The index of an equal text, or the index in `order` at which a new text must be inserted.
     fn find(&self, text: &Encoded) -> Result<usize, usize>
         ensures { MatchResult result
             (IsTextAt self.now.texts.items text.now)

@@ -10,8 +10,8 @@ pub enum ReplayFault {
     /// Memory was refused.
     #[error("out of memory")]
     OutOfMemory,
-    /// The line with this number, from 1, is not an event, or it names something that does not
-    /// exist. It is the first such line.
+    /// The line with this number, from 1, is the first that is not an event. If all lines are
+    /// events, it is the first that names something that does not exist.
     #[error("line {0} is refused")]
     BadEvent(u64),
 }

@@ -63,7 +63,7 @@ impl<'s> Replayed<'s> {
         self.bases.as_slice()
     }
 
-    /// The replica with this number, from 1, or None.
+    /// The replica with this number, from 1, or None if there is none.
     pub fn replica(&self, number: usize) -> Option<&Base<'s>>
         ensures { MatchOption result (numbered self.now.world.replicas number ≡ None)
             (λ base. numbered self.now.world.replicas number ≡ Some base.now) }
@@ -74,7 +74,7 @@ impl<'s> Replayed<'s> {
         }
     }
 
-    /// The sent text with this number, from 1, or None if fewer were sent.
+    /// The sent text with this number, from 1, or None if there is none.
     pub fn sent(&self, number: usize) -> Option<&Encoded>
         ensures { MatchOption result (numbered self.now.world.sent number ≡ None)
             (λ text. numbered self.now.world.sent number ≡ Some text.now) }
@@ -97,7 +97,7 @@ impl<'s> Replayed<'s> {
     }
 }
 
-// `places` contains the index of each sent text in `texts`. Numbers are from 1.
+// For each sent text in order, `places` has its index in `texts`. Numbers begin with 1.
 fn text_numbered<'t>(texts: &'t [Encoded], places: &[usize], number: usize) -> Option<&'t Encoded>
     requires { AreWithin texts.now places.now }
     ensures { MatchOption result (numbered (texts_at texts.now places.now) number ≡ None)

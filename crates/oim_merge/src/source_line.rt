@@ -10,7 +10,7 @@ use oim_names::Text;
 use serde_json::Value;
 use std::alloc::{AllocError, Global};
 
-/// The format of source lines.
+/// The format of the lines that `source_lines` writes.
 #[derive(Clone, Copy, Debug)]
 pub(crate) struct SourceLines;
 

@@ -12,7 +12,7 @@ use oim_value::{Interval, write_units};
 use oim_write::Scratch;
 use std::alloc::{AllocError, Global};
 
-/// The format of verdict lines.
+/// The format of the lines that `verdict_lines` writes.
 #[derive(Clone, Copy, Debug)]
 pub(crate) struct VerdictLines;
 
