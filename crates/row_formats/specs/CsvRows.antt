@@ -59,7 +59,7 @@ guarded spreadsheet t = if spreadsheet && begins_formula t then 39 ∷ t else t
 abbrev pub or_empty : Option (List ℕ) → List ℕ
 or_empty o = unwrap_or o []
 
--- the taxonomy-defined dimensions as a JSON object
+-- the taxonomy-defined dimensions as a JSON object; empty if there are none
 abbrev pub defined_text : List (QName × Member) → List ℕ
 defined_text es = if length es == 0 then [] else compact_text (object (defined_members braced es no_members))
 

@@ -39,16 +39,16 @@ source_header Json = []
 source_header Csv = record_text source_columns
 source_header SpreadsheetCsv = record_text source_columns
 
--- the rows of all fact objects in accepted reports, in the order of facts, then reports, then identifiers
+-- the header and the rows of all fact objects in accepted reports, in the order of facts, then reports, then identifiers
 abbrev pub sources_in : RowFormat → Sheet → List (List ℕ) → List ℕ
 sources_in format sheet reports = source_header format ++ sources_by (source_text format) sheet reports
 
 -- ---- the state after a call
 
--- the rows were appended, and the refusals of the other reports were returned
+-- the header and the rows were appended, and the refusals of the other reports were returned
 abbrev pub ListsSourceRows : RowFormat → Sheet → List (List ℕ) → Option (List ℕ) → Option (List ℕ) → List (ℕ × Refusal) → Type 0
 ListsSourceRows format = AppendsSources (source_header format) (source_text format)
 
--- after a fault, a first part of the rows was appended, and the fault contains the number of its bytes
+-- after a fault, a first part of the header and the rows was appended, and the fault contains the number of its bytes
 abbrev pub SourceRowsStop : RowFormat → Sheet → List (List ℕ) → Option (List ℕ) → Option (List ℕ) → Fault → Type 0
 SourceRowsStop format = AppendingStops (source_header format) (source_text format)
