@@ -19,7 +19,7 @@ pub struct CheckedReport {
     pub facts: u64,
     /// The strictest level that its facts satisfy, from 0 for `none` to 3 for `all`.
     pub level: u32,
-    /// 1 if its bytes are the canonical text of its facts, otherwise 0.
+    /// 1 if its bytes are the canonical text of its facts and references, otherwise 0.
     pub canonical: u32,
 }
 

@@ -24,7 +24,7 @@ pub(crate) const BAD_ENDS: u32 = 6;
 
 pub(crate) const BAD_LEVEL: u32 = 7;
 
-/// A refused report as numbers.
+/// The refusal of a report or of the sheet, as numbers.
 #[repr(C)]
 #[derive(Clone, Copy, Debug, PartialEq, Eq)]
 pub struct RefusedReport {

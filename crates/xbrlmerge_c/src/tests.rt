@@ -11,8 +11,8 @@ use crate::refusal_name::xbrlmerge_refusal_name;
 use std::alloc::Global;
 use std::test::Fail;
 
-// The tests make each call with large buffers and enough memory, and cause each status. A call is
-// repeated after a refused request for memory.
+// The tests make each call, and cause each status except `NO_MEMORY`. After a refused request for
+// memory, the call is repeated.
 
 const SHEET: &str = r#"{"namespaces":{"eg":"http://example.org/t"},"concepts":{"eg:A":"numeric"}}"#;
 
@@ -149,7 +149,7 @@ fn called_once(alloc: Global, call: Call, sheet: &str, ends: &[usize], room: usi
     }
 }
 
-/// Makes the same call, and repeats it if memory was refused.
+/// Does the same as `called_once`, and repeats the call if memory was refused.
 fn called(rt: &HostRuntime, call: Call, sheet: &str, ends: &[usize], room: usize) -> Left {
     let left = called_once(rt.alloc(), call, sheet, ends, room);
     if left.status != NO_MEMORY {
