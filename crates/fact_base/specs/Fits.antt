@@ -1,4 +1,4 @@
--- The conditions that facts read under a sheet satisfy (own).
+-- The conditions that facts and references read under a sheet satisfy (own).
 use Rattle.std.specs.Prelude.{◌≡◌, ℕ, List, Ok}
 use Rattle.std.specs.List.{All}
 use Rattle.oim_report.specs.Document.{Document}

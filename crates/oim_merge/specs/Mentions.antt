@@ -1,4 +1,4 @@
--- Mentions before their lines are written (own).
+-- Mentions with the places of their facts (own).
 use Rattle.std.specs.Prelude.{ℕ, List, map, count_by}
 use Rattle.std.specs.Ordering.{is_lt}
 use Rattle.oim_dims.specs.FactOrder.{fact_cmp}

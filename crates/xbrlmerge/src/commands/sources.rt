@@ -50,8 +50,8 @@ pub(crate) fn words<'w>(alloc: Global) -> Result<Command<'w>, AllocError> {
     with_reports(alloc, with_format(alloc, command)?)
 }
 
-/// Reads the reports and writes the line of each fact object to `out`. Returns the refused reports
-/// with their numbers, from 1.
+/// Reads the reports and writes the line of each fact object in an accepted report to `out`.
+/// Returns the refused reports with their numbers, from 1.
 ///
 /// Errors: `Unread`, and the errors of `source_lines` and `source_rows`.
 pub(crate) fn run<'n, F: Files, E: Write, S: Sink>(

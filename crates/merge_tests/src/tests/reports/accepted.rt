@@ -23,7 +23,7 @@ const LEVELS: &[Table] = &[
         ],
         end: "}}",
     },
-    // different spellings of a fact are equal
+    // facts are equal in all these spellings
     Table {
         start: FACTS,
         rows: &[

@@ -87,7 +87,7 @@ const FACTS: &[(&str, &str, &str)] = &[
         ONE_URI,
         r#""f1":{"dimensions":{"concept":"n1:A"},"value":null}"#,
     ),
-    // facts with equal units are one fact
+    // facts whose units differ only in spelling are one fact
     (
         r#""a":{"value":"1","dimensions":{"concept":"eg:A","unit":"x:b*x:a"}},"b":{"value":"1","dimensions":{"concept":"eg:A","unit":"(x:a*x:b)"}},"c":{"value":"1","dimensions":{"concept":"eg:A","unit":"x:a*x:b"}}"#,
         TWO_URIS,
