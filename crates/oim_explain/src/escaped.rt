@@ -4,7 +4,7 @@ const MOST_CHARACTERS: usize = 80;
 
 /// A text that is safe to print on a terminal. Control characters, invisible characters, and
 /// characters that end the line or change its direction are written as JSON escapes. Otherwise a
-/// prefix after a byte order mark would look bound, and a file name could imitate a line.
+/// name with an invisible character would look correct, and a file name could imitate a line.
 #[derive(Clone, Copy)]
 pub struct Escaped<'t>(pub &'t str);
 

@@ -12,13 +12,13 @@ use serde_json::{Error, Value};
 use std::alloc::{AllocError, Global};
 
 /// Returns one line for each fault of a report that is read under a sheet. The faults that
-/// `oim_report` finds come first, in its order. Members that are repeated in an object follow;
+/// `tree_faults` lists come first, in its order. Members that are repeated in an object follow;
 /// only the last one is read (RFC 8259, section 4). A line of text begins with the name of the
 /// file and shows at most 80 characters of a value or key. No line contains anything that changes
 /// a terminal.
 ///
-/// A file that is not JSON has only one line, which says so. Its repeated members are not listed,
-/// although `json` may find some, because it accepts numbers of any size.
+/// If the file is not JSON, the only line says so. Repeated members are then not listed, even if
+/// the crate `json` can read the file because it accepts numbers of any size.
 ///
 /// Errors: out of memory.
 pub fn explain(

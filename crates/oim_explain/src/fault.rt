@@ -85,7 +85,8 @@ fn put_text(writer: &mut Writer, key: &str, text: Option<&str>) -> Result<(), Al
     }
 }
 
-/// Writes the part at fault in full: a text, a value, a member, or an array of two texts.
+/// Writes the part at fault in full: a text, a value, an object with one member, an array of two
+/// texts, or null.
 fn put_part(alloc: Global, writer: &mut Writer, part: Part<'_>) -> Result<(), AllocError> {
     match part {
         Part::Key(text) | Part::KeyIn(text, _) | Part::Name(text) | Part::Entity(text) => {

@@ -25,8 +25,8 @@ pub(crate) struct Finding<'a> {
 }
 
 impl<'a> Finding<'a> {
-    /// Returns a finding. A fraction is not shown, because it may be printed in another spelling
-    /// than in the file.
+    /// Returns a finding. A floating-point number as value or decimals is not shown, because it may
+    /// be printed in another spelling than in the file.
     pub(crate) fn new(subject: Subject<'a>, reason: Reason, part: Option<Part<'a>>) -> Finding<'a> {
         let part = match part {
             Some(Part::Value(value)) if value.is_f64() && reason >= Reason::ValueForm =>

@@ -1,10 +1,10 @@
-//! Explains all faults of a report or a sheet in sentences that show the text at fault.
-//! `oim_report` finds the faults; this crate finds only repeated members.
+//! Explains the faults of a report, or the refusal of a sheet, in sentences that show the text at
+//! fault. `oim_report` finds the faults; this crate finds only repeated members.
 //!
-//! Sentences may change between versions, but numbers, names and their order do not. At most 80
-//! characters of a text are shown, counted before escaping, so no escape is cut in two.
-//! Identifiers are cut too: each is repeated in every line for its fact, so otherwise a short file
-//! could print gigabytes.
+//! Sentences may change between versions, but numbers, names and their order do not. A sentence
+//! shows at most 80 characters of a key or value. Those of a text are counted before escaping, so
+//! no escape is cut in two. Identifiers are cut too: each is repeated in every line for its fact,
+//! so otherwise a short file could print gigabytes.
 #![tactic(auto)]
 
 mod escaped;

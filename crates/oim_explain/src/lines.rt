@@ -62,7 +62,8 @@ impl<'n> Lines<'n> {
         })
     }
 
-    /// Adds a line for a repeated member, without the identifier, which each line would repeat.
+    /// Adds a line for a repeated member. Only the sentence contains the identifier, and may cut it:
+    /// a fact with many such members would otherwise repeat a long identifier in each line.
     pub(crate) fn push_repeated(&mut self, key: &str, sentence: &str) -> Result<(), AllocError> {
         self.put(&Fault {
             place: None,

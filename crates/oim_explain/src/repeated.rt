@@ -69,7 +69,8 @@ fn push_sheet(lines: &mut Lines<'_>, tree: &Value<'_>) -> Result<(), AllocError>
     push_of(lines, "", tree.get("dimensions"), " in \"dimensions\"")
 }
 
-/// Adds the repeated members of an object, with the words around each key in the sentence.
+/// Adds the repeated members of an object. In each sentence, `before` precedes the key, and `place`
+/// follows "is repeated".
 fn push_of(
     lines: &mut Lines<'_>,
     before: &str,

@@ -74,7 +74,7 @@ pub(crate) fn push_limit(line: &mut String, reason: Reason) -> Result<(), AllocE
     }
 }
 
-/// A number below a million, printed with a separator of thousands.
+/// A number from 1,000 to 999,999, printed with a comma after the thousands.
 #[derive(Clone, Copy)]
 struct Grouped(usize);
 

@@ -72,7 +72,7 @@ pub record SaysDimension (sheet : Sheet) (bs : List Binding) (d : List ℕ × Gi
   pub listed : map.get sheet.dimensions said.0 ≡ Some kind
   pub member : SaysMember bs kind d.1 said.1
 
--- each key says one of the members, and each member is said by some key
+-- each key says one of the members, and for each member there is a key that says it
 pub record SaysMembers (sheet : Sheet) (bs : List Binding) (defined : List (List ℕ × Given)) (said : List (QName × Member)) : Type 0 where
   pub each : All (λ d. (e : QName × Member) × Contains said e × SaysDimension sheet bs d e) defined
   pub others : All (λ e. Any (λ d. SaysDimension sheet bs d e) defined) said
@@ -87,7 +87,7 @@ SaysDecimals nil places = ⊥
 SaysDecimals (text t) places = ⊥
 SaysDecimals other places = ⊥
 
--- a text denotes this number of units (the limit of digits is own)
+-- a text denotes this number, in units of 10^-19 (the limit of digits is own)
 pub record SaysNumber (t : List ℕ) (units : ℤ) : Type 0 where
   pub denoted : Denotes t units
   pub short : IsTrue (is_short t)

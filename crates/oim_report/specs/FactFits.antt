@@ -47,7 +47,7 @@ abbrev pub EntityFits : Option QName → Type 0
 EntityFits None = ⊤
 EntityFits (Some n) = FitsEntity n
 
--- each measure is a name, and only numbers have units
+-- each measure is a name, and only numeric concepts have units
 pub record MeasuresFit (kind : ConceptKind) (m : Measures) : Type 0 where
   pub numerators : All FitsName m.numerators
   pub denominators : All FitsName m.denominators
@@ -57,7 +57,7 @@ abbrev pub UnitFits : ConceptKind → Option Measures → Type 0
 UnitFits kind None = ⊤
 UnitFits kind (Some m) = MeasuresFit kind m
 
--- a language is in lower case, and numbers have none
+-- a language is in lower case, and numeric concepts have none
 pub record IsLanguageOf (kind : ConceptKind) (l : List ℕ) : Type 0 where
   pub form : IsTrue (is_language l)
   pub lower : str_to_ascii_lowercase l ≡ l

@@ -1,4 +1,4 @@
--- All faults of a report (own): the conditions that apply and are not hidden, each with its place.
+-- The faults of a report (own): conditions that apply and are not hidden, each with its place.
 use Rattle.std.specs.Prelude.{◌≡◌, ◌↔◌, ℕ, ◌+◌, List, [], ◌∷◌, ◌++◌, map, Bool, if◌then◌else◌, Option, Some, None, option_and_then}
 use Rattle.std.specs.Option.{option_map_or, unwrap_or}
 use Rattle.std.specs.List.{filter_map}
@@ -54,7 +54,7 @@ tree_faults sheet tree =
     or_else (map (at AtDocument) (told (document_holds tree)))
     (or_else (faults_from sheet (bindings_of tree) 1 (values (facts_of tree))) (level_faults sheet tree))
 
--- all faults of a report's bytes under a sheet
+-- the faults of a report's bytes under a sheet
 unfoldable pub faults : Sheet → List ℕ → List Refusal
 faults sheet bytes = option_map_or (tree_faults sheet) (json bytes) (at AtDocument NotJson ∷ [])
 

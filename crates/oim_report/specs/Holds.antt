@@ -1,5 +1,5 @@
 -- The conditions of a document and of a fact object, one clause per condition (OIM Common 1.0; xBRL-JSON 1.0; own where marked).
--- A condition on a missing part does not apply.
+-- A condition on a missing part applies only if it requires that part.
 use Rattle.std.specs.Prelude.{ℕ, ℤ, List, [], ◌∷◌, ◌++◌, map, length, Bool, true, false, not, ◌||◌, ◌&&◌, nat_lt, int_lt, if◌then◌else◌, bytes_eq, codes, Option, Some, None, is_none, is_some, option_and_then}
 use Rattle.std.specs.Option.{option_map_or, option_to_list}
 use Rattle.std.specs.List.{filter, filter_map, flat_map, list_any}

@@ -20,7 +20,7 @@ identifiers_in objects = map (λ o. o.0) objects
 abbrev pub tree_identifiers : Data → List (List ℕ)
 tree_identifiers tree = identifiers_in (entries (facts_of tree))
 
--- the identifiers in a file's bytes, or None if they are not JSON
+-- the identifiers in a file's bytes, or None if the bytes are not JSON
 abbrev pub identifiers : List ℕ → Option (List (List ℕ))
 identifiers bytes = option_map tree_identifiers (json bytes)
 

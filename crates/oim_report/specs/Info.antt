@@ -1,4 +1,4 @@
--- The parts of a report outside its facts, and why they are refused (xBRL-JSON 1.0, section 2; own where marked).
+-- The parts of a report outside its facts, and their contents (xBRL-JSON 1.0, section 2; own where marked).
 use Rattle.std.specs.Prelude.{ℕ, List, [], ◌∷◌, Bool, false, ◌&&◌, bytes_eq, codes, if◌then◌else◌, Option, Some, None, option_map, option_and_then}
 use Rattle.std.specs.Option.{option_map_or, unwrap_or}
 use Rattle.oim_names.specs.Bindings.{Binding, uri_of}
@@ -55,7 +55,7 @@ abbrev pub said_references : Option Parts → Items → Option (List (List ℕ))
 said_references base no_items = Some []
 said_references base (item d ds) = option_and_then (λ t. option_map (λ ts. t ∷ ts) (said_references base ds)) (said_reference base d)
 
--- a key of `features` names the feature `xbrl:allowedDuplicates`, with any prefix
+-- a key of `features` names the feature `xbrl:allowedDuplicates`, with any prefix that is bound to the reserved URI
 abbrev pub is_allowed_duplicates : List Binding → List ℕ → Bool
 is_allowed_duplicates bs key =
     option_map_or (λ u. bytes_eq u reserved_uri) (uri_of bs (prefix_part key)) false && bytes_eq (local_part key) (codes "allowedDuplicates")
@@ -80,7 +80,7 @@ references_said tree = option_and_then (λ base. said_references base (taxonomy_
 abbrev pub level_said : Data → Option Level
 level_said tree = said_level (declarations (bindings_of tree) (features_of tree))
 
--- ---- the keys that objects may have, and the type of a document
+-- ---- the keys that the root and `documentInfo` may have besides keys with a colon, and the type of a document
 
 abbrev pub root_keys : List (List ℕ)
 root_keys = codes "documentInfo" ∷ codes "facts" ∷ []

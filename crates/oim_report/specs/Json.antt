@@ -22,7 +22,7 @@ json bytes = json_text (without_mark bytes)
 
 -- ---- the value at a key
 
--- the kinds of values that sheets and reports distinguish; a text is a UTF-8 string, like every string that was read
+-- the values that sheets and reports distinguish; a text is a UTF-8 string, and every string that was read is UTF-8
 
 pub data Given : Type 0 where
   absent : Given
@@ -108,11 +108,12 @@ has_member ms = any_in (λ key d. true) ms
 
 -- ---- keys
 
--- a key with a colon belongs to an extension (own)
+-- a key with a colon: in `dimensions` it names a taxonomy-defined dimension; in the root, `documentInfo`, a fact or a sheet it
+-- belongs to an extension (own)
 abbrev pub has_colon : List ℕ → Bool
 has_colon key = list_any is_colon key
 
--- a key is not known and does not belong to an extension
+-- a key is not known and has no colon
 abbrev pub is_unknown : List (List ℕ) → List ℕ → Data → Bool
 is_unknown known key d = not (has_colon key) && not (list_any (λ k. bytes_eq k key) known)
 

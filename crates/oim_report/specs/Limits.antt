@@ -7,7 +7,7 @@ use Rattle.oim_report.specs.Json.{json}
 use Rattle.oim_report.specs.Kept.{is_within_limit}
 use Rattle.oim_report.specs.PlainJson.{IsPlainJson}
 
--- a base, a reference and a kept text have at most 65,536 bytes
+-- the limit of a base, a reference and a kept text is 65,536 bytes
 abbrev pub TextsAreWithinLimit : Type 0
 TextsAreWithinLimit = (text : List ℕ) → IsTrue (is_within_limit text) ↔ (length text ≤ 65_536)
 
@@ -15,6 +15,6 @@ TextsAreWithinLimit = (text : List ℕ) → IsTrue (is_within_limit text) ↔ (l
 abbrev pub NestsWithinLimit : Type 0
 NestsWithinLimit = (bytes : List ℕ) (tree : Data) → json bytes ≡ Some tree → depth tree ≤ MOST_LEVELS
 
--- a plain object that is at most `MOST_LEVELS` deep is read from its compact text
+-- a plain object that is at most `MOST_LEVELS` deep is read back from its compact text
 abbrev pub NestedIsRead : Type 0
 NestedIsRead = (ms : Members) → IsPlainJson (object ms) MOST_LEVELS → json (compact_text (object ms)) ≡ Some (object ms)

@@ -1,4 +1,4 @@
--- The names in an object, and why they are refused (XML Namespaces 1.0, section 4; own where marked).
+-- The names that texts expand to, and why names are refused (XML Namespaces 1.0, section 4; own where marked).
 use Rattle.std.specs.Prelude.{ℕ, List, [], ◌∷◌, Bool, false, ◌||◌, if◌then◌else◌, Option, Some, None, option_and_then}
 use Rattle.std.specs.List.{find, list_any}
 use Rattle.std.specs.Ordering.{is_eq}
@@ -14,7 +14,7 @@ use Rattle.oim_value.specs.ValueOrder.{name_cmp}
 abbrev pub refuses_some : Reason → List Binding → List Spelled → Bool
 refuses_some reason bs names = list_any (refuses reason bs) names
 
--- the first of three reasons for which some name is refused: its form, its prefix or its namespace (own)
+-- the first reason to refuse any of the names: the form is tested first, then the prefix, then the namespace (own)
 abbrev pub names_refusal : List Binding → List Spelled → Option Reason
 names_refusal bs names = find (λ r. refuses_some r bs names) (NameForm ∷ UnboundPrefix ∷ ReservedNamespace ∷ [])
 

@@ -61,7 +61,7 @@ parts_of ms = record {
   unknown = any_member (is_unknown fact_keys) ms;
 }
 
--- the parts of a value, if it is an object
+-- the parts of a JSON value, if it is an object
 abbrev pub fact_parts : Data → Option FactParts
 fact_parts d = option_map parts_of (as_object d)
 

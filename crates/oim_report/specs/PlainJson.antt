@@ -56,7 +56,7 @@ abbrev mutual
   MembersHaveUtf8 no_members = ⊤
   MembersHaveUtf8 (member k d ms) = IsUtf8 k × HasUtf8 d × MembersHaveUtf8 ms
 
--- a value, nested at most this deep, that is read back from its compact text
+-- a plain value with UTF-8 strings and keys, nested at most this deep
 pub record IsPlainJson (d : Data) (most : ℕ) : Type 0 where
   pub plain : IsPlain d
   pub utf8 : HasUtf8 d

@@ -70,7 +70,7 @@ abbrev pub option_given : Option (List ℕ) → Given
 option_given None = absent
 option_given (Some t) = text t
 
--- adds a key with its value to others, in byte order
+-- sets the value of a key in a list that is in byte order of the keys
 abbrev pub with_given : List ℕ → Given → List (List ℕ × Given) → List (List ℕ × Given)
 with_given key g [] = (key, g) ∷ []
 with_given key g (d ∷ ds) = match_ordering (slice_cmp nat_cmp key d.0) ((key, g) ∷ d ∷ ds) ((d.0, g) ∷ ds) (d ∷ with_given key g ds)

@@ -1,5 +1,4 @@
--- The fact that a fact object says, as a function (sources in `Fact`). A part is None if its form, the kind of the concept or a
--- repeat forbids it.
+-- The fact that a fact object says, as a function (sources in `Fact`). A part is None if it cannot be read or is not allowed.
 use Rattle.std.specs.Prelude.{ℕ, ℤ, List, [], ◌∷◌, not, ◌&&◌, if◌then◌else◌, Option, Some, None, option_map, option_and_then}
 use Rattle.std.specs.FinMap as map
 use Rattle.std.specs.List.{filter_map}
@@ -60,7 +59,7 @@ said_entity bs = said_text None (λ t. option_map Some (entity_named bs t))
 abbrev pub said_period : Given → Option Period
 said_period = said_text Forever (λ t. result_ok (period_of t))
 
--- numbers have no language
+-- numeric concepts have no language
 abbrev pub said_language : ConceptKind → Given → Option (Option (List ℕ))
 said_language kind = said_text None (λ t. if not (same_concept_kind Numeric kind) && is_language t then Some (Some (str_to_ascii_lowercase t)) else None)
 
@@ -92,7 +91,7 @@ abbrev pub unit_of : List Binding → List ℕ → Option (Option Measures)
 unit_of bs t =
     if is_unit_text t then option_and_then (λ ns. option_map (unit_with ns) (side_of bs (denominator_pieces t))) (side_of bs (numerator_pieces t)) else None
 
--- only numbers have units
+-- only numeric concepts have units
 abbrev pub said_unit : List Binding → ConceptKind → Given → Option (Option Measures)
 said_unit bs kind = said_text None (λ t. if same_concept_kind Numeric kind then unit_of bs t else None)
 
@@ -113,13 +112,13 @@ members_with sheet bs es (d ∷ ds) =
 abbrev pub dimension_names : List Binding → List (List ℕ × Given) → List QName
 dimension_names bs defined = filter_map (λ d. named bs d.0) defined
 
--- no dimension is repeated
+-- the members of several keys, if no dimension is repeated
 abbrev pub said_members : Sheet → List Binding → List (List ℕ × Given) → Option (List (QName × Member))
 said_members sheet bs ds = if comes_again (dimension_names bs ds) then None else members_with sheet bs [] ds
 
 -- ---- the value
 
--- only numbers have decimals; without decimals a number is exact
+-- only numeric concepts have decimals; a number without decimals is exact
 abbrev pub said_decimals : ConceptKind → Given → Option (Option ℤ)
 said_decimals kind absent = Some None
 said_decimals kind (whole n) = if same_concept_kind Numeric kind && is_finite_decimals n then Some (Some n) else None

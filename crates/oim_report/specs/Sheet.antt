@@ -41,7 +41,7 @@ sheet_dimensions tree = members (object_at (codes "dimensions") tree)
 abbrev pub sheet_bindings : Data → List Binding
 sheet_bindings tree = bindings_in (members (sheet_namespaces tree))
 
--- the names that keys must spell
+-- the keys, which must have the form of a name
 abbrev pub key_names : Members → List Spelled
 key_names no_members = []
 key_names (member key d ms) = a_name key ∷ key_names ms

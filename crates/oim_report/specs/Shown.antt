@@ -1,4 +1,4 @@
--- The conditions that are shown, each with the first part to which it applies (own).
+-- The conditions that are shown, each with the part that is shown for it (own).
 use Rattle.std.specs.Prelude.{ℕ, List, [], ◌∷◌, map, Bool, true, not, ◌&&◌, if◌then◌else◌, codes, Option, Some, None, is_none, option_and_then, option_map}
 use Rattle.std.specs.Option.{option_map_or}
 use Rattle.std.specs.List.{find, list_any}
@@ -33,7 +33,7 @@ is_shown holds r = not (list_any holds (hidden_by r)) && holds r
 
 -- ---- parts
 
--- the part that is shown: nothing, the whole, or one of its members, keys, names or values; `two` has two keys
+-- the part that is shown: nothing, the whole value, or a member, key, name or value in it; `two` has two keys
 pub data Shown : Type 0 where
   nothing : Shown
   whole : Shown

@@ -1,4 +1,4 @@
-//! Finds all conditions that apply to a report.
+//! Finds the faults of reports, and the parts at fault of reports and sheets.
 
 pub(crate) mod content_rows;
 pub(crate) mod defined_rows;

@@ -115,14 +115,13 @@ pub fn accepted_where_free()
 {}
 
 /// A report is refused for exactly one reason, the first that applies: its bytes are not JSON; the
-/// least condition of the document; the least condition of the first fact that has one, at its
-/// place; the level of its facts is above the declared level.
+/// least condition of the document; the least condition of the first fact that has one, with that
+/// fact as the place; the level of its facts is above the declared level.
 pub fn refused_where_held()
     ensures { RefusedWhereHeld }
 {}
 
-/// A report has no faults exactly if it is accepted. The first fault is the refusal that
-/// `read_report` returns.
+/// A report has no faults exactly if it is accepted. The first fault is the refusal in `outcome`.
 pub fn faults_begin_with_the_refusal()
     ensures none { NoFaultsWhereAccepted }
     ensures first { FirstFaultIsAnswered }
@@ -138,7 +137,8 @@ pub fn outcomes_want_no_memory()
     ensures { OutcomesWantNoMemory }
 {}
 
-/// The object of a written fact has the parts that were written, however its keys are spelled.
+/// Suppose that each name of a fact is spelled with a bound prefix of ASCII letters and digits. If
+/// the fact fits a sheet, its object has the parts that were written.
 pub fn fact_object_has_parts()
     ensures { FactObjectHasParts }
 {}
@@ -160,7 +160,7 @@ pub fn what_is_read_is_utf8()
     ensures { ReadHasUtf8 }
 {}
 
-/// A base URL, a reference and a kept text have at most 65,536 bytes. JSON may be nested at most
+/// The limit of a base URL, a reference and a kept text is 65,536 bytes. JSON may be nested at most
 /// 127 levels deep, which is the limit of `serde_json`.
 pub fn limits_are()
     ensures texts { TextsAreWithinLimit }
@@ -175,8 +175,8 @@ pub fn plain_text_reads_back()
     ensures whole { PlainHasNoFloat }
 {}
 
-/// The object of a fact is plain and at most two levels deep, so its compact text is read as that
-/// object.
+/// The object of a written fact is plain and at most two levels deep, so its compact text is read
+/// as that object.
 pub fn fact_object_is_plain()
     ensures { FactObjectIsPlain }
 {}
@@ -190,7 +190,7 @@ pub fn least_is_answered()
 
 /// Suppose that two texts of members can each be read alone. With a comma between them they are
 /// read as the members of both (RFC 8259, section 4; `serde_json` keeps the last value of a
-/// repeated name).
+/// repeated key).
 pub fn pieces_are_the_whole()
     ensures { PiecesAreTheWhole }
 {}

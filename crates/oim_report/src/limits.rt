@@ -4,17 +4,17 @@ pub const MOST_REFERENCE_BYTES: usize = 65_536;
 /// The greatest number of levels of nested arrays and objects, which is the limit of `serde_json`.
 pub const MOST_LEVELS: usize = 127;
 
-/// The greatest number of texts in a glossary. Few texts are repeated often. The limit bounds the
-/// memory, and the time of a search among texts with the same hash.
+/// The greatest number of texts in a glossary. Most reports contain few distinct texts. The limit
+/// bounds the memory, and the time of a search among texts with the same hash.
 pub const MOST_MEANINGS: usize = 1_024;
 
 /// The initial capacity, in texts, of each glossary of a report that is read in pieces. Glossaries
-/// grow up to `MOST_MEANINGS` texts. Most reports repeat few texts, and a capacity of
-/// `MOST_MEANINGS` texts in each glossary costs two to three million instructions.
+/// grow up to `MOST_MEANINGS` texts. Most reports need fewer, and a capacity of `MOST_MEANINGS`
+/// texts in each glossary costs two to three million instructions.
 pub const FIRST_MEANINGS: usize = 64;
 
-/// The least size in bytes of a piece of a report. For each piece the reader fills 16 kB with
-/// zeros, so small pieces are slow. Larger pieces cause more page faults.
+/// The least size in bytes of each piece of a report except the last. For each piece the JSON
+/// parser fills 16 kB with zeros, so small pieces are slow. Larger pieces cause more page faults.
 pub const PIECE_BYTES: usize = 65_536;
 
 /// The least size in bytes of a report that is read in pieces.

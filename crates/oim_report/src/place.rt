@@ -1,7 +1,8 @@
 /// The place of a refusal in a report.
 #[derive(Clone, Copy, Debug, PartialEq, Eq)]
 pub enum Place {
-    /// The document outside its facts. It is also the place of `OutOfMemory`.
+    /// The document as a whole, or a part outside its facts. It is also the place of
+    /// `OutOfMemory`.
     Document,
     /// The fact with this number, counted from 1 in byte order of the identifiers.
     Fact(u64),

@@ -22,8 +22,8 @@ use std::alloc::Global;
 ///
 /// Errors, the first that applies: `NotJson`; the least condition of the document; the least
 /// condition of the first fact that has one, in byte order of the identifiers;
-/// `DisallowedDuplicates`; `OutOfMemory`. A condition of a fact has that fact as its place. All
-/// other errors have the document as their place.
+/// `DisallowedDuplicates`. `OutOfMemory` may be returned instead of any of these. A condition of a
+/// fact has that fact as its place. All other errors have the document as their place.
 #[tactic(auto, unfolding(crate::specs::Outcome::outcome))]
 pub fn read_report<'s>(alloc: Global, sheet: &'s Sheet, bytes: &[u8]) -> Result<Report<'s>, Refusal>
     ensures ok { IfOk result (λ r. outcome sheet.now bytes.now ≡ Ok r.document) }
@@ -60,9 +60,9 @@ pub(crate) fn read_document<'s>(
     Ok(Report::new(sheet, facts, info.references, info.level, order))
 }
 
-/// Does the same as `read_report`, but reads the facts in pieces of `size` bytes or more, with one
-/// piece in memory at a time. It returns `None` if the text cannot be split, or if the report or a
-/// request for memory is refused. To find out why, read the whole text.
+/// Does the same as `read_report`, but parses the facts in pieces of `size` bytes or more, so that
+/// the tree of only one piece is in memory. It returns `None` if the text cannot be read in pieces,
+/// or if the report or a request for memory is refused. To find out why, read the whole text.
 pub(crate) fn read_in_pieces<'s>(
     alloc: Global,
     sheet: &'s Sheet,

@@ -31,7 +31,7 @@ impl Refusal {
     }
 }
 
-/// A reason alone is a refusal of the document.
+/// The refusal has the document as its place.
 impl From<Reason> for Refusal {
     ghost from_gives = { λ reason refusal. refusal ≡ at Document reason };
 

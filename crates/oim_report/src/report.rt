@@ -76,7 +76,7 @@ impl<'s> Report<'s> {
     }
 
     /// Returns the level of duplicates that the report declares (`xbrl:allowedDuplicates` of OIM
-    /// Common 1.0), or `All` if it declares none.
+    /// Common 1.0), or `All` if it declares no level.
     pub fn declared(&self) -> Level
         ensures { result ≡ self.now.document.level }
     {

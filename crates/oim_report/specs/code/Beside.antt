@@ -1,4 +1,4 @@
--- The level of a value after earlier values with the same dimensions, in sorted order (own).
+-- What a value adds to the level of smaller or equal values with the same dimensions (own).
 use Rattle.std.specs.Prelude.{Bool, false, Option, Some, None, if◌then◌else◌}
 use Rattle.std.specs.Ordering.{is_eq}
 use Rattle.oim_value.specs.Interval.{common_part, interval, intervals_meet}
@@ -21,6 +21,7 @@ abbrev pub both_meet : Option Interval → Option Interval → Bool
 both_meet (Some i) (Some j) = intervals_meet i j
 both_meet i j = false
 
--- the strictest level that allows v after `last`; `common` is the common part of the intervals of all earlier values
+-- `last` is the greatest of the other values, and `common` is the common part of their intervals; the level of all values is the
+-- maximum of their level and this one
 abbrev pub level_beside : Value → Option Interval → Value → Level
 level_beside last common v = if is_eq (value_cmp last v) then Complete else (if both_meet common (interval_at v) then Consistent else All)

@@ -1,4 +1,4 @@
--- Facts in the order of a text, with their identifiers (own).
+-- Facts that were read in pieces, with their identifiers (own).
 use Rattle.std.specs.Prelude.{◌≡◌, ℕ, List, [], ◌∷◌, Bool, true, false, if◌then◌else◌, Option, Some, None, Ok, String, ⊤}
 use Rattle.std.specs.declared.alloc.Global.{Global}
 use Rattle.std.specs.Ordering.{nat_cmp, is_lt}

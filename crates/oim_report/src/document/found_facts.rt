@@ -12,7 +12,8 @@ use oim_dims::Fact;
 use std::alloc::Global;
 use std::collections::BTreeMap;
 
-/// Facts in the order of the text, each with its identifier.
+/// The facts of several pieces, each with its identifier. The pieces are in the order of the text;
+/// in each piece, the identifiers are in byte order.
 #[derive(Drop)]
 pub(crate) struct FoundFacts {
     pub(crate) identifiers: Vec<String>,

@@ -70,7 +70,8 @@ pub(crate) fn has_member(object: Option<&Map<String, Value>>) -> bool
     }
 }
 
-/// A key with a colon belongs to an extension.
+/// In `dimensions`, a key with a colon names a taxonomy-defined dimension. In the root,
+/// `documentInfo`, a fact or a sheet, it belongs to an extension.
 pub(crate) fn has_colon(key: &str) -> bool
     ensures { result ≡ has_colon key.now }
 {

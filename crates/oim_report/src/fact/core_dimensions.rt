@@ -1,5 +1,5 @@
-//! Reads the core dimensions of a fact. An error is some condition that applies, not always the one
-//! with the least number.
+//! Reads the entity, period, unit and language of a fact. An error other than `OutOfMemory` shows
+//! only that some condition applies, not which one.
 
 ghost use Rattle.std.specs.Prelude.{◌≡◌, Some, IfOk, OnOk};
 ghost use Rattle.oim_names.specs.Expansion.{ExpandsEntity};

@@ -1,4 +1,4 @@
-//! The values in a fact object, and their kinds.
+//! Reads the values in a fact object.
 
 ghost use Rattle.std.specs.Prelude.{◌≡◌, is_none, codes, option_map, option_and_then};
 ghost use Rattle.serde_json.specs.View.{view};

@@ -5,7 +5,7 @@ ghost use Rattle.oim_report.specs.Json.{given, given_of, is_absent, is_no_text, 
 
 use serde_json::Value;
 
-/// The value at a key of an object, as one of the kinds that sheets and reports distinguish.
+/// A JSON value that may be absent, with only the distinctions that sheets and reports make.
 #[derive(Clone, Copy, Debug)]
 pub(crate) enum Given<'a> {
     Absent,

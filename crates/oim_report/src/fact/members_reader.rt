@@ -16,7 +16,8 @@ use oim_dims::{Dimensions, Member};
 use oim_names::{Aliases, Copied, Name, Reason, Text};
 use std::alloc::Global;
 
-/// Keys are sorted by prefix and not by name, so the members are sorted once, at the end.
+/// The keys are in byte order of their spelling, not in the order of names. So the members are
+/// sorted once, at the end.
 pub(crate) fn read_members<'s>(
     alloc: Global,
     sheet: &'s Sheet,

@@ -18,7 +18,7 @@ use std::collections::BTreeMap;
 #[derive(Drop)]
 pub(crate) struct NameCache<'s, K: Kind> {
     alloc: Global,
-    /// The texts that were found.
+    /// The texts that spell a listed name.
     pub(crate) texts: Glossary<(&'s Name, K)>,
     /// The prefixes, each with the group of its namespace.
     pub(crate) groups: BTreeMap<String, Option<&'s Group<K>>>,

@@ -1,5 +1,5 @@
-//! Finds the part of a fact object that violates a condition on its concept, its other core
-//! dimensions, its value or its decimals.
+//! Finds the part of a fact object that violates a condition on its concept, period, unit, language,
+//! value or decimals.
 
 ghost use Rattle.std.specs.Prelude.{◌≡◌, ◌&&◌, ◌||◌, List, codes, is_none, not, option_and_then, option_map};
 ghost use Rattle.std.specs.FinMap as map;

@@ -4,7 +4,7 @@ use crate::refusal::Refusal;
 use std::alloc::{AllocError, Global};
 use std::marker::Model;
 
-/// All faults of a report: refusals with their places. An accepted report has none.
+/// The faults of a report: refusals with their places. An accepted report has none.
 #[derive(Debug, Drop)]
 pub struct Faults {
     refusals: Vec<Refusal>,

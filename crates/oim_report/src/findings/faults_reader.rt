@@ -18,10 +18,10 @@ use oim_names::Reason;
 use serde_json::Value;
 use std::alloc::{AllocError, Global};
 
-/// Returns all faults of a report's bytes under a sheet (own). `read_report` returns only the first
+/// Returns the faults of a report's bytes under a sheet (own). `read_report` returns only the first
 /// of them. If the bytes are not JSON, that is the only fault. Otherwise the faults are all
 /// conditions that apply to the document. If there are none, the faults are all conditions that
-/// apply to a fact, each with its place. If no condition applies, the only possible fault is
+/// apply to its facts, each with its place. If no condition applies, the only possible fault is
 /// `DisallowedDuplicates`. `Feature` is omitted if `Namespace` applies. An accepted report has no
 /// faults.
 ///

@@ -31,7 +31,7 @@ pub enum Part<'a> {
     Value(&'a Value),
     /// A key with its value.
     Member(&'a str, &'a Value),
-    /// Two keys that contradict each other.
+    /// Two keys that may not occur together.
     Two(&'a str, &'a str),
 }
 

@@ -7,8 +7,8 @@ use crate::pieces::spaces::strip_front;
 use serde_json::{Map, Value};
 use std::alloc::Global;
 
-/// Reads the next piece of a text of members: `size` bytes or more, up to a comma or the end of the
-/// text.
+/// Reads the next piece of a text of members, which ends at a comma after at least `size` bytes or
+/// at the end of the text. It returns `None` if the piece cannot be read.
 pub(crate) fn read_next<'t>(
     alloc: Global,
     buffer: &mut String,

@@ -10,8 +10,8 @@ use std::collections::BTreeMap;
 use std::marker::Model;
 use std::mem::replace;
 
-/// The names of a sheet with their kinds, while the sheet is read. The group of the current
-/// namespace is separate, so names of this namespace are added without comparing URIs.
+/// Names with their kinds, while the keys of an object are read. The group of the current namespace
+/// is separate, so names of this namespace are added without comparing URIs.
 #[derive(Drop)]
 pub(crate) struct Gathered<K: Kind> {
     alloc: Global,

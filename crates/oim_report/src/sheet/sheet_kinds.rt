@@ -66,7 +66,7 @@ fn list_all<K: Kind>(
     Ok(gathered.into_listing()?)
 }
 
-// Keys are sorted by prefix, so URIs are compared only once per prefix.
+// Keys with the same prefix are adjacent, so the group changes at most once per prefix.
 fn turn<K: Kind>(
     gathered: &mut Gathered<K>,
     last: Option<&str>,
