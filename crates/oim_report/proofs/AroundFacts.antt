@@ -147,7 +147,7 @@ pub record Gives (text : List ℕ) (n : ℕ) (found : d.Members) : Type 0 where
   pub gives : of_members ms d.no_members ≡ Some found
   pub shallow : members_depth ms ≤ n
 
--- a piece is nested at most 125 deep, because a document puts an array and an object around it
+-- a piece is read inside an array and an object, so it is nested at most 125 deep
 pub piece_gives : (a : List ℕ) (found : d.Members) → IsPiece a found → Gives a 125 found
 piece_gives a found p =
     let r = piece_as a found p in

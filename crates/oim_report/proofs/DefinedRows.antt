@@ -1,4 +1,4 @@
--- The members of `dimensions` that a row of the table tests, one after another.
+-- The searches for a dimension or a name at fault find the part that is shown.
 use Rattle.std.proofs.Common.{◌≡◌, ◌≢◌, ◌⊎◌, ℕ, List, [], ◌∷◌, ◌++◌, map, Bool, true, false, cond, ◌||◌, ◌&&◌, Result, Ok, Err, refl, sym, ap, ◌∙◌}
 use Rattle.std.specs.Prelude.{Option, Some, None, IfOk, IfErr, codes, if◌then◌else◌, is_some, option_and_then, option_map}
 use Rattle.std.specs.Option.{option_map_or, option_or, option_to_list}
@@ -140,7 +140,7 @@ module _ (sheet : Sheet) (bs : List Binding) (fact : Data) (ms : Members) (r : R
   pub from_value : (o : Option Shown) → None ≡ shown of_concept → None ≡ shown of_entity → None ≡ shown (names_in sheet bs ms) → None ≡ shown of_unit → o ≡ shown of_value → o ≡ shown (names sheet bs fact ms)
   from_value o c e d u v = (λ i. option_or (c i) (option_or (e i) (option_or (d i) (option_or (u i) (v i))))) ∙ sym shown_parts
 
--- ---- the names of one dimension after another
+-- ---- the names of the dimensions, one dimension after another
 
 module _ (sheet : Sheet) (bs : List Binding) (test : Spelled → Bool) (key : List ℕ) (d : Data) (ms : Members) where
   here_or : (x : Shown) (o p : Option Spelled) → Some x ≡ option_map name o → Some x ≡ option_map name (option_or o p)

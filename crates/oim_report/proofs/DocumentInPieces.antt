@@ -1,4 +1,4 @@
--- A report whose facts are read in pieces.
+-- A report that is read in pieces has the outcome of the whole report.
 use Rattle.std.proofs.Common.{◌≡◌, ℕ, List, [], ◌∷◌, Bool, true, false, Option, Some, None, Result, Ok, Err, refl, sym, ap, ◌∙◌, subst}
 use Rattle.std.specs.Prelude.{codes, not, is_none, option_and_then, if◌then◌else◌, IfOk, IfSome, MatchResult, IsUtf8}
 use Rattle.std.specs.Option.{unwrap_or}

@@ -1,4 +1,4 @@
--- Tests for objects and arrays that are not empty.
+-- The test for objects that are not empty.
 use Rattle.std.proofs.Common.{◌≡◌, not, Bool, true, false, List, [], ◌∷◌, length, Some, refl, rules, arith}
 use Rattle.std.specs.Prelude.{IsTrue}
 use Rattle.serde_json.specs.View.{members_view}

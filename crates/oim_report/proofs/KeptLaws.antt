@@ -45,7 +45,7 @@ web_text-valid url valid utf8 web =
     ap (λ o. option_map_or (λ u. bytes_eq (serialize u) (serialize url)) o false) reads ∙ same_bytes (serialize url) in
     cond-true _ _ _ (and_from _ _ (is_utf8-from_IsUtf8 (serialize url) utf8) same)
 
--- the parsed text is an http or https URL with this text
+-- parsing succeeded, with an http or https URL that has this text
 abbrev has_text : List ℕ → Parsed Parts → Bool
 has_text text r = option_map_or (λ url. bytes_eq (serialize url) text) (web_url r) false
 

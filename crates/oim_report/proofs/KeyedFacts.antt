@@ -1,4 +1,4 @@
--- The identifiers of facts, collected one after another.
+-- An accepted report has an identifier for each fact.
 use Rattle.std.proofs.Common.{◌≡◌, ℕ, List, [], ◌∷◌, Some, refl}
 use Rattle.std.specs.List.{AllZip}
 use Rattle.oim_names.specs.Bindings.{Binding}

@@ -1,4 +1,4 @@
--- The map of a sheet has exactly the names that a member of the object lists.
+-- The map of concepts or dimensions has exactly the names and kinds that the sheet's member lists.
 use Rattle.std.proofs.Common.{◌≡◌, ◌⊎◌, inl, inr, ℕ, List, [], ◌∷◌, ◌++◌, Bool, true, false, cond, not, Option, Some, None, Ok, refl, sym, ap, subst, ◌∙◌}
 use Rattle.std.specs.Prelude.{◌↔◌}
 use Rattle.std.specs.Option.{option_map_or}

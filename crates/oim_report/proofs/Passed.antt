@@ -1,4 +1,4 @@
--- The loop over sorted facts up to some fact: the level so far is that of the facts so far.
+-- The loop over sorted facts: the level so far is the level of the facts so far.
 use Rattle.std.proofs.Common.{◌≡◌, ℕ, ◌<◌, ◌≤◌, ◌+◌, Bool, true, false, not, ◌&&◌, List, [], ◌∷◌, ◌++◌, append_assoc, append-nil, length, drop, get_or, refl, sym, ap, subst, ◌∙◌, All, Option, Some, None, slice_get, ◌||◌}
 use Rattle.std.specs.List.{list_all, list_any}
 use Rattle.std.specs.Ordering.{is_le, is_lt}
@@ -22,8 +22,8 @@ use Rattle.oim_report.proofs.Pairs.{allows_each-push, passes_is}
 use Rattle.oim_report.proofs.Places.{facts_at, facts_at-cons, facts_at-drop, level_at_order, places_within, rises_from_first}
 use Rattle.oim_report.proofs.Runs.{RisesFrom, walk, walk-nil, walk_from_first}
 
--- the facts in order are the facts so far, and then those from the i-th index of the rest on; the loop over more facts gives the
--- level of the facts so far and these
+-- the loop has read `first` and `before`, and the facts at the indices of `rest` from i on are left; for any further facts, the
+-- loop returns the same from this state as from the start
 pub record Passed (facts : List Fact) (order rest : List ℕ) (i : ℕ) (last : Fact) (shared : Option Interval) (level : Level) : Type 0 where
   pub first : Fact
   pub before : List Fact
@@ -71,7 +71,7 @@ level_so_far facts order rest i last shared level passed =
     ∙ ap (walk passed.first (interval_at passed.first.value) Unique) (append-nil passed.before)
     ∙ walk_from_first passed.first passed.before (rises_before passed.first passed.before (facts_at facts (drop i rest)) passed.rises)
 
--- at the end of the loop, the level is that of all facts
+-- at the end of the loop, the level is the level of all facts
 pub passed_all : (facts : List Fact) (order rest : List ℕ) (i : ℕ) (last : Fact) (shared : Option Interval) (level : Level) → IsOrderOf facts order → length rest ≤ i → Passed facts order rest i last shared level → level ≡ level_of facts
 passed_all facts order rest i last shared level sorted past passed =
     level_so_far facts order rest i last shared level passed
@@ -103,7 +103,7 @@ left_false : (a b : Bool) → a ≡ false → (a && b) ≡ false
 left_false false b h = refl
 left_false true b h = absurd (false≢true (sym h))
 
--- a fact that one of the facts does not allow is apart from the fact at an index
+-- if a level does not allow f with each of the facts at some indices, one of these indices is apart from the index of f
 pub one_apart : (l : Level) (facts : List Fact) (place : ℕ) (f : Fact) → slice_get facts place ≡ Some f → (places : List ℕ) → All (λ p. p < length facts) places → list_all (λ g. allows l g f) (facts_at facts places) ≡ false → list_any (λ one. are_apart l facts one place) places ≡ true
 one_apart l facts place f here [] within h = absurd (false≢true (sym h))
 one_apart l facts place f here (p ∷ ps) within h =
@@ -120,7 +120,7 @@ one_apart l facts place f here (p ∷ ps) within h =
     either true b x y is later h = ap (λ z. z || y) is ∙ later h
     either false b x y is later h = ap (λ z. z || y) is
 
--- the fact at which the level exceeds the limit is apart from an earlier one
+-- some fact is apart from the fact at which the level exceeds the limit
 pub passed_above : (facts : List Fact) (order rest : List ℕ) (i : ℕ) (limit : Level) (last f : Fact) (shared later : Option Interval) (level found : Level) → IsOrderOf facts order → i < length rest → get_or rest i 0 < length facts → f ≡ get_or facts (get_or rest i 0) f
     → is_lt (level_cmp limit level) ≡ false → is_lt (level_cmp limit found) ≡ true → (passed : Passed facts order rest i last shared level) → ((fs : List Fact) → walk last shared level (f ∷ fs) ≡ walk f later found fs)
     → list_any (λ one. are_apart limit facts one (get_or rest i 0)) order ≡ true
@@ -138,7 +138,7 @@ passed_above facts order rest i limit last f shared later level found sorted her
     ∙ left_false _ _ apart in
     one_apart limit facts (get_or rest i 0) f (slice_get-get_or facts (get_or rest i 0) f within ∙ ap Some (sym is)) order (places_within facts order sorted) all
 
--- the level `All` keeps no facts apart
+-- no facts are apart at the level `All`
 pub none_apart : (facts : List Fact) (place : ℕ) (places : List ℕ) → list_any (λ one. are_apart AllLevel facts one place) places ≡ false
 none_apart facts place [] = refl
 none_apart facts place (p ∷ ps) = ap (λ b. b || list_any (λ one. are_apart AllLevel facts one place) ps) (never (slice_get facts p) (slice_get facts place)) ∙ none_apart facts place ps

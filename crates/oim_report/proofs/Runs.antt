@@ -56,8 +56,8 @@ up_then_less {K} {R} o x y z up less = up_cases (R x y) up (λ e. o.trans x y z 
 
 -- ---- the loop, step by step
 
--- the level of a sorted list when some of its facts are read. The state has the last fact, the common part of the intervals in
--- its dimension set, and the level so far.
+-- the level that the loop returns after the remaining facts of a sorted list; its state is the last fact, the common part of the
+-- intervals with the same dimensions, and the level so far
 unfoldable pub walk : Fact → Option Interval → Level → List Fact → Level
 walk last shared level [] = level
 walk last shared level (f ∷ fs) =

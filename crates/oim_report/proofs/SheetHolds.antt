@@ -16,7 +16,7 @@ use Rattle.oim_report.proofs.EachRefusal.{first_holding, first_refusal, or_refus
 use Rattle.oim_report.proofs.LeastOf.{least_is}
 use Rattle.oim_report.proofs.NameRefusals.{by_any}
 
--- the conditions in the order in which a sheet is read
+-- the first condition that applies, in the order in which the code tests them
 abbrev pub sheet_refusal : Data → Option Reason
 sheet_refusal tree = first_refusal (
     find (sheet_holds tree) (MemberForm ∷ UnknownMember ∷ [])

@@ -9,7 +9,7 @@ use Rattle.oim_report.specs.Json.{Given, absent, entries, given, given_of, has_c
 use Rattle.oim_report.specs.Parts.{defined_in}
 use Rattle.oim_report.specs.Holds.{as_text, as_whole, is_some_and, no_text, no_text_or_null}
 
--- it is enough to look at null, texts, whole numbers and all other values
+-- a property holds for each value if it holds for null, texts, whole numbers and all other values
 pub by_given : (P : Given → Option (List ℕ) → Option ℤ → Option ⊤ → Type 0) → P nil None None (Some tt) → ((t : List ℕ) → P (text t) (Some t) None None) → ((n : ℤ) → P (whole n) None (Some n) None) → P other None None None
     → (d : Data) → P (given d) (as_text d) (as_whole d) (as_null d)
 by_given P of_nil of_text of_whole of_other null = of_nil

@@ -108,8 +108,7 @@ has_member ms = any_in (λ key d. true) ms
 
 -- ---- keys
 
--- a key with a colon: in `dimensions` it names a taxonomy-defined dimension; in the root, `documentInfo`, a fact or a sheet it
--- belongs to an extension (own)
+-- a key has a colon: in `dimensions` it names a taxonomy-defined dimension, in other tested objects an extension (own)
 abbrev pub has_colon : List ℕ → Bool
 has_colon key = list_any is_colon key
 

@@ -1,8 +1,7 @@
 /// The place of a refusal in a report.
 #[derive(Clone, Copy, Debug, PartialEq, Eq)]
 pub enum Place {
-    /// The document as a whole, or a part outside its facts. It is also the place of
-    /// `OutOfMemory`.
+    /// Not in a single fact. It is also the place of `OutOfMemory`.
     Document,
     /// The fact with this number, counted from 1 in byte order of the identifiers.
     Fact(u64),

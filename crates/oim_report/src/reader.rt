@@ -22,8 +22,8 @@ use std::alloc::Global;
 ///
 /// Errors, the first that applies: `NotJson`; the least condition of the document; the least
 /// condition of the first fact that has one, in byte order of the identifiers;
-/// `DisallowedDuplicates`. `OutOfMemory` may be returned instead of any of these. A condition of a
-/// fact has that fact as its place. All other errors have the document as their place.
+/// `DisallowedDuplicates`. `OutOfMemory` may replace any of these. A condition of a fact has that
+/// fact as its place. All other errors have the document as their place.
 #[tactic(auto, unfolding(crate::specs::Outcome::outcome))]
 pub fn read_report<'s>(alloc: Global, sheet: &'s Sheet, bytes: &[u8]) -> Result<Report<'s>, Refusal>
     ensures ok { IfOk result (λ r. outcome sheet.now bytes.now ≡ Ok r.document) }
