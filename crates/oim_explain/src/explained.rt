@@ -17,8 +17,8 @@ use std::alloc::{AllocError, Global};
 /// file and shows at most 80 characters of a value or key. No line contains anything that changes
 /// a terminal.
 ///
-/// If the file is not JSON, the only line says so. Repeated members are then not listed, even if
-/// the crate `json` can read the file because it accepts numbers of any size.
+/// If the file cannot be read as JSON, the only line says so. Repeated members are then not listed,
+/// even if the crate `json` can read the file because it accepts numbers of any size.
 ///
 /// Errors: out of memory.
 pub fn explain(

@@ -18,7 +18,7 @@ pub(crate) struct Finding<'a> {
     pub subject: Subject<'a>,
     pub reason: Reason,
     pub part: Part<'a>,
-    /// The message of the parser, if the file is not JSON.
+    /// The message of the parser, if it refused the file.
     pub message: Option<&'a str>,
     /// The kind of file, if it could be guessed.
     pub kind: Option<&'static str>,

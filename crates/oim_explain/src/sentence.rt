@@ -33,7 +33,7 @@ pub(crate) fn push_alone(line: &mut String, reason: Reason) -> Result<(), AllocE
         Reason::NotJson => {
             write!(
                 line,
-                "the file is not JSON, or nests deeper than {MOST_LEVELS} levels"
+                "the file cannot be read as JSON of at most {MOST_LEVELS} levels"
             )
         }
         _ => line.push_str(alone_of(reason)),
@@ -133,7 +133,7 @@ fn behind(reason: Reason) -> &'static str {
 fn behind_content(reason: Reason) -> &'static str {
     match reason {
         Reason::PeriodForm => {
-            " is neither a date and time such as 2024-12-31T00:00:00, without zone or fraction, nor two of these with / between"
+            " is neither a date and time such as 2024-12-31T00:00:00, without zone or fraction, nor two of these with / between them"
         }
         Reason::PeriodOrder => " ends before it starts",
         Reason::UnitForm => " is not a unit such as a:b, a:b*a:c or a:b/a:c",

@@ -30,49 +30,49 @@ const DOCUMENTS: [Table<'static>; 2] = [
         rows: &[
             (
                 "{\"documentInfo\":\n}",
-                "r: 1 NotJson: the file is not JSON, or nests deeper than 127 levels: invalid JSON at line 2 column 1\n",
+                "r: 1 NotJson: the file cannot be read as JSON of at most 127 levels: invalid JSON at line 2 column 1\n",
             ),
             (
                 "<?xml version=\"1.0\"?>",
-                "r: 1 NotJson: the file is not JSON, or nests deeper than 127 levels: invalid JSON at line 1 column 1; the file looks like XML: convert it to xBRL-JSON with another program\n",
+                "r: 1 NotJson: the file cannot be read as JSON of at most 127 levels: invalid JSON at line 1 column 1; the file looks like XML: convert it to xBRL-JSON with another program\n",
             ),
             (
                 "<html xmlns:ix=\"http://www.xbrl.org/2013/inlineXBRL\">",
-                "r: 1 NotJson: the file is not JSON, or nests deeper than 127 levels: invalid JSON at line 1 column 1; the file looks like Inline XBRL: convert it to xBRL-JSON with another program\n",
+                "r: 1 NotJson: the file cannot be read as JSON of at most 127 levels: invalid JSON at line 1 column 1; the file looks like Inline XBRL: convert it to xBRL-JSON with another program\n",
             ),
             (
                 "concept,value\na,1\n",
-                "r: 1 NotJson: the file is not JSON, or nests deeper than 127 levels: invalid JSON at line 1 column 1; the file looks like CSV: convert it to xBRL-JSON with another program\n",
+                "r: 1 NotJson: the file cannot be read as JSON of at most 127 levels: invalid JSON at line 1 column 1; the file looks like CSV: convert it to xBRL-JSON with another program\n",
             ),
             (
                 "\"concept\";\"value\"\n",
-                "r: 1 NotJson: the file is not JSON, or nests deeper than 127 levels: invalid JSON at line 1 column 10; the file looks like CSV: convert it to xBRL-JSON with another program\n",
+                "r: 1 NotJson: the file cannot be read as JSON of at most 127 levels: invalid JSON at line 1 column 10; the file looks like CSV: convert it to xBRL-JSON with another program\n",
             ),
             // prose, parts of JSON and JSON after a comment are not CSV
             (
                 "//a,b\n{}",
-                "r: 1 NotJson: the file is not JSON, or nests deeper than 127 levels: invalid JSON at line 1 column 1\n",
+                "r: 1 NotJson: the file cannot be read as JSON of at most 127 levels: invalid JSON at line 1 column 1\n",
             ),
             (
                 "Dear reader, here is the report\n",
-                "r: 1 NotJson: the file is not JSON, or nests deeper than 127 levels: invalid JSON at line 1 column 1\n",
+                "r: 1 NotJson: the file cannot be read as JSON of at most 127 levels: invalid JSON at line 1 column 1\n",
             ),
             (
                 "\"facts\":{},\"a\":1",
-                "r: 1 NotJson: the file is not JSON, or nests deeper than 127 levels: invalid JSON at line 1 column 9\n",
+                "r: 1 NotJson: the file cannot be read as JSON of at most 127 levels: invalid JSON at line 1 column 9\n",
             ),
             (
                 "\u{feff}\u{feff}<a>",
-                "r: 1 NotJson: the file is not JSON, or nests deeper than 127 levels: invalid JSON at line 1 column 1; the file looks like XML: convert it to xBRL-JSON with another program\n",
+                "r: 1 NotJson: the file cannot be read as JSON of at most 127 levels: invalid JSON at line 1 column 1; the file looks like XML: convert it to xBRL-JSON with another program\n",
             ),
             (
                 "{\0\"\0",
-                "r: 1 NotJson: the file is not JSON, or nests deeper than 127 levels: invalid JSON at line 1 column 2; the file looks like text in UTF-16: convert it to UTF-8\n",
+                "r: 1 NotJson: the file cannot be read as JSON of at most 127 levels: invalid JSON at line 1 column 2; the file looks like text in UTF-16: convert it to UTF-8\n",
             ),
             // repeated members are not reported if the file is not JSON
             (
                 r#"{"documentInfo":{},"facts":{"a":1,"a":2},"x:y":1e999}"#,
-                "r: 1 NotJson: the file is not JSON, or nests deeper than 127 levels: number out of range at line 1 column 53\n",
+                "r: 1 NotJson: the file cannot be read as JSON of at most 127 levels: number out of range at line 1 column 53\n",
             ),
             (
                 "[]",
@@ -144,7 +144,7 @@ r: fact \"f02\": 13 UnboundPrefix: the prefix of \"lei:5299\" is not bound
 r: fact \"f03\": 15 MissingConcept: the fact has no \"concept\" in \"dimensions\"
 r: fact \"f04\": 16 UnknownConcept: the concept \"eg:Sales\" is not in the sheet
 r: fact \"f05\": 17 UnknownDimension: the dimension \"eg:Axis\" is not in the sheet
-r: fact \"f06\": 19 PeriodForm: the period \"2024-12-31\" is neither a date and time such as 2024-12-31T00:00:00, without zone or fraction, nor two of these with / between
+r: fact \"f06\": 19 PeriodForm: the period \"2024-12-31\" is neither a date and time such as 2024-12-31T00:00:00, without zone or fraction, nor two of these with / between them
 r: fact \"f07\": 12 NameForm: \"EUR\" is not a name such as prefix:local, without white space or a second colon
 r: fact \"f08\": 25 ValueForm: the value 12 is neither a string nor null; numbers need quotes
 r: fact \"f09\": 26 NumberForm: the value \"1,000\" is not a plain number such as -1234.5, without exponent, thousands separator or white space; in the sheet, the concept is numeric
@@ -187,7 +187,7 @@ const FACTS: [Table<'static>; 1] = [Table {
         ),
         (
             r#""a":{"value":1,"decimals":"0","dimensions":{"concept":"eg:T","period":"2020","unit":"x:a/","language":"e n"}}"#,
-            "r: fact \"a\": 19 PeriodForm: the period \"2020\" is neither a date and time such as 2024-12-31T00:00:00, without zone or fraction, nor two of these with / between\nr: fact \"a\": 21 UnitForm: the unit \"x:a/\" is not a unit such as a:b, a:b*a:c or a:b/a:c\nr: fact \"a\": 22 UnitOnOther: the unit \"x:a/\" is only for concepts that are numeric in the sheet\nr: fact \"a\": 23 LanguageForm: the language \"e n\" is not a language such as en or de-AT\nr: fact \"a\": 25 ValueForm: the value 1 is neither a string nor null; numbers need quotes\nr: fact \"a\": 28 DecimalsForm: the decimals value \"0\" is not an integer without quotes\nr: fact \"a\": 30 DecimalsOnOther: the decimals value \"0\" is only for concepts that are numeric in the sheet\n",
+            "r: fact \"a\": 19 PeriodForm: the period \"2020\" is neither a date and time such as 2024-12-31T00:00:00, without zone or fraction, nor two of these with / between them\nr: fact \"a\": 21 UnitForm: the unit \"x:a/\" is not a unit such as a:b, a:b*a:c or a:b/a:c\nr: fact \"a\": 22 UnitOnOther: the unit \"x:a/\" is only for concepts that are numeric in the sheet\nr: fact \"a\": 23 LanguageForm: the language \"e n\" is not a language such as en or de-AT\nr: fact \"a\": 25 ValueForm: the value 1 is neither a string nor null; numbers need quotes\nr: fact \"a\": 28 DecimalsForm: the decimals value \"0\" is not an integer without quotes\nr: fact \"a\": 30 DecimalsOnOther: the decimals value \"0\" is only for concepts that are numeric in the sheet\n",
         ),
         (
             r#""a":{"value":"x","decimals":19,"dimensions":{"concept":"eg:A","language":"en","period":"2020-01-02T00:00:00/2020-01-01T00:00:00"}}"#,
@@ -226,23 +226,23 @@ const FACTS: [Table<'static>; 1] = [Table {
 const BYTES: [(&[u8], &str); 5] = [
     (
         b"\xff\xfe{\0",
-        "r: 1 NotJson: the file is not JSON, or nests deeper than 127 levels: invalid JSON at line 1 column 1; the file looks like text in UTF-16: convert it to UTF-8\n",
+        "r: 1 NotJson: the file cannot be read as JSON of at most 127 levels: invalid JSON at line 1 column 1; the file looks like text in UTF-16: convert it to UTF-8\n",
     ),
     (
         b"\x1f\x8b\x08\0",
-        "r: 1 NotJson: the file is not JSON, or nests deeper than 127 levels: invalid JSON at line 1 column 2; the file looks like a gzip file: unpack it first\n",
+        "r: 1 NotJson: the file cannot be read as JSON of at most 127 levels: invalid JSON at line 1 column 2; the file looks like a gzip file: unpack it first\n",
     ),
     (
         b"PK\x03\x04",
-        "r: 1 NotJson: the file is not JSON, or nests deeper than 127 levels: invalid JSON at line 1 column 1; the file looks like a ZIP file, as a report package is: unpack it first\n",
+        "r: 1 NotJson: the file cannot be read as JSON of at most 127 levels: invalid JSON at line 1 column 1; the file looks like a ZIP file, as a report package is: unpack it first\n",
     ),
     (
         b"<?xml version=\"1.0\" encoding=\"ISO-8859-1\"?><a>\xe4</a>",
-        "r: 1 NotJson: the file is not JSON, or nests deeper than 127 levels: invalid JSON at line 1 column 47; the file looks like XML: convert it to xBRL-JSON with another program\n",
+        "r: 1 NotJson: the file cannot be read as JSON of at most 127 levels: invalid JSON at line 1 column 47; the file looks like XML: convert it to xBRL-JSON with another program\n",
     ),
     (
         b"concept,value\nUms\xe4tze,1\n",
-        "r: 1 NotJson: the file is not JSON, or nests deeper than 127 levels: invalid JSON at line 2 column 4; the file looks like CSV: convert it to xBRL-JSON with another program\n",
+        "r: 1 NotJson: the file cannot be read as JSON of at most 127 levels: invalid JSON at line 2 column 4; the file looks like CSV: convert it to xBRL-JSON with another program\n",
     ),
 ];
 
@@ -253,7 +253,7 @@ const SHEETS: [(&str, &str); 7] = [
     ),
     (
         "<xml>",
-        "s: the file is not JSON, or nests deeper than 127 levels: invalid JSON at line 1 column 1; the file looks like XML: convert it to xBRL-JSON with another program\n",
+        "s: the file cannot be read as JSON of at most 127 levels: invalid JSON at line 1 column 1; the file looks like XML: convert it to xBRL-JSON with another program\n",
     ),
     (r#"{"concepts":[]}"#, "s: \"concepts\" is not an object\n"),
     (
