@@ -128,7 +128,7 @@ pub record RefusesLevel (sheet : Sheet) (bytes : List ℕ) (r : Refusal) : Type 
   pub above : is_lt (level_cmp document.level (level_of document.facts)) ≡ true
   pub answer : r ≡ at AtDocument DisallowedDuplicates
 
--- if no condition applies to the document, the first fact to which one applies is refused, or else the level is
+-- r is the refusal of the first fact to which a condition applies, or else of the level
 abbrev pub RefusesFacts : Sheet → List ℕ → Data → Refusal → Type 0
 RefusesFacts sheet bytes tree r =
     RefusesOne sheet (bindings_of tree) 1 (values (facts_of tree)) r

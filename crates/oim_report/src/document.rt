@@ -1,4 +1,4 @@
-//! Reads the parts of a report outside its facts, their identifiers, and their level of duplicates.
+//! Reads the parts of a report outside its facts, and the identifiers and the level of its facts.
 
 pub(crate) mod base;
 pub(crate) mod base_url;

@@ -188,9 +188,9 @@ pub fn least_is_answered()
     ensures { LeastIsAnswered }
 {}
 
-/// Suppose that two texts of members can each be read alone. With a comma between them they are
-/// read as the members of both (RFC 8259, section 4; `serde_json` keeps the last value of a
-/// repeated key).
+/// Suppose that two texts of members end with a brace and can each be read alone. With a comma
+/// between them they are read as the members of both (RFC 8259, section 4; `serde_json` keeps the
+/// last value of a repeated key).
 pub fn pieces_are_the_whole()
     ensures { PiecesAreTheWhole }
 {}

@@ -64,9 +64,9 @@ pub(crate) fn level_within(limit: Level, facts: &[Fact], order: &[usize]) -> Res
     Ok(level)
 }
 
-// Returns what `value` adds to the level of the earlier values with the same dimensions: the level
-// of all is the maximum of both. Only the last earlier value and the common part of the intervals
-// of all earlier ones matter.
+// Returns what `value` adds to the level of the earlier values with the same dimensions. The level
+// of all these values is the maximum of both. Only the last earlier value and the common part of
+// the intervals of all earlier ones matter.
 fn level_beside(last: &Value, shared: Option<Interval>, value: &Value) -> Level
     ensures { result ≡ level_beside last.now shared value.now }
 {
