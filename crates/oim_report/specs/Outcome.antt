@@ -88,7 +88,7 @@ OutcomesWantNoMemory = (sheet : Sheet) (bytes : List ℕ) (place : Place) → ou
 abbrev pub IsFree : Sheet → List Binding → Data → Type 0
 IsFree sheet bs d = (r : Reason) → holds sheet bs d r ≡ false
 
--- a fact object to which no condition applies says a fact, so `fact_outcome` never returns MemberForm because a fact is missing
+-- a fact object to which no condition applies says a fact, so `fact_or None None` never occurs
 abbrev pub FactsAreSaid : Type 0
 FactsAreSaid = (sheet : Sheet) (bs : List Binding) (d : Data) → IsFree sheet bs d → (f : Fact) × (option_and_then (said_fact sheet bs) (fact_parts d) ≡ Some f)
 
