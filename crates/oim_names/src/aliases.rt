@@ -20,8 +20,8 @@ const RESERVED: &str = "https://xbrl.org/2021";
 
 /// Prefixes and the URIs that they are bound to. Contracts see the bindings in the order in which
 /// they were added.
-/// Adding a binding or finding a URI takes a number of steps that grows with the logarithm of the
-/// number of bindings.
+/// Finding the URI of a prefix takes about log n steps for n bindings. Adding n bindings takes
+/// about n log n.
 #[derive(Debug, Drop)]
 pub struct Aliases {
     bindings: Vec<Binding>,
@@ -104,8 +104,7 @@ impl Aliases {
         self.uri_text(prefix).map(|uri| uri.as_str())
     }
 
-    /// Returns a `Text`, so that names can share the URI. The cache finds most prefixes in one
-    /// step.
+    /// Returns a `Text`, so that names can share the URI. The cache avoids most look-ups in the map.
     fn uri_text(&self, prefix: &str) -> Option<&Text>
         ensures found { option_copied result ≡ uri_of self.now prefix.now }
         ensures filled { IfSome result (λ uri. uri.now ≢ []) }

@@ -6,8 +6,8 @@ use std::marker::Model;
 const CLASSES: usize = 2048;
 
 /// Remembers, for each class of texts, the index of the text that was added last. The index is only
-/// a hint: the text there may be another one of the class, or the index may be out of range. So
-/// callers compare the text at the index. Contracts see one index for each class.
+/// a hint: it may be out of range, or the index of another text. So callers compare the text at the
+/// index. Contracts see one index for each class.
 #[derive(Clone, Copy, Debug)]
 pub struct PositionCache {
     places: [u16; CLASSES],
@@ -31,7 +31,7 @@ impl PositionCache {
         }
     }
 
-    /// Returns the index of the text of this class that was added last.
+    /// Returns the index that is remembered for the class of the text.
     pub fn place(&self, text: &str) -> usize
         ensures { result ≡ place_in self.now text.now }
     {
