@@ -93,7 +93,7 @@ pub fitting_is_writable : FittingIsWritable
 fitting_is_writable (pos n) fits = omega (arith, fits.sfits)
 fitting_is_writable (negsuc n) fits = omega (arith, fits.sfits)
 
--- the digits that `plain` joins
+-- the parts of a plain text are the digits that `plain` joins
 pub record Parts (m : ℤ) : Type 0 where
   pub integer_digits_are : list_all is_ascii_digit (integer_digits (unsigned_abs m)) ≡ true
   pub some_integer : 0 < length (integer_digits (unsigned_abs m))

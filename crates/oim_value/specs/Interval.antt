@@ -41,7 +41,7 @@ HalfAfterPoint = (d : ℕ) → d < UNIT_PLACES → 2 * half_width (Some (pos d))
 abbrev pub HalfBeforePoint : Type 0
 HalfBeforePoint = (d : ℕ) → 2 * half_width (Some (neg_ℤ (pos d))) ≡ 10 ^ UNIT_PLACES * 10 ^ d
 
--- a number lies in the interval exactly if it is within half of the last decimal place
+-- a number lies in the interval exactly if it differs from the rounded number by at most the half width
 abbrev pub WithinIsNear : Type 0
 WithinIsNear = (z units : ℤ) (decimals : Option ℤ) → IsWithin z (interval units decimals) ↔ (unsigned_abs (z -ℤ units) ≤ half_width decimals)
 

@@ -36,7 +36,7 @@ both_parts t = integer_part t ++ fraction_part t
 abbrev pub is_numeral : List ℕ → Bool
 is_numeral ds = nat_lt 0 (length ds) && list_all is_ascii_digit ds
 
--- an optional sign, digits, and optionally a point and digits; at least one digit
+-- an optional sign and one or more digits, with at most one point
 abbrev pub is_number : List ℕ → Bool
 is_number t = is_numeral (both_parts t)
 

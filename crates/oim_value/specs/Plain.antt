@@ -27,7 +27,7 @@ abbrev pub sign_text : ℤ → List ℕ
 sign_text (pos n) = []
 sign_text (negsuc n) = 45 ∷ []
 
--- a number of units as a text: a sign below zero, the digits before the point, and the significant digits after it
+-- a number of units as a text: a sign if it is negative, the digits before the point, and the significant digits after it
 abbrev pub plain : ℤ → List ℕ
 plain units = sign_text units ++ (integer_digits (unsigned_abs units) ++ with_point (fraction_digits (unsigned_abs units)))
 
@@ -49,23 +49,23 @@ pub record IsPlain (t : List ℕ) (units : ℤ) : Type 0 where
 abbrev pub IsWritable : ℤ → Type 0
 IsWritable units = unsigned_abs units < 10 ^ 64
 
--- every number that fits 128 bits is written in full
+-- every number of units that fits an `i128` is writable
 abbrev pub FittingIsWritable : Type 0
 FittingIsWritable = (units : ℤ) → FitsSigned w128 units → IsWritable units
 
--- every short number is written in full
+-- every short number is writable
 abbrev pub ShortIsWritable : Type 0
 ShortIsWritable = (units : ℤ) → IsShort units → IsWritable units
 
--- `plain` returns a plain text of the number
+-- `plain` returns a plain text of a writable number
 abbrev pub PlainIsPlain : Type 0
 PlainIsPlain = (units : ℤ) → IsWritable units → IsPlain (plain units) units
 
--- a number has no other plain text
+-- a writable number has no other plain text
 abbrev pub PlainIsOne : Type 0
 PlainIsOne = (units : ℤ) (t : List ℕ) → IsWritable units → IsPlain t units → t ≡ plain units
 
--- the plain text is ASCII
+-- the plain text of a writable number is ASCII
 abbrev pub PlainIsAscii : Type 0
 PlainIsAscii = (units : ℤ) → IsWritable units → IsAscii (plain units)
 
@@ -78,6 +78,6 @@ pub record IsReadAs (t : List ℕ) (units : ℤ) : Type 0 where
 abbrev pub PlainReadsBack : Type 0
 PlainReadsBack = (units : ℤ) → IsShort units → IsReadAs (plain units) units
 
--- numbers with the same plain text are equal
+-- writable numbers with the same plain text are equal
 abbrev pub PlainTellsApart : Type 0
 PlainTellsApart = (m n : ℤ) → IsWritable m → IsWritable n → plain m ≡ plain n → m ≡ n

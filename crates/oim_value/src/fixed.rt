@@ -46,9 +46,9 @@ impl Fixed {
     }
 }
 
-/// Reads a decimal number: an optional sign, digits, and optionally a point and digits (XML Schema
-/// Part 2, section 3.2.3). Leading zeros of the integer digits and trailing zeros of the fraction
-/// digits are not significant.
+/// Reads a decimal number: an optional sign and one or more digits, with at most one point (XML
+/// Schema Part 2, section 3.2.3). Leading zeros of the integer digits and trailing zeros of the
+/// fraction digits are not significant.
 ///
 /// Errors: `NumberForm` if the text is not a number; `NumberDigits` if it has more than
 /// `MOST_DIGITS` significant digits.

@@ -36,31 +36,32 @@ pub fn short_numbers_denote()
     ensures { ShortNumbersDenote }
 {}
 
-/// A text with at most 18 significant digits denotes a number with at most 18 significant digits.
+/// If a text has at most `MOST_DIGITS` significant digits, so has the number that it denotes.
 pub fn short_is_kept()
     ensures { ShortIsKept }
 {}
 
-/// Every number of units that fits an `i128` is written in full. So is every number with at most 18
-/// significant digits.
+/// Every number of units that fits an `i128` is writable. So is every number with at most
+/// `MOST_DIGITS` significant digits.
 pub fn units_are_writable()
     ensures fitting { FittingIsWritable }
     ensures short { ShortIsWritable }
 {}
 
-/// `plain` returns the only plain text of a number. The text is ASCII.
+/// `plain` returns the only plain text of a writable number. The text is ASCII.
 pub fn plain_is_the_text()
     ensures plain { PlainIsPlain }
     ensures one { PlainIsOne }
     ensures ascii { PlainIsAscii }
 {}
 
-/// Reading the plain text of a number with at most 18 significant digits returns the number.
+/// Reading the plain text of a number with at most `MOST_DIGITS` significant digits returns the
+/// number.
 pub fn plain_reads_back()
     ensures { PlainReadsBack }
 {}
 
-/// Numbers with the same plain text are equal.
+/// Writable numbers with the same plain text are equal.
 pub fn plain_tells_apart()
     ensures { PlainTellsApart }
 {}
@@ -90,8 +91,8 @@ pub fn interval_is_half_a_place()
     ensures before_point { HalfBeforePoint }
 {}
 
-/// The interval of a number contains exactly the numbers within half of its last decimal place. So
-/// it contains the number.
+/// The interval of a number contains exactly the numbers that differ from it by at most the half
+/// width. So it contains the number.
 pub fn interval_has_what_is_near()
     ensures near { WithinIsNear }
     ensures number { IntervalHasNumber }
@@ -136,8 +137,8 @@ pub fn each_two_meet_by_members()
     ensures { EachTwoMeetByMembers }
 {}
 
-/// Several intervals have one greatest low end and one least high end. A number lies between these
-/// ends exactly if it lies in every interval.
+/// One or more intervals have one greatest low end and one least high end. A number lies between
+/// these ends exactly if it lies in every interval.
 pub fn ends_are_common_interval()
     ensures exist { EndsExist }
     ensures one { EndsAreOne }

@@ -33,7 +33,7 @@ impl Level {
         LEVELS.iter().copied().find(|level| level.text() == text)
     }
 
-    /// Returns the text that declares the level. No two levels share one.
+    /// Returns the text that declares the level. No two levels share a text.
     pub fn text(self) -> &'static str
         ensures { result.now ≡ (level_entry self).text }
     {

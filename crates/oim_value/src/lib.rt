@@ -1,4 +1,4 @@
-//! Numbers, decimals, rounding intervals and the values of facts.
+//! Numbers, decimals, rounding intervals, levels and the values of facts.
 #![tactic(auto)]
 
 mod decimals;
