@@ -106,7 +106,7 @@ module _ {K E : Type 0} {R : K → K → Ordering} (key : E → K) (o : IsTotalO
       let told = tells_ok (has_key R key k es) (place_of R key k es) i at in
       item_there k es d h told.0 ∙ ap (λ n. Some (get_or es n d)) told.1
 
-  -- an item is new exactly if the list does not have its key
+  -- an item is new exactly if a search does not find its key
   pub not_new : (f : E) (es : List E) (i : ℕ) → Ok i ≡ found_at R key (key f) es → new_item R key es f ≡ []
   not_new f es i at = ap (λ b. cond b [] ((place_of R key (key f) es, f) ∷ [])) (tells_ok _ _ i at).0
 

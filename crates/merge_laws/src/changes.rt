@@ -15,7 +15,7 @@ use std::alloc::{AllocError, Global};
 pub(crate) struct Changes<K: Drop, V: Drop> {
     /// The merged values of the keys that both maps have, each with the index of its key.
     pub(crate) values: Vec<(usize, V)>,
-    /// The entries with new keys, each with the index at which it is inserted.
+    /// The entries with new keys, each with the index of the entry before which it is inserted.
     pub(crate) new_entries: Vec<(usize, (K, V))>,
 }
 
@@ -51,8 +51,7 @@ pub(crate) fn changes_of<K: Key, V: Merge>(
     ensures values { IfOk result (λ changes. changes.values.items ≡ new_values K.cmp V.merged entries.now others.items) }
     ensures new_entries { IfOk result (λ changes. changes.new_entries.items ≡ new_items K.cmp entry_key entries.now others.items) }
 {
-    // If the reports have different dimensions, most keys are new, so most of this capacity is
-    // used.
+    // This capacity is exact if the maps share no key.
     let mut changes = Changes {
         values: Vec::new(alloc),
         new_entries: Vec::with_capacity(alloc, others.len())?,

@@ -3,7 +3,8 @@ ghost use Rattle.merge_laws.specs.code.Insertions.{IsFirstLeast, first_place, in
 
 use std::alloc::AllocError;
 
-// Each new item has the index of the item before which it is inserted. The indices ascend.
+// Each new item has the index of the item before which it is inserted. The first index is the
+// least.
 
 pub(crate) fn insert_new<E: Drop>(
     items: &mut Vec<E>,
@@ -37,7 +38,7 @@ pub(crate) fn room_for<E: Drop>(
     Vec::with_capacity(*items.allocator(), moved + news.len())
 }
 
-/// Moves only the items after the first insertion.
+/// Moves only the items that follow the first new one.
 pub(crate) fn insert_all<E: Drop>(items: &mut Vec<E>, mut news: Vec<(usize, E)>, mut above: Vec<E>)
     requires order { IsFirstLeast (vec_len items.old) news.items }
     requires empty { above.items ≡ [] }

@@ -56,7 +56,7 @@ impl<T: Key> SortedSet<T> {
         }
     }
 
-    /// Inserts a copy of the item, and returns whether it is new.
+    /// Inserts a copy of the item if it is new, and returns whether it is new.
     ///
     /// Errors: out of memory; the set is then unchanged.
     pub fn insert(&mut self, item: &T) -> Result<bool, AllocError>
@@ -74,7 +74,8 @@ impl<T: Key> SortedSet<T> {
         }
     }
 
-    /// Merges the other set into this one, as `merge` does, but consumes it. New items are moved.
+    /// Merges the other set into this one, as `merge` does, but consumes the other set. New items
+    /// are moved.
     ///
     /// Errors: out of memory; the set is then unchanged, and the other is lost.
     pub fn absorb(&mut self, other: Self) -> Result<(), AllocError>

@@ -43,8 +43,8 @@ impl Summary {
     }
 
     /// Returns the interval from the greatest low end to the least high end, in units of
-    /// 10^-`UNIT_PLACES`, or None if there is no number. The low end is above the high end if two
-    /// of the numbers do not meet.
+    /// 10^-`UNIT_PLACES`, or None if there is no number. The low end is above the high end exactly
+    /// if two of the numbers do not meet.
     pub fn ends(&self) -> Option<Interval>
         ensures { result ≡ self.now.ends }
     {

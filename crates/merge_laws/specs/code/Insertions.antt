@@ -5,7 +5,7 @@ use Rattle.std.specs.declared.cmp.Ordering.{Ordering}
 use Rattle.std.specs.Ordering.{is_lt}
 use Rattle.merge_laws.specs.Sorted.{item_at, has_key, entry_key}
 
--- the items after the new ones were inserted, the last one first
+-- the items after new ones were inserted; the new items are listed from the last to the first
 abbrev pub inserted : {E : Type 0} → List E → List (ℕ × E) → List E
 inserted es [] = es
 inserted es (n ∷ ns) = inserted (take n.0 es) ns ++ n.1 ∷ drop n.0 es
@@ -28,7 +28,7 @@ module _ {K E : Type 0} (R : K → K → Ordering) (key : E → K) where
   abbrev pub found_at : K → List E → Result ℕ ℕ
   found_at k es = if has_key R key k es then Ok (place_of k es) else Err (place_of k es)
 
-  -- the item with the index of its key, if the list does not have the key
+  -- the item with the index at which it is inserted, if the list does not have its key
   abbrev pub new_item : List E → E → List (ℕ × E)
   new_item es f = if has_key R key (key f) es then [] else (place_of (key f) es, f) ∷ []
 
