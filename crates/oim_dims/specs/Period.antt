@@ -50,7 +50,7 @@ pub record IsPeriod (p : Period) : Type 0 where
   pub moments : HasMoments p
   pub forward : EndsAfterStart p
 
--- the text of a period denotes it
+-- the text of an instant, or of a duration that ends after its start, denotes that period
 abbrev pub PeriodsReadBack : Type 0
 PeriodsReadBack = (p : Period) → IsPeriod p → IfSome (period_text p) (λ t. period_of t ≡ Ok p)
 

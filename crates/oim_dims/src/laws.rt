@@ -18,7 +18,7 @@ pub fn limits_are()
     ensures { LimitsAre }
 {}
 
-/// The text of a period denotes that period.
+/// The text of an instant, or of a duration that ends after its start, denotes that period.
 pub fn periods_read_back()
     ensures { PeriodsReadBack }
 {}
@@ -33,8 +33,8 @@ pub fn languages_are_kept()
     ensures { LanguagesAreKept }
 {}
 
-/// If the text of each measure expands to the measure, the text of the unit denotes that unit and
-/// no other. Bindings that can write the unit write such texts.
+/// If the text of each measure is a piece that expands to the measure, the text of the unit denotes
+/// that unit and no other. Bindings that can write the unit give each measure such a text.
 pub fn units_read_back()
     ensures back { UnitsReadBack }
     ensures spelled { BindingsSpell }

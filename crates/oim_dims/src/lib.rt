@@ -1,4 +1,4 @@
-//! Periods, units, languages and the dimensions of facts.
+//! Periods, units, languages, dimension sets and facts.
 #![tactic(auto)]
 
 mod dimensions;

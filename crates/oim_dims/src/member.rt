@@ -4,7 +4,7 @@ use oim_names::{Copied, Key, Name, Text};
 use std::alloc::{AllocError, Global};
 
 /// The member of a taxonomy-defined dimension. Members are ordered by kind, in the order of the
-/// variants. Texts are ordered by bytes.
+/// variants. Texts are ordered by bytes, and names by URI and then local part.
 #[derive(Debug, Drop, PartialEq, Eq, PartialOrd, Ord)]
 pub enum Member {
     /// The value null of a typed dimension.

@@ -8,7 +8,8 @@ use std::alloc::{AllocError, Global};
 use std::cmp::Ordering;
 
 /// The time for which a fact holds (OIM Common 1.0, the core dimension period). Periods are ordered
-/// by kind, in the order of the variants. A duration that was read ends after its start.
+/// by kind, in the order of the variants, and then by their moments. A duration that was read ends
+/// after its start.
 #[derive(Clone, Copy, Debug, PartialEq, Eq, PartialOrd, Ord)]
 pub enum Period {
     /// The fact has no period: it always holds.

@@ -23,8 +23,8 @@ pub fn write_unit(alloc: Global, aliases: &Aliases, unit: &Unit) -> Result<Text,
     Text::new(alloc, text.as_str())
 }
 
-/// Returns whether the URI of every measure has a prefix, and its first prefix contains none of
-/// `*`, `/`, `(` and `)`.
+/// Returns whether the URI of every measure has a prefix, and the first prefix of each URI contains
+/// none of `*`, `/`, `(` and `)`.
 pub fn can_write_unit(aliases: &Aliases, unit: &Unit) -> bool
     ensures { result ≡ can_write aliases.now unit.now }
 {
