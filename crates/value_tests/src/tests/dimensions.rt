@@ -9,8 +9,8 @@ use oim_dims::{
 use oim_names::{Aliases, Copied, Name, Reason, Text};
 use std::alloc::AllocError;
 
-// If a request for memory is refused, the call is repeated, and the next request succeeds.
-// `tests/refused_memory` counts the lines on standard error.
+// `tests/refused_memory` refuses one request for memory in each run. The test then prints a line,
+// which shows whether the request was its own, and repeats the call.
 
 fn tell_refused(rt: &HostRuntime) {
     let _ = eprintln!(rt; "refused");

@@ -9,9 +9,8 @@ use oim_names::{Copied, Text};
 use std::alloc::AllocError;
 use std::test::Fail;
 
-// If a request for memory is refused, the call is repeated, and the next request succeeds.
-// `tests/refused_memory` counts the lines on standard error, which show whether the request was the
-// test's own.
+// `tests/refused_memory` refuses one request for memory in each run. The test then prints a line,
+// which shows whether the request was its own, and repeats the call.
 
 type Items = SortedSet<Text>;
 
@@ -184,8 +183,8 @@ fn items_in_order_make_a_set(rt: HostRuntime) -> Result<(), Fail> {
     Ok(())
 }
 
-// A law is a function that does nothing. Each law is called once, so that it is compiled for a
-// concrete type.
+// A law is a function that does nothing. Each law is called once, so that generic laws are compiled
+// for concrete types.
 #[test]
 fn laws_hold() {
     laws::set_has_both::<Text>();

@@ -11,8 +11,8 @@ pub(crate) const UNIT: i128 = 10_000_000_000_000_000_000;
 /// The greatest number: eighteen nines.
 const GREATEST: i128 = 999_999_999_999_999_999 * UNIT;
 
-// If a request for memory is refused, the call is repeated, and the next request succeeds.
-// `tests/refused_memory` counts the lines on standard error.
+// `tests/refused_memory` refuses one request for memory in each run. The test then prints a line
+// and repeats the call.
 
 fn tell_refused(rt: &HostRuntime) {
     let _ = eprintln!(rt; "refused");

@@ -102,7 +102,7 @@ fn other_texts_are_no_periods(rt: HostRuntime) {
     }
 }
 
-// Returns the first second of a duration, and the first second after it.
+// Returns the start and the end of a duration in seconds.
 fn bounds(period: &Period) -> Option<(i64, i64)> {
     match period {
         Period::Duration(start, end) => Some((start.seconds(), end.seconds())),

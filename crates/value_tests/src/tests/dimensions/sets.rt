@@ -13,7 +13,7 @@ pub(super) enum Kind {
 }
 
 // A part of a dimension set other than the concept, spelled as in a report. A member has the name
-// and the kind of its dimension.
+// of its dimension and its own kind.
 pub(super) enum Part {
     Entity(&'static str),
     Period(&'static str),
@@ -41,7 +41,7 @@ fn add_once(
     set.add(name, member(rt, aliases, kind)?)
 }
 
-// The call consumes the name and the member, so both are made again when it is repeated.
+// The call consumes the name and the member, so a repeated call makes both again.
 fn add(
     rt: &HostRuntime,
     set: &mut Dimensions,
@@ -160,7 +160,7 @@ fn a_unit_may_be_none(rt: HostRuntime) -> Result<(), Fail> {
     Ok(())
 }
 
-// Returns whether the members are named a, b, a and b, and the last two have a greater URI.
+// Returns whether the local parts are a, b, a and b, and the third URI is greater than the second.
 fn are_in_order(set: &Dimensions) -> bool {
     let members = set.members();
     members.len() == 4

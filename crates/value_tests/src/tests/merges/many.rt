@@ -44,7 +44,7 @@ fn is_key_right(map: &Many, number: i64) -> bool {
     map.get(&place(number)).is_some() == there
 }
 
-// Tests a sample of the numbers.
+// Tests each 997th number.
 fn are_keys_right(map: &Many) -> bool {
     for number in 0..200_000i64 {
         if number % 997 == 0 && !is_key_right(map, number) {

@@ -51,7 +51,7 @@ fn is_entry(map: &ItemsAt, index: usize, key: &str, items: &[&str]) -> bool {
     }
 }
 
-// Returns whether a map has the items a and b at the key k, the item c at the key m, and no more.
+// Returns whether a map has the items a and b at the key k, the item c at m, and no other key.
 fn is_merged(rt: &HostRuntime, map: &ItemsAt) -> Result<bool, AllocError> {
     if map.len() != 2 || !is_entry(map, 0, "k", &["a", "b"]) || !is_entry(map, 1, "m", &["c"]) {
         return Ok(false);

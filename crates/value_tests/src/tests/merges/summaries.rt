@@ -58,7 +58,7 @@ const ENDS: [(&[Rounded], i128, i128); 5] = [
         1015 * (UNIT / 10),
         1005 * (UNIT / 10),
     ),
-    // the two ends belong to different numbers
+    // the wide interval of 104 changes neither end
     (
         &[("103", 0), ("104", -2)],
         1025 * (UNIT / 10),
