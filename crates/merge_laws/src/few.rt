@@ -7,7 +7,7 @@ use oim_names::{Copied, Key};
 use std::alloc::{AllocError, Global};
 use std::marker::Model;
 
-/// A list that stores a single item without heap memory. Contracts see only the items.
+/// A list that can store a single item without heap memory. Contracts see only the items.
 #[derive(Drop)]
 pub(crate) struct Few<T: Key> {
     room: Room<T>,

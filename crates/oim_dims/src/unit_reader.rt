@@ -13,7 +13,7 @@ use oim_names::{Aliases, Name, Reason};
 use std::alloc::Global;
 
 /// Reads a unit: measures with `*` between them, then optionally `/` and the measures of the
-/// denominator. Each side may be in parentheses (xBRL-JSON 1.0). It returns `None` for `pure`
+/// denominator. Each side may be in parentheses (xBRL-JSON 1.0). The result is `None` for `pure`
 /// alone, which is not a unit.
 ///
 /// Errors: `UnitForm` exactly if the text does not have this form; otherwise the first of

@@ -19,9 +19,8 @@ use std::marker::Model;
 const RESERVED: &str = "https://xbrl.org/2021";
 
 /// Prefixes and the URIs that they are bound to. Contracts see the bindings in the order in which
-/// they were added.
-/// Finding the URI of a prefix takes about log n steps for n bindings. Adding n bindings takes
-/// about n log n.
+/// they were added. Adding n bindings takes about n log n steps, and finding the URI of a prefix
+/// about log n.
 #[derive(Debug, Drop)]
 pub struct Aliases {
     bindings: Vec<Binding>,

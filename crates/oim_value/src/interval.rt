@@ -10,9 +10,9 @@ use crate::limits::{MOST_DECIMALS, UNIT_PLACES};
 /// empty if `low` is above `high`.
 #[derive(Clone, Copy, Debug, PartialEq, Eq)]
 pub struct Interval {
-    /// The least number.
+    /// The low end.
     pub low: i128,
-    /// The greatest number.
+    /// The high end.
     pub high: i128,
 }
 

@@ -1,4 +1,4 @@
--- The items of a list that stores a single item without heap memory (own).
+-- The items of a list that can store a single item without heap memory (own).
 use Rattle.std.specs.Prelude.{List}
 use Rattle.merge_laws.specs.declared.few.Room.{Room}
 use Rattle.merge_laws.specs.declared.few.Room.TheVariants.{One, Many}
