@@ -7,7 +7,7 @@ ghost use Rattle.oim_dims.specs.Language.{is_language, is_group, is_hyphen};
 use oim_names::{Reason, Text};
 use std::alloc::Global;
 
-/// Returns the language of a text, in ASCII lower case. A language consists of groups of one to
+/// Reads a language, and returns it in ASCII lower case. A language consists of groups of one to
 /// eight ASCII letters or digits with `-` between them, and the first group has only letters (XML
 /// Schema Part 2, section 3.3.3).
 ///
