@@ -1,6 +1,6 @@
 /* xbrlmerge.h - merges xBRL-JSON reports about one entity into one canonical report, judges their duplicates, and lists
-   who reported what. Refused reports are returned with numbers. Each call returns the same bytes as the program's command
-   of the same name. docs/LIBRARY.md says what is proved about the calls, and what is not.
+   who reported what. Refused reports are returned with numbers. The calls that merge or list write the bytes that the
+   program's command of the same name prints. docs/LIBRARY.md says what is proved about the calls, and what is not.
 
    Memory. The caller provides all buffers. A call keeps no pointer after it returns, and returns none. If the buffer for
    the text or for the refused reports is too short, the call returns the required lengths and leaves both unchanged: make

@@ -1,4 +1,4 @@
-# What fish completes behind `xbrlmerge`. Written by hand; tests/words compares it with the program.
+# Completes the arguments of `xbrlmerge` in fish. Written by hand; tests/words compares it with the program.
 # ./build --install PREFIX puts it in place; by hand, copy it to ~/.config/fish/completions/
 
 complete -c xbrlmerge -n __fish_use_subcommand -f -a 'merge verdicts sources check explain replay help'

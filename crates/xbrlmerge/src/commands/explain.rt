@@ -18,18 +18,18 @@ pub(crate) const NAME: &str = "explain";
 const ABOUT: &str = "Explains what is wrong with reports, in plain words";
 
 const MORE: &str =
-    "Each line describes a fault of a report: the file, the fact if the fault is in one, the number and
-the name of the refusal, and what is wrong, with the text at fault. At most 80 characters of an
+    "Each line describes a fault of a report: the file, the fact if the fault is in one, the number
+and the name of the refusal, and what is wrong, with the text at fault. At most 80 characters of an
 identifier or a text are shown.
 
 The other commands name only the first fault of a report. `explain` lists all faults of the
-document. If the document has none, it lists the faults of all facts. If the facts have none, it
-lists the fault of the duplicates. If several names or members in one place share a fault, only the first is shown. Some
-faults appear only after others are corrected.
+document. If the document has none, it lists the faults of every fact. If the facts have none, it
+lists the fault of the duplicates. If several names or members in one place share a fault, only the
+first is shown. Some faults appear only after others are corrected.
 
 It also lists repeated members of a report or of the sheet, such as two facts with the same
-identifier. Only the last one is read, here and by `merge`, which accepts such a file. Run `explain`
-first on files from untrusted sources.
+identifier. Only the last one is read. The other commands do not refuse a file for them, so run
+`explain` first on files from untrusted sources.
 
 The last line contains the numbers of reports, of reports with a fault, and of faults.
 

@@ -36,9 +36,9 @@ and messages are counted from 1.
   receive I K   replica I takes message K, at any later time and any number of times
   restart I     replica I loses everything
 
-At the end, the merged report of each replica is written, one per line. Whatever the
-schedule, it is the same as from one merge of the reports that reached the replica, directly or
-through others.
+At the end, the merged report of each replica is written, one per line. Whatever the schedule, it
+is the same as from one merge of the reports that reached the replica since its last restart,
+directly or through others.
 
 Example:
   xbrlmerge replay --sheet examples/sheet.json --replicas 2 \\
