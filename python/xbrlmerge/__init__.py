@@ -25,7 +25,7 @@ __all__ = ["Checked", "Columns", "Merged", "Refusal", "Row", "Rows", "SheetRefus
 
 Given = Union[bytes, bytearray, memoryview, str, "os.PathLike[str]"]
 
-#: The levels of duplicates that a dimension set may have, the strictest first.
+#: The levels of duplicates that a row may have, the strictest first.
 LEVELS = ("none", "complete", "consistent", "all")
 _LINE_END, _SPACE = "\n", " "
 _CORE = ("concept", "entity", "period", "unit", "language")
