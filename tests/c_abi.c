@@ -1,8 +1,9 @@
 /* Calls the library for C, for tests/c_abi: c_abi merge LEVEL SHEET REPORT ..; c_abi verdicts|verdicts-json|sources|sources-json
    SHEET REPORT ..; c_abi check SHEET REPORT; c_abi edges SHEET. It prints the text and the lines of refused reports as the
-   program does, and returns the status of the call. Each call is also made with buffers that are too short, and with each
-   request for memory refused in turn. Standard error ends with the number of these requests, in a line that begins with
-   `requests`. Status 90 and a line: a call does not do what the header says. */
+   program does, and returns the status of the call. Calls with buffers are also made with buffers that are too short. Each
+   call is also made with each request for memory refused in turn. Standard error ends with the number of the requests that
+   made the call fail, in a line that begins with `requests`. Status 90 with a line means that a call does not do what the
+   header says. */
 #include <stdio.h>
 #include <stdlib.h>
 #include <string.h>
@@ -75,7 +76,7 @@ static int is_marked(const void *bytes, size_t from, size_t to) {
     return 1;
 }
 
-/* whether the bytes from a position on, and the rows, are unchanged */
+/* whether the bytes and the rows from these positions on are unchanged */
 static int is_kept(const struct room *room, size_t bytes, size_t rows) {
     size_t size = sizeof(xbrlmerge_refusal);
     return is_marked(room->out, bytes, room->out_length + 1) && is_marked(room->rows, rows * size, (room->rows_length + 1) * size);
@@ -114,7 +115,7 @@ static void tell_refusal(const xbrlmerge_refusal *row) {
         fprintf(stderr, "fact %llu\n", (unsigned long long)row->fact);
 }
 
-/* Makes the call with empty buffers, and with one byte or row too few. Returns buffers that are exactly long enough. */
+/* Makes the call with empty buffers, and with one byte or row too few. Returns buffers that are long enough. */
 static struct room short_rooms(const struct asked *asked) {
     struct room none = make_room(0, 0);
     uint32_t status = call(asked, &none);
@@ -141,7 +142,7 @@ static struct room short_rooms(const struct asked *asked) {
     return ample;
 }
 
-/* Refuses each request in turn. A call then changes nothing, or has its usual result, because a cache does without memory. */
+/* Refuses each request in turn. A call then changes nothing, or has its usual result if only a cache lacks the memory. */
 static long refuse_each(const struct asked *asked, const struct room *whole, uint32_t wanted) {
     long number = 0, refused = 0;
     do {
@@ -215,7 +216,7 @@ static int check(const struct asked *asked) {
     return (int)status;
 }
 
-/* a call that returns this status and changes nothing */
+/* each of these calls must return this status, change nothing and request no memory */
 static void ends_in(struct asked asked, uint32_t wanted, size_t count, size_t first, size_t second) {
     static const char *const commands[] = {"merge", "verdicts", "verdicts-json", "sources", "sources-json"};
     asked.count = count, asked.ends[0] = first, asked.ends[1] = second;
@@ -241,7 +242,7 @@ static int edges(struct asked *asked) {
     asked->command = "merge", asked->count = 0;
     for (asked->allow = 4; asked->allow != 0; asked->allow = asked->allow == 4 ? UINT32_MAX : 0)
         EXPECT(call(asked, &room) == XBRLMERGE_BAD_LEVEL && room.needed == 77 && room.refused == 78 && is_kept(&room, 0, 0));
-    /* three reports, the second of which is empty, and bytes after the last */
+    /* three reports, with the second one empty, and bytes after the last one */
     asked->command = "verdicts", asked->count = 3, asked->ends[0] = 2, asked->ends[1] = 2, asked->ends[2] = 4;
     EXPECT(call(asked, &room) == XBRLMERGE_REFUSED && room.needed == 0 && room.refused == 3 && is_kept(&room, 0, 3));
     EXPECT(room.rows[1].report == 2 && room.rows[1].number == 1 && room.rows[1].fact == 0 && room.rows[2].report == 3);

@@ -5,9 +5,9 @@
 
 It checks the files that ./build --library wrote to lib/: that libxbrlmerge.so and libxbrlmerge.a export the calls of
 include/xbrlmerge.h and no other names, and that the types in the header agree with crates/xbrlmerge_c. Then it builds
-tests/c_abi.c with both libraries and makes each call on the examples: with buffers that are too short, bad ends, an unknown
-level, lengths of 0, and each request for memory refused in turn. The texts, lines and statuses must equal the program's. The
-header is compiled as C and as C++.
+tests/c_abi.c with each library and makes each call on the examples, also with buffers that are too short, bad ends, an
+unknown level and lengths of 0. With the static library, each request for memory is refused in turn. The texts, lines and
+statuses must equal the program's. The header is compiled as C and, if g++ is installed, as C++.
 
 Status 0: all is as expected. 1: it is not; each difference is printed. 2: the library or the program is not built, or gcc is
 not installed.
@@ -100,7 +100,7 @@ def names_agree():
 
 
 def built(room):
-    """Builds the C program with each library. The one with the static library can refuse memory."""
+    """Builds the C program with each library. Only the one with the static library can refuse memory."""
     source = f"{TOP}/tests/c_abi.c"
     must("gcc", *SANITIZED, *WRAPS, source, STATIC, "-o", f"{room}/static")
     must("gcc", *SANITIZED, *WRAPS, source, f"-L{TOP}/lib", "-lxbrlmerge", f"-Wl,-rpath,{TOP}/lib", "-o", f"{room}/shared")
@@ -127,7 +127,7 @@ def compare(program, callers, words, files):
         requests = [int(it.split()[1]) for it in said if it.startswith("requests:")]
         said = [it for it in said if not it.startswith("requests:")]
         if done.returncode == 4:
-            # the header returns only the number
+            # the call returns only the number of the refusal
             same = wanted.returncode == 3 and said[0] == " ".join(lines(wanted.stderr)[0].split()[:2])
         else:
             same = (done.returncode, said) == (wanted.returncode, lines(wanted.stderr)) and done.stdout == wanted.stdout

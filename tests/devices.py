@@ -28,7 +28,7 @@ NOBODY, LIMIT, ENDLESS_LIMIT = 65534, 20, 180
 # the command that returns the size of a pipe; Python has a name for it since 3.10
 PIPE_SIZE = 1032
 # kilobytes: LITTLE of address space is too little for an endless file, and enough for any other; with less than MUCH of free
-# memory, endless files are left out
+# memory, endless files are read only with LITTLE
 LITTLE, MUCH = 150_000, 6_000_000
 
 GOOD, REFUSED, NOTHING_TAKEN = (0, ""), (1, "report 2: 1 NotJson at document\n"), (3, "device: 0 bytes written\n")
@@ -66,8 +66,8 @@ FILES = {
     "endless, little memory": (MEMORY, MEMORY, MEMORY),
     "endless": (LENGTH, LENGTH, LENGTH),
 }
-# command lines with the file as the sheet, the events or a report; endless files are slow, so only the first is run with
-# them
+# command lines with the file as the sheet, the events or a report; endless files are slow, so only the first of each is run
+# with them
 PLACES = {
     "sheet": ("check --sheet strange report", "merge --sheet strange report", "verdicts --sheet strange report",
               "replay --sheet strange --replicas 2 --events events report"),
@@ -91,7 +91,7 @@ def report_of(facts):
 
 
 def contents():
-    """Returns the content of the files by name. The text for `long` has 1 MB, and so have the lines for `rows`."""
+    """Returns the content of the files by name. The text for `long` has about 1 MB, and so have the lines for `rows`."""
     sheet = {"namespaces": {"m": "https://made.example/2024"}, "concepts": {"m:A": "numeric", "m:T": "text"},
              "dimensions": {"m:Mill": "typed"}}
     words = {f"{it}": {"value": "Blue" * 650, "dimensions": {"concept": "m:T", "m:Mill": f"{it}"}} for it in range(400)}

@@ -10,13 +10,13 @@ that say enough about it. FORMAT may use all that DOUBT lists, and may list word
 - a name is not in its file, or is listed twice;
 - a listed definition or contract uses a definition of this repository that is neither listed nor a word;
 - the page has an entry or a word that none of its contracts needs;
-- a law of a word does not exist, is on neither page, or does not mention the word;
+- a word has no law, or its law does not exist, is on neither page, or does not mention the word;
 - the table of conditions differs from `Reason`, its numbers, and the definitions of the conditions;
 - the number of lines on a page is wrong, or the headline has more than 600 lines.
 
 Definitions of the kit are not followed. A record field does not hide a definition of the same name; a variable does, in its
-scope. With --format it prints the definitions that docs/FORMAT.md lists; with --quiet it prints none. --write updates the entries, the conditions and the numbers of lines, but
-not the words.
+scope. With --format it prints the definitions that docs/FORMAT.md lists; with --quiet it prints none. --write updates the
+entries, the conditions and the numbers of lines, but not the words.
 """
 import glob
 import os

@@ -4,15 +4,15 @@
     tests/examples [PROGRAM [EMBEDDED]]
 
 It builds the program and, in a copy of the repository, examples/embed/main.txt, or uses the named programs. If only PROGRAM
-is named, it builds nothing that embeds the library. It compares
+is named, examples/embed/main.txt is skipped. It compares
 
 - the output for the reports in examples/ with the files beside them; earlier.json is the merged report as it was
   written before levels were declared;
 - each page in PAGES with the results of its commands. The blocks of a page run in order, as a reader types them, by `sh`
-  and then by `bash`, in a folder with the repository's files, which must not change. The last command of a block
+  and then by `bash`, in a folder with the repository's files. They may leave no other file there. The last command of a block
   must return the status that the paragraph before it names, or 0; each other command must return 0. If a block of
-  output follows, the command must print exactly that; `..` at the end of a line matches the rest of the line. If no
-  output follows, standard error may contain only the lines of statuses 1 to 3. A block that proves (`rt`, the gate) is skipped;
+  output follows, the commands must print exactly that; `..` at the end of a line matches the rest of the line. If no
+  output follows, standard error may contain only refusals and `too loose`. A block that proves (`rt`, the gate) is skipped;
 - the JSON that docs/GUIDE.md shows with the examples;
 - the output of tools/contradictions when it makes the sheet from a taxonomy package and normalises reports in the form
   of other tools, in tests/normalise/vendors;
@@ -22,7 +22,7 @@ is named, it builds nothing that embeds the library. It compares
 The code in docs/LIBRARY.md is proved together with the program that embeds the library. This takes minutes, and much longer
 if ./build was not run before.
 
-Status 0: all is as shown. 1: something is not. 2: the program is not built.
+Status 0: all is as shown. 1: something is not. 2: a program cannot be built.
 """
 import glob
 import json
@@ -46,7 +46,7 @@ SHELLS = ("sh", "bash")
 BUILDS = "./build && "
 # a block with one of these is skipped: it proves for minutes
 SLOW = re.compile(r"(?:^|&& )(?:rt|bash \.ci/run|\./build)\b", re.MULTILINE)
-# the commands on lines of their own in the man pages and the help
+# the beginnings of commands on lines of their own in the man pages and the help
 STARTS = ("xbrlmerge ", "cat examples/")
 TOLD = re.compile(r"report \d+: \d+ \w+ at (document|fact \d+)|too loose: row \d+|event \d+: refused")
 LIMIT = 120
@@ -72,7 +72,7 @@ SCHEMA = """<xs:schema xmlns:xs="http://www.w3.org/2001/XMLSchema" xmlns:xbrli="
 
 
 def build(crate):
-    """Builds a program and returns its path. If that fails, it prints the output and returns None."""
+    """Builds a program and returns its path. If that fails, it prints the end of the output and returns an empty text."""
     ran = subprocess.run(["rt", "run"], cwd=crate, stdin=subprocess.DEVNULL, capture_output=True, text=True)
     said = ran.stdout + ran.stderr
     if re.search("^rt: running", said, re.MULTILINE):
@@ -104,7 +104,7 @@ def pieces():
 
 
 def build_embedded(room):
-    """Proves the pieces of docs/LIBRARY.md and builds the example of embedding. Returns its path, or None."""
+    """Proves the pieces of docs/LIBRARY.md and builds the example of embedding. Returns its path, or an empty text."""
     lines, embed = copied_libraries(room), re.search("'(embed: .*)'", content("docs/LIBRARY.md"))[1]
     below = " ".join(it.partition(":")[0] for it in lines)
     crates = {EMBED: (embed, {"main.rt": content("examples/embed/main.txt")}), SHOWN: (f"{SHOWN}: {below}", pieces())}
@@ -257,7 +257,7 @@ def compared(program):
     """Compares the program's output with the files beside the examples, and returns the differences."""
     merged, refused, verdicts, sources = (content(f"examples/{it}") for it in (MERGED, "refused.txt", "verdicts.txt", "sources.txt"))
     wrong = []
-    # a merged text merges to itself, also together with its reports; so does a text in the earlier form
+    # a merged text merges to itself, also together with its reports; a text in the earlier form merges to the current form
     for status, err, reports in ((0, "", GOOD), (0, "", (GOOD[2], *GOOD[:2], GOOD[2])), (1, refused, (*GOOD, BAD)),
                                  (0, "", (MERGED,)), (0, "", (GOOD[1], MERGED)),
                                  (0, "", (EARLIER,)), (0, "", (EARLIER, GOOD[1], MERGED))):
@@ -316,7 +316,7 @@ def page_of_vendors(program):
 
 
 def by_hand(program, merged):
-    """Lets the two offices exchange files, and returns the files that differ from the merged text."""
+    """Lets the two offices exchange files, and returns a line unless both end with the merged text."""
     with tempfile.TemporaryDirectory() as room:
         ran = subprocess.run([os.path.join(TOP, "examples", "offices", "by_hand"), room], capture_output=True, text=True,
                              env={**os.environ, "XBRLMERGE": program})

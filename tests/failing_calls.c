@@ -1,6 +1,7 @@
 /* Loaded by LD_PRELOAD, it replaces the calls of the C library (glibc) that write a file. The call with the number FAIL,
    from 1, fails as on a full device; at the call with the number KILL the process is killed. Writes to standard output and
-   standard error are not counted. The name of each call is written to the file CALLS_TOLD. */
+   standard error are not counted, and of the calls of open, only those with O_EXCL are. The name of each counted call is
+   written to the file CALLS_TOLD. */
 #define _GNU_SOURCE
 #include <dlfcn.h>
 #include <errno.h>

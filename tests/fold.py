@@ -3,10 +3,10 @@
 
     [XBRLMERGE=PROGRAM] [REPORTS=200] [JOBS=2] [SEED=1] tests/fold
 
-It draws a sheet and reports that overlap, agree, contradict each other, or are refused. It compares the bytes of one run
-with the results of examples/fold/Makefile and examples/fold/fold_dask.py, each at three widths, and checks which branches a late
-report rebuilds. If Dask is not installed, a module of two lines runs the nodes in turn. Nodes that call the library are
-skipped if there is no lib/libxbrlmerge.so, which ./build --library makes.
+It draws reports that overlap, agree, contradict each other, or are refused. It compares the bytes of one run with the results
+of examples/fold/Makefile and examples/fold/fold_dask.py, each at three widths, and checks how many branches a late report
+rebuilds. If Dask is not installed, a module of two functions runs the nodes in turn. Nodes that call the library are skipped
+if there is no lib/libxbrlmerge.so, which ./build --library makes.
 
 Status 0: all are equal. 1: some are not; each is printed. 2: the program is not built.
 """
@@ -152,7 +152,7 @@ def nodes():
 
 
 def odd_names():
-    """Checks that a node reads files with any names, and writes no file where a link could be."""
+    """Checks that a node reads files with any names, and leaves no file except its output."""
     node, odd = os.path.join(FOLD, "merge_files"), b"in odd/\xff -\n.json"
     os.makedirs(b"in odd/\xfe")
     for name, source in ((odd, paths()[0]), (b"in odd/\xfe/sheet", "sheet.json"), (b"in odd/refused\xff", "in/001.3.json")):

@@ -5,7 +5,8 @@
 
 It runs the examples, texts with quotes, line ends and formulas, and SETS sets of drawn reports. It computes the output of
 `--format json` and `--format csv` from the lines and from the output of `merge`. The program's output must equal it byte for
-byte. `--spreadsheet` may only add a ' before a text, and must add it wherever tools/contradictions does.
+byte. `--spreadsheet` may only add a ' before a text, and must add it wherever tools/contradictions does, except before a
+number.
 
 Status 0: all is as expected. 1: it is not. 2: the program is not built.
 """
@@ -133,7 +134,7 @@ def sources_of(lines):
 
 
 def is_guarded(plain, guarded):
-    """Returns whether the cells differ only by a ' before texts, and every text that would be a formula has one."""
+    """Returns whether the cells differ only by a ' before texts, and every text that would be read as a formula has one."""
     one, two = (list(csv.reader(io.StringIO(text, newline=""))) for text in (plain, guarded))
     numeric = {"decimals", "common_low", "common_high"}
     for cells, others in zip(one, two):

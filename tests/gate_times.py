@@ -5,8 +5,9 @@
     tests/gate_times FILE                               prints the table of such a file again
 
 A part is the proof of a crate, the proof of its tests, its must-fail edits or its runs. The processes are sampled twice a
-second to find when a part begins and ends; 'processor' is their time on all processors. The status is 0 if the last line of
-the run says that nothing failed, otherwise 1.
+second to find when a part begins and ends; 'processor' is their time on all processors. Runs are not sampled: the lines of
+the gate give their times, and 'processor' is 0. The status is 0 if the last line of the run says that nothing failed,
+otherwise 1. With FILE it is 0, or 2 if FILE has no table.
 """
 import os
 import re
@@ -143,7 +144,7 @@ def live():
 
 
 def again(file):
-    """Returns the table at the end of a file."""
+    """Prints the table at the end of a file, and returns the status."""
     with open(file, encoding="utf-8", errors="replace") as it:
         lines = it.read().split("\n")
     if HEAD not in lines:

@@ -243,7 +243,7 @@ class Batch:
         expect(self.written("text", sheet=sheet) == text, "merging the written text changes it")
 
     def expect_reports(self, status, lines, told, most):
-        """Checks that status 0 has no line, and that status 1 has a line for each refused report, with its number."""
+        """Checks that status 0 has no line, and that status 1 has only lines of refused reports, in the order of the reports."""
         found = list(REPORT_LINE.finditer(lines))
         numbers = [int(it[1]) for it in found]
         expect("".join(it[0] for it in found) == lines and bool(numbers) == (status == 1), told)
@@ -255,7 +255,7 @@ class Batch:
         write("broken", self.content)
 
     def of_report(self, chance, drawn=drawn_report):
-        """Tests a broken report between two good ones. `check` must return the same, also if the report is read in pieces."""
+        """Tests a broken report between two good ones. The same must result if it is read in pieces, and from `check`."""
         self.write_broken(chance, drawn(chance), self.one)
         status, text, lines, told = self.run("merge", "--sheet", "sheet", "one", "broken", "two")
         self.expect_reports(status, lines, told, 3)
@@ -314,7 +314,7 @@ class Batch:
         return status
 
     def play(self, case):
-        """Plays a case. Returns the fault, if there is one."""
+        """Runs a case. Returns the fault, if there is one."""
         chance = random.Random(f"{SEED} {case}")
         kind = chance.choices((self.of_report, self.of_long, self.of_sheet, self.of_events, self.of_bundle), (5, 1, 2, 2, 2))[0]
         try:
@@ -339,7 +339,7 @@ def keep(case, content):
 
 
 def play(task):
-    """Plays the cases of a batch. Returns the counts of their results, and the faults."""
+    """Runs the cases of a batch. Returns the counts of their results, and the faults."""
     program, cases = task
     with tempfile.TemporaryDirectory(prefix="malformed-") as room:
         os.chdir(room)

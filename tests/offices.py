@@ -5,12 +5,12 @@ the gate.
     [SCHEDULES=200] [SEED=1] tests/offices [PROGRAM]
 
 PROGRAM is $XBRLMERGE or the built one by default. Three offices, each with its own folder, use only the commands `merge` and
-`check`. They follow a drawn schedule: they take reports, of which some are refused, and exchange texts. Texts arrive late,
+`check`. They follow a drawn schedule: they take reports, and exchange texts. Some reports are refused. Texts arrive late,
 repeated or reordered, and an office may lose everything. A sent text must be canonical and declare the strictest level that
 its facts satisfy, as computed from the definition. Some texts are then sent in the earlier form, without a level.
 
-Status 0: all texts are equal. 1: some are not; the difference is printed with the seed and the schedule. 2: there is no
-program.
+Status 0: all texts are equal. 1: some are not; the difference is printed with the seed and the schedule. Or 200 schedules or
+more cover too little. 2: there is no program.
 """
 import argparse
 import fractions
@@ -47,7 +47,7 @@ def expect(holds, told):
 
 
 def number(chance):
-    """Draws a value and its decimals: mostly near one hundred, else near one of the extreme decimals."""
+    """Draws a value and its decimals: mostly near one hundred, else with any decimals from -18 to 18."""
     if chance.random() < 0.7:
         return {"value": str(chance.randint(98, 102)), "decimals": chance.randint(-1, 0)}
     places, times = chance.randint(-18, 18), chance.randint(1, 3)
@@ -218,7 +218,7 @@ class Schedule:
 
 
 def play(program, seed, counts):
-    """Plays a schedule and returns its length; None if something is wrong, which is printed."""
+    """Runs a schedule and returns its length; 0 if something is wrong, which is printed."""
     schedule = Schedule(program, seed, counts)
     with tempfile.TemporaryDirectory() as room:
         os.chdir(room)

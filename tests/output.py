@@ -1,9 +1,10 @@
 #!/usr/bin/env python3
-"""Runs the program with `--output`. In each run, one call that writes the file fails, or kills the run. Not part of the gate.
+"""Runs the program with `--output`, and makes each call that writes the file fail, or kill the run. Not part of the gate.
 
     tests/output [PROGRAM]
 
-PROGRAM is $XBRLMERGE or the built one by default. The test needs cc.
+It also names outputs that cannot be replaced, such as links. PROGRAM is $XBRLMERGE or the built one by default. The test
+needs cc.
 
 Status 0: the file is always the old one or the complete new one, and only killed runs leave other files. 1: it is not; each
 case is printed. 2: there is no program, or no cc.
@@ -128,7 +129,7 @@ class Tests:
             self.leaves(name, OLD)
 
     def over_setuid(self):
-        """Tests an old file with setuid and setgid: the new one belongs to the user who runs the program."""
+        """Tests an old file with setuid, setgid and sticky: the new one has none of them."""
         self.empty(True)
         os.chmod(f"{self.folder}/new", 0o7755)
         ran = self.run([*COMMANDS["check"], "-o", "new"])

@@ -4,16 +4,16 @@
     [XBRLMERGE=PROGRAM] tests/page [PICTURE.png]
 
 It runs the tool on examples/ with the built program. The page that the browser shows must contain each contradiction. In the
-light and the dark theme, the background, the values and the gaps of the number lines must have their colours. If all is as
-expected, the light page is written to PICTURE; docs/contradictions.png is made this way.
+light and the dark theme, the background, the values and the gaps of the number lines must have their colours. If this page
+is as expected, a picture of it in the light theme is written to PICTURE.png; docs/contradictions.png is made this way.
 
 On 11,000 contradictions that the script generates, the tool may take at most 10 seconds of a processor and 300 MB. The
 browser must show something within 2 seconds, draw the page within 30 and return its whole text within 60. An entry of the
-index must open the rows of its concept. The filter must find exactly the rows with the words. Nothing may be wider than the
-window, at any of three widths.
+index must open the rows of its concept. The filter must find as many rows as contain the words. Nothing may be wider than
+the window, at any of three widths.
 
 Status 0: all is as expected, or no Chromium is installed, which a line reports. 1: it is not; each fault is printed. 2: the
-program is not built, or could not be run.
+program is not built, or a process failed or took too long.
 """
 import argparse
 import collections
@@ -37,10 +37,10 @@ BROWSERS = ("chromium", "chromium-browser", "google-chrome", "chrome")
 SHEET, *REPORTS = (os.path.join(TOP, "examples", f"{name}.json") for name in ("sheet", "issuer", "ledgerline", "statfeed"))
 SECONDS, MEGABYTES, CONTRADICTIONS = 10, 300, 11_000
 PAINT = 2_000  # milliseconds until something is shown
-# the script by which the browser reports when it first showed something
+# the script that reports when the browser first showed something
 PAINTED = """<body><script>new PerformanceObserver(list => list.getEntries().forEach(entry => console.log("painted", entry.startTime)))
 .observe({type: "paint", buffered: true})</script>"""
-WIDTHS = 500, 1_100, 1_900  # of the window, in pixels; Chromium takes none below 500
+WIDTHS = 500, 1_100, 1_900  # of the window, in pixels; Chromium accepts none below 500
 # the script that follows an entry of the index, puts a word into the filter, and measures widths
 ASKED = """<script>
 const root = document.documentElement, answers = [];
@@ -153,7 +153,7 @@ def look_at_large(words, room):
     faults += [f"the tool took {made:.1f} s and {peak:.0f} MB"] * (made > SECONDS or peak > MEGABYTES)
     faults += [f"the first paint came after {painted:.0f} ms"] * (painted > PAINT)
     faults += [fault for width in WIDTHS for fault in ask(words, page, width)]
-    return faults, told + f"first paint after {painted:.0f} ms, drawn in {drawn:.1f} s, all of it handed out in {held:.1f} s"
+    return faults, told + f"first paint after {painted:.0f} ms, drawn in {drawn:.1f} s, whole text returned in {held:.1f} s"
 
 
 def changed(page, name, before, after):
@@ -175,13 +175,13 @@ def first_paint(words, page):
 
 
 def ask(words, page, width):
-    """Returns the faults in a window of this width, of the index, and of the filter."""
+    """Returns the faults of the page, its index and its filter in a window of this width."""
     place, text = changed(page, "asked.html", "</body>", ASKED)
     options = [f"--window-size={width},900", "--virtual-time-budget=20000", "--dump-dom"]
     content, _ = timed([*words, *options, f"file://{place}"], 120)
     found = re.search(r'data-told="([^"]*)"', content.decode())
     if not found:
-        return [f"the browser did not tell what is in a window of {width} pixels"]
+        return [f"the browser reported nothing for a window of {width} pixels"]
     opened, seen, wide, is_wide, _, left, wide_left, is_wide_left, told = found[1].split("|")
     sections = re.findall('<section class="row .*?</section>', text, re.DOTALL)
     wanted = sum("Concept007" in section and "issuer" in section for section in sections)

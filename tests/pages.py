@@ -3,11 +3,11 @@
 
     tests/pages [PAGE ..]
 
-It prints the words of each page in BOUNDS beside its bound, or only for the named pages. Code blocks, comments and generated
-tables (from a comment that begins with `generated` to one that begins with `end`) do not count. In docs/DOUBT.md and
-docs/FORMAT.md, tables and entry lines do not count either. Entry lines name the definitions to read in `crates/`.
+It prints the number of words of each page in BOUNDS, or of each named page, beside its bound. Code blocks, comments and
+generated tables (from a comment that begins with `generated` to one that begins with `end`) do not count. In docs/DOUBT.md
+and docs/FORMAT.md, tables and entry lines do not count either. Entry lines name the definitions to read in `crates/`.
 
-The status is 1 if a page is missing or too long, or if a relative link of any page has no file or no such heading.
+The status is 1 if a page is missing or too long, or if a relative link leads to no file or to no heading of the page.
 """
 import glob
 import os
@@ -76,7 +76,7 @@ def broken_links(path):
 
 
 def too_long(pages, bound):
-    """Prints the words of pages that share a bound, and returns their faults."""
+    """Prints the number of words of pages that share a bound, and returns their faults."""
     missing = [it for it in pages if not os.path.isfile(os.path.join(TOP, it))]
     count = sum(words(it) for it in pages if it not in missing)
     names = " and ".join(pages)

@@ -9,7 +9,7 @@ and the first paragraph of its doc comment. --write writes these tables. The sta
 
 - the tables differ from the code;
 - a public function has no doc comment;
-- the page names a function of a library, its type or its laws (`laws::x`, `Type::x`) that does not exist.
+- the page names a function that does not exist (`crate::x`, `Type::x`, `laws::x`).
 """
 import glob
 import os
@@ -110,11 +110,11 @@ def main(words):
             file.write(page)
     wrong = problems(before + after, libraries)
     if content(PAGE) != page:
-        wrong.append(f"the tables of {PAGE} are not those of the code: run tests/promises --write")
+        wrong.append(f"the tables of {PAGE} differ from the code: run tests/promises --write")
     for it in wrong:
         print(f"promises: {it}", file=sys.stderr)
     if not wrong:
-        print(f"promises: all {sum(len(it.promises) for it in libraries.values())} public functions are there", file=sys.stderr)
+        print(f"promises: all {sum(len(it.promises) for it in libraries.values())} public functions are listed", file=sys.stderr)
     return 1 if wrong else 0
 
 

@@ -4,18 +4,18 @@
     [JOBS=N] tests/refused_memory [CRATE | program ..]
 
 The tests of a crate are crates/NAME/out/NAME_tests, which `rt test` makes. The program is ./xbrlmerge, or
-crates/xbrlmerge/out/xbrlmerge if that does not exist. Without arguments it tests all crates and the program. A first run of
-each test counts the requests; each later run refuses one of them, and the last run refuses none. A test must pass and print
-on standard error that a call was refused (`refused`) or that its own setup was (`refused here`); if it prints neither, the
-request counts as passed over. The program runs with arguments for every command. It must print the line `out of memory`,
-end with status 3 and have written a first part of its text. It may also print its whole text, since two requests may be
-refused without harm: one for the key of a cache while a report is read, and one for clap's search for similar words. For
-the same reason no request counts as passed over in the tests of crates that read reports. JOBS runs are parallel, as many as
-there are processors by default. If a test makes more than 5,000 requests, only each 7th is refused from 2,001 on. Fewer are
-refused if it makes more than 50,000, or if its runs are long. A line reports which.
+crates/xbrlmerge/out/xbrlmerge if that does not exist. Without arguments it tests all crates that have tests, and the program.
+A first run of each test counts the requests. A second run, with a number after the last one, must refuse none. Each later run
+refuses one of them. A test must pass and print that a call was refused (`refused`) or that its own setup was (`refused
+here`); if it prints neither, the request counts as passed over. The program runs with arguments for every command. It must
+print the line `out of memory`, end with status 3 and have written a first part of its text. It may also print its whole text,
+since two requests may be refused without harm: one for the key of a cache while a report is read, and one for clap's search
+for similar words. For the same reason no request counts as passed over in the tests of crates that read reports. JOBS runs
+are parallel, as many as there are processors by default. If a test makes more than 5,000 requests, only each 7th is refused
+from 2,001 on. Fewer are refused if it makes more than 50,000, or if its runs are long. A line reports which.
 
-Status 0: nothing failed and nothing was passed over. 1: something was. 2: tests are not built, or are older than the
-sources.
+Status 0: nothing failed and nothing was passed over. 1: something failed or was passed over. 2: tests or the program are not
+built, or are older than the sources.
 """
 import argparse
 import collections
@@ -41,7 +41,7 @@ MANY, ALL, EVERY = 5000, 2000, 7
 MOST, FEW, SECONDS = 50_000, 1000, 240
 # how many requests a process refuses in turn, and the time limit of a run in seconds
 SHARE, LIMIT = 40, 60
-# the least bytes that a sink takes at a time
+# the least bytes that a sink takes at a time, except the last time
 CHUNK = 1 << 16
 SHOWN = 20
 CALL, HERE, WHOLE, DEVICE, PASSED, FAILED = "refused calls", "refused here", "whole answers", "device first", "passed over", "failed"

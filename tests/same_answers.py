@@ -3,7 +3,7 @@
 
     [CASES=20000] [SEED=1] [JOBS=N] tests/same_answers PROGRAM OTHER
 
-The reports are drawn and broken as in tests/malformed; one in four is long enough to be read in pieces. A hundred reports
+The reports are drawn and broken as in tests/malformed; about one in four is long enough to be read in pieces. A hundred reports
 and a sheet go into one `merge`. Both programs must print the same bytes and lines, and end with the same status; so each
 refusal has the same reason and place.
 
@@ -42,7 +42,7 @@ def answer(program, names):
 
 
 def play(task):
-    """Plays a batch. Returns the counts of its results, and the differences between the programs."""
+    """Runs a batch. Returns the counts of its results, and the differences between the programs."""
     programs, number, count = task
     chance = random.Random(f"{malformed.SEED} of {number}")
     room = tempfile.mkdtemp(prefix="same-answers-")

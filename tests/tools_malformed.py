@@ -138,7 +138,7 @@ def drawn_taxonomy(chance):
 
 
 def drawn_facts(chance):
-    """Returns the facts of a merged text: rows in order, each with one to four facts."""
+    """Returns the facts of a merged text: rows in order, each with one to three facts."""
     facts = []
     for concept in sorted(chance.sample("AQT", chance.randint(1, 3))):
         for period in sorted(chance.sample(["2020-01-01T00:00:00", "2020-01-02T00:00:00", "2021-01-01T00:00:00/2022-01-01T00:00:00"], 2)):
@@ -351,7 +351,7 @@ KINDS = {of_taxonomy: 3, of_union: 2, of_report: 6, of_text: 6, of_labels: 2}
 
 
 def play(case):
-    """Plays a case. Returns the count of its result, and any fault that it found."""
+    """Runs a case. Returns the counts of its results, and any fault that it found."""
     chance, room = random.Random(f"{SEED} {case}"), Room(case)
     kind = chance.choices([*KINDS], [*KINDS.values()])[0]
     with tempfile.TemporaryDirectory(prefix="tools-malformed-") as folder:

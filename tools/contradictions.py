@@ -20,7 +20,7 @@ are used. --taxonomy makes the sheet first and writes it as sheet.json; the opti
 changes.csv.
 
 --near NEAR.csv writes a table of pairs of rows that differ in one dimension only, perhaps by mistake: the same name or
-identifier in another namespace or scheme, other letter case or white space, moments at most a day apart, another unit or
+identifier in another namespace or scheme, other letter case or white space, dates at most a day apart, another unit or
 language, or a dimension that one row lacks. Pairs are left out if one provider reports both rows. For each set of rows that
 differ in the same dimension, at most 1,000 pairs are compared.
 
@@ -28,13 +28,12 @@ differ in the same dimension, at most 1,000 pairs are compared.
 and --names lists the providers in the order of the reports. Instead of both, you can name the merged report of each
 provider's own reports, as PROVIDER=TEXT.
 
-The page shows at most 80 characters of an identifier, a URI or a text; the tables contain them whole. In the tables, a '
-precedes each text that a spreadsheet would read as a formula.
+The page and changes.csv show at most 80 characters of an identifier, a URI or a text; the other tables contain them whole.
+In the tables, a ' precedes each text that a spreadsheet would read as a formula.
 
 Status 0: all reports were read without loss, and there is no contradiction. 1: the files are written, and there is something
 to look at: a contradiction, a refused report, a loss of --normalise or --taxonomy, or pairs that --near did not compare
-(0 with --exit-zero). 2: invalid arguments. 3: not done: an input cannot be read, the inputs do not belong together, or an
-output cannot be written. Then no output has changed.
+(0 with --exit-zero). 2: invalid arguments. 3: not done, and standard error says why. Then no output has changed.
 """
 from __future__ import annotations
 
@@ -75,7 +74,7 @@ def read_options() -> argparse.Namespace:
     parser.add_argument("--language", default="en", help="the language of the labels, by default en")
     parser.add_argument("--near", metavar="NEAR.csv", help="write a table of pairs of rows that are nearly alike")
     parser.add_argument("--exit-zero", action="store_true", help="return 0 instead of 1")
-    parser.add_argument("--sources", metavar="SOURCES", help="with --from: what `sources` printed")
+    parser.add_argument("--sources", metavar="SOURCES", help="with --from: the output of `xbrlmerge sources`")
     parser.add_argument("--names", metavar="NAME,..", help="with --sources: the providers, in the order of the reports")
     parser.add_argument("words", nargs="*", metavar="[NAME=]REPORT", help="the reports")
     add_losses(parser, "options of --normalise that lose something")
@@ -85,7 +84,7 @@ def read_options() -> argparse.Namespace:
 
 
 def check(parser: argparse.ArgumentParser, options: argparse.Namespace) -> None:
-    """Ends with the usage if options do not fit together."""
+    """Exits with a usage error if options do not fit together."""
     if options.texts:
         if options.normalise or options.program:
             parser.error("--from takes neither --normalise nor --program")
@@ -94,7 +93,7 @@ def check(parser: argparse.ArgumentParser, options: argparse.Namespace) -> None:
         if options.names and not all(options.names.split(",")):
             parser.error("a name is empty")
     elif not options.words or options.sources or options.names:
-        parser.error("name the reports; --sources and --names go with --from alone")
+        parser.error("name the reports; --sources and --names need --from")
     if loses(options) and not options.normalise:
         parser.error("options that lose something need --normalise")
     try:
@@ -113,7 +112,7 @@ def outputs_of(options: argparse.Namespace) -> list[str]:
 
 
 def inputs_of(options: argparse.Namespace) -> list[str]:
-    """Returns the input files. Errors: ValueError if a name or a report has two meanings."""
+    """Returns the input files. Errors: ValueError, as in `reports_of`."""
     inputs = [*options.labels, *(options.taxonomy or []), *[options.sheet] * bool(options.sheet)]
     if options.texts:
         return [*inputs, *options.texts, *[options.sources] * bool(options.sources), *(word.partition("=")[2] for word in options.words)]

@@ -4,26 +4,26 @@
     tools/make_sheet FILE.xsd | PACKAGE.zip | FOLDER .. > sheet.json
     tools/make_sheet --union SHEET .. > sheet.json
 
-A schema is read together with the schemas that it imports and includes. In a folder or package, every schema is read.
+A schema is read together with the schemas that it imports, includes or redefines. In a folder or package, every .xsd file is
+read.
 Nothing is downloaded: a schema that is imported by URL must be in a named folder or package whose META-INF/catalog.xml maps
 the URL to it. The schemas of the specifications, at xbrl.org and w3.org, are not needed: their item types are built in.
 
 Enumeration sets are listed as text, and in the member xbrlmerge:sets, which tools/normalise reads. Standard error lists
-the parts that are left out: fractions, other texts that contain prefixes (which would not be expanded), and elements with
-an unknown type or substitution group.
+the parts that are left out: fractions, texts that contain prefixes (which would not be expanded), elements with an unknown
+type or substitution group or in a reserved namespace, and schemas without a namespace that no schema includes.
 
-Files may come from untrusted sources. Only regular files are read, and only those in a named folder, in the folder of a
-named file, or in a package. The limits are:
+Files may come from untrusted sources. Only regular files are read, and, without --outside, only those in a named folder, in
+the folder of a named file, or in a package. The limits are:
     64 MB for a file
     100,000 files in a package, paths of 1,024 characters, and 100 times its size plus 64 MB when unpacked
     1,000 levels in a document, which must not have a document type
     1,000 different lengths of uriStartString in the catalogs
-    4 MB for schemas without a namespace, counted again for each additional namespace that includes them
+    4 MB for schemas without a namespace that are read again, once for each additional namespace that includes them
 --megabytes N replaces 64 with N, and 4 with N / 16.
 
-Status 0: done. 1: done, but something is left out. 2: invalid arguments. 3: not done: an input is missing or
-cannot be read, sheets give one name two kinds, or standard output or standard error is full. Standard output then contains at
-most a part of a sheet.
+Status 0: done. 1: done, but something is left out. 2: invalid arguments. 3: not done, and standard error says why. Standard
+output then contains at most a part of a sheet.
 """
 import argparse
 import sys

@@ -10,7 +10,7 @@ from process import shortened
 SPACE = " \t\r\n"  # the white space of XML and xBRL-JSON; other Unicode spaces are part of a name
 PART = re.compile(rf"[^{SPACE}:]+")
 NAME = re.compile(f"({PART.pattern}):({PART.pattern})")
-XBRL = "https://xbrl.org/2021"  # the reserved namespace; no concept or dimension of a report belongs to it
+XBRL = "https://xbrl.org/2021"  # the reserved namespace; a sheet lists no name in it
 
 Uris = Mapping[str, str]  # by prefix
 
@@ -33,6 +33,6 @@ def expanded(text: Any, uris: Uris) -> Optional[Name]:
 
 
 def uris_of(namespaces: Any) -> Uris:
-    """Returns the URIs of the prefixes that are bound to a text."""
+    """Returns the URIs by prefix. Prefixes that are not bound to a text are left out."""
     pairs = namespaces.items() if isinstance(namespaces, dict) else ()
     return {prefix: sys.intern(uri) for prefix, uri in pairs if type(uri) is str}

@@ -4,12 +4,12 @@
     tools/normalise REPORT OUT CHANGES.jsonl [--sheet SHEET] [options]
 
 REPORT is an xBRL-JSON report. OUT is the new report, on one line. CHANGES.jsonl contains a line for each change: the fact,
-the JSON pointer, the old value (was), the new value (now; absent if the member was removed), the rule, and whether
-something was lost. Identifiers, URIs and texts are shortened to 80 characters. Without options, nothing is lost. Some
-rules need the kind of a concept or dimension, and act only if SHEET lists it. If a value cannot be brought into the
-profile, standard error says where and why. docs/GUIDE.md describes the rules.
+the JSON pointer, the old value (was), the new value (now) if there is one, the rule, and whether something was lost.
+Identifiers, URIs and texts are shortened to 80 characters. Without options, nothing is lost. Some rules need the kind of a
+concept or dimension, and act only if SHEET lists it. If a rule has to leave a value outside the profile, such as a moment
+with a time zone, standard error says where and why. docs/GUIDE.md describes the rules.
 
---drop-unreadable runs the program `xbrlmerge` of the same version, and drops the facts that it refuses.
+--drop-unreadable runs the program `xbrlmerge`, which should have the same version, and drops the facts that it refuses.
 
 Status 0: nothing was lost. 1: something was lost. 2: invalid arguments. 3: not done, and nothing is written.
 """
@@ -44,7 +44,7 @@ def read_options() -> argparse.Namespace:
         parser.error("--drop-unknown and --drop-unreadable need --sheet")
     files = [options.REPORT, options.OUT, options.CHANGES, *([options.sheet] if options.sheet else [])]
     if len({*map(os.path.realpath, files)}) < len(files):
-        parser.error("REPORT, OUT, CHANGES and SHEET are not all different files")
+        parser.error("REPORT, OUT, CHANGES and SHEET must be different files")
     return options
 
 

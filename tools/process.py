@@ -118,8 +118,8 @@ def fill_standard_files() -> None:
     """Opens the null device in place of each closed standard stream, in the wrong direction, so that each use fails.
 
     Otherwise the next file that is opened would get its number, and lines for standard error would go into that file.
-    Both streams are buffered, even if PYTHONUNBUFFERED is set: an unbuffered stream may take a part of the bytes and raise no
-    exception.
+    Standard output and standard error are buffered, even if PYTHONUNBUFFERED is set: an unbuffered stream may take a part of
+    the bytes and raise no exception.
     """
     for number, mode in enumerate((os.O_WRONLY, os.O_RDONLY, os.O_RDONLY)):
         try:

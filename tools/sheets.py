@@ -1,4 +1,4 @@
-"""Concept sheets, with the conditions under which `xbrlmerge` accepts them."""
+"""Concept sheets, with the conditions under which `xbrlmerge` accepts them, and more for the list of sets."""
 from __future__ import annotations
 
 from typing import Any, Mapping

@@ -46,9 +46,9 @@ class Output:
 def write_files(texts: Iterable[tuple[str, Iterable[str]]]) -> None:
     """Writes all files or none. `texts` lists their paths and pieces.
 
-    Each file is written in a new folder beside its place, then moved there. It keeps the permissions of the file that it
-    replaces, and its owner and group if that is permitted. A signal that `process.run` handles removes the new files.
-    Errors: OSError, and exceptions of the pieces. Every place is then unchanged.
+    Each file is written in a new folder beside its place, then moved to its place. It keeps the permissions of the file that
+    it replaces, and its owner and group if that is permitted. After a signal that `process.run` handles, the new files are
+    removed. Errors: OSError, and exceptions of the pieces. Every place is then unchanged.
     """
     with files_written(texts):
         pass
@@ -96,7 +96,7 @@ def put_in_place(outputs: list[Output]) -> None:
     """Moves all outputs to their places, or leaves every place unchanged."""
     if len({output.place for output in outputs}) < len(outputs):
         raise OSError("two outputs are one file")
-    for output in outputs[:-1]:  # if the last one cannot be moved, these are moved back
+    for output in outputs[:-1]:  # the last one is never moved back, because nothing is moved after it
         output.keep_old()
     moved: list[Output] = []
     try:

@@ -4,10 +4,10 @@
     tests/normalise/run [PROGRAM [DRAWN]]
 
 Each report in cases.jsonl is normalised with its options. `check` must accept or refuse the result as the case says, and the
-output files must equal the files beside the report. If nothing is lost and the report was accepted before, `check` and
-`verdicts` must print the same for both. With a set of names only `check` must, because sets are spelled differently. The
-script also draws DRAWN reports, 200 by default. A report and its spelling by another tool must produce the same lines; a
-report outside the profile must be accepted with all options.
+output files must equal the files beside the report. If nothing is lost and the report was accepted before, `check`,
+`verdicts` and `merge` must print the same for both. With a set of names only `check` must, because sets are spelled
+differently. The script also draws reports from DRAWN seeds, 200 by default. For a report and its spelling by another tool,
+the program must print the same; a report outside the profile must be accepted with all options.
 
 Status 0: all is as expected. 1: it is not; each difference is printed. 2: invalid arguments, or the program could not be
 run.

@@ -156,7 +156,7 @@ class Providers(ToolTest):
     def test_a_providers_fact_that_was_not_merged(self):
         tree = json.loads(content(MERGED))
         tree["facts"] = {"f1": {**tree["facts"]["f06"], "value": "4.811"}}
-        self.check_refused("a fact is not of", MERGED, SHEET, VERDICTS, "A=" + self.write("own.json", json.dumps(tree)))
+        self.check_refused("a fact does not match", MERGED, SHEET, VERDICTS, "A=" + self.write("own.json", json.dumps(tree)))
 
 
 class Texts(ToolTest):

@@ -203,7 +203,7 @@ class Refused(Stubbed):
         self.assertIn("the sheet lacks 30 concepts: eg:N0, eg:N1, ", told)
         self.assertIn("and 10 more\n", told)
         self.assertIn("the sheet lacks 1 dimension: eg:NAxis\n", told)
-        self.assertIn("--taxonomy PACKAGE, in place of --sheet, makes a sheet that lists all", told)
+        self.assertIn("--taxonomy PACKAGE, in place of --sheet, makes a sheet that lists the", told)
         self.assertIn("eg:N29</p>", content(self.page))
 
 

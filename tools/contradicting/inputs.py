@@ -1,4 +1,4 @@
-"""The inputs of a page: named texts, or texts that the program makes from reports."""
+"""The inputs of a page: named files, or the output of the program for reports."""
 from __future__ import annotations
 
 import argparse
@@ -23,7 +23,7 @@ from sheets import Sheet
 
 File = tuple[str, Iterator[str]]  # the name of a file beside the page, and its pieces
 
-ADVICE = "--taxonomy PACKAGE, in place of --sheet, makes a sheet that lists all concepts and dimensions of a taxonomy"
+ADVICE = "--taxonomy PACKAGE, in place of --sheet, makes a sheet that lists the concepts and dimensions of a taxonomy"
 
 
 @dataclass
@@ -50,7 +50,7 @@ def inputs_named(options: argparse.Namespace) -> Inputs:
 
 
 class Run:
-    """A run of the program on reports, in its own folder."""
+    """Runs the program on reports, in a folder of its own."""
 
     def __init__(self, program: str, options: argparse.Namespace, reports: list[Report], folder: str, progress: Progress) -> None:
         self.options, self.reports, self.folder, self.progress = options, reports, folder, progress
@@ -128,5 +128,5 @@ def output_folder(path: str) -> Iterator[None]:
     except BaseException:
         with contextlib.suppress(OSError):
             if is_made:
-                os.rmdir(path)  # only removes an empty folder
+                os.rmdir(path)  # removes only an empty folder
         raise

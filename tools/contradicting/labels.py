@@ -1,4 +1,4 @@
-"""Reads the standard labels of concepts from taxonomies, as tools/make_sheet reads them."""
+"""Reads the standard labels in taxonomies, with the reader of tools/make_sheet."""
 from __future__ import annotations
 
 from typing import NamedTuple, Optional, Sequence
@@ -26,7 +26,7 @@ class Label(NamedTuple):
 
 
 class Labelled(Taxonomy):
-    """A taxonomy with its label linkbases: the .xml files in the named folders and packages."""
+    """A taxonomy with the labels in the .xml files of the named folders and packages."""
 
     def __init__(self, files: Files, language: str) -> None:
         self.language = language.lower()
@@ -53,7 +53,7 @@ class Labelled(Taxonomy):
 
 
 class Link:
-    """The parts of an extended link. If several labels have the same place in it, the preferred one is kept."""
+    """The parts of an extended link. If several labels have the same xlink:label, the preferred one is kept."""
 
     def __init__(self, level: int) -> None:
         self.level = level
@@ -67,14 +67,14 @@ class Link:
 
 
 class Linkbase(Visitor):
-    """Reads the standard labels of one language and its dialects."""
+    """Keeps the standard labels of one language and its dialects."""
 
     takes_text = True
 
     def __init__(self, taxonomy: Labelled, place: str) -> None:
         self.taxonomy, self.place = taxonomy, place
         self.link: Optional[Link] = None
-        self.opened: Optional[tuple[str, bool]] = None  # the label being read: its place, and whether it is a dialect's
+        self.opened: Optional[tuple[str, bool]] = None  # the label being read: its xlink:label, and whether it is in a dialect
         self.pieces: list[str] = []
 
     def start(self, element: Element, level: int) -> None:

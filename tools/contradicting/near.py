@@ -12,7 +12,7 @@ from names import Name
 
 COLUMNS = ["pair", "differs", "row", "fact", *DIMENSIONS, *"value decimals low high providers label".split()]
 MOST_PAIRS = 1_000  # pairs compared for each set of rows that differ only in the same dimension
-MOST_FACTS = 10_000  # the most facts in these pairs; the last pair may exceed it
+MOST_FACTS = 10_000  # the most facts in the pairs that are found; the last pair may exceed it
 WORD = (1 << 64) - 1
 
 Axis = Union[str, Name]
@@ -32,9 +32,9 @@ class Near:
     """Pairs of rows that differ in one dimension only, perhaps by mistake. No provider reports both rows of a pair.
 
     The difference may be: an entity, a concept or an explicit member with the same local part in another namespace; letter
-    case or white space; moments at most a day apart; another unit or language; a dimension that one of the two lacks.
-    Rows that differ only in the same dimension are sorted, and neighbours are compared, up to a limit. `cut` counts the
-    pairs that are not compared.
+    case or white space; dates at most a day apart; another unit or language; a dimension that one of the two lacks.
+    Of the rows that differ only in the same dimension, the nearest ones are compared first, up to a limit. `cut` counts
+    the pairs that are not compared.
     """
 
     def __init__(self, providers: Sequence[str]) -> None:
@@ -51,7 +51,7 @@ class Near:
         self.kept[number] = Kept(dimensions, facts, holders, frozenset(names_of(holders)))
 
     def pairs(self) -> list[tuple[int, int, Axis]]:
-        """Returns the numbers of two rows and the dimension in which they differ, in order."""
+        """Returns the pairs in order: the numbers of two rows, and the dimension in which they differ."""
         self.items = {number: items_of(kept.dimensions) for number, kept in self.kept.items()}
         found: dict[tuple[int, int], Axis] = {}
         for numbers in self.groups():
@@ -59,7 +59,7 @@ class Near:
         return [(*pair, found[pair]) for pair in sorted(found)]
 
     def groups(self) -> Iterator[list[int]]:
-        """Yields the numbers of two or more rows that differ in one dimension only, in order.
+        """Yields groups of rows that differ only in the same dimension: the numbers of the rows, in order.
 
         Dimensions are compared by a sum of hashes, so leaving one out is a subtraction. `difference` checks the result.
         """
@@ -102,8 +102,8 @@ class Near:
         return axes[0] if shared else None
 
     def notes(self) -> list[str]:
-        told = f"{self.cut} pairs of rows were not compared: of rows that differ in the same dimension alone, at most"
-        return [f"--near: {told} {MOST_PAIRS} pairs, or about {MOST_FACTS} facts, are"] if self.cut else []
+        told = f"{self.cut} pairs of rows were not compared: for each set of rows that differ in the same dimension, at most"
+        return [f"--near: {told} {MOST_PAIRS} pairs, or about {MOST_FACTS} facts, are compared"] if self.cut else []
 
     def table(self, pairs: list[tuple[int, int, Axis]], labels: Mapping[Name, str]) -> Iterator[Sequence[str]]:
         """Yields the lines of the table: the facts of both rows in each pair."""

@@ -1,11 +1,11 @@
-// Shows more rows on request. Without scripts there is no filter, and `noscript` says where the rows are.
+// Opens groups and filters rows. Without scripts there is no filter, and `noscript` names the table with the rows.
 const box = document.querySelector(".filter"), [field, told] = [box.querySelector("input"), box.querySelector("output")];
 const list = document.querySelector(".list"), found = document.querySelector(".found"), MOST = 100;
 const groups = [...document.querySelectorAll("details.group")], texts = groups.map(group => group.querySelector("script"));
 const SIGNS = {"&amp;": "&", "&lt;": "<", "&gt;": ">", "&quot;": '"', "&#x27;": "'"};
 let rows, waiting;
 
-// A closed group keeps its rows as text, which costs the browser almost nothing.
+// Until a group is opened, its rows are text, which costs the browser almost nothing.
 function load(group) {
   const text = group.querySelector("script");
   if (text) text.outerHTML = text.textContent;

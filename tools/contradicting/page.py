@@ -1,7 +1,8 @@
 """The page of contradictions. It begins with the largest differences; an index by concept and groups with the other rows
 follow.
 
-It shows at most 80 characters of an identifier, a URI or a text, because it repeats them. The table contains them in full.
+It shows at most 80 characters of an identifier, a URI or a text, because it repeats them. The table of contradictions
+contains them in full.
 """
 from __future__ import annotations
 
@@ -22,7 +23,7 @@ from process import MOST_CHARACTERS, printable, shortened
 Labels = Mapping[Name, str]
 
 FIRST = 100  # rows before the index; the others are loaded on request, so that the browser paints these at once
-CHUNK = 100  # rows of one concept that are loaded together
+CHUNK = 100  # the most rows of one concept that are loaded together
 HERE = os.path.dirname(os.path.abspath(__file__))
 WORDS = {"inconsistent": "contradictions", "consistent": "consistent within rounding", "complete": "reported once"}
 ROW_HEAD = '<table cellspacing="0"><tr><th>Fact<th>Reported by<th>Value<th>Decimals<th>From<th>To'
@@ -34,7 +35,7 @@ def part(name: str) -> str:
 
 
 def page(rows: list[Row], reader: Reader, labels: Labels, refusals: Refusals) -> Iterator[str]:
-    """Yields the pieces of the page. Its policy permits only its own script."""
+    """Yields the pieces of the page. Its policy permits no script except its own."""
     script = part("page.js")
     known = base64.b64encode(hashlib.sha256(script.encode()).digest()).decode()
     policy = f"default-src 'none'; style-src 'unsafe-inline'; script-src 'sha256-{known}'"
@@ -42,8 +43,8 @@ def page(rows: list[Row], reader: Reader, labels: Labels, refusals: Refusals) ->
 <meta http-equiv="Content-Security-Policy" content="{policy}">
 <meta name="viewport" content="width=device-width"><style>{part("page.css")}</style></head><body><h1>Contradictions</h1>
 <p class="counts">{"".join(f"<span><b>{count}</b>{word}</span>" for count, word in counts(reader, refusals))}</p>
-<p>A value with decimals represents all numbers within half of its last decimal place. The two facts in red have no number
-in common. A row that is reported once has one value, from one provider or several. Long texts are cut to {MOST_CHARACTERS}
+<p>A value with decimals represents all numbers within half of its last decimal place. The two facts in red contradict each
+other. A row that is reported once has one value, from one provider or several. Long texts are cut to {MOST_CHARACTERS}
 characters near the first difference; contradictions.csv has them whole.</p>
 """
     yield from refused(refusals)
@@ -51,7 +52,7 @@ characters near the first difference; contradictions.csv has them whole.</p>
 <div class="found"></div><div class="list">"""
     largest = sorted(rows, key=order)
     if len(rows) > FIRST:
-        yield f"<h2>The {FIRST} largest differences</h2>\n<p>Rows with a text or a nil value come first.</p>"
+        yield f"<h2>The {FIRST} largest differences</h2>\n<p>Rows with a text, a name or a nil value come first.</p>"
     for row in largest[:FIRST]:
         yield from section(row, reader, labels)
     yield from by_concept(largest, reader, labels)
@@ -59,7 +60,7 @@ characters near the first difference; contradictions.csv has them whole.</p>
 
 
 def counts(reader: Reader, refusals: Refusals) -> Iterator[tuple[int, str]]:
-    """Yields the counts: rows of each kind, rows that only one provider reported, and refused reports."""
+    """Yields the counts: rows of each kind, rows with one fact from one provider, and refused reports."""
     yield from ((reader.counts[verdict], word) for verdict, word in WORDS.items())
     if reader.providers:
         yield reader.counts["alone"], f"of these reported by {reader.said_by(1)}"
@@ -68,7 +69,7 @@ def counts(reader: Reader, refusals: Refusals) -> Iterator[tuple[int, str]]:
 
 
 def refused(refusals: Refusals) -> Iterator[str]:
-    """Yields the pieces that list the refused reports, each with the lines that `explain` prints."""
+    """Yields the pieces that list the refused reports, each with its first faults as `explain` prints them."""
     if refusals.reports:
         yield '<section class="refused"><h2>Refused reports</h2><p>The page has no figures from these reports.</p>'
         yield "".join(f"<p>{html.escape(printable(line))}</p>" for line in refusals.lacking_lines())
@@ -79,7 +80,7 @@ def refused(refusals: Refusals) -> Iterator[str]:
 
 
 def order(row: Row) -> tuple[int, Decimal, int]:
-    """Returns the sort key. Rows with a text or nil come first, then the largest differences, as shares of the larger value."""
+    """Returns the sort key. Pairs that are not both numbers come first, then the largest differences, as `Row.share` counts them."""
     share = row.share()
     return (0, Decimal(0), row.number) if share is None else (1, -share, row.number)
 
@@ -108,7 +109,7 @@ def by_concept(rows: Iterable[Row], reader: Reader, labels: Labels) -> Iterator[
 
 
 def group(rows: list[Row], start: int, anchor: str, reader: Reader, labels: Labels) -> Iterator[str]:
-    """Yields the pieces for some rows of one concept. They are the text of a data block until the group is opened."""
+    """Yields the pieces for some rows of one concept. The rows are the text of a data block until the group is opened."""
     concept, last = concept_of(rows[0]), min(start + CHUNK, len(rows))
     name = f"<bdi>{escaped(labels[concept])}</bdi>" if concept in labels else shown_name(concept)
     told = f"{start + 1} to {last} of {len(rows)} rows" if len(rows) > CHUNK else f"{last} row{'s' * (last > 1)}"
@@ -121,7 +122,7 @@ def group(rows: list[Row], start: int, anchor: str, reader: Reader, labels: Labe
 def dimensions_of(row: Row) -> Dimensions:
     """Returns the dimensions of a row, which must contain a contradiction."""
     if row.dimensions is None:
-        raise LookupError(f"row {row.number} does not contradict itself")
+        raise LookupError(f"row {row.number} is not a contradiction")
     return row.dimensions
 
 
@@ -158,7 +159,7 @@ def section(row: Row, reader: Reader, labels: Labels) -> Iterator[str]:
 
 
 class NumberLine(NamedTuple):
-    """The line on which the intervals of a row are drawn: its ends, and the gap that contains no interval, if any."""
+    """The line on which the intervals of a row are drawn: its ends, and the gap between the pair, if both are numbers."""
 
     low: Decimal
     high: Decimal
@@ -188,7 +189,7 @@ def below(line: NumberLine, unit: str) -> str:
 
 
 def start_of_cut(values: Iterable[Value]) -> int:
-    """Returns where the shown parts of a row's texts begin: a little before the first difference."""
+    """Returns where the shown parts of a row's long texts begin: a little before the first difference."""
     texts = [value for value in values if isinstance(value, str)]
     return max(len(os.path.commonprefix(texts)) - MOST_CHARACTERS // 2, 0) if len(texts) > 1 else 0
 

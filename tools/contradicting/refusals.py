@@ -6,8 +6,8 @@ from typing import Any, Iterable, Iterator, Mapping, NamedTuple
 
 from process import shortened
 
-MOST_LINES = 20  # shown faults of one report
-MOST_NAMES, MOST_PRINTED = 1_000, 20  # names that a sheet lacks: how many are kept and shown
+MOST_LINES = 20  # the most faults of one report that are shown
+MOST_NAMES, MOST_PRINTED = 1_000, 20  # the most concepts, and dimensions, that the sheet lacks: on the page, and printed
 LACKING = {"UnknownConcept": "concept", "UnknownDimension": "dimension"}  # refusals that another sheet may avoid
 
 

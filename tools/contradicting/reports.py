@@ -18,7 +18,7 @@ class Report(NamedTuple):
 def reports_of(words: Iterable[str]) -> list[Report]:
     """Returns the reports that are named as FILE or NAME=FILE. A file that is repeated under one name is returned once.
 
-    Without NAME the provider is named after the file. Errors: ValueError if a name or a file has two meanings.
+    Without NAME the provider is named after the file. Errors: ValueError if a name or a file has two meanings or is empty.
     """
     reports: dict[str, Report] = {}
     first: dict[str, tuple[bool, str]] = {}
@@ -50,7 +50,7 @@ def written(name: str) -> str:
 
 
 def check_files(paths: Iterable[str]) -> None:
-    """Raises an error for a file that can be read only once. Errors: NotDone, OSError."""
+    """Rejects files that are not regular, because a FIFO can be read only once. Errors: NotDone, OSError."""
     for path in paths:
         if not stat.S_ISREG(os.stat(path).st_mode):
             raise NotDone(f"{path} is not a regular file")

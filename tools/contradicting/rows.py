@@ -43,7 +43,7 @@ class Fact(NamedTuple):
     decimals: Optional[int]
 
     def interval(self) -> Interval:
-        """Returns the least and the greatest number that round to the value."""
+        """Returns the least and the greatest number that the value represents."""
         if not isinstance(self.value, Decimal):
             raise TypeError(f"{self.value} is not a number")
         return interval_of(self.value, self.decimals)
@@ -59,11 +59,11 @@ class Fact(NamedTuple):
 class Row(NamedTuple):
     """The facts of one row by identifier, its verdict, and the providers of each fact.
 
-    The gap is the interval between the two facts that contradict each other, or None if they are not numbers.
+    The gap lies between the intervals of the two facts that contradict each other. It is None unless both are numbers.
     """
 
     number: int
-    dimensions: Optional[Dimensions]  # None, like the facts, if the row is not a contradiction
+    dimensions: Optional[Dimensions]  # None if the row is not a contradiction; `facts` is then empty
     facts: Mapping[str, Fact]
     said: re.Match[str]
     holders: Mapping[str, Holders]
@@ -75,7 +75,7 @@ class Row(NamedTuple):
         return self.said["one"], self.said["two"]
 
     def share(self) -> Optional[Decimal]:
-        """Returns the difference of the pair as a share of the larger value, or None if they are not numbers."""
+        """Returns the difference of the pair as a share of the larger absolute value, or None unless both are numbers."""
         one, two = (self.facts[name].value for name in self.pair)
         if not isinstance(one, Decimal) or not isinstance(two, Decimal):
             return None
@@ -83,7 +83,7 @@ class Row(NamedTuple):
 
 
 class RowObserver(Protocol):
-    """Receives rows that are not contradictions."""
+    """Receives the rows that it wants."""
 
     def wants(self, holders: Mapping[str, Holders]) -> bool: ...
 
@@ -91,7 +91,7 @@ class RowObserver(Protocol):
 
 
 class FactSources(Protocol):
-    """Gives the providers of a fact. Ask for each fact once, in order."""
+    """Returns the providers of a fact. Ask for each fact once, in order."""
 
     names: list[str]
 
@@ -149,7 +149,7 @@ class Reader:
         self.listed.append((row.number, verdict, names[0], names[-1], self.said_by(len(who)), ", ".join(sorted(who))))
 
     def said_by(self, count: int) -> str:
-        """Returns in words how many providers report a row. The text is empty if there are no providers."""
+        """Returns a text such as "2 of 3" if 2 of 3 providers report a row. It is empty if there are no providers."""
         return f"{count} of {self.providers}" if self.providers else ""
 
     def row(self, number: int, facts: dict[str, Tree], line: str) -> Optional[Row]:

@@ -19,7 +19,7 @@ SEPARATOR = re.compile("[\t\r\n]")
 DIMENSIONS = "concept entity period unit language dimensions".split()
 COLUMNS = ["row", "fact", *DIMENSIONS, *"value decimals low high evidence providers identifiers said_by label".split()]
 LISTED = "row verdict first last said_by providers".split()
-LONGEST_ROW, LONGEST_TABLE = 1 << 24, 1 << 30  # characters in the dimensions of one row, and in all lines
+LONGEST_ROW, LONGEST_TABLE = 1 << 24, 1 << 30  # the most characters in the dimensions of one row, and of all lines
 
 Cell = Union[Value, int]
 
@@ -64,7 +64,7 @@ def guarded(found: re.Match[str]) -> str:
 
 
 def check_lengths(rows: Iterable[tuple[Dimensions, int]]) -> None:
-    """Raises NotDone if a table would be too long. `rows` has dimensions with a count of facts; each fact repeats them."""
+    """Raises NotDone if a table would be too long. `rows` lists dimensions with a count of facts; each fact repeats them."""
     total = 0
     for dimensions, facts in rows:
         length = length_of(dimensions)
@@ -72,7 +72,7 @@ def check_lengths(rows: Iterable[tuple[Dimensions, int]]) -> None:
         if length > LONGEST_ROW:
             raise NotDone(f"the dimensions of one row, with the URI of each name, have more than {LONGEST_ROW} characters")
     if total > LONGEST_TABLE:
-        raise NotDone(f"a table, with the URI of each name in each line, would have more than {LONGEST_TABLE} characters")
+        raise NotDone(f"the dimensions in a table, with the URI of each name, have more than {LONGEST_TABLE} characters")
 
 
 def length_of(dimensions: Dimensions) -> int:

@@ -17,12 +17,12 @@ WHITE = " \t\r\n"  # `in` is also true for the empty text, which means the end o
 SPACE = re.compile(r"[ \t\r\n]*")
 FACT = re.compile(r'(,?)[ \t\r\n]*"(f\d+)"[ \t\r\n]*:[ \t\r\n]*(?={)')
 CORE = ("concept", "entity", "period", "unit", "language")
-DIGITS = 18  # the most digits of a whole number; longer ones stay texts, since parsing takes quadratic time
+DIGITS = 18  # the most characters of a whole number; longer ones stay texts, since parsing takes quadratic time
 
 
 @contextlib.contextmanager
 def using(path: str) -> Iterator[None]:
-    """Adds the name of the file to an exception."""
+    """Turns an exception into NotDone, with the name of the file."""
     try:
         yield
     except (OSError, ValueError, LookupError, TypeError, AttributeError, ArithmeticError, RecursionError) as fault:
@@ -88,7 +88,7 @@ class Text:
                 raise ValueError("something follows it")
 
     def fact(self, is_behind: bool) -> tuple[str, Tree]:
-        """Returns the next fact and its name. A fact that the piece contains completely is found in one step."""
+        """Returns the identifier and the tree of the next fact. Usually one pattern matches all before its object."""
         found = FACT.match(self.piece, self.at)
         if found and bool(found[1]) == is_behind:
             self.at = found.end()
@@ -139,7 +139,7 @@ class Text:
         return self.piece[self.at : self.at + 1]
 
     def fill(self) -> bool:
-        """Reads more, twice as much each time, and returns whether anything was left."""
+        """Reads PIECE characters, or as many as are still unread in the piece if those are more. Returns whether any were left."""
         self.piece = self.piece[self.at :]
         self.at = 0
         more = self.file.read(max(PIECE, len(self.piece)))
@@ -168,7 +168,7 @@ class Provider:
             return
 
     def fault(self) -> str:
-        return f"{self.text.path}, in which a fact is not of {self.merged}"
+        return f"{self.text.path}: a fact does not match {self.merged}"
 
     def said(self, tree: Tree) -> bool:
         """Returns whether the provider reported a fact of the merged report. Ask for each fact once, in order."""
@@ -178,10 +178,10 @@ class Provider:
         return is_said
 
     def finish(self) -> None:
-        """Raises an error if `said` was not called for a fact."""
+        """Raises an error if the merged report lacks a fact of the provider."""
         with using(self.fault()):
             if self.head is not None:
-                raise ValueError("it is not one of its facts, or it is in the wrong place")
+                raise ValueError("it is missing there, or is in the wrong place")
 
     def respelled(self, tree: Tree) -> Tree:
         """Returns a fact with the prefixes of the merged report."""

@@ -1,4 +1,4 @@
-"""The options of normalising with which something is lost."""
+"""The options of tools/normalise that lose something."""
 from __future__ import annotations
 
 import argparse

@@ -77,7 +77,7 @@ class FactReader:
         self.sheet, self.options, self.uris, self.room = sheet, options, uris, room
 
     def read(self, name: str, fact: Tree, log: Log, kept: dict[str, Tree]) -> None:
-        """Keeps the changed fact under its name. Other changes in a dropped fact are not logged."""
+        """Keeps the changed fact under its name, or drops it. Other changes in a dropped fact are not logged."""
         changed = fact
         if isinstance(fact, dict):
             changed = {**fact}
@@ -195,7 +195,7 @@ def kind_of(name: Optional[Name], kinds: Kinds) -> Optional[str]:
 
 
 def trimmed(key: str, text: str) -> str:
-    """Returns a text without white space around its tokens. Space at the end of an identifier is part of it, and stays."""
+    """Returns a text without white space around its tokens. Space at the end of an entity is part of it, and stays."""
     if key == "entity":
         return text.lstrip(SPACE)
     signs = {"period": "([/])", "unit": "([*/()])"}.get(key)
@@ -211,7 +211,7 @@ def whole_number(text: str) -> Optional[str]:
 
 
 def plain_number(scientific: re.Match[str]) -> Optional[str]:
-    """Returns the same number without an exponent, or None if it has more than 18 significant digits."""
+    """Returns the same number without an exponent, or None if it then has more than 18 digits."""
     if not scientific["mantissa"].strip("0."):
         return "0"
     try:

@@ -16,7 +16,7 @@ MOST_LENGTHS = 1_000  # different lengths of uriStartString; a lookup tries each
 
 @dataclass(frozen=True)
 class Rewrite:
-    """A URL with this prefix is a file at this path, relative to the catalog."""
+    """A rule: in a URL, `start` is replaced by `prefix`, and the result is a path relative to the catalog."""
 
     start: str
     prefix: str

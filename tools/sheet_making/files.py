@@ -21,7 +21,7 @@ class Files:
         self.packed: dict[str, Package] = {}
         self.listed: list[str] = []  # files that are named, or are in a named folder or package
         self.named: set[str] = set()
-        self.folders: set[str] = set()  # files on disk are only read in these folders
+        self.folders: set[str] = set()  # files on disk are read only in these folders, except with --outside
         for word in dict.fromkeys([os.path.abspath(word) for word in words]):
             with reading(word):
                 self.listed += sorted(self.places_of(word))

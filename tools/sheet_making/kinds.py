@@ -15,7 +15,7 @@ XBRLI = "http://www.xbrl.org/2003/instance"
 ENUMERATIONS_1, ENUMERATIONS_2 = "http://xbrl.org/2014/extensible-enumerations", "http://xbrl.org/2020/extensible-enumerations-2.0"
 REGISTRY = "registry"  # replaces each namespace of the data type registry
 HEADS = {Name(XBRLI, "item"): "concepts", Name(XBRLDT, "dimensionItem"): "dimensions"}
-# No other head in a specification leads to a concept. Schemas at xbrl.org with other paths are taxonomies.
+# No other head in a specification leads to a concept. Namespaces at xbrl.org with other paths belong to taxonomies.
 SPECIFICATION = re.compile(r"https?://(www\.w3\.org/|(www\.)?xbrl\.org/(\d{4}|dtr|lrr)/)")
 REGISTERED = re.compile(r"http://www\.xbrl\.org/dtr/type/(numeric|non-numeric|\d{4}-\d\d-\d\d)")
 # From memory: the item types of XBRL 2.1 (section 5.1.1.3) and of extensible enumerations 1.0 and 2.0, and some of the data
@@ -55,7 +55,7 @@ def listed(name: Name) -> Name:
 
 
 def kinds_of(elements: Mapping[Name, Declaration], types: Mapping[Name, Optional[Name]]) -> tuple[Kinds, list[str]]:
-    """Returns the kinds of concepts and dimensions, and a line for each element that is left out."""
+    """Returns the kinds of concepts and dimensions, and a line for each other element that reports might use."""
     judge = Judge({name: each for name, each in elements.items() if not is_specification(name.uri)}, types)
     kinds: Kinds = {table: {} for table in TABLES}
     lines = []
@@ -79,7 +79,7 @@ class Judge:
         self.bases = ends_of({name: base for name, base in types.items() if is_followed(name)})
 
     def judged(self, name: Name) -> tuple[Optional[str], Optional[str], Optional[str]]:
-        """Returns the table and the kind of an element, or the reason why it has none; neither if it is not a concept."""
+        """Returns the table and the kind of an element, or the reason why it has none; neither if reports cannot use it."""
         head, element = self.heads[name], self.elements[name]
         if head and not is_specification(head.uri):
             return None, None, f"its head {head.shown()} is unknown, or leads to itself"
@@ -106,7 +106,7 @@ def is_followed(name: Name) -> bool:
 
 
 def ends_of(following: Mapping[Name, Optional[Name]]) -> dict[Name, Optional[Name]]:
-    """Returns, for each name, the end of its chain: a name without a successor, or one that is repeated.
+    """Returns, for each name, the end of its chain: None or a name that the mapping lacks, or a name that is repeated.
 
     Each name is visited once, because the ends of visited names are known.
     """

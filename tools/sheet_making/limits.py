@@ -28,7 +28,7 @@ class Limits:
 
 @contextlib.contextmanager
 def reading(path: str) -> Iterator[None]:
-    """Adds the name of the file to an exception."""
+    """Turns an exception into NotDone, with the name of the file."""
     try:
         yield
     except NotDone:

@@ -116,7 +116,7 @@ class SchemaVisitor(Visitor):
                 part.type, part.base_level = base, level
 
     def expanded(self, element: Element, key: str) -> Optional[Name]:
-        """Returns the name in an attribute. A name without a prefix, in a schema without a namespace, is in the wanted
+        """Returns the name in an attribute. In a schema without a namespace, a name without one is in the wanted
         namespace."""
         text = element.get(key)
         if text is None:
