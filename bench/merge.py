@@ -2,12 +2,12 @@
 """Measures xbrlmerge on reports that it makes itself: bench/merge [FOLDER]
 
 There are three workloads, each in two sizes: one report, reports of 50 facts, and eight providers of the same facts. For
-comparison, a peer runs on the same reports: a short program that reads each report with serde_json and writes it back. The
-ratio shows the cost beyond reading and writing JSON. Growth is the exponent: 1 if ten times the facts take ten times as long. It is computed from
-instructions if valgrind is installed, otherwise from processor time. Each written text is checked: it must contain every
-fact once. FOLDER keeps the bundles and texts.
+comparison, a peer runs on the same bundle: a short program that reads each line with serde_json and writes it back. The ratio
+shows the cost beyond reading and writing JSON. Growth is the exponent: 1 if ten times the facts cost ten times as much. It is
+computed from instructions if valgrind is installed, otherwise from processor time. Each merged text is checked: it must
+contain every fact once. FOLDER keeps the peer, the bundles and the texts.
 
-The status is 2 if nothing could be measured.
+The status is 2 if a measurement fails or a merged text is wrong.
 """
 import json
 import math
@@ -58,12 +58,12 @@ fn main(rt: HostRuntime) -> io::Result<()> {
 
 
 class Failure(Exception):
-    """Nothing could be measured."""
+    """A measurement failed, or a merged text is wrong."""
 
 
 def in_child(work, *words):
-    """Runs a function in its own process. A child begins with the memory of this process at its peak, so this one must stay
-    small."""
+    """Runs a function in a child process. The peak memory of later children includes the memory of this process, so it must
+    stay small."""
     sys.stdout.flush()
     child = os.fork()
     if child == 0:
@@ -217,7 +217,7 @@ def instructions(program, bundle):
 
 
 def measure(workload, size, programs, folder):
-    """Returns the seconds, kilobytes and instructions of each program."""
+    """Returns the size of the bundle, and the seconds, kilobytes and instructions of each program."""
     stem = os.path.join(folder, f"{workload.replace(' ', '_')}_{size}")
     bundle = f"{stem}.bundle"
     in_child(write_bundle, workload, size, bundle)

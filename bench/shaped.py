@@ -37,7 +37,7 @@ def numbered(facts):
 
 
 def period(n):
-    """The start of a month, different for each n."""
+    """The start of a month, different for each n below 108,000."""
     return f"{n // MONTHS % YEARS + 1:04}-{n % MONTHS + 1:02}-01T00:00:00"
 
 
@@ -74,7 +74,7 @@ def replaying(replicas, events, *reports):
     return words, {**files, "events.txt": "".join(f"{event}\n" for event in events)}
 
 
-# ---- the shapes; each has the smaller number of the part that it repeats
+# ---- the shapes; SHAPES has the smaller number of parts for each
 
 def namespaces_of_a_report(n):
     return merging(sheet(), report(numbered([fact()]), {"eg": URI, **prefixes(n)}))
@@ -129,13 +129,13 @@ def measures_of_a_unit(n):
 
 
 def measures_beside_a_long_uri(n):
-    """A unit with n measures, whose namespace URI has 5,000 bytes."""
+    """A unit with n measures, whose namespace URI has about 5,000 bytes."""
     names = {"eg": URI, "u": f"{URI}/{'u' * 5_000}"}
     return merging(sheet(), report(numbered([numeric("1", unit="*".join(f"u:m{n - place:07}" for place in range(n)))]), names))
 
 
 def long_uri(names, size):
-    """A sheet and a report with this number of names, of one namespace whose URI has `size` bytes."""
+    """A sheet and a report with this number of names, all in one namespace whose URI has about `size` bytes."""
     bound = {"u": f"{URI}/{'u' * size}"}
     concepts = [f"u:c{place:07}" for place in range(names)]
     return sheet(dict.fromkeys(concepts, "text"), namespaces=bound), report(numbered(fact(concept=name) for name in concepts), bound)
@@ -154,7 +154,7 @@ def names_of_a_long_uri_in_a_sheet(n):
 
 
 def names_and_bytes_of_a_uri_in_a_sheet(n):
-    """n names of a URI of 20 n bytes: a comparison of URIs for each name would take sixteen times."""
+    """n names with a URI of about 20 n bytes. If each name cost a comparison of URIs, 4 n would take sixteen times as much."""
     return merging(long_uri(n, 20 * n)[0], report({}))
 
 
@@ -346,7 +346,7 @@ def takes_of_different_reports(n):
 
 
 def events_of_eight_replicas(n):
-    """n drawn events on replicas of 1,000 facts. Each report leaves out an eighth of them."""
+    """n drawn events on replicas of at most 1,000 facts. Each report leaves out an eighth of them."""
     chance = random.Random(1)
     facts = [numeric(str(place), entity="lei:e", period=period(place), unit="eg:EUR") for place in range(FACTS)]
     reports = [report({f"f{place}": one for place, one in enumerate(facts) if place % REPLICAS != left_out}) for left_out in range(REPLICAS)]

@@ -14,7 +14,7 @@ standard output, in Markdown.
     --program FILE      the program, instead of the built one in crates/xbrlmerge
     --keep FOLDER       keeps the files of each shape there
 
-Status 0: each shape is within the bound. 1: one is not. 2: nothing could be measured.
+Status 0: each shape is within the bound. 1: one is not. 2: a measurement failed.
 """
 import argparse
 import json
@@ -36,7 +36,7 @@ RUNS = 5
 
 
 class Failure(Exception):
-    """Nothing could be measured."""
+    """A measurement failed."""
 
 
 # ---- measuring
@@ -49,7 +49,7 @@ def write_files(files, folder):
 
 
 def run(command, folder):
-    """Runs a command, and returns its standard error and its cost."""
+    """Runs a command, and returns its standard error and the resources that it used."""
     with tempfile.TemporaryFile() as told:
         child = subprocess.Popen(command, cwd=folder, stdin=subprocess.DEVNULL, stdout=subprocess.DEVNULL, stderr=told)
         _, status, used = os.wait4(child.pid, 0)

@@ -1,11 +1,11 @@
 #!/usr/bin/env python3
 """Merges reports in two levels on Dask: examples/fold/fold_dask.py [--calls] SHEET OUT WIDTH FILE ..
 
-Each step merges WIDTH files. It is a process that writes to a file, or with --calls a call of the Python module xbrlmerge,
-whose result goes to the last step as bytes. On a cluster, make a Client first; set TMPDIR to a folder that all machines
-share, or with --calls install the module on each.
+Each step of the first level merges up to WIDTH files, and the last step merges their results. A step is a process that writes
+to a file, or with --calls a call of the Python module xbrlmerge, whose result goes to the last step as bytes. On a cluster,
+make a Client first; set TMPDIR to a folder that all machines share, or with --calls install the module on each.
 Status 0: OUT has every file. 1: files were refused, as standard error says, and OUT has the others; or a step failed: then
-do not use OUT, which may be missing or incomplete (with --calls it is unchanged). 2: invalid arguments.
+do not use OUT, which may be missing, old or incomplete (with --calls it is unchanged). 2: invalid arguments.
 """
 import os
 import shlex
@@ -20,8 +20,8 @@ NODE = os.path.join(os.path.dirname(os.path.abspath(__file__)), "merge_files")
 
 @dask.delayed
 def merge(sheet, out, files, most, _after=()):
-    """Merges files once the earlier steps are done. Only the first step may return status 1: the output of a step is not
-    refused."""
+    """Merges files once the earlier steps are done. Only steps of the first level may return status 1, because the output of
+    a step is not refused."""
     status = subprocess.run([NODE, sheet, out, *files]).returncode
     if not 0 <= status <= most:
         raise SystemExit(f"{out} is not made: status {status}")

@@ -16,14 +16,14 @@ LONGEST_NAME = 64
 
 
 def _load() -> ctypes.CDLL:
-    """Loads the library that XBRLMERGE_LIBRARY names, or the one in the wheel, or the one that ./build --library made."""
+    """Loads the first of these that exists: the library that XBRLMERGE_LIBRARY names, the one in the wheel, the one in lib/."""
     here = os.path.dirname(os.path.abspath(__file__))
     places = (os.environ.get("XBRLMERGE_LIBRARY", ""), os.path.join(here, NAME), os.path.join(here, "..", "..", "lib", NAME))
     found = next((place for place in places if place and os.path.exists(place)), None)
     if found is None:
         raise ImportError(f"xbrlmerge: there is no {NAME}: `./build --library` makes it, and XBRLMERGE_LIBRARY may name it")
     if struct.calcsize("P") != 8 or sys.byteorder != "little":
-        raise ImportError("xbrlmerge: it needs a processor of 64 bits")
+        raise ImportError("xbrlmerge: it needs a little-endian processor of 64 bits")
     # a CDLL lets other Python threads run during a call
     return ctypes.CDLL(os.path.abspath(found))
 
@@ -54,7 +54,7 @@ Row = Tuple[int, int, int]
 
 
 class Answer(NamedTuple):
-    """The result of a call: its status, the text or the number returned instead of it, and the refused reports."""
+    """The result of a call: its status, the text, the number in `needed`, and the refused reports."""
 
     status: int
     text: bytes

@@ -67,7 +67,7 @@ def run_whole(tool, *words):
 def growth(run_at, size):
     """Returns how many times longer a run takes at four times the size: 4 for linear time, 16 for quadratic.
 
-    Each time is the least of three measurements of this process. Time that does not depend on the size lowers the ratio.
+    Each time is the least of three measurements, in processor time. Time that does not depend on the size lowers the ratio.
     """
     def least(at):
         return min(seconds(run_at, at) for _ in range(3))

@@ -1,4 +1,4 @@
-"""Tests of tools/contradictions on texts that should take long, fill the page, or make it fail."""
+"""Tests of tools/contradictions on texts that are made to take long, fill the page, or let the tool fail."""
 import csv
 import itertools
 import json

@@ -1,4 +1,4 @@
-"""Tests of tools/normalise on reports that should take long, fill the list of changes, or make it fail."""
+"""Tests of tools/normalise on reports that are made to take long, fill the list of changes, or let the tool fail."""
 import json
 import os
 import random

@@ -1,5 +1,5 @@
-# Completes the arguments of `xbrlmerge` in fish. Written by hand; tests/words compares it with the program.
-# ./build --install PREFIX puts it in place; by hand, copy it to ~/.config/fish/completions/
+# Completions of `xbrlmerge` for fish. Written by hand; tests/words compares them with the program.
+# ./build --install PREFIX puts them in PREFIX/share/fish/vendor_completions.d; or copy them to ~/.config/fish/completions/
 
 complete -c xbrlmerge -n __fish_use_subcommand -f -a 'merge verdicts sources check explain replay help'
 complete -c xbrlmerge -n __fish_use_subcommand -s h -l help -d 'Print help'
