@@ -7,7 +7,7 @@ It prints the number of words of each page in BOUNDS, or of each named page, bes
 generated tables (from a comment that begins with `generated` to one that begins with `end`) do not count. In docs/DOUBT.md
 and docs/FORMAT.md, tables and entry lines do not count either. Entry lines name the definitions to read in `crates/`.
 
-The status is 1 if a page is missing or too long, or if a relative link leads to no file or to no heading of the page.
+The status is 1 if a page is missing or too long, or if the file or the heading of a relative link does not exist.
 """
 import glob
 import os

@@ -8,11 +8,12 @@ crates/xbrlmerge/out/xbrlmerge if that does not exist. Without arguments it test
 A first run of each test counts the requests. A second run, with a number after the last one, must refuse none. Each later run
 refuses one of them. A test must pass and print that a call was refused (`refused`) or that its own setup was (`refused
 here`); if it prints neither, the request counts as passed over. The program runs with arguments for every command. It must
-print the line `out of memory`, end with status 3 and have written a first part of its text. It may also print its whole text,
-since two requests may be refused without harm: one for the key of a cache while a report is read, and one for clap's search
-for similar words. For the same reason no request counts as passed over in the tests of crates that read reports. JOBS runs
-are parallel, as many as there are processors by default. If a test makes more than 5,000 requests, only each 7th is refused
-from 2,001 on. Fewer are refused if it makes more than 50,000, or if its runs are long. A line reports which.
+print the line `out of memory`, end with status 3 and have written nothing or a first part of its text. It may also print its
+whole text, since two requests may be refused without harm: one for the key of a cache while a report is read, and one for
+clap's search for similar words. For the same reason no request counts as passed over in the tests of crates that read
+reports. JOBS runs are parallel, as many as there are processors by default. If a test makes more than 5,000 requests, only
+each 7th is refused from 2,001 on. Fewer are refused if it makes more than 50,000, or if its runs are long. A line reports
+which.
 
 Status 0: nothing failed and nothing was passed over. 1: something failed or was passed over. 2: tests or the program are not
 built, or are older than the sources.
@@ -225,7 +226,7 @@ def numbers_of(counted):
 
 
 def spread(requests, many):
-    """Returns about this many request numbers, spread evenly from the first to the last, and a line that describes them."""
+    """Returns at most this many request numbers, spread evenly from the first on, and a line that describes them."""
     step = -(-requests // many)
     return range(1, requests + 1, step), f"of {requests:,} requests each {step:,}th was refused from the first on"
 

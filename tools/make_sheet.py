@@ -4,10 +4,10 @@
     tools/make_sheet FILE.xsd | PACKAGE.zip | FOLDER .. > sheet.json
     tools/make_sheet --union SHEET .. > sheet.json
 
-A schema is read together with the schemas that it imports, includes or redefines. In a folder or package, every .xsd file is
-read.
-Nothing is downloaded: a schema that is imported by URL must be in a named folder or package whose META-INF/catalog.xml maps
-the URL to it. The schemas of the specifications, at xbrl.org and w3.org, are not needed: their item types are built in.
+A schema is read together with the schemas that it imports, includes or redefines. In a folder or package, every .xsd file
+is read. Nothing is downloaded: a schema that is imported by URL must be in a named folder or package whose
+META-INF/catalog.xml maps the URL to it. The schemas of the specifications, at xbrl.org and w3.org, are not needed: their
+item types are built in, except some of the data type registry.
 
 Enumeration sets are listed as text, and in the member xbrlmerge:sets, which tools/normalise reads. Standard error lists
 the parts that are left out: fractions, texts that contain prefixes (which would not be expanded), elements with an unknown

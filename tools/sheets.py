@@ -1,4 +1,4 @@
-"""Concept sheets, with the conditions under which `xbrlmerge` accepts them, and more for the list of sets."""
+"""Concept sheets. They must satisfy the conditions of `xbrlmerge`, and list each set as a text."""
 from __future__ import annotations
 
 from typing import Any, Mapping

@@ -80,7 +80,7 @@ def refused(refusals: Refusals) -> Iterator[str]:
 
 
 def order(row: Row) -> tuple[int, Decimal, int]:
-    """Returns the sort key. Pairs that are not both numbers come first, then the largest differences, as `Row.share` counts them."""
+    """Returns the sort key. Pairs with a text, a name or nil come first, then the largest differences, as shares."""
     share = row.share()
     return (0, Decimal(0), row.number) if share is None else (1, -share, row.number)
 

@@ -105,7 +105,7 @@ def dimensions_given(fact: tuple[str, Tree]) -> Any:
 
 
 def contradiction(row: Row) -> Optional[Row]:
-    """Returns a row with its gap, or None if its facts do not contradict each other."""
+    """Returns a row with its gap, or None if its pair is not a contradiction."""
     one, two = (row.facts.get(name) for name in row.pair)
     if not one or not two or one is two:
         return None
