@@ -125,7 +125,7 @@ def reports_of(workload, size, rng):
         return [drawn(size, "ISSUER")]
     if workload == "reports of 50":
         return [drawn(50, f"ISSUER{r}") for r in range(size // 50)]
-    # one fact in twenty is rounded to thousands
+    # about one fact in twenty is rounded to thousands
     said = drawn(size // 8, "ISSUER")
     rounded = [(n, entity, round(value, -3), -3) for n, entity, value, _ in said]
     return [[rounded[n] if rng.random() < 0.05 else said[n] for n in range(len(said))] for _ in range(8)]

@@ -140,10 +140,10 @@ def main():
     shapes = chosen(given.shapes)
     given.program = os.path.realpath(given.program)
     if not os.access(given.program, os.X_OK):
-        raise Failure(f"{given.program} is not there: ./build makes it")
+        raise Failure(f"there is no {given.program}: ./build makes it")
     measure = kilobytes if given.memory else seconds if given.seconds else instructions
     if measure is instructions and shutil.which("valgrind") is None:
-        raise Failure("valgrind is not there; --seconds and --memory measure without it")
+        raise Failure("valgrind is not installed; --seconds and --memory measure without it")
     with tempfile.TemporaryDirectory() as room:
         broken = measure_all(shapes, given, measure, given.keep or room)
     for name in broken:

@@ -265,7 +265,7 @@ class Page:
 
 
 def entry_problems(page, others):
-    """Returns the faults in the entries and the words of a page, given the entries of the other pages."""
+    """Returns the faults in the entries and the words of a page, given the entries of the pages before it."""
     found, specs = [], page.specs
     for path, name in [*page.there, *page.words]:
         if specs.text(path, name) is None:

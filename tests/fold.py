@@ -140,7 +140,7 @@ def late_reports(width):
 def nodes():
     """Checks a node whose program fails, and that no fold uses a broken text."""
     node, out = os.path.join(FOLD, "merge_files"), "node.json"
-    check(run(node, "sheet.json", out, *paths()[:9]).returncode in (0, 1) and os.path.exists(out), "a node makes its text")
+    check(run(node, "sheet.json", out, *paths()[:9]).returncode in (0, 1) and os.path.exists(out), "a node does not make its text")
     wrong = {"sheet": (paths()[0], out, paths()[0]), "file": ("sheet.json", out, "in/none.json"), "usage": ("sheet.json",)}
     for told, words in wrong.items():
         before = set(os.listdir("."))
@@ -180,7 +180,7 @@ def stopped_nodes():
         number, names = int(bytes_of("number")), bytes_of("names").decode()
         node.send_signal(kind)
         check(node.wait() == 3 and not os.path.exists("stopped.json"), f"{kind.name}: status {node.returncode}")
-        check(not os.path.exists(f"/proc/{number}"), f"{kind.name}: the program goes on")
+        check(not os.path.exists(f"/proc/{number}"), f"{kind.name}: the program still runs")
         check(not [it for it in os.listdir(".") if it.startswith(".merge_files")], f"{kind.name}: files are left")
         check(str(node.pid) not in names, f"{kind.name}: a name is predictable: {names}")
         os.remove("number")

@@ -98,7 +98,7 @@ def drawn_fact(chance):
 
 
 def drawn_report(chance, count=None, spread=0):
-    """Draws a report with this many facts, or at most 6, and with this many spaces after each comma."""
+    """Draws a report with `count` facts, by default at most 6, and with `spread` spaces after each comma."""
     info = {"documentType": "https://xbrl.org/2021/xbrl-json", "namespaces": {**URIS, "xbrl": "https://xbrl.org/2021"}}
     maybe(chance, info, "taxonomy", ([], ["b.xsd", "http://x.org/a.xsd"], ["urn:x:Y"]))
     maybe(chance, info, "baseURL", ("http://x.org/d/r.json",))
@@ -268,7 +268,7 @@ class Batch:
         if status == 0:
             self.expect_text(text)
         else:
-            expect(text == self.text, f"{told}: the text is not that of the good reports")
+            expect(text == self.text, f"{told}: the text differs from the text of the good reports")
         return status
 
     def of_long(self, chance):

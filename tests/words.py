@@ -155,7 +155,7 @@ def told_by_fish():
             place["options"] |= {f"--{told['-l']}"} if "-l" in told else set()
             if "-a" in told:
                 place["commands" if "-l" not in told else "values"] = set(told["-a"].split())
-    # `help` completes commands, which are not words of its own
+    # `help` completes the names of commands, but has no commands itself
     found["help"].pop("commands")
     return found
 

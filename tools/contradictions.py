@@ -89,7 +89,7 @@ def check(parser: argparse.ArgumentParser, options: argparse.Namespace) -> None:
         if options.normalise or options.program:
             parser.error("--from takes neither --normalise nor --program")
         if bool(options.sources) != bool(options.names) or options.sources and options.words:
-            parser.error("--sources and --names belong together, and PROVIDER=TEXT does not go with them")
+            parser.error("use --sources and --names together, and without PROVIDER=TEXT")
         if options.names and not all(options.names.split(",")):
             parser.error("a name is empty")
     elif not options.words or options.sources or options.names:

@@ -111,7 +111,7 @@ def main():
         except (OSError, ValueError, subprocess.SubprocessError) as fault:
             print(f"tests/normalise/run: {fault}", file=sys.stderr)
             return 2
-    print(f"tests/normalise/run: of {total} reports {before} are accepted as they are, and {accepted} normalised")
+    print(f"tests/normalise/run: of {total} reports, {before} are accepted before normalising, and {accepted} after it")
     print(*(f"tests/normalise/run: {fault}" for fault in room.faults), sep="\n", end="\n" if room.faults else "")
     return 1 if room.faults else 0
 

@@ -21,7 +21,7 @@ VOID = ("meta", "line", "rect", "circle")
 
 
 class Seen(html.parser.HTMLParser):
-    """The tags of a page, the shown texts, and the texts behind abbreviations."""
+    """The tags of a page, the shown texts, and the titles of abbreviations."""
 
     def __init__(self, page):
         super().__init__()

@@ -20,7 +20,7 @@ Items = dict[Axis, object]
 
 
 class Kept(NamedTuple):
-    """A row that may have a partner, and the providers that report it."""
+    """A row that may belong to a pair, and the providers that report it."""
 
     dimensions: Dimensions
     facts: Mapping[str, Fact]
@@ -43,7 +43,7 @@ class Near:
         self.items: dict[int, Items] = {}
 
     def wants(self, holders: Mapping[str, Holders]) -> bool:
-        """Returns whether a row can have a partner: some providers report it, and some do not."""
+        """Returns whether a row can belong to a pair: some providers report it, and some do not."""
         who = names_of(holders)
         return bool(who) and who < self.everybody
 

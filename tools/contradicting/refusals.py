@@ -7,7 +7,7 @@ from typing import Any, Iterable, Iterator, Mapping, NamedTuple
 from process import shortened
 
 MOST_LINES = 20  # the most faults of one report that are shown
-MOST_NAMES, MOST_PRINTED = 1_000, 20  # the most concepts, and dimensions, that the sheet lacks: on the page, and printed
+MOST_NAMES, MOST_PRINTED = 1_000, 20  # the most missing names of one kind: on the page, and in the printed lines
 LACKING = {"UnknownConcept": "concept", "UnknownDimension": "dimension"}  # refusals that another sheet may avoid
 
 

@@ -127,14 +127,14 @@ class Reader:
         self.providers = len(set(sources.names))
 
     def rows(self, path: str) -> list[Row]:
-        """Returns the rows that are contradictions. The lines must fit the facts."""
+        """Returns the rows that are contradictions. The lines must match the facts."""
         kept, groups = [], itertools.groupby(self.text.facts(), dimensions_given)
         with using(path), open(path, encoding="utf-8", newline="\n") as file:
             lines = iter(functools.partial(file.readline, LONGEST_LINE), "")
             for number, (group, line) in enumerate(zip_all(groups, lines), 1):
                 row = self.row(number, dict(group[1]), line)
                 if row is None:
-                    raise ValueError(f"line {number} does not fit the text")
+                    raise ValueError(f"line {number} does not match the merged report")
                 self.count(row)
                 if row.said["one"]:
                     kept.append(row)
@@ -153,7 +153,7 @@ class Reader:
         return f"{count} of {self.providers}" if self.providers else ""
 
     def row(self, number: int, facts: dict[str, Tree], line: str) -> Optional[Row]:
-        """Returns a row, or None if its line does not fit. The facts of a contradiction are all expanded."""
+        """Returns a row, or None if its line does not match. The row has its facts only if it is a contradiction."""
         with using(self.text.path):
             is_numeric = [self.kind(tree) == "numeric" for tree in facts.values()][0]
         names = [*facts]
@@ -226,7 +226,7 @@ def zip_all(groups: Iterable[Any], lines: Iterable[str]) -> Iterator[tuple[Any, 
     """Yields each group with its line; there must be as many groups as lines."""
     for group, line in itertools.zip_longest(groups, lines):
         if group is None or line is None or not line.endswith("\n"):
-            raise ValueError("it does not have a line for each row of the text")
+            raise ValueError("it does not have one line for each row of the merged report")
         yield group, line
 
 

@@ -81,11 +81,11 @@ class Text:
                     json.dumps(tree, ensure_ascii=False).encode()  # fails for unpaired surrogates
                 yield name, tree
             if rank and len(str(rank)) != width:
-                raise ValueError(f"its identifiers are not those of {rank} facts")
+                raise ValueError(f"its identifiers do not have the digits that {rank} facts need")
             for sign in "}}":
                 self.expect(sign)
             if self.next():
-                raise ValueError("something follows it")
+                raise ValueError("there is more after its end")
 
     def fact(self, is_behind: bool) -> tuple[str, Tree]:
         """Returns the identifier and the tree of the next fact. Usually one pattern matches all before its object."""

@@ -226,7 +226,7 @@ def plain_number(scientific: re.Match[str]) -> Optional[str]:
 
 
 def full_name(item: str, uris: Uris) -> Optional[tuple[str, str]]:
-    """Returns the URI and the local part of an item in a set, or None if it is not a name."""
+    """Returns the URI and the local part of an item in a set, or None if it is not a name or its prefix is not bound."""
     if "#" in item:
         uri, _, local = item.rpartition("#")
         return (uri, local) if uri and local else None
