@@ -52,6 +52,13 @@ impl Aliases {
         }
     }
 
+    /// Returns whether both have the same bindings in the same order.
+    pub fn same_as(&self, other: &Aliases) -> bool
+        ensures { IsTrue result ↔ (self.now ≡ other.now) }
+    {
+        self.bindings.as_slice() == other.bindings.as_slice()
+    }
+
     /// Binds the prefix to the URI. Binding it to the same URI again changes nothing.
     ///
     /// Errors: `Namespace` if the prefix is empty or contains white space or a colon, if the URI is

@@ -10,6 +10,7 @@ pub(crate) mod facts_reader;
 pub(crate) mod given;
 pub(crate) mod glossaries;
 pub(crate) mod glossary;
+pub(crate) mod known_texts;
 pub(crate) mod members_reader;
 pub(crate) mod name_cache;
 pub(crate) mod parts;

@@ -14,6 +14,7 @@ mod place;
 mod reader;
 mod refusal;
 mod report;
+mod report_reader;
 mod sheet;
 mod unless_memory;
 
@@ -34,4 +35,5 @@ pub use place::Place;
 pub use reader::read_report;
 pub use refusal::Refusal;
 pub use report::Report;
+pub use report_reader::ReportReader;
 pub use sheet::Sheet;

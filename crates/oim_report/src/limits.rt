@@ -8,11 +8,6 @@ pub const MOST_LEVELS: usize = 127;
 /// bounds the memory, and the time of a search among texts with the same hash.
 pub const MOST_MEANINGS: usize = 1_024;
 
-/// The initial capacity, in texts, of each glossary of a report that is read in pieces. Glossaries
-/// grow up to `MOST_MEANINGS` texts. Most reports need fewer, and a capacity of `MOST_MEANINGS`
-/// texts in each glossary costs two to three million instructions.
-pub const FIRST_MEANINGS: usize = 64;
-
 /// The least size in bytes of each piece of a report except the last. For each piece the JSON
 /// parser fills 16 kB with zeros, so small pieces are slow. Larger pieces cause more page faults.
 pub const PIECE_BYTES: usize = 65_536;

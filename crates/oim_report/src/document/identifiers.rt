@@ -5,6 +5,7 @@ ghost use Rattle.oim_report.specs.Json.{entries, json};
 ghost use Rattle.oim_report.specs.Outcome.{at, outcome};
 
 use crate::document::json_tree::{object_at, read_json};
+use crate::fact::known_texts::KnownTexts;
 use crate::place::Place;
 use crate::reader::read_document;
 use crate::refusal::Refusal;
@@ -45,7 +46,8 @@ pub fn read_identified<'s>(
         (λ r. (r ≡ at Place.Document Reason.OutOfMemory) ⊎ (outcome sheet.now bytes.now ≡ Err r)) }
 {
     let tree = read_json(alloc, bytes)?;
-    let report = read_document(alloc, sheet, &tree)?;
+    let mut known = KnownTexts::new(alloc);
+    let report = read_document(alloc, sheet, &mut known, &tree)?;
     let identifiers = identifiers_of(alloc, &tree)?;
     Ok((report, identifiers))
 }

@@ -1,7 +1,7 @@
 //! Reads the entity, period, unit and language of a fact. An error other than `OutOfMemory` shows
 //! only that some condition applies, not which one.
 
-ghost use Rattle.std.specs.Prelude.{◌≡◌, Some, IfOk, OnOk};
+ghost use Rattle.std.specs.Prelude.{◌≡◌, Some, IfOk};
 ghost use Rattle.oim_names.specs.Expansion.{ExpandsEntity};
 ghost use Rattle.oim_report.specs.code.Given.{seen};
 ghost use Rattle.oim_report.specs.code.Glossary.{IsGlossary};
@@ -24,7 +24,7 @@ pub(crate) fn read_entity(
 ) -> Result<Option<Name>, Reason>
     requires known { IsGlossary (ExpandsEntity aliases.now) entities.old }
     ensures said { IfOk result (λ read. said_entity aliases.now (seen entity.entry) ≡ Some read) }
-    ensures known { OnOk result (IsGlossary (ExpandsEntity aliases.now) entities.new) }
+    ensures known { IsGlossary (ExpandsEntity aliases.now) entities.new }
 {
     match entity {
         Given::Absent => Ok(None),
@@ -40,7 +40,7 @@ pub(crate) fn read_period(
 ) -> Result<Period, Reason>
     requires known { IsGlossary TextSaysPeriod periods.old }
     ensures said { IfOk result (λ read. said_period (seen period.entry) ≡ Some read) }
-    ensures known { OnOk result (IsGlossary TextSaysPeriod periods.new) }
+    ensures known { IsGlossary TextSaysPeriod periods.new }
 {
     match period {
         Given::Absent => Ok(Period::Forever),
@@ -58,7 +58,7 @@ pub(crate) fn read_unit(
 ) -> Result<Option<Unit>, Reason>
     requires known { IsGlossary (TextSaysUnit aliases.now) units.old }
     ensures said { IfOk result (λ read. said_unit aliases.now kind (seen unit.entry) ≡ Some read) }
-    ensures known { OnOk result (IsGlossary (TextSaysUnit aliases.now) units.new) }
+    ensures known { IsGlossary (TextSaysUnit aliases.now) units.new }
 {
     match (kind, unit) {
         (_, Given::Absent) => Ok(None),
@@ -75,7 +75,7 @@ pub(crate) fn read_language(
 ) -> Result<Option<Text>, Reason>
     requires known { IsGlossary TextSaysLanguage languages.old }
     ensures said { IfOk result (λ read. said_language kind (seen language.entry) ≡ Some read) }
-    ensures known { OnOk result (IsGlossary TextSaysLanguage languages.new) }
+    ensures known { IsGlossary TextSaysLanguage languages.new }
 {
     match (kind, language) {
         (_, Given::Absent) => Ok(None),

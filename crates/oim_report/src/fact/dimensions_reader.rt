@@ -1,4 +1,4 @@
-ghost use Rattle.std.specs.Prelude.{◌≡◌, Some, None, IfOk, OnOk};
+ghost use Rattle.std.specs.Prelude.{◌≡◌, Some, None, IfOk};
 ghost use Rattle.oim_report.specs.code.Given.{seen};
 ghost use Rattle.oim_report.specs.code.Glossaries.{AreGlossaries};
 ghost use Rattle.oim_report.specs.Said.{said_concept, said_dimensions};
@@ -27,7 +27,7 @@ pub(crate) fn read_dimensions<'s>(
     requires concept { said_concept aliases.now (seen parts.now.concept) ≡ Some concept }
     ensures said { IfOk result
         (λ d. said_dimensions sheet.now aliases.now kind (seen_dimensions parts.now) ≡ Some d) }
-    ensures known { OnOk result (AreGlossaries sheet.now aliases.now glossaries.new) }
+    ensures known { AreGlossaries sheet.now aliases.now glossaries.new }
 {
     let defined = parts.defined.as_slice();
     let mut read = read_members(alloc, sheet, aliases, glossaries, concept, defined)?;

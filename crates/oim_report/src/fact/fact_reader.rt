@@ -36,7 +36,7 @@ pub(crate) fn read_fact<'s>(
     ensures errors { IfErr result
         (λ r. (r ≡ Reason.OutOfMemory)
         ⊎ (fact_outcome sheet.now aliases.now (view object.now) ≡ Err r)) }
-    ensures known { OnOk result (AreGlossaries sheet.now aliases.now glossaries.new) }
+    ensures known { AreGlossaries sheet.now aliases.now glossaries.new }
 {
     match read_object(alloc, sheet, aliases, glossaries, object) {
         Ok(fact) => Ok(fact),
@@ -70,7 +70,7 @@ fn read_object<'s>(
 ) -> Result<Fact, Reason>
     requires known { AreGlossaries sheet.now aliases.now glossaries.old }
     ensures ok { IfOk result (λ f. fact_outcome sheet.now aliases.now (view object.now) ≡ Ok f) }
-    ensures known { OnOk result (AreGlossaries sheet.now aliases.now glossaries.new) }
+    ensures known { AreGlossaries sheet.now aliases.now glossaries.new }
 {
     let Some(parts) = FactParts::of(alloc, object)? else {
         return Err(Reason::MemberForm);
@@ -93,7 +93,7 @@ fn read_content<'s>(
     ensures said { let p = seen_parts parts.now in
         let ds = seen_dimensions dimensions.now in
         IfOk result (λ f. fact_of sheet.now aliases.now p ds ≡ Some f) }
-    ensures known { OnOk result (AreGlossaries sheet.now aliases.now glossaries.new) }
+    ensures known { AreGlossaries sheet.now aliases.now glossaries.new }
 {
     let concepts = &mut glossaries.concepts;
     let Some((name, kind)) = find_concept(sheet, aliases, concepts, dimensions.concept) else {

@@ -1,4 +1,4 @@
-ghost use Rattle.std.specs.Prelude.{List, IfOk};
+ghost use Rattle.std.specs.Prelude.{List};
 ghost use Rattle.oim_names.specs.Bindings.{Binding};
 ghost use Rattle.oim_report.specs.code.Glossaries.{AreGlossaries};
 ghost use Rattle.oim_report.specs.Sheet.{Sheet};
@@ -9,9 +9,9 @@ use crate::fact::glossary::Glossary;
 use crate::fact::name_cache::NameCache;
 use oim_dims::{Period, Unit};
 use oim_names::{Name, Text};
-use std::alloc::{AllocError, Global};
+use std::alloc::Global;
 
-/// Caches of the meanings of one report's texts, under one sheet and one set of prefixes.
+/// Caches of the meanings of texts, under one sheet and one set of prefixes.
 #[derive(Drop)]
 pub(crate) struct Glossaries<'s> {
     pub(crate) concepts: NameCache<'s, ConceptKind>,
@@ -25,24 +25,28 @@ pub(crate) struct Glossaries<'s> {
 }
 
 impl<'s> Glossaries<'s> {
-    pub(crate) fn with_room(alloc: Global, texts: usize) -> Result<Self, AllocError>
-        ensures { IfOk result (λ gs. (sheet : Sheet) (bs : List Binding) → AreGlossaries sheet bs gs) }
+    pub(crate) fn new(alloc: Global) -> Self
+        ensures { (sheet : Sheet) (bs : List Binding) → AreGlossaries sheet bs result }
     {
-        let concepts = NameCache::with_room(alloc, texts)?;
-        let dimensions = NameCache::with_room(alloc, texts)?;
-        let entities = Glossary::with_room(alloc, texts)?;
-        let periods = Glossary::with_room(alloc, texts)?;
-        let units = Glossary::with_room(alloc, texts)?;
-        let languages = Glossary::with_room(alloc, texts)?;
-        let members = Glossary::with_room(alloc, texts)?;
-        Ok(Glossaries {
-            concepts,
-            dimensions,
-            entities,
-            periods,
-            units,
-            languages,
-            members,
-        })
+        Glossaries {
+            concepts: NameCache::new(alloc),
+            dimensions: NameCache::new(alloc),
+            entities: Glossary::new(alloc),
+            periods: Glossary::new(alloc),
+            units: Glossary::new(alloc),
+            languages: Glossary::new(alloc),
+            members: Glossary::new(alloc),
+        }
+    }
+
+    /// A cache is full, so it is time to begin again.
+    pub(crate) fn is_full(&self) -> bool {
+        self.concepts.texts.is_full()
+            || self.dimensions.texts.is_full()
+            || self.entities.is_full()
+            || self.periods.is_full()
+            || self.units.is_full()
+            || self.languages.is_full()
+            || self.members.is_full()
     }
 }

@@ -1,9 +1,9 @@
-ghost use Rattle.std.specs.Prelude.{◌≡◌, ℕ, List, None, IfOk};
+ghost use Rattle.std.specs.Prelude.{◌≡◌, ℕ, List, None};
 ghost use Rattle.std.specs.Option.{option_copied};
 ghost use Rattle.oim_report.specs.code.Glossary.{Adds, meaning};
 
 use crate::limits::MOST_MEANINGS;
-use std::alloc::{AllocError, Global};
+use std::alloc::Global;
 use std::collections::HashMap;
 
 /// A cache of texts and their meanings, so that a repeated text is not read again. It contains
@@ -15,11 +15,16 @@ pub(crate) struct Glossary<T> {
 }
 
 impl<T> Glossary<T> {
-    pub(crate) fn with_room(alloc: Global, texts: usize) -> Result<Self, AllocError>
-        ensures { IfOk result (λ g. (t : List ℕ) → meaning g t ≡ None) }
+    pub(crate) fn new(alloc: Global) -> Self
+        ensures { (t : List ℕ) → meaning result t ≡ None }
     {
-        let meanings = HashMap::with_capacity(alloc, texts.min(MOST_MEANINGS))?;
-        Ok(Glossary { alloc, meanings })
+        let meanings = HashMap::new(alloc);
+        Glossary { alloc, meanings }
+    }
+
+    /// No more texts can be added.
+    pub(crate) fn is_full(&self) -> bool {
+        self.meanings.len() >= MOST_MEANINGS
     }
 
     pub(crate) fn find(&self, text: &str) -> Option<&T>
@@ -35,7 +40,7 @@ impl<T: Drop> Glossary<T> {
     pub(crate) fn add(&mut self, text: &str, value: T)
         ensures { Adds self.old text.now value self.new }
     {
-        if self.meanings.len() >= MOST_MEANINGS {
+        if self.is_full() {
             return;
         }
         if let Ok(key) = String::from_str(self.alloc, text) {

@@ -1,4 +1,4 @@
-ghost use Rattle.std.specs.Prelude.{◌≡◌, Some, IfOk, OnOk};
+ghost use Rattle.std.specs.Prelude.{◌≡◌, Some, IfOk};
 ghost use Rattle.oim_names.specs.Expansion.{Expands};
 ghost use Rattle.oim_report.specs.code.Given.{seen};
 ghost use Rattle.oim_report.specs.code.Glossary.{IsGlossary, concept_with};
@@ -30,7 +30,7 @@ pub(crate) fn read_members<'s>(
     ensures said { let all = seen_defined defined.now in
         IfOk result (λ d. said_members sheet.now aliases.now all ≡ Some d.members) }
     ensures others { IfOk result (λ d. d ≡ concept_with concept d.members) }
-    ensures known { OnOk result (AreGlossaries sheet.now aliases.now glossaries.new) }
+    ensures known { AreGlossaries sheet.now aliases.now glossaries.new }
 {
     let mut found = Vec::with_capacity(alloc, defined.len())?;
     for (key, member) in defined {
@@ -57,7 +57,7 @@ fn read_member(
 ) -> Result<Member, Reason>
     requires known { IsGlossary (Expands aliases.now) members.old }
     ensures said { IfOk result (λ m. said_member aliases.now (Some kind) (seen member.entry) ≡ Some m) }
-    ensures known { OnOk result (IsGlossary (Expands aliases.now) members.new) }
+    ensures known { IsGlossary (Expands aliases.now) members.new }
 {
     match (kind, member) {
         (DimensionKind::Explicit, Given::Text(text)) => {

@@ -1,4 +1,4 @@
-ghost use Rattle.std.specs.Prelude.{◌≡◌, List, Some, IfOk, IfSome, option_map};
+ghost use Rattle.std.specs.Prelude.{◌≡◌, List, Some, IfSome, option_map};
 ghost use Rattle.std.specs.FinMap.{FinMap};
 ghost use Rattle.oim_names.specs.Bindings.{Binding};
 ghost use Rattle.oim_value.specs.ValueOrder.{name_cmp};
@@ -10,7 +10,7 @@ use crate::fact::glossary::Glossary;
 use crate::sheet::kind::Kind;
 use crate::sheet::listing::{Group, Listing, find_in};
 use oim_names::{Aliases, Name};
-use std::alloc::{AllocError, Global};
+use std::alloc::Global;
 use std::collections::BTreeMap;
 
 /// Finds the names of a sheet that the texts of one report spell. It finds a group once per prefix,
@@ -25,15 +25,14 @@ pub(crate) struct NameCache<'s, K: Kind> {
 }
 
 impl<'s, K: Kind> NameCache<'s, K> {
-    pub(crate) fn with_room(alloc: Global, texts: usize) -> Result<Self, AllocError>
-        ensures { IfOk result (λ c. (m : FinMap name_cmp K) (bs : List Binding) → IsNameCache m bs c) }
+    pub(crate) fn new(alloc: Global) -> Self
+        ensures { (m : FinMap name_cmp K) (bs : List Binding) → IsNameCache m bs result }
     {
-        let texts = Glossary::with_room(alloc, texts)?;
-        Ok(NameCache {
+        NameCache {
             alloc,
-            texts,
+            texts: Glossary::new(alloc),
             groups: BTreeMap::new(alloc),
-        })
+        }
     }
 
     pub(crate) fn find(

@@ -1,7 +1,7 @@
 //! Looks up the meaning of a text in a glossary. If the text is missing, it is read and added. A
 //! condition that needs more than the text, such as `UnitOnOther`, is tested for each fact.
 
-ghost use Rattle.std.specs.Prelude.{◌≡◌, ◌⊎◌, Some, IsTrue, IfOk, IfErr, IfSome, OnOk};
+ghost use Rattle.std.specs.Prelude.{◌≡◌, ◌⊎◌, Some, IsTrue, IfOk, IfErr, IfSome};
 ghost use Rattle.std.specs.Str.{str_to_ascii_lowercase};
 ghost use Rattle.oim_names.specs.Expansion.{Expands, ExpandsEntity, entity_refusal, name_refusal};
 ghost use Rattle.oim_dims.specs.Language.{is_language};
@@ -25,7 +25,7 @@ pub(crate) fn recall_name(
     ensures ok { IfOk result (Expands aliases.now text.now) }
     ensures errors { IfErr result
         (λ r. (r ≡ Reason.OutOfMemory) ⊎ (name_refusal aliases.now text.now ≡ Some r)) }
-    ensures known { OnOk result (IsGlossary (Expands aliases.now) names.new) }
+    ensures known { IsGlossary (Expands aliases.now) names.new }
 {
     if let Some(known) = names.find(text) {
         return Ok(known.copied(alloc)?);
@@ -45,7 +45,7 @@ pub(crate) fn recall_entity(
     ensures ok { IfOk result (ExpandsEntity aliases.now text.now) }
     ensures errors { IfErr result
         (λ r. (r ≡ Reason.OutOfMemory) ⊎ (entity_refusal aliases.now text.now ≡ Some r)) }
-    ensures known { OnOk result (IsGlossary (ExpandsEntity aliases.now) entities.new) }
+    ensures known { IsGlossary (ExpandsEntity aliases.now) entities.new }
 {
     if let Some(known) = entities.find(text) {
         return Ok(known.copied(alloc)?);
@@ -62,7 +62,7 @@ pub(crate) fn recall_period(
 ) -> Result<Period, Reason>
     requires known { IsGlossary TextSaysPeriod periods.old }
     ensures period { result ≡ period_of text.now }
-    ensures known { OnOk result (IsGlossary TextSaysPeriod periods.new) }
+    ensures known { IsGlossary TextSaysPeriod periods.new }
 {
     if let Some(known) = periods.find(text) {
         return Ok(*known);
@@ -85,7 +85,7 @@ pub(crate) fn recall_unit(
     ensures sorted { IfOk result (λ unit. IfSome unit IsUnit) }
     ensures errors { IfErr result
         (λ r. (r ≡ Reason.OutOfMemory) ⊎ (unit_refusal aliases.now text.now ≡ Some r)) }
-    ensures known { OnOk result (IsGlossary (TextSaysUnit aliases.now) units.new) }
+    ensures known { IsGlossary (TextSaysUnit aliases.now) units.new }
 {
     if let Some(known) = units.find(text) {
         return Ok(Copied::copied(known, alloc)?);
@@ -105,7 +105,7 @@ pub(crate) fn recall_language(
     ensures form { IfOk result (λ _. IsTrue (is_language text.now)) }
     ensures errors { IfErr result (λ r. (r ≡ Reason.OutOfMemory)
         ⊎ ((r ≡ Reason.LanguageForm) × ¬ (IsTrue (is_language text.now)))) }
-    ensures known { OnOk result (IsGlossary TextSaysLanguage languages.new) }
+    ensures known { IsGlossary TextSaysLanguage languages.new }
 {
     if let Some(known) = languages.find(text) {
         return Ok(known.copied(alloc)?);

@@ -11,6 +11,7 @@ ghost use Rattle.oim_report.specs.Report.{IsOrderOf};
 use crate::document::duplicates::level_within;
 use crate::document::info::read_info;
 use crate::fact::facts_reader::read_facts;
+use crate::fact::glossaries::Glossaries;
 use crate::order::order_of;
 use crate::sheet::Sheet;
 use oim_dims::Fact;
@@ -52,7 +53,8 @@ fn apart_under(
         (λ two. IfSome two (λ t. AreFactsApart sheet.now (view tree.now) t.0 t.1)) }
     ensures found { IfOk result (λ two. HasFactsApart sheet.now (view tree.now) → IsSome two) }
 {
-    match read_facts(alloc, sheet, aliases, tree) {
+    let mut glossaries = Glossaries::new(alloc);
+    match read_facts(alloc, sheet, aliases, &mut glossaries, tree) {
         Ok(facts) => {
             let order = order_of(alloc, facts.as_slice())?;
             Ok(first_apart(facts.as_slice(), order.as_slice(), level))

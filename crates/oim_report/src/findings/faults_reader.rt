@@ -7,6 +7,7 @@ ghost use Rattle.oim_report.specs.Outcome.{tree_outcome};
 
 use crate::document::info::read_info;
 use crate::document::json_tree::read_json;
+use crate::fact::known_texts::KnownTexts;
 use crate::findings::document_faults::add_document_faults;
 use crate::findings::facts_faults::add_facts_faults;
 use crate::findings::fault_list::Faults;
@@ -72,7 +73,8 @@ fn add_answered(
     ensures { let said = tree_outcome sheet.now (Some (view tree.now)) in
         OnOk result (faults.new ≡ faults.old ++ option_to_list (result_err said)) }
 {
-    match read_document(alloc, sheet, tree) {
+    let mut known = KnownTexts::new(alloc);
+    match read_document(alloc, sheet, &mut known, tree) {
         Ok(_) => Ok(()),
         Err(refusal) if refusal.reason == Reason::OutOfMemory => Err(AllocError),
         Err(refusal) => faults.push(refusal),

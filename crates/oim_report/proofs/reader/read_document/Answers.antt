@@ -12,4 +12,4 @@ new-requires-clause-references c = references_kept (view c.args.tree.now) _ c.in
 pub new-requires-clause-facts : goal.new-requires-clause-facts
 new-requires-clause-facts c =
     report_fits c.args.sheet.now (view c.args.tree.now) _ c.in_ok-info.ensures.accepted
-    (ap (λ bs. facts_said c.args.sheet.now bs (facts_of (view c.args.tree.now))) (sym c.in_ok-info.ensures.aliases) ∙ c.in_ok-facts.ensures.ok)
+    (ap (λ bs. facts_said c.args.sheet.now bs (facts_of (view c.args.tree.now))) (sym (c.turn_to.ensures.aliases ∙ c.in_ok-info.ensures.aliases)) ∙ c.in_ok-facts.ensures.ok)

@@ -17,8 +17,8 @@ pub new-requires-clause-facts : goal.new-requires-clause-facts
 new-requires-clause-facts c =
     let tree = view c.in_ok-outline.outline.tree in
     let accepted = taken c.read_info.result c.in_ok-info.info (λ info. document_refusal tree ≡ None) c.read_info.ensures.accepted c.in_ok-info.ensures.value in
-    let aliases = taken c.read_info.result c.in_ok-info.info (λ info. info.aliases ≡ bindings_of tree) c.read_info.ensures.aliases c.in_ok-info.ensures.value in
-    let said = c.in_ok-facts.ensures in
+    let aliases = c.turn_to.ensures.aliases ∙ taken c.read_info.result c.in_ok-info.info (λ info. info.aliases ≡ bindings_of tree) c.read_info.ensures.aliases c.in_ok-info.ensures.value in
+    let said = c.in_ok-facts.ensures.facts in
     facts_fit c.args.sheet.now (bindings_of tree) said.0 c.in_ok-facts.facts.items (bindings_are_namespaces tree accepted) (ap (λ bs. facts_said c.args.sheet.now bs said.0) (sym aliases) ∙ said.2)
 
 pub new-requires-clause-references : goal.new-requires-clause-references
@@ -36,10 +36,10 @@ returns-clause-ok c =
     let tree = view c.in_ok-outline.outline.tree in
     let o = c.in_ok-outline.ensures in
     let accepted = taken c.read_info.result c.in_ok-info.info (λ info. document_refusal tree ≡ None) c.read_info.ensures.accepted c.in_ok-info.ensures.value in
-    let aliases = taken c.read_info.result c.in_ok-info.info (λ info. info.aliases ≡ bindings_of tree) c.read_info.ensures.aliases c.in_ok-info.ensures.value in
+    let aliases = c.turn_to.ensures.aliases ∙ taken c.read_info.result c.in_ok-info.info (λ info. info.aliases ≡ bindings_of tree) c.read_info.ensures.aliases c.in_ok-info.ensures.value in
     let references = taken c.read_info.result c.in_ok-info.info (λ info. references_said tree ≡ Some info.references.items) c.read_info.ensures.references c.in_ok-info.ensures.value in
     let level = taken c.read_info.result c.in_ok-info.info (λ info. level_said tree ≡ Some info.level) c.read_info.ensures.level c.in_ok-info.ensures.value in
-    let said = c.in_ok-facts.ensures in
+    let said = c.in_ok-facts.ensures.facts in
     let above : is_lt (level_cmp c.in_ok-info.info.level (level_of c.in_ok-facts.facts.items)) ≡ false = ap (λ fs. is_lt (level_cmp c.in_ok-info.info.level (level_of fs))) (sym c.as_slice-2.ensures.value) ∙ sym c.is_above.ensures ∙ c.if-is_above.false in
     whole_outcome sheet c.args.bytes.now tree o.0 said.0 c.in_ok-facts.facts.items c.in_ok-info.info.references.items c.in_ok-info.info.level o.1 (o.2 said.0 said.1)
     accepted (ap (λ bs. facts_said sheet bs said.0) (sym aliases) ∙ said.2) references level above ∙ ap Ok (sym c.new.ensures.document)

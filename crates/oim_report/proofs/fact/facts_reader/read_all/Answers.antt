@@ -29,4 +29,4 @@ returns-clause-ok c =
     ∙ ap (λ es. facts_after read l.place l.facts.items (values (members_view es))) c.in-None.ensures.steps.0
 
 pub loop-identifier-init : goal.loop-identifier-init
-loop-identifier-init c = (search rules, search rules, c.in_ok-glossaries.ensures c.args.sheet.now c.args.aliases.now)
+loop-identifier-init c = (search rules, search rules, c.requires.known)

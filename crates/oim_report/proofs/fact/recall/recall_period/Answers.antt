@@ -6,5 +6,4 @@ use Rattle.oim_report.proofs.fact.recall.recall_period.Goals as goal
 pub returns-in-Ok-clause-known : goal.returns-in-Ok-clause-known
 returns-in-Ok-clause-known c =
     let says = sym c.read_period-read.ensures ∙ c.in-Ok.is in
-    let known = still TextSaysPeriod c.args.periods.now c.add.new.self c.args.text.now c.in-Ok.period c.requires.known says c.add.ensures in
-    rw c.in-Ok.is known
+    still TextSaysPeriod c.args.periods.now c.add.new.self c.args.text.now c.in-Ok.period c.requires.known says c.add.ensures

@@ -3,12 +3,10 @@ use Rattle.oim_names.specs.Bindings.{Binding}
 use Rattle.serde_json.specs.Data.{Members, no_members}
 use Rattle.serde_json.specs.View.{members_view}
 use Rattle.oim_report.specs.code.FoundFacts.{AreFound}
-use Rattle.oim_report.specs.code.Glossaries.{AreGlossaries}
 use Rattle.oim_report.specs.Outcome.{facts_said}
 use Rattle.oim_report.specs.Pieces.{IsPiece, put_all}
 use Rattle.oim_report.specs.code.Pieces.{IsNext, append}
 use Rattle.oim_report.specs.Sheet.{Sheet}
-use Rattle.oim_report.proofs.DocumentInPieces.{taken}
 use Rattle.oim_report.proofs.FoundInOrder.{none_found, found_append, found_by, weaker}
 use Rattle.oim_report.proofs.PiecesInTurn.{one_more, last_one}
 use Rattle.oim_report.proofs.pieces.facts_in_pieces.read_facts_in_pieces.Goals as goal
@@ -17,11 +15,10 @@ pub loop-init : goal.loop-init
 loop-init c =
     let sheet = c.args.sheet.now in
     let bs = c.args.aliases.now in
-    let known = taken c.with_room.result c.in_ok-glossaries.glossaries (λ gs. (s : Sheet) (b : List Binding) → AreGlossaries s b gs) c.with_room.ensures c.in_ok-glossaries.ensures.value in
-    (search rules, no_members, refl, none_found sheet bs _ _ c.new-identifiers.ensures.items c.new-facts.ensures.items, known sheet bs)
+    (search rules, no_members, refl, none_found sheet bs _ _ c.new-identifiers.ensures.items c.new-facts.ensures.items, c.requires.known)
 
-pub returns-in-None : goal.returns-in-None
-returns-in-None c =
+pub returns-in-None-clause-facts : goal.returns-in-None-clause-facts
+returns-in-None-clause-facts c =
     let sheet = c.args.sheet.now in
     let bs = c.args.aliases.now in
     let new = members_view c.in_ok-objects.objects.entries in

@@ -2,7 +2,6 @@ use Rattle.std.proofs.Common.{rules, ◌≡◌, ◌++◌, ◌∷◌, [], Ok, str
 use Rattle.serde_json.specs.Data.{no_members, member}
 use Rattle.serde_json.specs.View.{view, members_view}
 use Rattle.oim_report.specs.code.FoundFacts.{AreFound}
-use Rattle.oim_report.specs.code.Glossaries.{AreGlossaries}
 use Rattle.oim_report.specs.Outcome.{fact_outcome}
 use Rattle.oim_report.specs.code.Pieces.{append}
 use Rattle.oim_report.proofs.DocumentInPieces.{taken}
@@ -23,11 +22,10 @@ loop-identifier-preserved-in_ok-ok-2-3 c =
     let d = view c.in-Some.object in
     let f = c.in_ok-fact.fact in
     let says : fact_outcome sheet bs d ≡ Ok f = taken c.read_fact.result f (λ g. fact_outcome sheet bs d ≡ Ok g) c.read_fact.ensures.ok c.in_ok-fact.ensures.value in
-    let known : AreGlossaries sheet bs c.read_fact.new.glossaries = taken c.read_fact.result f (λ g. AreGlossaries sheet bs c.read_fact.new.glossaries) c.read_fact.ensures.known c.in_ok-fact.ensures.value in
     let pushed : c.push.new.self.items ≡ l.identifiers.items ++ s ∷ [] = search rules in
     let added : c.push-in-loop-identifier.new.self.items ≡ l.facts.items ++ f ∷ [] = search rules in
     let all = one_further done (string_bytes s) d (members_view c.next.new.self) ∙ ap (λ es. append done (members_view es)) (sym c.in-Some.ensures.steps) ∙ l.invariant.1 in
-    (append done (member (string_bytes s) d no_members), all, found_by sheet bs _ _ _ _ _ pushed added (found_one sheet bs done l.identifiers.items l.facts.items (string_bytes s) d s f l.invariant.2 refl says), known)
+    (append done (member (string_bytes s) d no_members), all, found_by sheet bs _ _ _ _ _ pushed added (found_one sheet bs done l.identifiers.items l.facts.items (string_bytes s) d s f l.invariant.2 refl says), c.read_fact.ensures.known)
 
 pub returns-clause-found : goal.returns-clause-found
 returns-clause-found c =
