@@ -1,4 +1,4 @@
-ghost use Rattle.std.specs.Prelude.{map, ◌≡◌, ◌↔◌, length, IsTrue, IfOk, OnOk, slice_get};
+ghost use Rattle.std.specs.Prelude.{map, ◌≡◌, ◌↔◌, [], ◌∷◌, ◌++◌, if◌then◌else◌, length, IsTrue, IfOk, OnOk, slice_get};
 ghost use Rattle.std.specs.List.{All};
 ghost use Rattle.std.specs.List.Sorted.{IsSorted};
 ghost use Rattle.std.specs.Option.{option_map};
@@ -71,15 +71,10 @@ fn push_given(alloc: Global, entries: &mut Vec<Entry>, fact: Fact) -> Result<(),
     requires below { NoneAbove fact.dimensions entries.old.items }
     ensures { OnOk result (entries.new.items ≡ with_fact fact entries.old.items) }
 {
-    match entries.len().checked_sub(1) {
-        Some(last) if entries[last].0 == fact.dimensions => {
-            add(alloc, &mut entries[last].1, &fact.value)
-        }
-        _ => {
-            entries.push(entry_given(alloc, fact))?;
-            Ok(())
-        }
+    if !joins_last(alloc, entries, &fact)? {
+        entries.push(entry_given(alloc, fact))?;
     }
+    Ok(())
 }
 
 fn push(alloc: Global, entries: &mut Vec<Entry>, fact: &Fact) -> Result<(), AllocError>
@@ -87,14 +82,25 @@ fn push(alloc: Global, entries: &mut Vec<Entry>, fact: &Fact) -> Result<(), Allo
     requires below { NoneAbove fact.now.dimensions entries.old.items }
     ensures { OnOk result (entries.new.items ≡ with_fact fact.now entries.old.items) }
 {
+    if !joins_last(alloc, entries, fact)? {
+        entries.push(entry_of(alloc, fact)?)?;
+    }
+    Ok(())
+}
+
+// Adds the value to the last entry, or returns false if that entry has other dimensions.
+fn joins_last(alloc: Global, entries: &mut Vec<Entry>, fact: &Fact) -> Result<bool, AllocError>
+    requires rise { IsRising dimensions_cmp entry_key entries.old.items }
+    requires below { NoneAbove fact.now.dimensions entries.old.items }
+    ensures { IfOk result (λ joins. with_fact fact.now entries.old.items
+        ≡ (if joins then entries.new.items else entries.new.items ++ entry_of fact.now ∷ [])) }
+{
     match entries.len().checked_sub(1) {
         Some(last) if entries[last].0 == fact.dimensions => {
-            add(alloc, &mut entries[last].1, &fact.value)
+            add(alloc, &mut entries[last].1, &fact.value)?;
+            Ok(true)
         }
-        _ => {
-            entries.push(entry_of(alloc, fact)?)?;
-            Ok(())
-        }
+        _ => Ok(false),
     }
 }
 
