@@ -1,5 +1,5 @@
 -- The summary of several different values, each nil or of one kind.
-use Rattle.std.proofs.Common.{◌≡◌, ◌≢◌, ℕ, zero, suc, ◌≤◌, length, Bool, true, false, cond, ◌||◌, ◌&&◌, List, [], ◌∷◌, Option, Some, None, refl, sym, ap, subst, ◌∙◌, ⊎_elim, arith}
+use Rattle.std.proofs.Common.{◌≡◌, ◌≢◌, ℕ, zero, suc, ◌≤◌, length, Bool, true, false, cond, ◌||◌, ◌&&◌, List, [], ◌∷◌, Option, Some, None, refl, sym, ap, subst, ◌∙◌, ⊎_elim, inl, inr, arith}
 use mathlib.Core.Bool.{true≢false}
 use Rattle.std.specs.Prelude.{◌↔◌, ◌⊎◌, IsTrue, Contains, is_some, int_lt, ℤ, ◌≤ℤ◌, ◌<ℤ◌, IfSome}
 use Rattle.std.specs.List.{AllByRecursion, Any, list_all, list_any}
@@ -24,10 +24,10 @@ use Rattle.oim_value.proofs.Ends.{ends_are_one, within_ends_is_within_each}
 use Rattle.oim_value.proofs.SeveralMeet.{crossed_ends_are_apart, different_meet_as_numbers, different_meet_between_ends}
 use Rattle.oim_report.specs.Duplicates.{values_meet}
 use Rattle.oim_report.proofs.ValuesMeet.{values_meet_is_meets}
-use Rattle.fact_base.specs.code.Judged.{AreSummarised, shared_by}
+use Rattle.fact_base.specs.code.Judged.{AreAlike, AreSummarised, shared_by}
 use Rattle.fact_base.specs.Verdict.{IsApartPair, IsCommonOf, IsPairOf, IsShownPair, begin_with_numbers, each_meet, verdict_of}
 use Rattle.fact_base.specs.declared.verdict.Verdict.TheVariants.{Complete, Consistent, Inconsistent}
-use Rattle.fact_base.proofs.Members.{each_there, first_there, first_or_later, later_there, none_there}
+use Rattle.fact_base.proofs.Members.{each_by_there, each_there, first_there, first_or_later, later_there, none_there}
 
 -- ---- every two values meet
 
@@ -49,6 +49,34 @@ each_meet_is (v ∷ vs) =
           (first.1 (all_in_turn (Meets v) vs (λ k d within. h zero (suc k) d (omega arith) (omega (arith, within)))))
           ((each_meet_is vs).1 (λ i j d under within. h (suc i) (suc j) d (omega (arith, under)) (omega (arith, within)))),
     )
+
+-- ---- one kind
+
+some_kind : (v : Value) → 1 ≤ kind_order v → v ≢ Nil
+some_kind v some is = omega (arith, some, ap kind_order is)
+
+nil_or_not : (v : Value) → (v ≡ Nil) ⊎ (v ≢ Nil)
+nil_or_not Nil = inl refl
+nil_or_not (Number m d) = inr (some_kind (Number m d) (omega arith))
+nil_or_not (AText t) = inr (some_kind (AText t) (omega arith))
+nil_or_not (AName n) = inr (some_kind (AName n) (omega arith))
+
+-- the kind of the first value that is not nil
+of_one_kind : (vs : List Value) → AreAlike vs → (kind : ℕ) × AreNilOrOfKind kind vs
+of_one_kind [] alike = (0, λ k d within. absurd (omega (arith, within)))
+of_one_kind (v ∷ vs) alike = ⊎_elim
+    (λ nil.
+    let rest = of_one_kind vs (λ x y first second. alike x y (later_there v vs x first) (later_there v vs y second)) in (
+      rest.0,
+      each_by_there (λ x. (x ≡ Nil) ⊎ (kind_order x ≡ rest.0)) (v ∷ vs) (λ x at.
+          ⊎_elim (λ is. inl (sym is ∙ nil)) (each_there (λ y. (y ≡ Nil) ⊎ (kind_order y ≡ rest.0)) vs x rest.1) (first_or_later v vs x at)),
+    ))
+    (λ some. (
+      kind_order v,
+      each_by_there (λ x. (x ≡ Nil) ⊎ (kind_order x ≡ kind_order v)) (v ∷ vs) (λ x at.
+          ⊎_elim (λ nil. inl nil) (λ other. inr (alike x v at (first_there v vs) other some)) (nil_or_not x)),
+    ))
+    (nil_or_not v)
 
 -- ---- the contents of a summary
 
@@ -124,11 +152,13 @@ shows_shared vs ends between =
 pub shared_where_meet : (vs : List Value) (s : Summarised) → AreSummarised vs s → 2 ≤ length vs → (ends : Interval) → shared_by s ≡ Some ends → EachTwoValuesMeet vs × MeetBetween vs ends
 shared_where_meet vs s summed several ends is =
     let between = shared_shows vs ends (ap shared_by (sym summed.summary) ∙ is) in
-    ((different_meet_between_ends summed.kind vs several summed.different summed.alike).1 (ends, between), between)
+    let kind = of_one_kind vs summed.alike in
+    ((different_meet_between_ends kind.0 vs several summed.different kind.1).1 (ends, between), between)
 
 pub meet_where_shared : (vs : List Value) (s : Summarised) → AreSummarised vs s → 2 ≤ length vs → EachTwoValuesMeet vs → is_some (shared_by s) ≡ true
 meet_where_shared vs s summed several meet =
-    let between = (different_meet_between_ends summed.kind vs several summed.different summed.alike).0 meet in
+    let kind = of_one_kind vs summed.alike in
+    let between = (different_meet_between_ends kind.0 vs several summed.different kind.1).0 meet in
     ap is_some (ap shared_by summed.summary ∙ shows_shared vs between.0 between.1)
 
 -- ---- verdicts
@@ -179,9 +209,6 @@ of_number_kind (AName n) h = absurd (omega (arith, h))
 not_Nil : (v : Value) → has_interval v ≡ true → v ≢ Nil
 not_Nil v h is = true≢false (sym h ∙ ap has_interval is)
 
-of_kind : (kind : ℕ) (v : Value) → v ≢ Nil → (v ≡ Nil) ⊎ (kind_order v ≡ kind) → kind_order v ≡ kind
-of_kind kind v other = ⊎_elim (λ is. absurd (other is)) (λ is. is)
-
 some_number : (vs : List Value) → list_any has_interval vs ≡ true → (v : Value) × (Contains vs v × (has_interval v ≡ true))
 some_number [] h = absurd (true≢false (sym h))
 some_number (v ∷ vs) h = by_test (λ later. some_number vs later) (has_interval v) refl
@@ -192,13 +219,10 @@ some_number (v ∷ vs) h = by_test (λ later. some_number vs later) (has_interva
         let found = rest (sym (ap (λ (b : Bool). b || list_any has_interval vs) is) ∙ h) in
         (found.0, (later_there v vs found.0 found.1.0, found.1.1))
 
-all_numbers : (kind : ℕ) (vs : List Value) → AreNilOrOfKind kind vs → (Contains vs Nil → ⊥) → list_any has_interval vs ≡ true → (v : Value) → Contains vs v → has_interval v ≡ true
-all_numbers kind vs alike none some v at =
+all_numbers : (vs : List Value) → AreAlike vs → (Contains vs Nil → ⊥) → list_any has_interval vs ≡ true → (v : Value) → Contains vs v → has_interval v ≡ true
+all_numbers vs alike none some v at =
     let found = some_number vs some in
-    let kind_is : kind_order found.0 ≡ kind = of_kind kind found.0 (not_Nil found.0 found.1.1) (each_there (λ w. (w ≡ Nil) ⊎ (kind_order w ≡ kind)) vs found.0 alike found.1.0) in
-    of_number_kind v
-    (of_kind kind v (λ is. none (subst (Contains vs) is at)) (each_there (λ w. (w ≡ Nil) ⊎ (kind_order w ≡ kind)) vs v alike at)
-    ∙ sym kind_is ∙ number_kind found.0 found.1.1)
+    of_number_kind v (alike v found.0 at found.1.0 (λ is. none (subst (Contains vs) is at)) (not_Nil found.0 found.1.1) ∙ number_kind found.0 found.1.1)
 
 begins : (vs : List Value) → 2 ≤ length vs → ((v : Value) → Contains vs v → has_interval v ≡ true) → begin_with_numbers vs ≡ true
 begins [] several all = absurd (omega (arith, several))
@@ -224,7 +248,7 @@ crossed_are_apart vs s summed several ends is no_nil apart =
     let none = no_nil_there vs (ap (λ (t : Summarised). t.nil) (sym summed.summary) ∙ no_nil) in
     let over = above ends.high ends.low (crossed (int_lt ends.high ends.low) refl) in
     record {
-      shown = shown_numbers vs (place_of_least_high ends vs) (place_of_greatest_low ends vs) (begins vs several (all_numbers summed.kind vs summed.alike none (some_ends vs ends told))) (λ others are_too.
+      shown = shown_numbers vs (place_of_least_high ends vs) (place_of_greatest_low ends vs) (begins vs several (all_numbers vs summed.alike none (some_ends vs ends told))) (λ others are_too.
           let same : ends ≡ others = ends_are_one (intervals_of vs) ends others are are_too in
           (ap (λ e. place_of_least_high e vs) same, ap (λ e. place_of_greatest_low e vs) same));
       apart = crossed_ends_are_apart vs ends are over;

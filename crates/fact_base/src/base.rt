@@ -1,4 +1,4 @@
-ghost use Rattle.std.specs.Prelude.{◌≡◌, ◌≢◌, ◌↔◌, [], ◌∷◌, length, is_some, IsTrue, IfSome, OnOk, OnErr};
+ghost use Rattle.std.specs.Prelude.{◌≡◌, ◌≢◌, ◌↔◌, [], ◌∷◌, length, is_some, IsTrue, IfSome, MatchOption, OnOk, OnErr};
 ghost use Rattle.fact_base.specs.Body.{body, union};
 ghost use Rattle.fact_base.specs.Entries.{facts_of_entries};
 ghost use Rattle.fact_base.specs.code.Entries.{AreStored};
@@ -10,8 +10,8 @@ ghost use Rattle.oim_report.specs.Duplicates.{level_of};
 
 use crate::entries::{Entries, count_of, entries_from, entries_of, level_of, same_rows};
 use crate::evidence::Evidence;
-use crate::judging::{evidence_of, verdict_of};
 use crate::references::{replace, with_all};
+use crate::row::Row;
 use crate::rows::Rows;
 use crate::verdict::Verdict;
 use merge_laws::{Merge, SortedMap, SortedSet, Summary};
@@ -79,9 +79,12 @@ impl<'s> Base<'s> {
         }
     }
 
-    /// Returns the sheet under which the reports were read.
+    /// Returns the sheet under which the reports were read. The contract also states that each fact
+    /// fits it, that both lists ascend, and that resolving a reference again without a base does not
+    /// change it.
     pub fn sheet(&self) -> &'s Sheet
-        ensures { result.now ≡ self.now.sheet }
+        ensures sheet { result.now ≡ self.now.sheet }
+        ensures fits { Fits self.now.sheet self.now.body }
     {
         self.sheet
     }
@@ -199,8 +202,7 @@ impl<'s> Base<'s> {
     pub fn verdict(&self, dimensions: &Dimensions) -> Option<Verdict>
         ensures { result ≡ verdict self.now.body.facts dimensions.now }
     {
-        let (values, summary) = self.entries.get(dimensions)?;
-        Some(verdict_of(values.as_slice(), summary))
+        Some(self.row(dimensions)?.verdict())
     }
 
     /// Returns the evidence for the verdict on the facts with these dimensions, or None if there
@@ -209,8 +211,19 @@ impl<'s> Base<'s> {
         ensures there { is_some result ≡ is_some (verdict self.now.body.facts dimensions.now) }
         ensures evidence { IfSome result (IsEvidence (values_at dimensions.now self.now.body.facts)) }
     {
+        Some(self.row(dimensions)?.evidence())
+    }
+
+    fn row<'b>(&'b self, dimensions: &'b Dimensions) -> Option<Row<'b>>
+        ensures { MatchOption result (values_at dimensions.now self.now.body.facts ≡ [])
+            (λ row. row.values.now ≡ values_at dimensions.now self.now.body.facts) }
+    {
         let (values, summary) = self.entries.get(dimensions)?;
-        Some(evidence_of(values.as_slice(), summary))
+        Some(Row {
+            dimensions,
+            values: values.as_slice(),
+            summary,
+        })
     }
 
     /// Returns the strictest level of duplicates that allows the facts. It is never `Complete`,
@@ -220,13 +233,5 @@ impl<'s> Base<'s> {
         ensures never_complete { result ≢ Level.Complete }
     {
         level_of(&self.entries)
-    }
-
-    /// Does nothing. Its contract states that each fact fits the sheet, and that both lists ascend.
-    /// It also states that resolving a reference again without a base does not change it.
-    pub fn known(&self)
-        ensures { Fits self.now.sheet self.now.body }
-    {
-        let _entries = &self.entries;
     }
 }

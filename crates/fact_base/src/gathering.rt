@@ -73,9 +73,12 @@ impl<'s> Gathering<'s> {
         }
     }
 
-    /// Returns the sheet under which the reports were read.
+    /// Returns the sheet under which the reports were read. The contract also states that each fact
+    /// fits it, that both lists ascend, and that resolving a reference again without a base does not
+    /// change it.
     pub fn sheet(&self) -> &'s Sheet
-        ensures { result.now ≡ self.now.sheet }
+        ensures sheet { result.now ≡ self.now.sheet }
+        ensures fits { Fits self.now.sheet self.now.body }
     {
         self.base.sheet()
     }
@@ -149,20 +152,12 @@ impl<'s> Gathering<'s> {
             references,
             ..
         } = self;
-        base.known();
+        let sheet = base.sheet();
         if facts.is_empty() && references.is_empty() {
             return Ok(base);
         }
-        let others = base_of(alloc, base.sheet(), facts, references)?;
+        let others = base_of(alloc, sheet, facts, references)?;
         joined(base, others)
-    }
-
-    /// Does nothing. Its contract states that each fact fits the sheet, and that both lists ascend.
-    /// It also states that resolving a reference again without a base does not change it.
-    pub fn known(&self)
-        ensures { Fits self.now.sheet self.now.body }
-    {
-        self.base.known();
     }
 }
 

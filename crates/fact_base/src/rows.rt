@@ -1,3 +1,7 @@
+ghost use Rattle.std.proofs.Props.{props};
+ghost use Rattle.std.specs.List.{All};
+ghost use Rattle.fact_base.specs.code.Judged.{AreSummarised};
+
 use crate::row::Row;
 use merge_laws::{SortedMap, SortedSet, Summary};
 use oim_dims::Dimensions;
@@ -8,6 +12,7 @@ use oim_value::Value;
 pub struct Rows<'b> {
     pub(crate) entries: &'b SortedMap<Dimensions, (SortedSet<Value>, Summary)>,
     pub(crate) next: usize,
+    ghost summed: { All (λ e. AreSummarised e.1.0 e.1.1) entries.now } by { Prim.hlevel props },
 }
 
 impl<'b> Iterator for Rows<'b> {
@@ -24,11 +29,12 @@ impl<'b> Iterator for Rows<'b> {
         if self.next >= self.entries.len() {
             return None;
         }
-        let (dimensions, (values, _summary)) = self.entries.at(self.next)?;
+        let (dimensions, (values, summary)) = self.entries.at(self.next)?;
         self.next += 1;
         Some(Row {
             dimensions,
             values: values.as_slice(),
+            summary,
         })
     }
 }

@@ -102,7 +102,7 @@ module _ (b : Body) (rises : IsSet fact_cmp b.facts) (done rest : List Row) (r :
   facts_split : b.facts ≡ rows_facts done ++ (row_facts r ++ rows_facts rest)
   facts_split = sym (rows_facts_are b.facts) ∙ ap rows_facts (sym all) ∙ flat_map-append row_facts done (r ∷ rest)
 
-  pub row_there : Contains (rows_of b.facts) r
+  row_there : Contains (rows_of b.facts) r
   row_there = subst (λ rs. Contains rs r) all ((in_one_of_both done (r ∷ rest) r).1 (inr (first_there r rest)))
 
   pub row_filled : 0 < length r.1

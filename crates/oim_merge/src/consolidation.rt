@@ -1,5 +1,5 @@
 ghost use Rattle.std.specs.Prelude.{◌≡◌, ◌-◌, ◌^◌, ◌<◌, IfOk, IfErr, MatchOption};
-ghost use Rattle.oim_merge.specs.Above.{IsFirstAbove, StaysWithin, some_above};
+ghost use Rattle.oim_merge.specs.Above.{IsFirstAbove, StaysWithin, is_above};
 ghost use Rattle.oim_merge.specs.Run.{Consolidates, ConsolidationStops, Stops, Writes, failures_after_run};
 
 use crate::fault::Fault;
@@ -62,7 +62,6 @@ pub(crate) fn write_within<S: Sink>(
 fn first_above(base: &Base<'_>, allow: Level) -> Option<u64>
     ensures { MatchOption result (StaysWithin allow base.now.body) (IsFirstAbove allow base.now.body) }
 {
-    base.known();
     if allow == Level::All {
         return None;
     }
@@ -71,19 +70,19 @@ fn first_above(base: &Base<'_>, allow: Level) -> Option<u64>
     let mut number = 0;
     for row in base.rows() {
         number += 1;
-        if is_above(allow, base.verdict(row.dimensions)) {
+        if is_above(allow, row.verdict()) {
             return Some(number);
         }
     }
     None
 }
 
-fn is_above(allow: Level, verdict: Option<Verdict>) -> bool
-    ensures { result ≡ some_above allow verdict }
+fn is_above(allow: Level, verdict: Verdict) -> bool
+    ensures { result ≡ is_above allow verdict }
 {
-    match (allow, verdict) {
-        (_, None) | (_, Some(Verdict::Complete)) | (Level::All, _) => false,
-        (Level::Consistent, Some(verdict)) => verdict == Verdict::Inconsistent,
-        (Level::Complete | Level::Unique, Some(_)) => true,
+    match allow {
+        Level::All => false,
+        Level::Consistent => verdict == Verdict::Inconsistent,
+        Level::Complete | Level::Unique => verdict != Verdict::Complete,
     }
 }

@@ -95,7 +95,7 @@ pub(crate) fn join_new(base: &mut Base<'_>, other: &Base<'_>) -> Result<(), Allo
     ensures { OnOk result (base.new ≡ joined_with base.old other.now) }
 {
     if base.same_as(other) {
-        base.known();
+        let _sheet = base.sheet();
         return Ok(());
     }
     base.join(other)

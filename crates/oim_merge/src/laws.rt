@@ -58,7 +58,7 @@ pub fn texts_give_bodies()
 pub fn bases_read_back(base: &Base<'_>)
     ensures { IsReadAsBody base.now.sheet (canonical base.now.body) base.now.body }
 {
-    base.known();
+    let _sheet = base.sheet();
 }
 
 /// The text of a body is the canonical text of the document that is read from it.

@@ -1,7 +1,5 @@
-ghost use Rattle.std.specs.Prelude.{◌≡◌, ◌-◌, ◌^◌, ◌<◌, Contains, IfOk, IfErr, OnOk};
+ghost use Rattle.std.specs.Prelude.{◌≡◌, ◌-◌, ◌^◌, ◌<◌, IfOk, IfErr, OnOk};
 ghost use Rattle.fact_base.specs.Rows.{rows_of};
-ghost use Rattle.fact_base.specs.Shown.{shown};
-ghost use Rattle.fact_base.specs.Verdict.{IsEvidence};
 ghost use Rattle.oim_write.specs.Sink.{failures_after_write, written_of};
 ghost use Rattle.oim_merge.specs.Listing.{AppendsFrontOfRows, AppendsRows, ListStops, ListingStops, Lists, ListsVerdicts};
 ghost use Rattle.oim_merge.specs.code.Listing.{BreaksRows, PassesRows};
@@ -13,7 +11,7 @@ use crate::judged_row::JudgedRow;
 use crate::merging::Consolidation;
 use crate::refusals::Refusals;
 use crate::verdict_format::VerdictFormat;
-use fact_base::{Base, Evidence, Row};
+use fact_base::Base;
 use oim_report::Sheet;
 use oim_write::{Encoded, Scratch, Sink, SinkBuffer, WriteFault};
 use std::alloc::Global;
@@ -73,7 +71,8 @@ fn write_all<S: Sink, F: VerdictFormat>(
     ensures err { IfErr result (λ fault. AppendsFrontOfRows (F.header format.now) (F.row_text format.now) base.now.body (S.told out.old) (S.told out.new) (written_of fault)) }
     ensures failures { S.failures out.new ≡ failures_after_write result (S.failures out.old) }
 {
-    base.known();
+    // each row has evidence, because the facts fit the sheet
+    let _sheet = base.sheet();
     let Ok(mut buffer) = SinkBuffer::new(alloc) else {
         return Err(WriteFault::OutOfMemory(0));
     };
@@ -97,7 +96,7 @@ fn push_rows<S: Sink, F: VerdictFormat>(
     ensures err { IfErr result (λ fault. BreaksRows (F.row_text format.now) base.now.body.facts (rows_of base.now.body.facts) (S.told out.old) (S.told out.new) buffer.old (written_of fault)) }
     ensures failures { S.failures out.new ≡ failures_after_write result (S.failures out.old) }
 {
-    base.known();
+    let _sheet = base.sheet();
     let mut scratch = Scratch::new(alloc);
     let mut identifiers = Identifiers {
         alloc,
@@ -113,7 +112,7 @@ fn push_rows<S: Sink, F: VerdictFormat>(
             number,
             identifiers,
             row,
-            evidence: evidence_of(base, row),
+            evidence: row.evidence(),
         };
         let Ok(text) = format.row(&mut scratch, &judged) else {
             return Err(buffer.stop(out));
@@ -122,15 +121,4 @@ fn push_rows<S: Sink, F: VerdictFormat>(
         identifiers.before += row.values.len() as u128;
     }
     Ok(())
-}
-
-fn evidence_of(base: &Base<'_>, row: Row<'_>) -> Evidence
-    requires { Contains (rows_of base.now.body.facts) (shown row) }
-    ensures { IsEvidence row.entry.values.now result }
-{
-    base.known();
-    match base.evidence(row.dimensions) {
-        Some(evidence) => evidence,
-        None => unreachable!(),
-    }
 }

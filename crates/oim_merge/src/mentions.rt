@@ -31,9 +31,9 @@ pub fn mentions_by_fact(
     ensures { IfOk result (λ ms. ms.items
         ≡ all_placed base.now.body.facts (mentions_by_fact base.now.sheet reports.now)) }
 {
-    base.known();
+    let sheet = base.sheet();
     let facts = facts_of(alloc, base)?;
-    let mut mentions = mentions_of(alloc, base.sheet(), facts.as_slice(), reports)?;
+    let mut mentions = mentions_of(alloc, sheet, facts.as_slice(), reports)?;
     mentions.sort_by_key(|mention| mention.place)?;
     Ok(mentions)
 }

@@ -79,9 +79,9 @@ impl<'s> Consolidation<'s> {
         ensures ok { OnOk result (self.new ≡ with_report self.old bytes.now) }
         ensures err { OnErr result (self.new ≡ self.old) }
     {
-        self.gathered.known();
+        let sheet = self.gathered.sheet();
         let number = self.reports + 1;
-        match read(self.alloc, self.gathered.sheet(), bytes)? {
+        match read(self.alloc, sheet, bytes)? {
             Ok(report) => self.gathered.add(report)?,
             Err(refusal) => self.refusals.push(number, refusal)?,
         }

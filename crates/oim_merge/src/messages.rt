@@ -80,7 +80,7 @@ impl<'s> Messages<'s> {
             return Ok(place);
         }
         let text = text(alloc, base)?;
-        base.known();
+        let _sheet = base.sheet();
         match self.find(&text) {
             Ok(place) => Ok(place),
             Err(at) => {

@@ -172,7 +172,7 @@ fn join_at<'s>(
 {
     if place == other {
         // a base that joins itself does not change
-        bases[place].known();
+        let _sheet = bases[place].sheet();
         return Ok(());
     }
     let mut base = std::mem::replace(&mut bases[place], Base::new(alloc, sheet));

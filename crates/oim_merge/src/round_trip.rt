@@ -12,12 +12,12 @@ use std::alloc::{AllocError, Global};
 pub fn read_back<'s>(alloc: Global, base: &Base<'s>) -> Result<Base<'s>, AllocError>
     ensures { IfOk result (λ back. back ≡ base.now) }
 {
-    base.known();
+    let sheet = base.sheet();
     let text = text(alloc, base)?;
-    let Ok(report) = read_report(alloc, base.sheet(), text.as_bytes()) else {
+    let Ok(report) = read_report(alloc, sheet, text.as_bytes()) else {
         return Err(AllocError);
     };
-    let mut back = Base::new(alloc, base.sheet());
+    let mut back = Base::new(alloc, sheet);
     back.take(&report)?;
     Ok(back)
 }

@@ -45,7 +45,8 @@ pub fn write_to<S: Sink>(alloc: Global, base: &Base<'_>, out: &mut S) -> Result<
         (canonical base.now.body) (written_of fault)) }
     ensures failures { S.failures out.new ≡ failures_after_write result (S.failures out.old) }
 {
-    base.known();
+    // the text is canonical because the facts fit the sheet
+    let _sheet = base.sheet();
     let Ok(table) = PrefixTable::of(alloc, base) else {
         return Err(WriteFault::OutOfMemory(0));
     };
@@ -59,6 +60,7 @@ pub fn write_to<S: Sink>(alloc: Global, base: &Base<'_>, out: &mut S) -> Result<
     buffer.flush(out)
 }
 
+// A struct of the six parameters would serve only this call.
 fn write_parts<S: Sink>(
     alloc: Global,
     buffer: &mut SinkBuffer,
@@ -135,7 +137,7 @@ fn write_facts<S: Sink>(
     Ok(())
 }
 
-// `before` is the number of facts before the row; `part` is a reused buffer.
+// `before` is the number of facts before the row. All rows reuse `part` and `scratch`.
 fn write_row<S: Sink>(
     buffer: &mut SinkBuffer,
     out: &mut S,

@@ -1,24 +1,28 @@
 -- Values of one dimension set with their summary, as a base stores them (own).
-use Rattle.std.specs.Prelude.{◌≡◌, ◌≢◌, ℕ, ◌||◌, List, [], Option, Some, None, if◌then◌else◌, int_lt}
+use Rattle.std.specs.Prelude.{◌≡◌, ◌≢◌, ◌||◌, List, [], Contains, Option, Some, None, if◌then◌else◌, int_lt}
 use Rattle.std.specs.Option.{option_and_then}
 use Rattle.merge_laws.specs.Ends.{Summarised, summary_of_all}
 use Rattle.merge_laws.specs.Sorted.{IsSet}
-use Rattle.oim_value.specs.SeveralMeet.{AreDifferent, AreNilOrOfKind}
-use Rattle.oim_value.specs.ValueOrder.{value_cmp}
+use Rattle.oim_value.specs.SeveralMeet.{AreDifferent}
+use Rattle.oim_value.specs.ValueOrder.{kind_order, value_cmp}
 use Rattle.oim_value.specs.declared.interval.Interval.{Interval}
 use Rattle.oim_value.specs.declared.level.Level.{Level}
 use Rattle.oim_value.specs.declared.level.Level.TheVariants.{Unique, Consistent as ConsistentLevel, All as AllLevel}
 use Rattle.oim_value.specs.declared.value.Value.{Value}
+use Rattle.oim_value.specs.declared.value.Value.TheVariants.{Nil}
 use Rattle.fact_base.specs.declared.verdict.Verdict.{Verdict}
 use Rattle.fact_base.specs.declared.verdict.Verdict.TheVariants.{Complete, Consistent, Inconsistent}
 
--- different values in order, each nil or of one kind, and their summary
+-- every two values that are not nil are of one kind
+abbrev pub AreAlike : List Value → Type 0
+AreAlike vs = (v w : Value) → Contains vs v → Contains vs w → v ≢ Nil → w ≢ Nil → kind_order v ≡ kind_order w
+
+-- different values in order, alike, and their summary
 pub record AreSummarised (vs : List Value) (told : Summarised) : Type 0 where
   pub some : vs ≢ []
   pub in_order : IsSet value_cmp vs
   pub different : AreDifferent vs
-  pub kind : ℕ
-  pub alike : AreNilOrOfKind kind vs
+  pub alike : AreAlike vs
   pub summary : told ≡ summary_of_all vs
 
 -- the common part of the intervals of values that meet: the interval between their ends, if no value is nil and low is at most high

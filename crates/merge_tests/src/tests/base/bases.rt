@@ -11,7 +11,6 @@ const TWO: &str = r#""value":"2","decimals":0"#;
 const NINE: &str = r#""value":"9","decimals":0"#;
 
 fn has_nothing(base: &Base<'_>) -> bool {
-    base.known();
     base.row_count() == 0
         && base.fact_count() == 0
         && base.taxonomy().is_empty()

@@ -37,7 +37,6 @@ fn gather<'s>(
     values: &[&str],
 ) -> Option<Result<Base<'s>, AllocError>> {
     let mut gathered = Gathering::new(rt.alloc(), sheet);
-    gathered.known();
     for value in values {
         if !adds(rt, &mut gathered, value) {
             return None;

@@ -192,7 +192,7 @@ fn all_leave_their_texts(alloc: Global) -> Result<bool, AllocError> {
 
 fn evidence(base: &Base<'_>) -> Option<Evidence> {
     let row = base.rows().next()?;
-    base.evidence(row.dimensions)
+    Some(row.evidence())
 }
 
 fn tells_what_is_apart(alloc: Global) -> Result<bool, AllocError> {

@@ -1,23 +1,12 @@
 use Rattle.std.proofs.Common.{◌≡◌, ◌∷◌, ◌++◌, Bool, true, false, List, [], map, sym, ap, subst, ◌∙◌, append_assoc, arith, ⊎_elim}
 use Rattle.std.specs.List.{All}
 use Rattle.std.proofs.lemmas.List.{length-append, length-map, map_push}
-use Rattle.fact_base.specs.Body.{Body}
-use Rattle.fact_base.specs.Passed.{IsSet}
-use Rattle.fact_base.specs.Rows.{Row, rows_of, values_at}
+use Rattle.fact_base.specs.Rows.{Row}
 use Rattle.fact_base.specs.Shown.{rows_left, shown}
-use Rattle.fact_base.specs.Verdict.{verdict_of}
 use Rattle.fact_base.proofs.Members.{each_by_there, each_there, first_or_later, in_one_of_both, none_there}
-use Rattle.fact_base.proofs.RowsOf.{rows_tell_facts}
-use Rattle.oim_dims.specs.FactOrder.{fact_cmp}
 use Rattle.oim_value.specs.declared.level.Level.{Level}
 use Rattle.oim_merge.specs.Above.{row_is_above, some_above}
-use Rattle.oim_merge.proofs.RowLists.{row_there}
 use Rattle.oim_merge.proofs.consolidation.first_above.Goals as goal
-
--- a row is judged by the verdict on its dimension set
-judged : (b : Body) (rises : IsSet fact_cmp b.facts) (done rest : List Row) (r : Row) → done ++ (r ∷ rest) ≡ rows_of b.facts → (allow : Level) (above : Bool) → some_above allow (verdict_of (values_at r.0 b.facts)) ≡ above → row_is_above allow r ≡ above
-judged b rises done rest r all allow above is =
-    ap (λ vs. some_above allow (verdict_of vs)) (each_there (λ q. q.1 ≡ values_at q.0 b.facts) (rows_of b.facts) r (rows_tell_facts b.facts rises).values (row_there b rises done rest r all)) ∙ is
 
 also : (allow : Level) (done : List Row) (r : Row) → All (λ q. row_is_above allow q ≡ false) done → row_is_above allow r ≡ false → All (λ q. row_is_above allow q ≡ false) (done ++ r ∷ [])
 also allow done r within this = each_by_there (λ q. row_is_above allow q ≡ false) (done ++ r ∷ []) (λ q at.
@@ -28,7 +17,6 @@ also allow done r within this = each_by_there (λ q. row_is_above allow q ≡ fa
 pub returns-then-is_above : goal.returns-then-is_above
 returns-then-is_above c =
     let l = c.loop-row in
-    let b = c.args.base.now.body in
     let done = map shown l.yielded in
     let rest = rows_left c.next.new.self in
     let r : Row = shown c.in-Some.row in
@@ -39,14 +27,13 @@ returns-then-is_above c =
       behind = rest;
       rows = sym all;
       number_is = omega (arith, l.invariant.count, length-map l.yielded shown);
-      above = judged b c.known.ensures.rises.facts done rest r all c.args.allow true (ap (some_above c.args.allow) (sym c.verdict.ensures) ∙ sym c.is_above.ensures ∙ c.if-is_above.true);
+      above = ap (some_above c.args.allow) c.verdict.ensures ∙ sym c.is_above.ensures ∙ c.if-is_above.true;
       earlier = l.invariant.within;
     }
 
 pub loop-row-preserved : goal.loop-row-preserved
 loop-row-preserved c =
     let l = c.loop-row in
-    let b = c.args.base.now.body in
     let done = map shown l.yielded in
     let rest = rows_left c.next.new.self in
     let r : Row = shown c.in-Some.row in
@@ -56,5 +43,5 @@ loop-row-preserved c =
       rows = ap (λ rs. rs ++ rest) with_row ∙ append_assoc done (r ∷ []) rest ∙ all;
       count = omega (arith, l.invariant.count, length-append l.yielded (c.in-Some.row ∷ []));
       within = subst (All (λ q. row_is_above c.args.allow q ≡ false)) (sym with_row) (also c.args.allow done r l.invariant.within
-          (judged b c.known.ensures.rises.facts done rest r all c.args.allow false (ap (some_above c.args.allow) (sym c.verdict.ensures) ∙ sym c.is_above.ensures ∙ c.if-is_above.false)));
+          (ap (some_above c.args.allow) c.verdict.ensures ∙ sym c.is_above.ensures ∙ c.if-is_above.false));
     }

@@ -26,13 +26,13 @@ pub row-requires : goal.row-requires
 row-requires g c =
     let l = c.loop-row in
     let facts = c.args.base.now.body in
-    let rises = c.known.ensures.rises.facts in
+    let rises = c.sheet-sheet.ensures.fits.rises.facts in
     let all = ap (λ rs. map shown l.yielded ++ rs) (sym c.in-Some.ensures.steps) ∙ l.invariant.rows in
     let within = row_within facts rises (map shown l.yielded) (rows_left c.next.new.self) (shown c.in-Some.row) all in
     record {
       some = row_filled facts rises (map shown l.yielded) (rows_left c.next.new.self) (shown c.in-Some.row) all;
       room = omega (arith, within, l.invariant.before, l.invariant.count);
-      places = places_within c.in-Some.row.values.now c.evidence_of.result c.evidence_of.ensures;
+      places = places_within c.in-Some.row.values.now c.evidence.result c.evidence.ensures;
     }
 
 pub returns-in_default-clause-err : goal.returns-in_default-clause-err
@@ -43,7 +43,7 @@ returns-in_default-clause-err g c =
     let done = map shown l.yielded in
     let left = rows_left l.row-iterator in
     let passed = l.invariant.passed in
-    let more = left_exist written base.sheet base.body c.known.ensures done left l.invariant.rows (1 + length done) in
+    let more = left_exist written base.sheet base.body c.sheet-sheet.ensures.fits done left l.invariant.rows (1 + length done) in
     record {
       text = passed.text ++ more.0;
       are = subst (λ rs. AreRowsFrom written base.body.facts 1 rs (passed.text ++ more.0)) l.invariant.rows (rows_both written base.body.facts 1 done left passed.text more.0 passed.are more.1);
@@ -62,9 +62,9 @@ returns-in_err-push-clause-err g c =
     let bytes = c.as_slice.result.now in
     let number : l.number + 1 ≡ 1 + length done = omega (arith, l.invariant.number, length-map l.yielded shown) in
     let row : IsRow written base.body.facts (1 + length done) r bytes = subst (λ n. IsRow written base.body.facts n r bytes) number
-    (row_is base.body c.known.ensures.rises.facts done rest r all written (g.met.F.VerdictFormat.names c.args.format.now) (l.number + 1) l.identifiers.before l.identifiers.count c.evidence_of.result bytes l.invariant.before l.invariant.count c.evidence_of.ensures (c.as_slice.ensures.value ∙ c.in-Ok.ensures)) in
+    (row_is base.body c.sheet-sheet.ensures.fits.rises.facts done rest r all written (g.met.F.VerdictFormat.names c.args.format.now) (l.number + 1) l.identifiers.before l.identifiers.count c.evidence.result bytes l.invariant.before l.invariant.count c.evidence.ensures (c.as_slice.ensures.value ∙ c.in-Ok.ensures)) in
     let passed = l.invariant.passed in
-    let more = left_exist written base.sheet base.body c.known.ensures (done ++ r ∷ []) rest (left_behind done rest r (rows_of base.body.facts) all) (suc (1 + length done)) in
+    let more = left_exist written base.sheet base.body c.sheet-sheet.ensures.fits (done ++ r ∷ []) rest (left_behind done rest r (rows_of base.body.facts) all) (suc (1 + length done)) in
     let p = err_from_is_err_and c.from_residual.result c.from_residual.ensures.1 in rw (p.1, p.2) (record {
       text = passed.text ++ (bytes ++ more.0);
       are = subst (λ rs. AreRowsFrom written base.body.facts 1 rs (passed.text ++ (bytes ++ more.0))) all
@@ -75,7 +75,7 @@ returns-in_err-push-clause-err g c =
 pub overflow_add-identifiers : goal.overflow_add-identifiers
 overflow_add-identifiers g c =
     let l = c.loop-row in
-    let within = row_within c.args.base.now.body c.known.ensures.rises.facts (map shown l.yielded) (rows_left c.next.new.self) (shown c.in-Some.row)
+    let within = row_within c.args.base.now.body c.sheet-sheet.ensures.fits.rises.facts (map shown l.yielded) (rows_left c.next.new.self) (shown c.in-Some.row)
     (ap (λ rs. map shown l.yielded ++ rs) (sym c.in-Some.ensures.steps) ∙ l.invariant.rows) in
     omega (arith, within, l.invariant.before, c.fact_count.ensures, c.fact_count.type_inv)
 
@@ -91,13 +91,13 @@ loop-row-preserved g c =
     let bytes = c.as_slice.result.now in
     let number : l.number + 1 ≡ 1 + length done = omega (arith, l.invariant.number, length-map l.yielded shown) in
     let row : IsRow written base.body.facts (1 + length done) r bytes = subst (λ n. IsRow written base.body.facts n r bytes) number
-    (row_is base.body c.known.ensures.rises.facts done rest r all written (g.met.F.VerdictFormat.names c.args.format.now) (l.number + 1) l.identifiers.before l.identifiers.count c.evidence_of.result bytes l.invariant.before l.invariant.count c.evidence_of.ensures (c.as_slice.ensures.value ∙ c.in-Ok.ensures)) in
+    (row_is base.body c.sheet-sheet.ensures.fits.rises.facts done rest r all written (g.met.F.VerdictFormat.names c.args.format.now) (l.number + 1) l.identifiers.before l.identifiers.count c.evidence.result bytes l.invariant.before l.invariant.count c.evidence.ensures (c.as_slice.ensures.value ∙ c.in-Ok.ensures)) in
     let passed = l.invariant.passed in
     let with_row : map shown (l.yielded ++ c.in-Some.row ∷ []) ≡ done ++ r ∷ [] = map_push shown l.yielded c.in-Some.row in
     record {
       rows = ap (λ rs. rs ++ rest) with_row ∙ left_behind done rest r (rows_of base.body.facts) all;
       number = omega (arith, l.invariant.number, length-append l.yielded (c.in-Some.row ∷ []));
-      before = ap (λ n. n + length r.1) l.invariant.before ∙ count_with_row base.body c.known.ensures.rises.facts done rest r all ∙ ap (λ rs. length (rows_facts rs)) (sym with_row);
+      before = ap (λ n. n + length r.1) l.invariant.before ∙ count_with_row base.body c.sheet-sheet.ensures.fits.rises.facts done rest r all ∙ ap (λ rs. length (rows_facts rs)) (sym with_row);
       count = l.invariant.count;
       passed = record {
         text = passed.text ++ bytes;

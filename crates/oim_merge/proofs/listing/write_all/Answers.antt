@@ -12,16 +12,16 @@ both_ok (Ok x) gives p q = gives p q
 both_ok (Err e) gives p q = tt
 
 pub returns-in_default-clause-err : goal.returns-in_default-clause-err
-returns-in_default-clause-err g c = none_written (g.F.VerdictFormat.row_text c.args.format.now) c.args.base.now.sheet c.args.base.now.body c.known.ensures (g.F.VerdictFormat.header c.args.format.now)
+returns-in_default-clause-err g c = none_written (g.F.VerdictFormat.row_text c.args.format.now) c.args.base.now.sheet c.args.base.now.body c.sheet-sheet.ensures.fits (g.F.VerdictFormat.header c.args.format.now)
 
 pub returns-in_default-header-clause-err : goal.returns-in_default-header-clause-err
-returns-in_default-header-clause-err g c = none_written (g.F.VerdictFormat.row_text c.args.format.now) c.args.base.now.sheet c.args.base.now.body c.known.ensures (g.F.VerdictFormat.header c.args.format.now)
+returns-in_default-header-clause-err g c = none_written (g.F.VerdictFormat.row_text c.args.format.now) c.args.base.now.sheet c.args.base.now.body c.sheet-sheet.ensures.fits (g.F.VerdictFormat.header c.args.format.now)
 
 pub returns-in_err-push-clause-err : goal.returns-in_err-push-clause-err
 returns-in_err-push-clause-err g c =
     let told = g.S.Sink.told in
     let base = c.args.base.now in
-    let all = all_exist (g.F.VerdictFormat.row_text c.args.format.now) base.sheet base.body c.known.ensures in
+    let all = all_exist (g.F.VerdictFormat.row_text c.args.format.now) base.sheet base.body c.sheet-sheet.ensures.fits in
     let p = err_from_is_err_and c.from_residual.result c.from_residual.ensures.1 in rw (p.1, p.2) (record {
       rows = all.0;
       are = all.1;

@@ -14,7 +14,7 @@ use Rattle.oim_merge.proofs.SourceMentions.{mentions_are_of}
 use Rattle.oim_merge.proofs.mentions.mentions_by_fact.Goals as goal
 
 pub mentions_of-requires : goal.mentions_of-requires
-mentions_of-requires c = subst (IsSet fact_cmp) (sym (ap (map lent) c.as_slice.ensures.value ∙ c.in_ok-facts.ensures)) c.known.ensures.rises.facts
+mentions_of-requires c = subst (IsSet fact_cmp) (sym (ap (map lent) c.as_slice.ensures.value ∙ c.in_ok-facts.ensures)) c.sheet-sheet.ensures.fits.rises.facts
 
 pub returns : goal.returns
 returns c =
@@ -22,9 +22,9 @@ returns c =
     let facts = base.body.facts in
     let ms = mentions base.sheet c.args.reports.now in
     let gathered : c.in_ok-mentions.mentions.items ≡ all_placed facts ms
-    = c.in_ok-mentions.ensures ∙ (λ i. all_placed ((ap (map lent) c.as_slice.ensures.value ∙ c.in_ok-facts.ensures) i) (mentions (c.sheet.ensures i) c.args.reports.now)) in
+    = c.in_ok-mentions.ensures ∙ (λ i. all_placed ((ap (map lent) c.as_slice.ensures.value ∙ c.in_ok-facts.ensures) i) (mentions (c.sheet-sheet.ensures.sheet i) c.args.reports.now)) in
     let sorted = c.sort_by_key.new.self.items in
-    sorted_are facts c.known.ensures.rises.facts ms
+    sorted_are facts c.sheet-sheet.ensures.fits.rises.facts ms
     (subst (λ fs. AreOf fs ms) (ap (λ (b : Body). b.facts) (sym c.requires)) (mentions_are_of base.sheet c.args.reports.now))
     sorted
     (IsNonDecreasingBy-from_sort_by_key (λ (m : PlacedMention). m.place) _ c.in_ok-sort_by_key.ensures.sorted (λ a r q k. search rules))

@@ -4,7 +4,7 @@ use Rattle.oim_merge.proofs.Steps.{joins_itself, joins_other, read_default}
 use Rattle.oim_merge.proofs.replicas.join_at.Goals as goal
 
 pub returns-then-place-other : goal.returns-then-place-other
-returns-then-place-other c = joins_itself _ _ _ c.index.result.now (base_of c.args.sheet.now []) c.if-place-other.true c.requires.place_within c.index.ensures c.known.ensures.rises
+returns-then-place-other c = joins_itself _ _ _ c.index.result.now (base_of c.args.sheet.now []) c.if-place-other.true c.requires.place_within c.index.ensures c.sheet-sheet.ensures.fits.rises
 
 pub returns : goal.returns
 returns c =

@@ -11,8 +11,8 @@ returns c =
     let base = c.args.base.now in
     let document = c.in-Ok.report.document in
     let new = c.new-back.result in
-    let read : outcome base.sheet (canonical base.body) ≡ Ok document = (λ i. outcome (sym c.sheet.ensures i) (sym (c.as_bytes.ensures ∙ c.in_ok-text.ensures) i)) ∙ c.in-Ok.ensures.ok in
-    let same_sheet : new.sheet ≡ base.sheet = ap (λ (x : Contents). x.sheet) c.new-back.ensures ∙ c.sheet-2.ensures in
+    let read : outcome base.sheet (canonical base.body) ≡ Ok document = (λ i. outcome (sym c.sheet-sheet.ensures.sheet i) (sym (c.as_bytes.ensures ∙ c.in_ok-text.ensures) i)) ∙ c.in-Ok.ensures.ok in
+    let same_sheet : new.sheet ≡ base.sheet = ap (λ (x : Contents). x.sheet) c.new-back.ensures ∙ c.sheet-sheet.ensures.sheet in
     let same_body : union new.body (body (document ∷ [])) ≡ base.body =
-    ap (λ (x : Contents). union x.body (body (document ∷ []))) c.new-back.ensures ∙ taken_back base.sheet base.body document c.known.ensures read in
+    ap (λ (x : Contents). union x.body (body (document ∷ []))) c.new-back.ensures ∙ taken_back base.sheet base.body document c.sheet-sheet.ensures.fits read in
     c.in_ok-take.ensures.ok ∙ (λ i. record { sheet = same_sheet i; body = same_body i })

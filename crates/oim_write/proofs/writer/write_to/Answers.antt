@@ -15,7 +15,7 @@ pub returns-in_err-write_parts-clause-err : goal.returns-in_err-write_parts-clau
 returns-in_err-write_parts-clause-err g c =
     let told = g.S.Sink.told in
     let base = c.args.base.now in
-    let whole = canonical_of base.sheet base.body c.level.result c.in-Ok.table c.deref.result.now c.known.ensures (c.deref.ensures.value ∙ c.in-Ok-head.ensures) c.level.ensures.level c.in-Ok.ensures in
+    let whole = canonical_of base.sheet base.body c.level.result c.in-Ok.table c.deref.result.now c.sheet-sheet.ensures.fits (c.deref.ensures.value ∙ c.in-Ok-head.ensures) c.level.ensures.level c.in-Ok.ensures in
     let p = err_from_is_err_and c.from_residual.result c.from_residual.ensures.1 in rw (p.1, p.2)
     (subst (λ text. AppendsFront (told c.args.out.now) (told c.write_parts.new.out) text (written_of c.in_err-write_parts.field-0.0)) whole
     (AppendsFront-broken c.in-Ok-new.ensures c.in_err-write_parts.ensures.err))
@@ -24,7 +24,7 @@ pub returns-clause-ok : goal.returns-clause-ok
 returns-clause-ok g c =
     let told = g.S.Sink.told in
     let base = c.args.base.now in
-    let whole = canonical_of base.sheet base.body c.level.result c.in-Ok.table c.deref.result.now c.known.ensures (c.deref.ensures.value ∙ c.in-Ok-head.ensures) c.level.ensures.level c.in-Ok.ensures in
+    let whole = canonical_of base.sheet base.body c.level.result c.in-Ok.table c.deref.result.now c.sheet-sheet.ensures.fits (c.deref.ensures.value ∙ c.in-Ok-head.ensures) c.level.ensures.level c.in-Ok.ensures in
     both_ok c.flush.result
     (λ flushed none. subst (Appends (told c.args.out.now) (told c.flush.new.sink)) (append-nil _ ∙ whole)
     (Appends-passed c.in-Ok-new.ensures (Passes-trans c.in_ok-write_parts.ensures.ok flushed) none))
@@ -34,6 +34,6 @@ pub returns-clause-err : goal.returns-clause-err
 returns-clause-err g c =
     let told = g.S.Sink.told in
     let base = c.args.base.now in
-    let whole = canonical_of base.sheet base.body c.level.result c.in-Ok.table c.deref.result.now c.known.ensures (c.deref.ensures.value ∙ c.in-Ok-head.ensures) c.level.ensures.level c.in-Ok.ensures in
+    let whole = canonical_of base.sheet base.body c.level.result c.in-Ok.table c.deref.result.now c.sheet-sheet.ensures.fits (c.deref.ensures.value ∙ c.in-Ok-head.ensures) c.level.ensures.level c.in-Ok.ensures in
     subst (λ text. IfErr c.flush.result (λ fault. AppendsFront (told c.args.out.now) (told c.flush.new.sink) text (written_of fault))) whole
     (AppendsFront-flushed (told c.flush.new.sink) c.flush.result c.in-Ok-new.ensures c.in_ok-write_parts.ensures.ok c.flush.ensures.err)

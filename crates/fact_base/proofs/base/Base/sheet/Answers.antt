@@ -1,8 +1,8 @@
 use Rattle.fact_base.specs.Fits.{Fits}
-use Rattle.fact_base.proofs.base.Base.known.Goals as goal
+use Rattle.fact_base.proofs.base.Base.sheet.Goals as goal
 use Rattle.std.proofs.Common.{subst}
 use Rattle.fact_base.specs.Contents.{Contents}
 use Rattle.fact_base.proofs.Stored.{stored_fits}
 
-pub returns : goal.returns
-returns c = subst (λ (b : Contents). Fits b.sheet b.body) c.self.view_is (stored_fits c.self.inside.sheet.now c.self.inside.entries c.self.inside.references c.self.invariant)
+pub returns-clause-fits : goal.returns-clause-fits
+returns-clause-fits c = subst (λ (b : Contents). Fits b.sheet b.body) c.self.view_is (stored_fits c.self.inside.sheet.now c.self.inside.entries c.self.inside.references c.self.invariant)

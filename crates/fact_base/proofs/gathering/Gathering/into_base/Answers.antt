@@ -18,4 +18,4 @@ returns-then-is_empty-2 c =
     let no_references : length inside.references.items ≡ 0 = grind (arith, nat_tests) in
     let facts = nil_from_length inside.facts.items no_facts in
     let references = nil_from_length inside.references.items no_references in
-    ap (λ (b : Body). let x : Contents = record { sheet = inside.base.sheet; body = b } in x) (with_nothing inside.base.body c.known.ensures.rises ∙ (λ i. union inside.base.body (gathered (sym facts i) (sym references i)))) ∙ c.self.view_is
+    ap (λ (b : Body). let x : Contents = record { sheet = inside.base.sheet; body = b } in x) (with_nothing inside.base.body c.sheet-sheet.ensures.fits.rises ∙ (λ i. union inside.base.body (gathered (sym facts i) (sym references i)))) ∙ c.self.view_is

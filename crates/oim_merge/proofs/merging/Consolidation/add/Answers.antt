@@ -12,7 +12,7 @@ returns-clause-ok c =
     let inside = c.self.inside in
     let bytes = c.args.bytes.now in
     let old = inside.gathered.body in
-    let under = ap (λ s. outcome s bytes) (sym c.sheet.ensures) in
+    let under = ap (λ s. outcome s bytes) (sym c.sheet-sheet.ensures.sheet) in
     elim c.match-branch-2.branch [
       | in-Ok+in_ok-add-in-Ok w ↦
           let d = w.in-Ok.report.document in
@@ -24,5 +24,5 @@ returns-clause-ok c =
       | in-Err+in_ok-push-in-Err w ↦
           let read : outcome inside.gathered.sheet bytes ≡ Err w.in-Err.refusal = under ∙ (rw w.in-Err.is at c.in_ok-report.ensures) in
           rw w.self-inside-is
-          (refused_step inside.gathered.sheet bytes w.in-Err.refusal old inside.refusals w.push.new.self inside.reports read (with_nothing old c.known.ensures.rises) w.in_ok-push-in-Err.ensures.ok ∙ ap (λ a. with_report a bytes) c.self.view_is)
+          (refused_step inside.gathered.sheet bytes w.in-Err.refusal old inside.refusals w.push.new.self inside.reports read (with_nothing old c.sheet-sheet.ensures.fits.rises) w.in_ok-push-in-Err.ensures.ok ∙ ap (λ a. with_report a bytes) c.self.view_is)
     ]

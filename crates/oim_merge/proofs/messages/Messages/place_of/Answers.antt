@@ -34,7 +34,7 @@ returns-in_ok-push-in-Err-2-clause-held c =
       kept = subst (λ ts. AreKept sheet ts c.push-in-Err.new.self.items) (sym longer)
           (subst (AreKept sheet (texts ++ text ∷ [])) (sym c.in_ok-push-in-Err-2.ensures.items) (kept_new sheet texts c.args.self.now.kept.items text c.requires.held.kept));
       written = subst (λ ts. All (IsWritten sheet) ts) (sym longer)
-          (All-push (IsWritten sheet) texts text c.requires.held.written (record { body = c.args.base.now.body; fits = c.known.ensures; written = c.in_ok-text.ensures }));
+          (All-push (IsWritten sheet) texts text c.requires.held.written (record { body = c.args.base.now.body; fits = c.sheet-sheet.ensures.fits; written = c.in_ok-text.ensures }));
     }
 
 pub returns-in_ok-push-in-Err-2-clause-stay : goal.returns-in_ok-push-in-Err-2-clause-stay
