@@ -59,12 +59,12 @@ DEVICE_FAILS_TOO = {
     "merge_tests tests::writers::a_number_is_merged_up_to_each_place",
     "merge_tests tests::writers::a_verdict_is_written_up_to_each_place",
     "merge_tests tests::writers::numbers_are_merged_up_to_each_place",
-    "xbrlmerge tests::files::files_are_read_and_answered",
-    "xbrlmerge tests::run::a_full_device_ends_the_run",
-    "xbrlmerge tests::run::an_output_that_failed_is_not_flushed",
+    "command_tests tests::files::files_are_read_and_answered",
+    "command_tests tests::run::a_full_device_ends_the_run",
+    "command_tests tests::run::an_output_that_failed_is_not_flushed",
 }
 # the tests of these crates read reports, so a cache or clap's search for similar words may do without the memory
-READ_REPORTS = {"merge_tests", "xbrlmerge"}
+READ_REPORTS = {"report_tests", "merge_tests", "command_tests"}
 
 # a test, or the program on a command line; the program also has its whole output
 Subject = collections.namedtuple("Subject", "label command given whole")

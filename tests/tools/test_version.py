@@ -16,7 +16,7 @@ def numbers(version):
 
 class Version(unittest.TestCase):
     def setUp(self):
-        (self.program,) = found("crates/xbrlmerge/src/words.rt", r'^const VERSION: &str = "(.*)";$')
+        (self.program,) = found("crates/command_line/src/words.rt", r'^const VERSION: &str = "(.*)";$')
 
     def test_man_page_and_module_have_that_of_the_program(self):
         self.assertEqual(found("docs/xbrlmerge.1", r'^\.TH XBRLMERGE 1 "" "xbrlmerge ([^"]*)"'), [self.program])

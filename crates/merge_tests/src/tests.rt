@@ -1,14 +1,8 @@
-mod asked_again;
-mod base;
 mod calls;
-mod canonical_parts;
 mod checked;
-mod devices;
-mod expecting;
 mod io;
 mod refused;
 mod replay;
-mod reports;
 mod rows;
 mod sinks;
 mod sources;

@@ -1,28 +1,10 @@
-//! The program: arguments, files, printed lines and exit statuses. The libraries do the merging.
+//! The program: it passes its arguments and the standard streams to `command_line`.
 #![tactic(auto)]
 
-mod arguments;
-mod commands;
-mod console;
-mod error;
-mod fault_format;
-mod inputs;
-mod lines;
-mod output;
-mod report_names;
-mod request;
-mod row_format;
-mod run;
-mod streams;
-#[cfg(test)]
-mod tests;
-mod words;
-
-use run::run;
+use command_line::{Streams, run};
 use std::io::IsTerminal;
 use std::process::ExitCode;
 use std::{env, io};
-use streams::Streams;
 
 /// Returns the arguments after the program's name.
 fn given(rt: &HostRuntime) -> io::Result<Vec<String>> {

@@ -1,6 +1,3 @@
-use crate::tests::asked_again::{INFO, holds, tell_refused};
-use crate::tests::canonical_parts::END;
-use crate::tests::expecting::Expecting;
 use crate::tests::sinks::sheet;
 use oim_merge::{Checked, Fault, Refusals, check_report, consolidate, verdict_lines};
 use oim_names::Reason;
@@ -9,6 +6,9 @@ use oim_value::Level;
 use oim_write::{Encoded, StdSink};
 use std::alloc::{AllocError, Global};
 use std::test::Fail;
+use test_helpers::asked_again::{INFO, holds, tell_refused};
+use test_helpers::canonical_parts::END;
+use test_helpers::expecting::Expecting;
 
 // Tests `consolidate`, `verdict_lines` and `check_report`. After a refused request for memory, the
 // call is repeated.

@@ -1,8 +1,3 @@
-use crate::tests::asked_again::{INFO, SHEET, joined, tell_refused};
-use crate::tests::canonical_parts::{
-    CONSISTENT_HEAD, CONTRADICTING_HEAD, EARLIER_HEAD, EARLIER_MIDDLE, END, HEAD, MIDDLE,
-    MIDDLE_ALONE, ONE_URI, WRITTEN_BOTH, WRITTEN_HUNDRED,
-};
 use crate::tests::sinks::sheet_of;
 use oim_merge::{Checked, check_report};
 use oim_names::Reason;
@@ -10,6 +5,11 @@ use oim_report::Refusal;
 use oim_value::Level;
 use std::alloc::{AllocError, Global};
 use std::test::Fail;
+use test_helpers::asked_again::{INFO, SHEET, joined, tell_refused};
+use test_helpers::canonical_parts::{
+    CONSISTENT_HEAD, CONTRADICTING_HEAD, EARLIER_HEAD, EARLIER_MIDDLE, END, HEAD, MIDDLE,
+    MIDDLE_ALONE, ONE_URI, WRITTEN_BOTH, WRITTEN_HUNDRED,
+};
 
 // Tests the results of `check_report`. After a refused request for memory, the call is repeated.
 

@@ -1,11 +1,12 @@
-use crate::tests::asked_again::{INFO, SHEET, joined, tell_refused};
 use crate::tests::calls::HUNDRED;
-use crate::tests::canonical_parts::END;
-use crate::tests::devices::{STEPS, Step, TestReader, Then};
 use oim_merge::{ReadFault, Source, StdSource, read_all};
 use oim_write::Encoded;
-use std::io::{self, Read};
+use std::io::{self, Read, Write};
 use std::test::Fail;
+use test_helpers::asked_again::{INFO, SHEET, joined, tell_refused};
+use test_helpers::canonical_parts::END;
+use test_helpers::devices::{STEPS, Step, TestReader, Then};
+use test_helpers::expecting::Expecting;
 
 // After a refused request for memory, the call is repeated on a new device. A line on standard
 // error reports the refusal.
@@ -145,6 +146,14 @@ fn sources_are_read_to_their_end(rt: HostRuntime) -> Result<(), Fail> {
         );
     }
     Ok(())
+}
+
+// The program prints this text after the name of the file.
+#[test]
+fn a_source_that_is_too_long_is_called_so(rt: HostRuntime) {
+    let mut out = Expecting::just(b"too long");
+    let written = write!(out, "{}", ReadFault::TooLong);
+    assert!(rt; written.is_ok() && out.is_met());
 }
 
 const LONG: u32 = 200_000;

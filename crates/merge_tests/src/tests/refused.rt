@@ -1,39 +1,23 @@
 mod adding;
 mod merges;
 
-use crate::tests::asked_again::{INFO, joined, read_sheet, tell_refused, tell_refused_here};
-use crate::tests::canonical_parts::{CONSISTENT_HEAD, END, MIDDLE, ONE_URI, WRITTEN_BOTH};
-use crate::tests::expecting::Expecting;
 use crate::tests::sinks::TOUCHING;
 use fact_base::Base;
 use oim_merge::read_back;
-use oim_names::{Aliases, Reason};
-use oim_report::{Place, Refusal, Report, Sheet, read_report};
+use oim_names::Aliases;
+use oim_report::{Report, Sheet};
 use oim_write::{Encoded, Sink, StdSink, WriteFault, prefixes, text, write_to};
 use std::alloc::AllocError;
 use std::test::Fail;
+use test_helpers::asked_again::{
+    INFO, SHEET, joined, read, read_sheet, tell_refused, tell_refused_here,
+};
+use test_helpers::canonical_parts::{CONSISTENT_HEAD, END, MIDDLE, ONE_URI, WRITTEN_BOTH};
+use test_helpers::expecting::Expecting;
 
 // Each call is repeated after a refused request for memory. The sink must contain as many bytes of
 // the text as the fault reports. A line on standard error reports each refusal to
 // `tests/refused_memory`.
-
-fn is_want_of_memory(refusal: Refusal) -> bool {
-    refusal
-        == Refusal {
-            reason: Reason::OutOfMemory,
-            place: Place::Document,
-        }
-}
-
-fn read<'s>(rt: &HostRuntime, sheet: &'s Sheet, report: &[u8]) -> Option<Report<'s>> {
-    match read_report(rt.alloc(), sheet, report) {
-        Err(refusal) if is_want_of_memory(refusal) => {
-            tell_refused(rt);
-            read_report(rt.alloc(), sheet, report).ok()
-        }
-        answer => answer.ok(),
-    }
-}
 
 fn take(rt: &HostRuntime, base: &mut Base<'_>, report: &Report<'_>) -> bool {
     if !base.same_sheet(report.sheet()) {
@@ -55,7 +39,7 @@ fn take_first<'s>(rt: &HostRuntime, report: &Report<'s>) -> Option<Base<'s>> {
 }
 
 fn base_of<'s>(rt: &HostRuntime, sheet: &'s Sheet, report: &[u8]) -> Option<Base<'s>> {
-    let report = read(rt, sheet, report)?;
+    let report = read(rt, sheet, report).ok()?;
     take_first(rt, &report)
 }
 
@@ -171,7 +155,7 @@ fn base_comes_back(rt: &HostRuntime, sheet: &Sheet, report: &[u8]) -> bool {
 
 #[test]
 fn a_refused_text_has_its_front_in_the_sink(rt: HostRuntime) -> Result<(), Fail> {
-    let sheet = read_sheet(&rt)?;
+    let sheet = read_sheet(&rt, SHEET)?;
     let text = joined(&rt, &BOTH)?;
     assert!(rt; base_writes(&rt, &sheet, TOUCHING.as_bytes(), &text));
     Ok(())
@@ -179,7 +163,7 @@ fn a_refused_text_has_its_front_in_the_sink(rt: HostRuntime) -> Result<(), Fail>
 
 #[test]
 fn a_refused_base_comes_back(rt: HostRuntime) -> Result<(), Fail> {
-    let sheet = read_sheet(&rt)?;
+    let sheet = read_sheet(&rt, SHEET)?;
     assert!(rt; base_comes_back(&rt, &sheet, TOUCHING.as_bytes()));
     Ok(())
 }
@@ -251,7 +235,7 @@ fn long_is_written(rt: &HostRuntime, sheet: &Sheet, report: &[u8]) -> bool {
 
 #[test]
 fn a_refused_long_text_has_its_front_in_the_sink(rt: HostRuntime) -> Result<(), Fail> {
-    let sheet = read_sheet(&rt)?;
+    let sheet = read_sheet(&rt, SHEET)?;
     let report = long_report(&rt)?;
     assert!(rt; long_is_written(&rt, &sheet, report.as_str().as_bytes()));
     Ok(())

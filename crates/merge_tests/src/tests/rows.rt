@@ -1,12 +1,12 @@
 ghost use Rattle.std.specs.Prelude.{◌-◌, ◌^◌, ◌<◌};
 
-use crate::tests::asked_again::{SHEET, tell_refused};
 use oim_merge::{Consolidation, Fault, Refusals};
 use oim_report::Sheet;
 use oim_write::{Encoded, Sink, StdSink};
 use row_formats::{RowFormat, finish_rows, finish_rows_last, source_rows, verdict_rows};
 use std::alloc::{AllocError, Global};
 use std::test::Fail;
+use test_helpers::asked_again::{SHEET, tell_refused};
 
 // Compares the output of the calls of `row_formats` with output written by hand. The rows have
 // every verdict and every kind of value. After a refused request for memory, the call is repeated.

@@ -1,13 +1,13 @@
-use crate::tests::asked_again::{holds, tell_refused};
 use crate::tests::calls::{AT_FIRST_FACT, HUNDRED, UNBOUND, reports};
-use crate::tests::devices::{Step, TestWriter, Then};
-use crate::tests::expecting::Expecting;
 use crate::tests::sinks::sheet;
 use oim_merge::{Fault, source_lines};
 use oim_report::Sheet;
 use oim_write::{Encoded, StdSink};
 use std::alloc::{AllocError, Global};
 use std::test::Fail;
+use test_helpers::asked_again::{holds, tell_refused};
+use test_helpers::devices::{Step, TestWriter, Then};
+use test_helpers::expecting::Expecting;
 
 // After a refused request for memory, the call is repeated.
 

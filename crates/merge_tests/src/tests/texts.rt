@@ -4,12 +4,12 @@ mod orders;
 mod parts;
 mod prefixes;
 
-use crate::tests::asked_again::{INFO, SHEET, joined, tell_refused};
-use crate::tests::canonical_parts::{END, HEAD, MIDDLE};
-use crate::tests::expecting::Expecting;
 use oim_merge::{Fault, consolidate_bundle};
 use oim_write::StdSink;
 use std::test::Fail;
+use test_helpers::asked_again::{INFO, SHEET, joined, tell_refused};
+use test_helpers::canonical_parts::{END, HEAD, MIDDLE};
+use test_helpers::expecting::Expecting;
 
 // After a refused request for memory, the call is repeated. A line on standard error reports the
 // refusal to `tests/refused_memory`.

@@ -1,9 +1,4 @@
-use crate::tests::asked_again::{OPEN_INFO, joined, tell_refused};
 use crate::tests::calls::HUNDRED;
-use crate::tests::canonical_parts::{
-    CONSISTENT_HEAD, END, HEAD, MIDDLE, ONE_URI, WRITTEN_BOTH, WRITTEN_HUNDRED,
-};
-use crate::tests::devices::{ComparingWriter, STEPS, Step, Then};
 use crate::tests::sinks::{base_of, sheet_of};
 use fact_base::Base;
 use oim_merge::{Fault, Refusals, consolidate, consolidate_bundle, verdict_lines};
@@ -12,6 +7,11 @@ use oim_value::Level;
 use oim_write::{Encoded, Sink, StdSink, write_to};
 use std::alloc::{AllocError, Global};
 use std::test::Fail;
+use test_helpers::asked_again::{OPEN_INFO, joined, tell_refused};
+use test_helpers::canonical_parts::{
+    CONSISTENT_HEAD, END, HEAD, MIDDLE, ONE_URI, WRITTEN_BOTH, WRITTEN_HUNDRED,
+};
+use test_helpers::devices::{ComparingWriter, STEPS, Step, Then};
 
 // Tests calls that write a text. For each number of bytes up to the whole text, writers stop after
 // that many bytes. After a refused request for memory, the row is tested again.

@@ -1,8 +1,8 @@
 mod writers;
 
-use crate::tests::asked_again::holds;
 use oim_write::{Encoded, Sink, SinkBuffer, StdSink, identifier, put_all};
 use std::alloc::{AllocError, Global};
+use test_helpers::asked_again::holds;
 
 fn is_identifier(alloc: Global, row: (u128, u128, &str)) -> Result<bool, AllocError> {
     Ok(identifier(alloc, row.0, row.1)?.as_str() == row.2)

@@ -2,8 +2,6 @@ ghost use Rattle.std.specs.Prelude.{◌≡◌, ◌+◌, ◌^◌, ◌<◌, OnOk};
 
 use super::BOTH;
 use super::merges::{THREE_LINES, THREE_SETS, came_to};
-use crate::tests::asked_again::{joined, read_sheet, tell_refused};
-use crate::tests::expecting::Expecting;
 use crate::tests::sinks::TOUCHING;
 use oim_merge::Consolidation;
 use oim_report::Sheet;
@@ -11,6 +9,8 @@ use oim_value::Level;
 use oim_write::StdSink;
 use std::alloc::AllocError;
 use std::test::Fail;
+use test_helpers::asked_again::{SHEET, joined, read_sheet, tell_refused};
+use test_helpers::expecting::Expecting;
 
 // Tests reports that are added one at a time. After a refused request for memory, the report is
 // added again. It must be counted once, and its facts must be added once.
@@ -69,7 +69,7 @@ fn lists_last_once(rt: &HostRuntime, sheet: &Sheet) -> Option<bool> {
 
 #[test]
 fn what_is_left_in_memory_is_written_alike(rt: HostRuntime) -> Result<(), Fail> {
-    let sheet = read_sheet(&rt)?;
+    let sheet = read_sheet(&rt, SHEET)?;
     let text = joined(&rt, &BOTH)?;
     let mut answer = finishes_last_once(&rt, &sheet, &text);
     if answer.is_none() {
@@ -81,7 +81,7 @@ fn what_is_left_in_memory_is_written_alike(rt: HostRuntime) -> Result<(), Fail> 
 
 #[test]
 fn what_is_left_in_memory_is_judged_alike(rt: HostRuntime) -> Result<(), Fail> {
-    let sheet = read_sheet(&rt)?;
+    let sheet = read_sheet(&rt, SHEET)?;
     let mut answer = lists_last_once(&rt, &sheet);
     if answer.is_none() {
         answer = lists_last_once(&rt, &sheet);
@@ -110,7 +110,7 @@ fn lists_once(rt: &HostRuntime, sheet: &Sheet) -> Option<bool> {
 
 #[test]
 fn reports_that_are_added_are_merged(rt: HostRuntime) -> Result<(), Fail> {
-    let sheet = read_sheet(&rt)?;
+    let sheet = read_sheet(&rt, SHEET)?;
     let text = joined(&rt, &BOTH)?;
     let mut answer = finishes_once(&rt, &sheet, &text);
     if answer.is_none() {
@@ -122,7 +122,7 @@ fn reports_that_are_added_are_merged(rt: HostRuntime) -> Result<(), Fail> {
 
 #[test]
 fn reports_that_are_added_are_judged(rt: HostRuntime) -> Result<(), Fail> {
-    let sheet = read_sheet(&rt)?;
+    let sheet = read_sheet(&rt, SHEET)?;
     let mut answer = lists_once(&rt, &sheet);
     if answer.is_none() {
         answer = lists_once(&rt, &sheet);

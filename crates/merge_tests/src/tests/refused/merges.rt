@@ -1,6 +1,4 @@
-use super::{BOTH, is_want_of_memory, wanted_memory};
-use crate::tests::asked_again::{SHEET, joined, read_sheet, tell_refused, tell_refused_here};
-use crate::tests::expecting::Expecting;
+use super::{BOTH, wanted_memory};
 use crate::tests::sinks::TOUCHING;
 use oim_merge::{
     Checked, Fault, Refusals, check_report, consolidate, consolidate_bundle, source_lines,
@@ -12,6 +10,10 @@ use oim_value::Level;
 use oim_write::{Encoded, StdSink};
 use std::alloc::AllocError;
 use std::test::Fail;
+use test_helpers::asked_again::{
+    SHEET, is_want_of_memory, joined, read_sheet, tell_refused, tell_refused_here,
+};
+use test_helpers::expecting::Expecting;
 
 // Tests the calls that take reports. After a refused request for memory, the call is repeated.
 
@@ -92,7 +94,7 @@ fn is_consolidated(rt: &HostRuntime, sheet: &Sheet, text: &[u8]) -> bool {
 
 #[test]
 fn a_refused_merge_has_its_front_in_the_sink(rt: HostRuntime) -> Result<(), Fail> {
-    let sheet = read_sheet(&rt)?;
+    let sheet = read_sheet(&rt, SHEET)?;
     let text = joined(&rt, &BOTH)?;
     assert!(rt; is_consolidated(&rt, &sheet, &text));
     Ok(())
@@ -122,7 +124,7 @@ fn lists(rt: &HostRuntime, sheet: &Sheet, reports: &[Encoded]) -> bool {
 
 #[test]
 fn refused_lines_have_their_front_in_the_sink(rt: HostRuntime) -> Result<(), Fail> {
-    let sheet = read_sheet(&rt)?;
+    let sheet = read_sheet(&rt, SHEET)?;
     let reports = reports(&rt, THREE_SETS)?;
     assert!(rt; lists(&rt, &sheet, reports.as_slice()));
     Ok(())
@@ -147,7 +149,7 @@ fn traces(rt: &HostRuntime, sheet: &Sheet, reports: &[Encoded]) -> bool {
 
 #[test]
 fn refused_sources_have_their_front_in_the_sink(rt: HostRuntime) -> Result<(), Fail> {
-    let sheet = read_sheet(&rt)?;
+    let sheet = read_sheet(&rt, SHEET)?;
     let reports = reports(&rt, THREE_SETS)?;
     assert!(rt; traces(&rt, &sheet, reports.as_slice()));
     Ok(())
@@ -189,7 +191,7 @@ fn check(rt: &HostRuntime, sheet: &Sheet, report: &[u8]) -> Result<Checked, Refu
 
 #[test]
 fn a_refused_check_tells_of_the_document(rt: HostRuntime) -> Result<(), Fail> {
-    let sheet = read_sheet(&rt)?;
+    let sheet = read_sheet(&rt, SHEET)?;
     let text = joined(&rt, &BOTH)?;
     let expected = Checked {
         facts: 2,

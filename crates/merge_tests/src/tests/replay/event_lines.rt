@@ -1,7 +1,7 @@
 use super::with_memory;
-use crate::tests::asked_again::holds;
 use oim_merge::{Event, ReplayFault, read_events};
 use std::alloc::{AllocError, Global};
+use test_helpers::asked_again::holds;
 
 /// Bytes, and the number of their first line that is not an event.
 const BAD: &[(&[u8], u64)] = &[

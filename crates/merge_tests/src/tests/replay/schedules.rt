@@ -1,15 +1,15 @@
 use super::{HUNDRED_ONE, NINE_EVENTS, are_parts, played, with_memory, writes};
-use crate::tests::asked_again::holds;
 use crate::tests::calls::{ABOVE, AT_FIRST_FACT, HUNDRED, UNBOUND};
-use crate::tests::canonical_parts::{
-    CONSISTENT_HEAD, CONTRADICTING_HEAD, END, HEAD, MIDDLE, MIDDLE_ALONE, ONE_URI, WRITTEN_BOTH,
-    WRITTEN_HUNDRED,
-};
 use crate::tests::sinks::sheet;
 use fact_base::{Base, Evidence};
 use oim_merge::{ReplayFault, Replayed};
 use oim_report::Sheet;
 use std::alloc::{AllocError, Global};
+use test_helpers::asked_again::holds;
+use test_helpers::canonical_parts::{
+    CONSISTENT_HEAD, CONTRADICTING_HEAD, END, HEAD, MIDDLE, MIDDLE_ALONE, ONE_URI, WRITTEN_BOTH,
+    WRITTEN_HUNDRED,
+};
 
 type Parts = &'static [&'static str];
 

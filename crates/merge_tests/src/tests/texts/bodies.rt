@@ -1,7 +1,7 @@
 use super::{LINE, Row, SHEET, TWO_URIS, all_give};
-use crate::tests::asked_again::{INFO, OPEN_INFO};
-use crate::tests::canonical_parts::{END, HEAD, MIDDLE};
 use std::test::Fail;
+use test_helpers::asked_again::{INFO, OPEN_INFO};
+use test_helpers::canonical_parts::{END, HEAD, MIDDLE};
 
 // Compares merged texts with expected ones.
 

@@ -1,13 +1,13 @@
 use super::{LINE, Row, SHEET, all_give, gives};
-use crate::tests::asked_again::{INFO, OPEN_INFO, joined, read_sheet, tell_refused};
-use crate::tests::canonical_parts::{
+use oim_names::Reason;
+use oim_report::{Place, Refusal};
+use std::alloc::{AllocError, Global};
+use std::test::Fail;
+use test_helpers::asked_again::{INFO, OPEN_INFO, joined, read_once, read_sheet, tell_refused};
+use test_helpers::canonical_parts::{
     CONSISTENT_HEAD, CONTRADICTING_HEAD, EARLIER_HEAD, EARLIER_MIDDLE, END, HEAD, MIDDLE,
     MIDDLE_ALONE, ONE_URI, WRITTEN_BOTH, WRITTEN_HUNDRED,
 };
-use oim_names::Reason;
-use oim_report::{Place, Refusal, read_report};
-use std::alloc::{AllocError, Global};
-use std::test::Fail;
 
 // Tests the level that a text declares, and texts in the earlier form, which declare none.
 
@@ -32,7 +32,7 @@ fn refusal(
     level: &str,
     facts: &str,
 ) -> Result<Option<Refusal>, Fail> {
-    let sheet = read_sheet(rt)?;
+    let sheet = read_sheet(rt, SHEET)?;
     let parts = [
         BEFORE_LEVEL,
         level,
@@ -43,7 +43,7 @@ fn refusal(
         END,
     ];
     let text = joined(rt, &parts)?;
-    Ok(read_report(alloc, &sheet, &text).err())
+    Ok(read_once(alloc, &sheet, &text).err())
 }
 
 const TOO_LOW: Option<Refusal> = Some(Refusal {

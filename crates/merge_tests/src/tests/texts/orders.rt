@@ -1,7 +1,7 @@
 use super::{LINE, Row, SHEET, TWO_URIS, all_give};
-use crate::tests::asked_again::INFO;
-use crate::tests::canonical_parts::{CONTRADICTING_HEAD, END, HEAD, MIDDLE, ONE_URI};
 use std::test::Fail;
+use test_helpers::asked_again::INFO;
+use test_helpers::canonical_parts::{CONTRADICTING_HEAD, END, HEAD, MIDDLE, ONE_URI};
 
 // Tests the order of facts and their identifiers. In the first four rows, the report lists the
 // facts in reverse order.

@@ -1,7 +1,7 @@
 use super::{LINE, SHEET, TWO_URIS, gives, writes};
-use crate::tests::asked_again::INFO;
-use crate::tests::canonical_parts::{END, HEAD, MIDDLE, ONE_URI};
 use std::test::Fail;
+use test_helpers::asked_again::INFO;
+use test_helpers::canonical_parts::{END, HEAD, MIDDLE, ONE_URI};
 
 // Tests values, units and periods in several spellings.
 

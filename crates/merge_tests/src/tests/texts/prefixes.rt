@@ -1,7 +1,7 @@
 use super::{LINE, Row, SHEET, all_give};
-use crate::tests::asked_again::OPEN_INFO;
-use crate::tests::canonical_parts::{END, HEAD, MIDDLE};
 use std::test::Fail;
+use test_helpers::asked_again::OPEN_INFO;
+use test_helpers::canonical_parts::{END, HEAD, MIDDLE};
 
 // Prefixes are numbered in the byte order of their URIs, not in the order of first use.
 

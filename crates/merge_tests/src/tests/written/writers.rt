@@ -1,11 +1,11 @@
 ghost use Rattle.std.specs.Prelude.{◌-◌, ◌^◌, ◌<◌};
 
-use crate::tests::asked_again::holds;
-use crate::tests::devices::{ComparingWriter, STEPS, Step, Then};
 use oim_write::{Sink, SinkBuffer, SinkError, StdSink, WriteFault, put_all};
 use std::alloc::{AllocError, Global};
 use std::io::{self, ErrorKind, Write};
 use std::test::Fail;
+use test_helpers::asked_again::holds;
+use test_helpers::devices::{ComparingWriter, STEPS, Step, Then};
 
 // Tests writers that stop after part of a text or all of it, with and without a buffer.
 

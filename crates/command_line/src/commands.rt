@@ -1,0 +1,68 @@
+//! The commands. Each file contains the arguments, the help and the code of one command.
+
+ghost use Rattle.std.specs.Prelude.{◌-◌, ◌^◌, ◌<◌};
+
+pub(crate) mod check;
+pub(crate) mod explain;
+pub(crate) mod merge;
+pub(crate) mod replay;
+pub(crate) mod sources;
+pub(crate) mod verdicts;
+
+use crate::error::{Error, Success};
+use crate::inputs::Inputs;
+use crate::lines::put_text;
+use crate::request::{Request, Subcommand};
+use oim_merge::{Refusals, consolidate_bundle};
+use oim_report::Sheet;
+use oim_write::Sink;
+use std::alloc::Global;
+use std::io::Write;
+use std::rt::Files;
+
+/// Runs the request and writes its text to `out`.
+pub(crate) fn execute<'n, F: Files, E: Write, S: Sink>(
+    request: &Request<'n>,
+    inputs: &mut Inputs<'n, F, E>,
+    out: &mut S,
+) -> Result<Success, Error<'n>>
+    requires { S.failures out.old < 2 ^ 64 - 1 }
+{
+    match request {
+        Request::Bundle => {
+            Ok(Success::Refusals(consolidate_bundle(inputs.alloc, inputs.bundle, out)?))
+        }
+        Request::Help(text) => show(inputs.alloc, text, out),
+        Request::Explain(sheet, format) => explain::run(sheet, *format, inputs, out),
+        Request::Under(sheet, subcommand) => {
+            let sheet = inputs.read_sheet(sheet)?;
+            execute_under(&sheet, *subcommand, inputs, out)
+        }
+    }
+}
+
+fn execute_under<'n, F: Files, E: Write, S: Sink>(
+    sheet: &Sheet,
+    subcommand: Subcommand<'n>,
+    inputs: &mut Inputs<'n, F, E>,
+    out: &mut S,
+) -> Result<Success, Error<'n>>
+    requires { S.failures out.old < 2 ^ 64 - 1 }
+{
+    match subcommand {
+        Subcommand::Merge(allow) => merge::run(allow, sheet, inputs, out),
+        Subcommand::Verdicts(format) => verdicts::run(format, sheet, inputs, out),
+        Subcommand::Sources(format) => sources::run(format, sheet, inputs, out),
+        Subcommand::Check(report) => check::run(report, sheet, inputs, out),
+        Subcommand::Replay(replicas, events) => replay::run(replicas, events, sheet, inputs, out),
+    }
+}
+
+/// Writes help or the version, which clap returns as an error.
+fn show<'n, S: Sink>(alloc: Global, text: &clap::Error, out: &mut S) -> Result<Success, Error<'n>>
+    requires { S.failures out.old < 2 ^ 64 - 1 }
+{
+    let text = format!(in alloc; "{text}")?;
+    put_text(out, text.as_str())?;
+    Ok(Success::Refusals(Refusals::new(alloc)))
+}

@@ -1,0 +1,102 @@
+ghost use Rattle.std.specs.Prelude.{◌-◌, ◌^◌, ◌<◌};
+
+use crate::arguments::{REPORT, command, output_argument, report_argument};
+use crate::error::{Error, Success};
+use crate::inputs::Inputs;
+use crate::lines::put_text;
+use crate::request::Subcommand;
+use clap::{ArgMatches, Command};
+use oim_merge::{Checked, Refusals, check_report};
+use oim_names::Reason;
+use oim_report::{Refusal, Sheet};
+use oim_write::Sink;
+use std::alloc::{AllocError, Global};
+use std::io::Write;
+use std::rt::Files;
+
+pub(crate) const NAME: &str = "check";
+
+const ABOUT: &str = "Counts the facts of one report and classifies its duplicates";
+
+const MORE: &str = "The line of an accepted report is one of
+
+  accepted FACTS LEVEL canonical
+  accepted FACTS LEVEL other
+
+  FACTS       the number of its facts, repeats included
+  LEVEL       its duplicates, which are facts with the same dimensions:
+  none        there are none
+  complete    duplicates are equal
+  consistent  duplicates are equal, or numbers that agree within rounding
+  all         some duplicates contradict each other
+  canonical   the file is, byte for byte, what `merge` would write for it
+  other       it is not, for example because an older version wrote it, without a level
+
+To compare the two, `check` may keep the report and the output of `merge` in memory.
+
+Example:
+  xbrlmerge check --sheet examples/sheet.json examples/ledgerline.json
+
+Status:
+  0  the report is accepted
+  1  it is refused, and standard error shows why and where; `explain` describes its faults
+  3  not checked: invalid arguments, a refused sheet, a file or device that failed, or out of
+     memory";
+
+/// Returns the arguments of this command, with its help.
+pub(crate) fn words<'w>(alloc: Global) -> Result<Command<'w>, AllocError> {
+    command(alloc, NAME, ABOUT, MORE)?
+        .arg(output_argument(alloc))?
+        .arg(report_argument(alloc))
+}
+
+/// Returns the command, or None if a required argument is missing.
+pub(crate) fn of<'w>(matches: &ArgMatches<'w>) -> Option<Subcommand<'w>> {
+    matches.get_str(REPORT).map(Subcommand::Check)
+}
+
+/// Reads the report with this name and writes a line to `out` if it is accepted. A refused report
+/// is returned as report 1.
+///
+/// Errors: `Unread`, out of memory, and `Device`.
+pub(crate) fn run<'n, F: Files, E: Write, S: Sink>(
+    report: &'n str,
+    sheet: &Sheet,
+    inputs: &Inputs<'n, F, E>,
+    out: &mut S,
+) -> Result<Success, Error<'n>>
+    requires { S.failures out.old < 2 ^ 64 - 1 }
+{
+    let bytes = inputs.read(report)?;
+    let checked = check_report(inputs.alloc, sheet, bytes.as_bytes());
+    Ok(Success::Refusals(put_checked(inputs.alloc, out, checked)?))
+}
+
+fn put_checked<'n, S: Sink>(
+    alloc: Global,
+    out: &mut S,
+    checked: Result<Checked, Refusal>,
+) -> Result<Refusals, Error<'n>>
+    requires { S.failures out.old < 2 ^ 64 - 1 }
+{
+    let mut refusals = Refusals::new(alloc);
+    match checked {
+        Ok(checked) => put_accepted(alloc, out, &checked)?,
+        Err(refusal) if refusal.reason == Reason::OutOfMemory => return Err(Error::OutOfMemory),
+        Err(refusal) => refusals.push(1, refusal)?,
+    }
+    Ok(refusals)
+}
+
+fn put_accepted<'n, S: Sink>(alloc: Global, out: &mut S, checked: &Checked) -> Result<(), Error<'n>>
+    requires { S.failures out.old < 2 ^ 64 - 1 }
+{
+    let (facts, level) = (checked.facts, checked.level.text());
+    let canonical = if checked.canonical {
+        "canonical"
+    } else {
+        "other"
+    };
+    let line = format!(in alloc; "accepted {facts} {level} {canonical}\n")?;
+    Ok(put_text(out, line.as_str())?)
+}

@@ -1,0 +1,179 @@
+ghost use Rattle.std.specs.Prelude.{◌≡◌, ◌-◌, ◌^◌, ◌<◌, OnOk};
+
+use crate::arguments::{command, with_reports};
+use crate::error::{Error, Success};
+use crate::fault_format::format_argument;
+use crate::inputs::{Inputs, sheet_of};
+use crate::lines::put_text;
+use clap::Command;
+use oim_explain::{Explained, Format, Input, explain, explain_repeated, explain_sheet};
+use oim_report::Sheet;
+use oim_write::Sink;
+use std::alloc::{AllocError, Global};
+use std::io::Write;
+use std::rt::Files;
+
+pub(crate) const NAME: &str = "explain";
+
+const ABOUT: &str = "Explains what is wrong with reports, in plain words";
+
+const MORE: &str =
+    "Each line describes a fault of a report: the file, the fact if the fault is in one, the number
+and the name of the refusal, and what is wrong, with the text at fault. At most 80 characters of an
+identifier or a text are shown.
+
+The other commands name only the first fault of a report. `explain` lists all faults of the
+document. If the document has none, it lists the faults of every fact. If the facts have none, it
+lists the fault of the duplicates. If several names or members in one place share a fault, only the
+first is shown. Some faults appear only after others are corrected.
+
+It also lists repeated members of a report or of the sheet, such as two facts with the same
+identifier. Only the last one is read. The other commands do not refuse a file for them, so run
+`explain` first on files from untrusted sources.
+
+The last line contains the numbers of reports, of reports with a fault, and of faults.
+
+With --format json each fault is a JSON object on one line, and there is no last line. Its members:
+  report      the number of the report, from 1; null for the sheet
+  file        the name of the file
+  place       the location of the fault: \"document\" or \"fact N\"
+  number      the number of the refusal
+  name        its name
+  identifier  the whole identifier of the fact; null for the document
+  part        the whole part at fault: a text, another value, an object of one member, or an array
+              of two texts; null if the sentence shows none
+  sentence    what is wrong, as in the text
+For a repeated member, place, number, name and identifier are null.
+
+Example:
+  xbrlmerge explain --sheet examples/sheet.json examples/issuer.json examples/statfeed.json
+
+Status:
+  0  there is no fault
+  1  a report has a fault, or the sheet has a repeated member
+  3  not every report was read: invalid arguments, a refused sheet, a file or device that failed,
+     or out of memory";
+
+/// Returns the arguments of this command, with its help.
+pub(crate) fn words<'w>(alloc: Global) -> Result<Command<'w>, AllocError> {
+    let command = command(alloc, NAME, ABOUT, MORE)?;
+    with_reports(alloc, command.arg(format_argument(alloc))?)
+}
+
+/// Reads the sheet and the reports, one after another, and writes the lines for each file to `out`.
+///
+/// Errors: `Unread`, `Sheet`, out of memory, and `Device`.
+pub(crate) fn run<'n, F: Files, E: Write, S: Sink>(
+    name: &'n str,
+    format: Format,
+    inputs: &mut Inputs<'n, F, E>,
+    out: &mut S,
+) -> Result<Success, Error<'n>>
+    requires { S.failures out.old < 2 ^ 64 - 1 }
+{
+    let bytes = inputs.read(name)?;
+    let counts = put_under(name, format, bytes.as_bytes(), inputs, out)?;
+    if let Format::Text = format {
+        put_counts(inputs.alloc, inputs.names.len(), counts, out)?;
+    }
+    Ok(Success::Faults(counts.faults))
+}
+
+fn put_counts<'n, S: Sink>(
+    alloc: Global,
+    reports: usize,
+    counts: Counts,
+    out: &mut S,
+) -> Result<(), Error<'n>>
+    requires { S.failures out.old < 2 ^ 64 - 1 }
+{
+    let (faulty, faults) = (counts.faulty, counts.faults);
+    let line = format!(in alloc; "reports: {reports}, with faults: {faulty}, faults: {faults}\n")?;
+    Ok(put_text(out, line.as_str())?)
+}
+
+fn put_under<'n, F: Files, E: Write, S: Sink>(
+    name: &str,
+    format: Format,
+    bytes: &[u8],
+    inputs: &mut Inputs<'n, F, E>,
+    out: &mut S,
+) -> Result<Counts, Error<'n>>
+    requires { S.failures out.old < 2 ^ 64 - 1 }
+    ensures { OnOk result (S.failures out.new ≡ S.failures out.old) }
+{
+    let sheet = read_sheet(inputs.alloc, name, bytes)?;
+    let input = Input {
+        report: None,
+        name,
+        format,
+    };
+    let repeated = put_explained(out, explain_repeated(inputs.alloc, input, bytes))?;
+    put_each(&sheet, format, inputs, out, repeated)
+}
+
+/// Errors: `Sheet` with the lines that explain it; out of memory.
+fn read_sheet<'n>(alloc: Global, name: &str, bytes: &[u8]) -> Result<Sheet, Error<'n>> {
+    match sheet_of(alloc, bytes) {
+        Err(Error::Sheet(reason, _)) => {
+            let lines = explain_sheet(alloc, name, bytes)?;
+            Err(Error::Sheet(reason, Some(lines)))
+        }
+        read => read,
+    }
+}
+
+/// The number of reports with faults, and the number of all faults.
+#[derive(Clone, Copy)]
+struct Counts {
+    faulty: u64,
+    faults: u64,
+}
+
+impl Counts {
+    fn with(self, faults: u64) -> Counts {
+        Counts {
+            faulty: self.faulty.saturating_add(u64::from(faults > 0)),
+            faults: self.faults.saturating_add(faults),
+        }
+    }
+}
+
+/// Returns the number of lines.
+fn put_explained<'n, S: Sink>(
+    out: &mut S,
+    explained: Result<Explained, AllocError>,
+) -> Result<u64, Error<'n>>
+    requires { S.failures out.old < 2 ^ 64 - 1 }
+    ensures { OnOk result (S.failures out.new ≡ S.failures out.old) }
+{
+    let explained = explained?;
+    put_text(out, explained.text.as_str())?;
+    Ok(explained.faults)
+}
+
+/// `faults` is the number of lines about the sheet, which were printed before.
+fn put_each<'n, F: Files, E: Write, S: Sink>(
+    sheet: &Sheet,
+    format: Format,
+    inputs: &mut Inputs<'n, F, E>,
+    out: &mut S,
+    faults: u64,
+) -> Result<Counts, Error<'n>>
+    requires { S.failures out.old < 2 ^ 64 - 1 }
+    ensures { OnOk result (S.failures out.new ≡ S.failures out.old) }
+{
+    let (alloc, names) = (inputs.alloc, inputs.names);
+    let mut counts = Counts { faulty: 0, faults };
+    for (place, name) in names.iter().enumerate() {
+        let report = inputs.read_report(name)?;
+        inputs.console.clear();
+        let input = Input {
+            report: Some((place as u64).saturating_add(1)),
+            name,
+            format,
+        };
+        counts = counts.with(put_explained(out, explain(alloc, sheet, input, report.as_bytes()))?);
+    }
+    Ok(counts)
+}

@@ -1,0 +1,76 @@
+ghost use Rattle.std.specs.Prelude.{◌-◌, ◌^◌, ◌<◌};
+
+use crate::arguments::{command, with_reports};
+use crate::error::{Error, Success};
+use crate::inputs::Inputs;
+use crate::request::Subcommand;
+use clap::builder::ValueParser;
+use clap::{Arg, ArgMatches, Command};
+use oim_report::Sheet;
+use oim_value::Level;
+use oim_write::Sink;
+use std::alloc::{AllocError, Global};
+use std::io::Write;
+use std::rt::Files;
+
+pub(crate) const NAME: &str = "merge";
+
+const ALLOW: &str = "allow";
+
+static LEVELS: [&str; 4] = ["none", "complete", "consistent", "all"];
+
+const ABOUT: &str = "Writes one canonical report with the facts of all reports";
+
+const MORE: &str =
+    "Equal facts become one, even if several reports contain them. The output does not depend on the
+order of the reports or on how often a report is named. A report with a fault is skipped as a whole.
+
+A row is all facts with the same dimensions. LEVEL allows these rows:
+  none, complete  rows with one fact
+  consistent      also rows of numbers that agree within rounding
+  all             also rows with facts that contradict each other
+To refuse contradictions, pass --allow consistent.
+
+Example:
+  xbrlmerge merge --sheet examples/sheet.json examples/issuer.json examples/statfeed.json
+
+Status:
+  0  every report was merged
+  1  a report was refused, and standard error shows why; the others were merged
+  2  a row exceeds LEVEL: nothing was written, and standard error has the number of the first
+     such row, as `verdicts` counts rows
+  3  not done, or not completed: invalid arguments, a refused sheet, a file or device that
+     failed, or out of memory";
+
+/// Returns the arguments of this command, with its help.
+pub(crate) fn words<'w>(alloc: Global) -> Result<Command<'w>, AllocError> {
+    let allow = Arg::new(alloc, ALLOW)
+        .long(ALLOW)
+        .value_name("LEVEL")
+        .value_parser(ValueParser::Names(LEVELS.as_slice()))
+        .default_value("all")
+        .help("The loosest level that a row may have");
+    with_reports(alloc, command(alloc, NAME, ABOUT, MORE)?.arg(allow)?)
+}
+
+/// Returns the command, or None if the arguments contain no level.
+pub(crate) fn of<'w>(matches: &ArgMatches<'w>) -> Option<Subcommand<'w>> {
+    let allow = matches.get_str(ALLOW).and_then(Level::read)?;
+    Some(Subcommand::Merge(allow))
+}
+
+/// Reads and adds the reports, and writes the merged text to `out`. Returns the refused reports
+/// with their numbers, from 1.
+///
+/// Errors: `Unread`, and the errors of `Consolidation::finish_last`.
+pub(crate) fn run<'n, F: Files, E: Write, S: Sink>(
+    allow: Level,
+    sheet: &Sheet,
+    inputs: &mut Inputs<'n, F, E>,
+    out: &mut S,
+) -> Result<Success, Error<'n>>
+    requires { S.failures out.old < 2 ^ 64 - 1 }
+{
+    let reports = inputs.consolidate(sheet)?;
+    Ok(Success::Refusals(reports.finish_last(allow, out)?))
+}

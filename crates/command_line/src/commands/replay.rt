@@ -1,0 +1,161 @@
+ghost use Rattle.std.specs.Prelude.{◌≡◌, ◌-◌, ◌^◌, ◌<◌, OnOk};
+
+use crate::arguments::{command, with_reports};
+use crate::error::{Error, Success};
+use crate::inputs::Inputs;
+use crate::lines::put_text;
+use crate::request::Subcommand;
+use clap::builder::ValueParser;
+use clap::{Arg, ArgMatches, Command};
+use fact_base::Base;
+use oim_merge::{Events, Refusals, Replayed, read_events, replay};
+use oim_report::Sheet;
+use oim_write::{Sink, WriteFault, write_to};
+use std::alloc::{AllocError, Global};
+use std::io::Write;
+use std::rt::Files;
+
+pub(crate) const NAME: &str = "replay";
+
+const REPLICAS: &str = "replicas";
+
+const EVENTS: &str = "events";
+
+const MOST_REPLICAS: i64 = 64;
+
+const ABOUT: &str = "Runs a schedule on replicas that exchange merged reports";
+
+const MORE: &str =
+    "A replica is like an office: it merges the reports that reach it, and sends its merged report to
+others. Each of the N replicas begins empty. EVENTS contains one event per line. Replicas, reports
+and messages are counted from 1.
+
+  take I R      replica I takes report R
+  join I J      replica I takes everything that replica J has
+  send I        replica I sends its merged report, which is the next message
+  receive I K   replica I takes message K, at any later time and any number of times
+  restart I     replica I loses everything
+
+At the end, the merged report of each replica is written, one per line. Whatever the schedule, it
+is the same as from one merge of the reports that reached the replica since its last restart,
+directly or through others.
+
+Example:
+  xbrlmerge replay --sheet examples/sheet.json --replicas 2 \\
+      --events examples/offices/events.txt examples/issuer.json \\
+      examples/ledgerline.json examples/statfeed.json
+
+Status:
+  0  every event was run
+  1  a report that was taken was refused, and standard error shows why, one line for each take; the
+     others were taken
+  3  not done, or not completed: invalid arguments, a refused sheet, a line of EVENTS that is not
+     an event or names something that does not exist, a file or device that failed, or out of
+     memory";
+
+/// Returns the arguments of this command, with its help.
+pub(crate) fn words<'w>(alloc: Global) -> Result<Command<'w>, AllocError> {
+    let command = command(alloc, NAME, ABOUT, MORE)?
+        .arg(replicas_argument(alloc))?
+        .arg(events_argument(alloc))?;
+    with_reports(alloc, command)
+}
+
+/// Returns the command, or None if a required argument is missing.
+pub(crate) fn of<'w>(matches: &ArgMatches<'w>) -> Option<Subcommand<'w>> {
+    let replicas = matches.get_one(REPLICAS)?;
+    let events = matches.get_str(EVENTS)?;
+    Some(Subcommand::Replay(replicas, events))
+}
+
+/// Reads the schedule and the reports, runs the schedule on the replicas and writes the text of
+/// each replica to `out`. Returns the refused takes with the numbers of their reports, from 1.
+///
+/// Errors: `Unread`; `Event` if a line is not an event or names something that does not exist; out
+/// of memory; `Device`. A line that is not an event is found before any report is read.
+pub(crate) fn run<'n, F: Files, E: Write, S: Sink>(
+    replicas: usize,
+    schedule: &'n str,
+    sheet: &Sheet,
+    inputs: &mut Inputs<'n, F, E>,
+    out: &mut S,
+) -> Result<Success, Error<'n>>
+    requires { S.failures out.old < 2 ^ 64 - 1 }
+{
+    let events = read_schedule(schedule, inputs)?;
+    let replayed = replay_reports(replicas, &events, sheet, inputs)?;
+    Ok(Success::Refusals(put_replayed(inputs.alloc, out, replayed)?))
+}
+
+fn read_schedule<'n, F: Files, E: Write>(
+    name: &'n str,
+    inputs: &Inputs<'n, F, E>,
+) -> Result<Events, Error<'n>> {
+    let lines = inputs.read(name)?;
+    Ok(read_events(inputs.alloc, lines.as_bytes())?)
+}
+
+fn replay_reports<'n, 's, F: Files, E: Write>(
+    replicas: usize,
+    events: &Events,
+    sheet: &'s Sheet,
+    inputs: &mut Inputs<'n, F, E>,
+) -> Result<Replayed<'s>, Error<'n>> {
+    let reports = inputs.read_reports()?;
+    Ok(replay(inputs.alloc, sheet, replicas, reports.as_slice(), events)?)
+}
+
+fn put_replayed<S: Sink>(
+    alloc: Global,
+    out: &mut S,
+    replayed: Replayed<'_>,
+) -> Result<Refusals, WriteFault>
+    requires { S.failures out.old < 2 ^ 64 - 1 }
+{
+    let put = put_replicas(alloc, out, replayed.replicas());
+    let refused = replayed.into_refused();
+    put?;
+    Ok(refused)
+}
+
+/// Returns the required option for the number of replicas.
+fn replicas_argument<'w>(alloc: Global) -> Arg<'w> {
+    Arg::new(alloc, REPLICAS)
+        .long(REPLICAS)
+        .value_name("N")
+        .required(true)
+        .value_parser(ValueParser::Signed(1, MOST_REPLICAS))
+        .help("The number of replicas, from 1 to 64")
+}
+
+/// Returns the required option for the schedule.
+fn events_argument<'w>(alloc: Global) -> Arg<'w> {
+    Arg::new(alloc, EVENTS)
+        .long(EVENTS)
+        .value_name("EVENTS")
+        .required(true)
+        .help("The file of the schedule, one event a line")
+}
+
+/// Errors: out of memory, and `Device` with the bytes taken of one text. `write_out` replaces them
+/// with the bytes taken of all texts.
+fn put_replicas<S: Sink>(
+    alloc: Global,
+    out: &mut S,
+    replicas: &[Base<'_>],
+) -> Result<(), WriteFault>
+    requires { S.failures out.old < 2 ^ 64 - 1 }
+{
+    for base in replicas {
+        put_replica(alloc, out, base)?;
+    }
+    Ok(())
+}
+
+fn put_replica<S: Sink>(alloc: Global, out: &mut S, base: &Base<'_>) -> Result<(), WriteFault>
+    requires { S.failures out.old < 2 ^ 64 - 1 }
+    ensures { OnOk result (S.failures out.new ≡ S.failures out.old) }
+{
+    write_to(alloc, base, out)?;
+    put_text(out, "\n")
+}

@@ -1,0 +1,72 @@
+ghost use Rattle.std.specs.Prelude.{◌-◌, ◌^◌, ◌<◌};
+
+use crate::arguments::{command, with_reports};
+use crate::error::{Error, Success};
+use crate::inputs::Inputs;
+use crate::row_format::{PrintFormat, with_format};
+use clap::Command;
+use oim_report::Sheet;
+use oim_write::Sink;
+use row_formats::finish_rows_last;
+use std::alloc::{AllocError, Global};
+use std::io::Write;
+use std::rt::Files;
+
+pub(crate) const NAME: &str = "verdicts";
+
+const ABOUT: &str = "Prints a verdict for each set of facts with the same dimensions";
+
+const MORE: &str =
+    "Each line describes a row: all facts with the same dimensions in the output of `merge`. It shows
+whether they agree exactly, agree within rounding, or contradict each other, with the evidence.
+
+  ROW FIRST LAST complete
+  ROW FIRST LAST consistent common LOW HIGH
+  ROW FIRST LAST inconsistent apart I J
+
+  ROW           the number of the row, from 1
+  FIRST LAST    its first and last fact, by their identifiers in that output
+  complete      the row has one fact: all providers that report it agree exactly
+  consistent    the row has several numbers, which agree within rounding
+  LOW HIGH      the lowest and the highest number that fit all of them
+  inconsistent  the row has facts that contradict each other
+  I J           two of these
+
+FORMAT is one of:
+  lines  as above
+  json   a JSON object per line, with the dimensions and the facts of the row
+  csv    a header and a record for each fact, quoted as RFC 4180 says
+
+Example:
+  xbrlmerge verdicts --sheet examples/sheet.json examples/issuer.json examples/statfeed.json
+
+Status:
+  0  every report was judged, whatever the verdicts are
+  1  a report was refused, and standard error shows why; the others were judged
+  3  not done, or not completed: invalid arguments, a refused sheet, a file or device that
+     failed, or out of memory";
+
+/// Returns the arguments of this command, with its help.
+pub(crate) fn words<'w>(alloc: Global) -> Result<Command<'w>, AllocError> {
+    let command = command(alloc, NAME, ABOUT, MORE)?;
+    with_reports(alloc, with_format(alloc, command)?)
+}
+
+/// Reads and adds the reports, and writes each row to `out`. Returns the refused reports with their
+/// numbers, from 1.
+///
+/// Errors: `Unread`, and the errors of `Consolidation::finish_lines_last` and `finish_rows_last`.
+pub(crate) fn run<'n, F: Files, E: Write, S: Sink>(
+    format: PrintFormat,
+    sheet: &Sheet,
+    inputs: &mut Inputs<'n, F, E>,
+    out: &mut S,
+) -> Result<Success, Error<'n>>
+    requires { S.failures out.old < 2 ^ 64 - 1 }
+{
+    let reports = inputs.consolidate(sheet)?;
+    Ok(Success::Refusals(match format {
+        PrintFormat::Lines => reports.finish_lines_last(out)?,
+        PrintFormat::Rows(format) => finish_rows_last(inputs.alloc, reports, format, out)?,
+    }))
+}

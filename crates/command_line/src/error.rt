@@ -1,0 +1,89 @@
+use clap::error::ErrorKind;
+use oim_merge::{Fault, Refusals, ReplayFault};
+use oim_names::Reason;
+use oim_write::WriteFault;
+use std::alloc::{AllocError, AllocFailed};
+
+/// The result of a command that ran to its end.
+#[derive(Drop)]
+pub(crate) enum Success {
+    /// The refused reports.
+    Refusals(Refusals),
+    /// The number of faults; a line was written for each.
+    Faults(u64),
+}
+
+/// Why the program stops early.
+#[derive(Drop)]
+pub(crate) enum Error<'n> {
+    /// The arguments are not valid. The error has clap's message.
+    Usage(clap::Error),
+    /// The file with this name cannot be read. The name `-` is standard input. The text is the
+    /// cause, if it is known.
+    Unread(&'n str, Option<&'static str>),
+    /// The file with this name has more bytes than are read.
+    TooLong(&'n str),
+    /// The file with this name should list reports, but neither it nor the arguments name one.
+    NoNames(&'n str),
+    /// The file with this name cannot be written.
+    Unwritten(&'n str),
+    /// The line with this number, from 1, is not an event, or names something that does not exist.
+    Event(u64),
+    /// The sheet is refused. `explain` adds its lines about the sheet.
+    Sheet(Reason, Option<String>),
+    /// The row with this number is above the allowed level.
+    TooLoose(u64, Refusals),
+    /// The output failed after this many bytes.
+    Device(u64),
+    OutOfMemory,
+}
+
+impl From<clap::Error> for Error<'_> {
+    fn from(error: clap::Error) -> Self {
+        match error.kind() {
+            ErrorKind::OutOfMemory => Error::OutOfMemory,
+            _ => Error::Usage(error),
+        }
+    }
+}
+
+impl From<Fault> for Error<'_> {
+    fn from(fault: Fault) -> Self {
+        match fault {
+            Fault::OutOfMemory(_) => Error::OutOfMemory,
+            Fault::Device(written) => Error::Device(written),
+            Fault::TooLoose { row, refused } => Error::TooLoose(row, refused),
+            Fault::Sheet(reason) => Error::Sheet(reason, None),
+        }
+    }
+}
+
+impl From<WriteFault> for Error<'_> {
+    fn from(fault: WriteFault) -> Self {
+        match fault {
+            WriteFault::OutOfMemory(_) => Error::OutOfMemory,
+            WriteFault::Device(written) => Error::Device(written),
+        }
+    }
+}
+
+impl From<ReplayFault> for Error<'_> {
+    fn from(fault: ReplayFault) -> Self {
+        match fault {
+            ReplayFault::OutOfMemory => Error::OutOfMemory,
+            ReplayFault::BadEvent(line) => Error::Event(line),
+        }
+    }
+}
+
+impl From<AllocError> for Error<'_> {
+    fn from(_: AllocError) -> Self {
+        Error::OutOfMemory
+    }
+}
+
+impl<T: Drop> From<AllocFailed<T>> for Error<'_> {
+    fn from(_: AllocFailed<T>) -> Self {
+        Error::OutOfMemory
+    }
+}

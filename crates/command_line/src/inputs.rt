@@ -1,0 +1,147 @@
+ghost use Rattle.std.specs.Prelude.{◌≡◌};
+
+use crate::console::Console;
+use crate::error::Error;
+use oim_merge::{Consolidation, ReadFault, StdSource, read_all};
+use oim_names::Reason;
+use oim_report::Sheet;
+use oim_write::Encoded;
+use std::alloc::Global;
+use std::fs::{self, File};
+use std::io::{ErrorKind, Read, Write};
+use std::rt::Files;
+
+const MOST_BYTES: u32 = 2_147_483_648;
+
+/// The name of standard input after `--reports-from` and in printed lines.
+pub(crate) const STANDARD_INPUT: &str = "-";
+
+/// The inputs of a command, and its progress. The sink is not a field. Otherwise the contract of
+/// each method would have to state that the sink is unchanged.
+#[derive(Drop)]
+pub(crate) struct Inputs<'n, F, E> {
+    pub alloc: Global,
+    pub files: &'n F,
+    /// The bundle; not used if there are arguments.
+    pub bundle: &'n [u8],
+    pub names: &'n [&'n str],
+    pub console: &'n mut Console<E>,
+}
+
+impl<'n, F: Files, E: Write> Inputs<'n, F, E> {
+    pub(crate) fn read(&self, name: &'n str) -> Result<Encoded, Error<'n>> {
+        read_file(self.alloc, self.files, name)
+    }
+
+    /// Errors: `Unread`; `Sheet` if the sheet is refused; out of memory.
+    pub(crate) fn read_sheet(&self, name: &'n str) -> Result<Sheet, Error<'n>> {
+        let bytes = self.read(name)?;
+        sheet_of(self.alloc, bytes.as_bytes())
+    }
+
+    /// Shows how many reports were read before, and reads the report with this name.
+    pub(crate) fn read_report(&mut self, name: &'n str) -> Result<Encoded, Error<'n>> {
+        self.console.show(self.names.len());
+        let report = self.read(name)?;
+        self.console.add(report.as_bytes().len());
+        Ok(report)
+    }
+
+    /// Reads all reports in order, up to the first that cannot be read.
+    pub(crate) fn read_reports(&mut self) -> Result<Vec<Encoded>, Error<'n>> {
+        let names = self.names;
+        let mut all = Vec::new(self.alloc);
+        for name in names {
+            all.push(self.read_report(name)?)?;
+        }
+        self.console.clear();
+        Ok(all)
+    }
+
+    /// Reads and adds all reports in order, up to the first that cannot be read. The bytes of a
+    /// report are dropped once it is added.
+    pub(crate) fn consolidate<'s>(
+        &mut self,
+        sheet: &'s Sheet,
+    ) -> Result<Consolidation<'s>, Error<'n>> {
+        let mut consolidation = Consolidation::new(self.alloc, sheet);
+        self.add_reports(&mut consolidation)?;
+        Ok(consolidation)
+    }
+
+    fn add_reports(&mut self, consolidation: &mut Consolidation<'_>) -> Result<(), Error<'n>>
+        requires { consolidation.old.reports ≡ 0 }
+    {
+        let names = self.names;
+        for place in 0..names.len() {
+            let report = self.read_report(names[place])?;
+            consolidation.add(report.as_bytes())?;
+        }
+        self.console.clear();
+        Ok(())
+    }
+}
+
+pub(crate) fn sheet_of<'n>(alloc: Global, bytes: &[u8]) -> Result<Sheet, Error<'n>> {
+    match Sheet::read(alloc, bytes) {
+        Ok(sheet) => Ok(sheet),
+        Err(Reason::OutOfMemory) => Err(Error::OutOfMemory),
+        Err(reason) => Err(Error::Sheet(reason, None)),
+    }
+}
+
+pub(crate) fn read_input<'n, R: Read + Drop>(
+    alloc: Global,
+    input: R,
+) -> Result<Encoded, Error<'n>> {
+    match read_bytes(alloc, input) {
+        Ok(bytes) => Ok(bytes),
+        Err(fault) => Err(unread(STANDARD_INPUT, fault)),
+    }
+}
+
+pub(crate) fn read_file<'n, F: Files>(
+    alloc: Global,
+    files: &F,
+    name: &'n str,
+) -> Result<Encoded, Error<'n>> {
+    match open_and_read(alloc, files, name) {
+        Ok(bytes) => Ok(bytes),
+        Err(ReadFault::Device(_)) => Err(Error::Unread(name, why_unread(files, name))),
+        Err(fault) => Err(unread(name, fault)),
+    }
+}
+
+fn unread(name: &str, fault: ReadFault) -> Error<'_> {
+    match fault {
+        ReadFault::OutOfMemory => Error::OutOfMemory,
+        ReadFault::TooLong => Error::TooLong(name),
+        ReadFault::Device(_) => Error::Unread(name, None),
+    }
+}
+
+fn open_and_read<F: Files>(alloc: Global, files: &F, name: &str) -> Result<Encoded, ReadFault> {
+    match File::open(files, name) {
+        Ok(file) => read_bytes(alloc, file),
+        Err(_) => Err(ReadFault::Device(0)),
+    }
+}
+
+fn read_bytes<R: Read + Drop>(alloc: Global, reader: R) -> Result<Encoded, ReadFault> {
+    let mut source = StdSource::new(reader);
+    read_all(alloc, &mut source, MOST_BYTES)
+}
+
+fn why_unread<F: Files>(files: &F, name: &str) -> Option<&'static str> {
+    match fs::metadata(files, name) {
+        Ok(found) if found.is_dir() => return Some("It is a folder."),
+        Err(fault) if fault.kind() == ErrorKind::NotFound => return Some("There is no such file."),
+        _ => {}
+    }
+    match File::open(files, name) {
+        Err(fault) if fault.kind() == ErrorKind::PermissionDenied => {
+            Some("You may not read it: permission denied.")
+        }
+        _ => None,
+    }
+}

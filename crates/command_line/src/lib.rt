@@ -1,0 +1,21 @@
+//! The command line of `oim_merge`: arguments, files, printed lines and exit statuses. The
+//! libraries do the merging.
+#![tactic(auto)]
+
+mod arguments;
+mod commands;
+mod console;
+mod error;
+mod fault_format;
+mod inputs;
+mod lines;
+mod output;
+mod program;
+mod report_names;
+mod request;
+mod row_format;
+mod streams;
+mod words;
+
+pub use program::run;
+pub use streams::Streams;

@@ -1,0 +1,97 @@
+use crate::console::Console;
+use crate::inputs::Inputs;
+use crate::output::{write_file, write_out};
+use crate::request::Args;
+use crate::streams::Streams;
+use crate::words::read_words;
+use std::alloc::Global;
+use std::convert::AsStr;
+use std::io::{Read, Write};
+use std::rt::Files;
+
+// `run` is split into four functions. Each owns few values and borrows the rest, so it has many
+// parameters. One function that owns all values would be slow to prove, because each value may be
+// alive at each exit.
+
+/// Runs the program with the arguments after its name. Without arguments, it merges the bundle on
+/// standard input. On standard error it prints a line for each refused report, or why it stopped;
+/// if a row is above the allowed level, it prints both. On terminals, it also prints that a bundle
+/// is expected, how many reports were read, and why a file cannot be read. Returns the exit status:
+/// 1 if a report was refused or `explain` found a fault; 2 if a row is above the allowed level; 3
+/// if the program stopped for another reason; otherwise 0.
+pub fn run<F, W, R, O, E>(alloc: Global, files: &F, words: &[W], streams: Streams<R, O, E>) -> u8
+where
+    F: Files,
+    W: AsStr,
+    R: Read + Drop,
+    O: Write + Drop,
+    E: Write + Drop,
+{
+    let Streams {
+        input,
+        out,
+        err,
+        is_input_terminal,
+        is_err_terminal,
+    } = streams;
+    let mut console = Console::new(err, is_err_terminal);
+    if words.is_empty() && is_input_terminal {
+        console.tell_awaited();
+    }
+    match read_words(alloc, words) {
+        Ok(args) => {
+            console.is_quiet = args.is_quiet;
+            run_args(alloc, files, &args, input, out, &mut console)
+        }
+        Err(error) => console.tell(&Err(error)),
+    }
+}
+
+fn run_args<F: Files, R: Read + Drop, O: Write + Drop, E: Write>(
+    alloc: Global,
+    files: &F,
+    args: &Args<'_>,
+    input: R,
+    out: O,
+    console: &mut Console<E>,
+) -> u8 {
+    match args.read_input(alloc, files, input) {
+        Ok(bytes) => run_named(alloc, files, args, bytes.as_bytes(), out, console),
+        Err(error) => console.tell(&Err(error)),
+    }
+}
+
+fn run_named<F: Files, O: Write + Drop, E: Write>(
+    alloc: Global,
+    files: &F,
+    args: &Args<'_>,
+    bytes: &[u8],
+    out: O,
+    console: &mut Console<E>,
+) -> u8 {
+    match args.reports.names(alloc, bytes) {
+        Ok(names) => {
+            let mut inputs = Inputs {
+                alloc,
+                files,
+                bundle: bytes,
+                names: names.as_slice(),
+                console,
+            };
+            run_inputs(args, &mut inputs, out)
+        }
+        Err(error) => console.tell(&Err(error)),
+    }
+}
+
+fn run_inputs<'n, F: Files, O: Write + Drop, E: Write>(
+    args: &Args<'n>,
+    inputs: &mut Inputs<'n, F, E>,
+    out: O,
+) -> u8 {
+    let done = match args.output {
+        Some(name) => write_file(&args.request, inputs, name),
+        None => write_out(&args.request, inputs, out),
+    };
+    inputs.console.tell(&done)
+}

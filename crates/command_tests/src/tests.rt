@@ -1,0 +1,5 @@
+mod files;
+mod ran;
+mod run;
+mod terminals;
+mod words;

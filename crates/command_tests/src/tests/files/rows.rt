@@ -1,0 +1,334 @@
+use test_helpers::canonical_parts::{
+    CONSISTENT_HEAD, CONTRADICTING_HEAD, END, HEAD, MIDDLE, MIDDLE_ALONE, ONE_URI, WRITTEN_HUNDRED,
+};
+
+/// Arguments and results: the status, the parts of the text on standard output, and the lines on
+/// standard error.
+pub(super) type Row = (&'static str, u8, &'static [&'static str], &'static str);
+
+/// Arguments, the number of bytes that standard output takes, and the line that reports it.
+pub(super) type Full = (&'static str, usize, &'static str);
+
+pub(super) const SECOND: &str = "report 2: 13 UnboundPrefix at fact 1\n";
+
+const TOO_LOOSE: &str = "too loose: row 1\n";
+
+const NOT_JSON: &str = "report 1: 1 NotJson at document\n";
+
+pub(super) const NOT_READ: &str = "file none: cannot be read\n";
+
+const A_FOLDER: &str = "file .: cannot be read\n";
+
+/// The text without facts.
+const EMPTY: &[&str] = &[HEAD, MIDDLE_ALONE, END];
+
+/// The text of the fact 100.
+pub(super) const ONE: &[&str] = &[HEAD, ONE_URI, MIDDLE, WRITTEN_HUNDRED, END];
+
+pub(super) const FIRST: &str =
+    r#""f1":{"decimals":0,"dimensions":{"concept":"n1:A"},"value":"100"},"f2":{"decimals":0,"dimensions":{"concept":"n1:A"},"value":"#;
+
+/// The text of the facts 100 and 101.
+const BOTH: &[&str] = &[CONSISTENT_HEAD, ONE_URI, MIDDLE, FIRST, r#""101"}"#, END];
+
+/// The text of the facts 100 and 102.
+const WIDE: &[&str] = &[CONTRADICTING_HEAD, ONE_URI, MIDDLE, FIRST, r#""102"}"#, END];
+
+pub(super) const MERGED: [Row; 17] = [
+    ("merge --sheet sheet", 0, EMPTY, ""),
+    ("merge --sheet sheet 100", 0, ONE, ""),
+    ("merge --sheet sheet zz 100 zz zz", 0, ONE, ""),
+    ("merge --sheet sheet empty", 1, EMPTY, NOT_JSON),
+    ("merge --sheet sheet 100 unbound", 1, ONE, SECOND),
+    (
+        "merge --sheet sheet unbound 100 unbound",
+        1,
+        ONE,
+        "report 1: 13 UnboundPrefix at fact 1\nreport 3: 13 UnboundPrefix at fact 1\n",
+    ),
+    ("merge --sheet sheet --allow none 100 zz", 0, ONE, ""),
+    ("merge --sheet sheet --allow all 101 100", 0, BOTH, ""),
+    (
+        "merge --sheet sheet --allow consistent 100 101",
+        0,
+        BOTH,
+        "",
+    ),
+    (
+        "merge 100 101 --allow consistent --sheet sheet",
+        0,
+        BOTH,
+        "",
+    ),
+    ("merge 100 --sheet sheet 101", 0, BOTH, ""),
+    (
+        "merge --allow=consistent --sheet=sheet -- 100 101",
+        0,
+        BOTH,
+        "",
+    ),
+    (
+        "merge --sheet sheet --allow complete 100 101",
+        2,
+        &[],
+        TOO_LOOSE,
+    ),
+    (
+        "merge --sheet sheet --allow none 100 101",
+        2,
+        &[],
+        TOO_LOOSE,
+    ),
+    (
+        "merge --sheet sheet --allow consistent 100 102",
+        2,
+        &[],
+        TOO_LOOSE,
+    ),
+    (
+        "merge --sheet sheet --allow consistent 100 unbound 102",
+        2,
+        &[],
+        "report 2: 13 UnboundPrefix at fact 1\ntoo loose: row 1\n",
+    ),
+    (
+        "merge --sheet sheet --allow all 100 unbound 102",
+        1,
+        WIDE,
+        SECOND,
+    ),
+];
+
+/// The line for row 1 if the row contains 100 and 101.
+const TOUCHING: &[&str] = &["1 f1 f2 consistent common 100.5 100.5\n"];
+
+const APART: &[&str] = &["1 f1 f2 inconsistent apart f1 f2\n"];
+
+const ALIKE: &[&str] = &["1 f1 f1 complete\n"];
+
+pub(super) const JUDGED: [Row; 11] = [
+    ("verdicts --sheet sheet", 0, &[], ""),
+    ("verdicts --sheet sheet 100 101", 0, TOUCHING, ""),
+    (
+        "verdicts 100 unbound 101 --sheet sheet",
+        1,
+        TOUCHING,
+        SECOND,
+    ),
+    ("verdicts --sheet sheet 100 zz 100", 0, ALIKE, ""),
+    (
+        "verdicts --sheet sheet three",
+        0,
+        &["1 f1 f3 inconsistent apart f1 f3\n"],
+        "",
+    ),
+    (
+        "verdicts --sheet sheet thousands",
+        0,
+        &["1 f1 f2 consistent common 1234067 1234067\n"],
+        "",
+    ),
+    ("verdicts --sheet sheet below", 0, APART, ""),
+    ("verdicts --sheet sheet zeros", 0, ALIKE, ""),
+    ("verdicts --sheet sheet nil", 0, APART, ""),
+    ("sources --sheet sheet", 0, &[], ""),
+    (
+        "sources 101 unbound 100 --sheet sheet",
+        1,
+        &["f1 3 \"a\"\nf2 1 \"a\"\n"],
+        SECOND,
+    ),
+];
+
+pub(super) const CHECKED: [Row; 7] = [
+    (
+        "check --sheet sheet twice",
+        0,
+        &["accepted 2 complete other\n"],
+        "",
+    ),
+    (
+        "check 100 --sheet sheet",
+        0,
+        &["accepted 1 none other\n"],
+        "",
+    ),
+    (
+        "check --sheet sheet thousands",
+        0,
+        &["accepted 2 consistent other\n"],
+        "",
+    ),
+    (
+        "check --sheet sheet -- three",
+        0,
+        &["accepted 3 all other\n"],
+        "",
+    ),
+    (
+        "check --sheet sheet zeros",
+        0,
+        &["accepted 4 complete other\n"],
+        "",
+    ),
+    (
+        "check --sheet sheet unbound",
+        1,
+        &[],
+        "report 1: 13 UnboundPrefix at fact 1\n",
+    ),
+    ("check --sheet sheet empty", 1, &[], NOT_JSON),
+];
+
+/// The arguments name an output file. Runs that end with status 2 or 3 leave it unchanged.
+pub(super) const WRITTEN: [Row; 6] = [
+    ("merge --sheet sheet empty 100 -o out", 1, &[], NOT_JSON),
+    (
+        "merge --sheet sheet 100 101 --allow none -o out",
+        2,
+        &[],
+        TOO_LOOSE,
+    ),
+    ("verdicts --sheet sheet 100 none -o out", 3, &[], NOT_READ),
+    ("merge --sheet sheet --output=out -- out", 0, &[], ""),
+    (
+        "check --sheet sheet 100 -o .",
+        3,
+        &[],
+        "file .: cannot be written\n",
+    ),
+    (
+        "merge --sheet sheet -o none/out",
+        3,
+        &[],
+        "file none/out: cannot be written\n",
+    ),
+];
+
+/// The progress that a terminal shows.
+pub(super) const SHOWN: [(&str, &str); 3] = [
+    (
+        "verdicts --sheet sheet 100 101",
+        "\r0 of 2 reports, 0 MB\r1 of 2 reports, 0 MB\r\x1b[K",
+    ),
+    (
+        "verdicts --sheet sheet long long 100",
+        "\r0 of 3 reports, 0 MB\r1 of 3 reports, 0 MB\r2 of 3 reports, 1 MB\r\x1b[K",
+    ),
+    ("merge --sheet sheet 100 --quiet", ""),
+];
+
+/// A file lists reports, which follow the reports in the arguments.
+pub(super) const LISTED: [Row; 8] = [
+    ("merge --sheet sheet --reports-from names", 0, BOTH, ""),
+    ("merge --sheet sheet -0 --reports-from ended", 0, BOTH, ""),
+    (
+        "verdicts --sheet sheet 100 unbound --reports-from names",
+        1,
+        TOUCHING,
+        SECOND,
+    ),
+    (
+        "merge --sheet sheet 100 --reports-from empty --null",
+        0,
+        ONE,
+        "",
+    ),
+    (
+        "merge --sheet sheet --reports-from empty",
+        3,
+        &[],
+        "file empty: names no report\n",
+    ),
+    (
+        "merge --sheet sheet --reports-from ended",
+        3,
+        &[],
+        "file 101\\u0000100: cannot be read\n",
+    ),
+    (
+        "verdicts --sheet sheet --reports-from none",
+        3,
+        &[],
+        NOT_READ,
+    ),
+    (
+        "merge --sheet list --reports-from -",
+        3,
+        &[],
+        "file -: cannot be read\n",
+    ),
+];
+
+/// A file or the sheet stops the program. Nothing else is printed.
+pub(super) const STOPPED: [Row; 13] = [
+    ("merge --sheet none", 3, &[], NOT_READ),
+    ("verdicts --sheet none list", 3, &[], NOT_READ),
+    ("check --sheet none list", 3, &[], NOT_READ),
+    ("merge --sheet sheet 100 none", 3, &[], NOT_READ),
+    ("merge --sheet sheet unbound none .", 3, &[], NOT_READ),
+    ("verdicts --sheet sheet unbound none", 3, &[], NOT_READ),
+    ("check --sheet sheet none", 3, &[], NOT_READ),
+    ("merge --sheet sheet . none", 3, &[], A_FOLDER),
+    ("check --sheet . none", 3, &[], A_FOLDER),
+    ("merge --sheet sheet -", 3, &[], "file -: cannot be read\n"),
+    (
+        "merge --sheet sheet -- --allow",
+        3,
+        &[],
+        "file --allow: cannot be read\n",
+    ),
+    ("merge --sheet list none", 3, &[], "sheet: 2 MemberForm\n"),
+    ("verdicts --sheet empty none", 3, &[], "sheet: 1 NotJson\n"),
+];
+
+/// The status and standard output when standard error fails.
+pub(super) const UNHEARD: [Row; 4] = [
+    (
+        "merge --sheet sheet --allow none 100 unbound 101",
+        2,
+        &[],
+        "",
+    ),
+    ("merge", 3, &[], ""),
+    ("merge --sheet none", 3, &[], ""),
+    ("verdicts --sheet sheet unbound 100", 1, ALIKE, ""),
+];
+
+/// Standard output takes this many bytes, and the line reports their number.
+pub(super) const FULL: [Full; 4] = [
+    ("merge --sheet sheet 100", 0, "device: 0 bytes written\n"),
+    (
+        "merge --sheet sheet 100",
+        275,
+        "device: 275 bytes written\n",
+    ),
+    (
+        "verdicts --sheet sheet 100 unbound",
+        3,
+        "device: 3 bytes written\n",
+    ),
+    (
+        "check --sheet sheet twice",
+        25,
+        "device: 25 bytes written\n",
+    ),
+];
+
+/// Standard output takes all bytes, but the flush fails. A run that cannot read a file does not
+/// flush.
+pub(super) const UNFLUSHED: [(&str, &str); 7] = [
+    ("merge --sheet sheet 100", "device: 276 bytes written\n"),
+    (
+        "verdicts --sheet sheet 100 unbound",
+        "device: 17 bytes written\n",
+    ),
+    ("check --sheet sheet twice", "device: 26 bytes written\n"),
+    ("check --sheet sheet unbound", "device: 0 bytes written\n"),
+    (
+        "merge --sheet sheet --allow none 100 101",
+        "device: 0 bytes written\n",
+    ),
+    ("--version", "device: 20 bytes written\n"),
+    ("merge --sheet none", NOT_READ),
+];

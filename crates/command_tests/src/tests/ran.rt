@@ -1,0 +1,128 @@
+use command_line::{Streams, run};
+use std::alloc::AllocError;
+use std::io::Write;
+use test_helpers::asked_again::{tell_refused, tell_refused_here};
+use test_helpers::devices::{Step, TestReader, Then};
+use test_helpers::expecting::{Either, Expecting};
+
+// Runs the program on arguments. If memory is refused, the program must report it; the test then
+// prints a line on standard error and runs the program again.
+
+/// No arguments, for a bundle on standard input.
+pub(crate) const NO_WORDS: &[&str] = &[];
+
+const MOST_WORDS: usize = 16;
+
+pub(crate) fn piped<R, O, E>(input: R, out: O, err: E) -> Streams<R, O, E> {
+    Streams {
+        input,
+        out,
+        err,
+        is_input_terminal: false,
+        is_err_terminal: false,
+    }
+}
+
+/// Returns the arguments in a line, separated by single spaces.
+pub(crate) fn words_of<'t>(rt: &HostRuntime, line: &'t str) -> Result<Vec<&'t str>, AllocError> {
+    let mut words = match Vec::with_capacity(rt.alloc(), MOST_WORDS) {
+        Ok(made) => made,
+        Err(_) => {
+            tell_refused_here(rt);
+            Vec::with_capacity(rt.alloc(), MOST_WORDS)?
+        }
+    };
+    for word in line.split(' ') {
+        words.push(word)?;
+    }
+    Ok(words)
+}
+
+/// Returns whether the program ends with this status and writes this, without reading standard
+/// input. If not, the status and the numbers of missing bytes are printed.
+pub(crate) fn ends(
+    rt: &HostRuntime,
+    words: &[&str],
+    status: u8,
+    out: Expecting<'_>,
+    err: Expecting<'_>,
+) -> bool {
+    match ends_once(rt, words, status, out, err) {
+        None => {
+            tell_refused(rt);
+            ends_once(rt, words, status, out, err) == Some(true)
+        }
+        Some(same) => same,
+    }
+}
+
+/// Does the same as `ends`, but returns None if memory was refused.
+fn ends_once(
+    rt: &HostRuntime,
+    words: &[&str],
+    status: u8,
+    mut out: Expecting<'_>,
+    err: Expecting<'_>,
+) -> Option<bool> {
+    let (ended, heard) = heard(rt, words, &mut out, err);
+    if ended == 3 && heard.1.is_met() {
+        return None;
+    }
+    let same = ended == status && out.is_met() && heard.0.is_met();
+    if !same {
+        let (of_out, of_err) = (out.left(), heard.0.left());
+        let _ = eprintln!(rt;
+            "{words:?}: status {ended}, still expected {of_out} and {of_err} bytes"
+        );
+    }
+    Some(same)
+}
+
+/// Returns whether the program, with this standard output, stops with this line on standard error.
+pub(crate) fn stops<O: Write + Copy + Drop>(
+    rt: &HostRuntime,
+    words: &[&str],
+    out: O,
+    line: &str,
+) -> bool {
+    match stops_once(rt, words, out, line) {
+        None => {
+            tell_refused(rt);
+            stops_once(rt, words, out, line) == Some(true)
+        }
+        Some(same) => same,
+    }
+}
+
+/// Does the same as `stops`, but returns None if memory was refused.
+fn stops_once<O: Write + Drop>(
+    rt: &HostRuntime,
+    words: &[&str],
+    out: O,
+    line: &str,
+) -> Option<bool> {
+    let (ended, heard) = heard(rt, words, out, Expecting::just(line.as_bytes()));
+    if ended == 3 && heard.1.is_met() {
+        return None;
+    }
+    let same = ended == 3 && heard.0.is_met();
+    if !same {
+        let left = heard.0.left();
+        let _ = eprintln!(rt; "{words:?}: status {ended}, still expected {left} bytes");
+    }
+    Some(same)
+}
+
+/// Returns the status and standard error, which is compared with the expected text and with the
+/// line for refused memory.
+fn heard<'a, O: Write + Drop>(
+    rt: &HostRuntime,
+    words: &[&str],
+    out: O,
+    err: Expecting<'a>,
+) -> (u8, Either<'a>) {
+    let mut heard = Either(err, Expecting::just(b"out of memory\n"));
+    let input = TestReader::new(b"", Step::All, Then::Fails);
+    let status = run(rt.alloc(), rt, words, piped(input, out, &mut heard));
+    (status, heard)
+}

@@ -1,0 +1,64 @@
+use crate::tests::ran::NO_WORDS;
+use command_line::{Streams, run};
+use std::test::Fail;
+use test_helpers::asked_again::tell_refused;
+use test_helpers::devices::{FullAfter, Step, TestReader, Then};
+use test_helpers::expecting::Expecting;
+
+/// Returns whether the program stops with these lines when its input and standard error are
+/// terminals.
+fn shows_once(rt: &HostRuntime, words: &[&str], input: &str, lines: &str) -> bool {
+    let mut err = Expecting::just(lines.as_bytes());
+    let streams = Streams {
+        input: TestReader::new(input.as_bytes(), Step::All, Then::Ends),
+        out: FullAfter::new(0),
+        err: &mut err,
+        is_input_terminal: true,
+        is_err_terminal: true,
+    };
+    let status = run(rt.alloc(), rt, words, streams);
+    status == 3 && err.is_met()
+}
+
+// The program is run again if the lines differ, since memory may have been refused.
+fn shows(rt: &HostRuntime, words: &[&str], input: &str, lines: &str) -> bool {
+    if shows_once(rt, words, input, lines) {
+        return true;
+    }
+    tell_refused(rt);
+    shows_once(rt, words, input, lines)
+}
+
+#[test]
+fn a_bundle_is_awaited(rt: HostRuntime) -> Result<(), Fail> {
+    let lines =
+        "Waiting for a bundle on standard input; `xbrlmerge --help` shows the commands.\nsheet: 1 NotJson\n";
+    assert!(rt; shows(&rt, NO_WORDS, "", lines));
+    Ok(())
+}
+
+#[test]
+fn it_is_told_why_a_file_cannot_be_read(rt: HostRuntime) -> Result<(), Fail> {
+    let missing = ["check", "--sheet", "none", "r"];
+    let folder = ["check", "--sheet", ".", "r"];
+    let none = "file none: cannot be read\nThere is no such file.\n";
+    assert!(rt; shows(&rt, missing.as_slice(), "", none));
+    assert!(rt;
+        shows(
+            &rt,
+            folder.as_slice(),
+            "",
+            "file .: cannot be read\nIt is a folder.\n"
+        )
+    );
+    Ok(())
+}
+
+#[test]
+fn standard_input_names_reports(rt: HostRuntime) -> Result<(), Fail> {
+    let words = ["verdicts", "--sheet", "none", "--reports-from", "-"];
+    let none = "file none: cannot be read\nThere is no such file.\n";
+    assert!(rt; shows(&rt, words.as_slice(), "\n", "file -: names no report\n"));
+    assert!(rt; shows(&rt, words.as_slice(), "r", none));
+    Ok(())
+}

@@ -1,0 +1,3 @@
+mod base;
+mod explained;
+mod reports;

@@ -1,0 +1,73 @@
+mod bases;
+mod gathered;
+mod small_reports;
+mod verdicts;
+
+use fact_base::{Base, Evidence, Verdict};
+use oim_report::{Report, Sheet};
+use test_helpers::asked_again::{joined, read, tell_refused};
+
+// The text of a report with one fact, up to the value.
+const FACT: &str =
+    r#"{"documentInfo":{"documentType":"https://xbrl.org/2021/xbrl-json","namespaces":{"eg":"http://example.org/t"}},"facts":{"a":{"#;
+
+// The text after the value: the dimensions of a number, a text and a name.
+const OF_A: &str = r#","dimensions":{"concept":"eg:A"}}}}"#;
+
+const OF_T: &str = r#","dimensions":{"concept":"eg:T"}}}}"#;
+
+const OF_Q: &str = r#","dimensions":{"concept":"eg:Q"}}}}"#;
+
+fn take(rt: &HostRuntime, base: &mut Base<'_>, report: &Report<'_>) -> bool {
+    if !base.same_sheet(report.sheet()) {
+        return false;
+    }
+    if base.take(report).is_ok() {
+        return true;
+    }
+    tell_refused(rt);
+    base.take(report).is_ok()
+}
+
+// Takes a report with this text, or returns false if it is refused.
+fn take_text(rt: &HostRuntime, base: &mut Base<'_>, text: &[u8]) -> bool {
+    match read(rt, base.sheet(), text) {
+        Ok(report) => take(rt, base, &report),
+        Err(_) => false,
+    }
+}
+
+// Takes a report whose text has three parts. Only the second part differs between reports.
+fn add(rt: &HostRuntime, base: &mut Base<'_>, start: &str, text: &str, end: &str) -> bool {
+    match joined(rt, &[start, text, end]) {
+        Ok(report) => take_text(rt, base, &report),
+        Err(_) => false,
+    }
+}
+
+fn base_between<'s>(
+    rt: &HostRuntime,
+    sheet: &'s Sheet,
+    start: &str,
+    texts: &[&str],
+    end: &str,
+) -> Option<Base<'s>> {
+    let mut base = Base::new(rt.alloc(), sheet);
+    for text in texts {
+        if !add(rt, &mut base, start, text, end) {
+            return None;
+        }
+    }
+    Some(base)
+}
+
+fn base_of<'s>(rt: &HostRuntime, sheet: &'s Sheet, values: &[&str]) -> Option<Base<'s>> {
+    base_between(rt, sheet, FACT, values, OF_A)
+}
+
+fn judged(base: &Base<'_>) -> Option<(Verdict, Evidence)> {
+    let row = base.rows().next()?;
+    let judged = (row.verdict(), row.evidence());
+    let found = (base.verdict(row.dimensions)?, base.evidence(row.dimensions)?);
+    (judged == found).then_some(judged)
+}

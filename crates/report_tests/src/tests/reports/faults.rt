@@ -1,0 +1,157 @@
+use super::{SHEET, joined, read_sheet, tell_refused, told};
+use oim_report::{Faults, Place, Refusal, Sheet, faults};
+use std::alloc::AllocError;
+use std::test::Fail;
+
+// Texts with their faults: the number of each fault, and the number of its fact or 0 for the
+// document.
+type Rows<'t> = &'t [(&'t str, &'t [(u8, u64)])];
+
+const DOCUMENTS: Rows<'static> = &[
+    ("", &[(1, 0)]),
+    ("[]", &[(2, 0)]),
+    ("{}", &[(2, 0)]),
+    (
+        r#"{"x":1,"documentInfo":{"y":1,"documentType":"z"},"facts":[]}"#,
+        &[(2, 0), (3, 0), (4, 0)],
+    ),
+    // a missing type is not reported if `documentInfo` is missing
+    (r#"{"x":1,"facts":{"a":7}}"#, &[(2, 0), (3, 0)]),
+    // if the base URL is refused, references are tested as if there were none
+    (
+        r#"{"documentInfo":{"documentType":"https://xbrl.org/2021/xbrl-json","baseURL":"x","taxonomy":["y"]},"facts":{"a":7}}"#,
+        &[(6, 0)],
+    ),
+    (
+        r#"{"documentInfo":{"documentType":"https://xbrl.org/2021/xbrl-json","baseURL":"x","taxonomy":[1]}}"#,
+        &[(6, 0), (7, 0)],
+    ),
+    // if a prefix is refused, the declared level is not tested
+    (
+        r#"{"documentInfo":{"documentType":"https://xbrl.org/2021/xbrl-json","namespaces":{"a":"","xbrl":"https://xbrl.org/2021"},"features":{"xbrl:allowedDuplicates":1}}}"#,
+        &[(5, 0)],
+    ),
+    (
+        r#"{"documentInfo":{"documentType":"https://xbrl.org/2021/xbrl-json","namespaces":{"xbrl":"https://xbrl.org/2021"},"taxonomy":[1],"features":{"xbrl:allowedDuplicates":1}}}"#,
+        &[(7, 0), (8, 0)],
+    ),
+];
+
+const START: &str =
+    r#"{"documentInfo":{"documentType":"https://xbrl.org/2021/xbrl-json","namespaces":{"eg":"http://example.org/t","zz":"http://example.org/t","x":"http://example.org/u","xbrl":"https://xbrl.org/2021"},"features":{"xbrl:allowedDuplicates":"none"}},"facts":{"#;
+
+const FACTS: Rows<'static> = &[
+    ("", &[]),
+    (r#""a":{"value":"1","dimensions":{"concept":"eg:A"}}"#, &[]),
+    // several conditions on a fact's form
+    (
+        r#""a":{"x":1,"dimensions":[],"links":{"y":1}},"b":7,"c":{"links":[]}"#,
+        &[(2, 1), (3, 1), (9, 1), (2, 2), (2, 3), (11, 3)],
+    ),
+    // conditions on the value and the decimals of facts without dimensions
+    (
+        r#""a":{"value":1,"decimals":"x"},"b":{"value":null,"decimals":19},"c":{"value":"x","decimals":1}"#,
+        &[(11, 1), (25, 1), (28, 1), (11, 2), (29, 2), (11, 3)],
+    ),
+    // conditions on content and on form
+    (
+        r#""a":{"dimensions":{"concept":"q:A","noteId":1}},"b":{"value":"1","dimensions":{"concept":1}}"#,
+        &[(2, 1), (10, 1), (13, 1), (2, 2)],
+    ),
+    // all conditions on names, in several names
+    (
+        r#""a":{"value":"1","dimensions":{"concept":"A","eg:Reg":"xbrl:b","entity":"q:a"}}"#,
+        &[(12, 1), (13, 1), (14, 1)],
+    ),
+    // all conditions on names, in the pieces of one unit
+    (
+        r#""a":{"value":"1","dimensions":{"concept":"eg:A","unit":"xbrl:a*a/q:a"}}"#,
+        &[(12, 1), (13, 1), (14, 1)],
+    ),
+    // a name with an unbound prefix is not reported as unknown, and an unknown concept has no kind
+    (
+        r#""a":{"value":"x","decimals":1,"dimensions":{"concept":"eg:Z","eg:Z":1,"q:Z":1,"unit":"x:a","language":"en"}}"#,
+        &[(13, 1), (16, 1), (17, 1)],
+    ),
+    (
+        r#""a":{"value":"1","dimensions":{"eg:Z":1,"eg:Reg":null,"zz:Z":"x"}}"#,
+        &[(15, 1), (17, 1), (18, 1)],
+    ),
+    (
+        r#""a":{"value":"1","dimensions":{"concept":"eg:A","eg:Sku":"x","zz:Sku":"x"}}"#,
+        &[(18, 1)],
+    ),
+    // conditions on values, decimals and core dimensions
+    (
+        r#""a":{"value":"x","decimals":19,"dimensions":{"concept":"eg:T","period":"2020","unit":"a/","language":"e n"}}"#,
+        &[(19, 1), (21, 1), (22, 1), (23, 1), (29, 1), (30, 1)],
+    ),
+    (
+        r#""a":{"value":1,"decimals":"1","dimensions":{"concept":"eg:A","period":"2020-01-02T00:00:00/2020-01-01T00:00:00","language":"en"}}"#,
+        &[(20, 1), (24, 1), (25, 1), (28, 1)],
+    ),
+    (
+        r#""a":{"value":"x","dimensions":{"concept":"eg:A"}},"b":{"value":"1","dimensions":{"concept":"eg:A"}},"c":{"value":"1234567890123456789","dimensions":{"concept":"eg:A"}}"#,
+        &[(26, 1), (27, 3)],
+    ),
+    // duplicates are reported only if nothing else is wrong
+    (
+        r#""a":{"value":"1","dimensions":{"concept":"eg:A"}},"b":{"value":"1","dimensions":{"concept":"eg:A"}}"#,
+        &[(31, 0)],
+    ),
+    (
+        r#""a":{"value":"1","dimensions":{"concept":"eg:A"}},"b":{"value":"1","dimensions":{"concept":"eg:A"}},"c":7"#,
+        &[(2, 3)],
+    ),
+];
+
+fn faults_of(rt: &HostRuntime, sheet: &Sheet, bytes: &[u8]) -> Result<Faults, AllocError> {
+    match faults(rt.alloc(), sheet, bytes) {
+        Err(_) => {
+            tell_refused(rt);
+            faults(rt.alloc(), sheet, bytes)
+        }
+        found => found,
+    }
+}
+
+fn is_so(refusal: &Refusal, number: u8, fact: u64) -> bool {
+    let place = if fact == 0 {
+        Place::Document
+    } else {
+        Place::Fact(fact)
+    };
+    refusal.reason.number() == number && refusal.place == place
+}
+
+fn are_so(found: &[Refusal], wanted: &[(u8, u64)]) -> bool {
+    for (refusal, (number, fact)) in found.iter().zip(wanted) {
+        if !is_so(refusal, *number, *fact) {
+            return false;
+        }
+    }
+    found.len() == wanted.len()
+}
+
+fn hold(rt: &HostRuntime, start: &str, rows: Rows<'_>, end: &str) -> Result<bool, Fail> {
+    let sheet = read_sheet(rt, SHEET)?;
+    let mut all = true;
+    for (text, wanted) in rows {
+        let report = joined(rt, &[start, text, end])?;
+        let found = faults_of(rt, &sheet, &report)?;
+        all = told(rt, are_so(found.as_slice(), wanted), text) && all;
+    }
+    Ok(all)
+}
+
+#[test]
+fn each_fault_of_a_document_is_told(rt: HostRuntime) -> Result<(), Fail> {
+    assert!(rt; hold(&rt, "", DOCUMENTS, "")?);
+    Ok(())
+}
+
+#[test]
+fn each_fault_of_a_fact_is_told(rt: HostRuntime) -> Result<(), Fail> {
+    assert!(rt; hold(&rt, START, FACTS, "}}")?);
+    Ok(())
+}

@@ -1,0 +1,105 @@
+use oim_names::Reason;
+use oim_report::{Place, Refusal, Report, Sheet, read_report};
+use std::alloc::{AllocError, Global};
+
+// Repeats a call after a refused request for memory. A line on standard error reports the refusal
+// to `tests/refused_memory`: `refused here` if the test itself made the request, otherwise
+// `refused`.
+
+/// A sheet with every kind of concept and dimension.
+pub const SHEET: &str =
+    r#"{"namespaces":{"eg":"http://example.org/t"},"concepts":{"eg:A":"numeric","eg:B":"numeric","eg:T":"text","eg:Q":"name"},"dimensions":{"eg:Reg":"explicit","eg:Sku":"typed"}}"#;
+
+pub const INFO: &str =
+    r#"{"documentInfo":{"documentType":"https://xbrl.org/2021/xbrl-json","namespaces":{"eg":"http://example.org/t","x":"http://example.org/u","xbrli":"http://www.xbrl.org/2003/instance","xbrl":"https://xbrl.org/2021"}},"facts":{"#;
+
+/// The beginning of a report, up to the other members of `documentInfo`.
+pub const OPEN_INFO: &str = r#"{"documentInfo":{"documentType":"https://xbrl.org/2021/xbrl-json""#;
+
+pub fn tell_refused(rt: &HostRuntime) {
+    let _ = eprintln!(rt; "refused");
+}
+
+pub fn tell_refused_here(rt: &HostRuntime) {
+    let _ = eprintln!(rt; "refused here");
+}
+
+pub fn read_sheet(rt: &HostRuntime, text: &str) -> Result<Sheet, Reason> {
+    match Sheet::read(rt.alloc(), text.as_bytes()) {
+        Err(Reason::OutOfMemory) => {
+            tell_refused(rt);
+            Sheet::read(rt.alloc(), text.as_bytes())
+        }
+        answer => answer,
+    }
+}
+
+/// Reads a report. The call is repeated if memory is refused.
+pub fn read<'s>(rt: &HostRuntime, sheet: &'s Sheet, bytes: &[u8]) -> Result<Report<'s>, Refusal> {
+    match read_once(rt.alloc(), sheet, bytes) {
+        Err(refusal) if is_want_of_memory(refusal) => {
+            tell_refused(rt);
+            read_once(rt.alloc(), sheet, bytes)
+        }
+        answer => answer,
+    }
+}
+
+/// Reads a report. Tests call this function, because each call of `read_report` takes ten seconds
+/// to prove: its contract is long.
+pub fn read_once<'s>(alloc: Global, sheet: &'s Sheet, bytes: &[u8]) -> Result<Report<'s>, Refusal> {
+    read_report(alloc, sheet, bytes)
+}
+
+pub fn is_want_of_memory(refusal: Refusal) -> bool {
+    refusal
+        == Refusal {
+            reason: Reason::OutOfMemory,
+            place: Place::Document,
+        }
+}
+
+/// Returns the result of the call, which is repeated if memory is refused.
+pub fn holds<F: Fn(Global) -> Result<bool, AllocError>>(rt: &HostRuntime, call: F) -> bool
+    requires { F.IsAlwaysCallable call }
+{
+    let mut answer = call(rt.alloc());
+    if answer.is_err() {
+        tell_refused(rt);
+        answer = call(rt.alloc());
+    }
+    answer == Ok(true)
+}
+
+pub fn joined(rt: &HostRuntime, parts: &[&str]) -> Result<Vec<u8>, AllocError> {
+    let mut all = room_for(rt, parts)?;
+    for part in parts {
+        all.extend_from_slice(part.as_bytes())?;
+    }
+    Ok(all)
+}
+
+/// Returns the text repeated this often.
+pub fn repeated(rt: &HostRuntime, piece: &str, count: usize) -> Result<String, AllocError> {
+    match piece.repeat(rt.alloc(), count) {
+        Err(_) => {
+            tell_refused_here(rt);
+            piece.repeat(rt.alloc(), count)
+        }
+        made => made,
+    }
+}
+
+fn room_for(rt: &HostRuntime, parts: &[&str]) -> Result<Vec<u8>, AllocError> {
+    let mut room = 0usize;
+    for part in parts {
+        room = room.saturating_add(part.len());
+    }
+    match Vec::with_capacity(rt.alloc(), room) {
+        Err(_) => {
+            tell_refused_here(rt);
+            Vec::with_capacity(rt.alloc(), room)
+        }
+        made => made,
+    }
+}

@@ -1,6 +1,0 @@
-use Rattle.std.proofs.Common.{◌≡◌}
-use Rattle.xbrlmerge.proofs.commands.explain.put_each.Given as goal
-
--- the sink has not failed since the call began
-abbrev pub invariant-loop-place : goal.invariant-loop-place
-invariant-loop-place g l = g.S.Sink.failures l.out ≡ g.S.Sink.failures l.initial.out

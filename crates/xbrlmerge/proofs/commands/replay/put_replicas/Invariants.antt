@@ -1,6 +1,0 @@
-use Rattle.std.proofs.Common.{◌≡◌}
-use Rattle.xbrlmerge.proofs.commands.replay.put_replicas.Given as goal
-
--- the sink has not failed since the call began
-abbrev pub invariant-loop-base : goal.invariant-loop-base
-invariant-loop-base g l = g.S.Sink.failures l.out ≡ g.S.Sink.failures l.initial.out

@@ -1,6 +1,0 @@
-use Rattle.std.proofs.Common.{◌≡◌}
-use Rattle.xbrlmerge.proofs.inputs.Inputs.add_reports.Given as goal
-
--- each report that was read is counted
-abbrev pub invariant-loop-place : goal.invariant-loop-place
-invariant-loop-place g l = l.consolidation.reports ≡ l.place
