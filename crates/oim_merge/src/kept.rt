@@ -5,7 +5,7 @@ ghost use Rattle.oim_report.specs.Outcome.{outcome};
 ghost use Rattle.oim_merge.specs.code.Kept.{AreKept, read_as, with_read};
 ghost use Rattle.oim_merge.specs.Replicas.{joined_with, with_outcome};
 
-use crate::reading::read;
+use crate::reading::read_alone;
 use fact_base::{Base, Gathering};
 use oim_report::{Refusal, Sheet};
 use oim_write::Encoded;
@@ -62,7 +62,7 @@ fn read_base<'s>(
 ) -> Result<Result<Base<'s>, Refusal>, AllocError>
     ensures { IfOk result (λ read. read ≡ read_as sheet.now (outcome sheet.now bytes.now)) }
 {
-    match read(alloc, sheet, bytes)? {
+    match read_alone(alloc, sheet, bytes)? {
         Ok(report) => {
             let mut gathered = Gathering::new(alloc, sheet);
             gathered.add(report)?;

@@ -12,7 +12,7 @@ use crate::reading::read;
 use crate::refusals::Refusals;
 use crate::verdict_line::VerdictLines;
 use fact_base::Gathering;
-use oim_report::Sheet;
+use oim_report::{ReportReader, Sheet};
 use oim_value::Level;
 use oim_write::{Encoded, Sink};
 use std::alloc::{AllocError, Global};
@@ -25,12 +25,14 @@ use std::mem;
 #[derive(Drop)]
 pub struct Consolidation<'s> {
     alloc: Global,
+    reader: ReportReader<'s>,
     gathered: Gathering<'s>,
     refusals: Refusals,
     reports: u64,
 }
 
 impl<'s> Model for Consolidation<'s> {
+    ghost use Rattle.std.specs.Prelude.{◌≡◌};
     ghost use Rattle.std.specs.Coded.{codes};
     ghost use Rattle.oim_report.specs.code.SheetCode.{sheet_code};
     ghost use Rattle.oim_merge.specs.Added.{Added};
@@ -40,6 +42,8 @@ impl<'s> Model for Consolidation<'s> {
     ghost coded = { Prim.hlevel (codes, sheet_code) };
 
     ghost view = { λ c. record { sheet = c.gathered.sheet; body = c.gathered.body; refusals = c.refusals; reports = c.reports } };
+
+    ghost invariant = { λ c. c.reader ≡ c.gathered.sheet };
 }
 
 impl<'s> Consolidation<'s> {
@@ -50,6 +54,7 @@ impl<'s> Consolidation<'s> {
     {
         Consolidation {
             alloc,
+            reader: ReportReader::new(alloc, sheet),
             gathered: Gathering::new(alloc, sheet),
             refusals: Refusals::new(alloc),
             reports: 0,
@@ -79,9 +84,10 @@ impl<'s> Consolidation<'s> {
         ensures ok { OnOk result (self.new ≡ with_report self.old bytes.now) }
         ensures err { OnErr result (self.new ≡ self.old) }
     {
-        let sheet = self.gathered.sheet();
+        // The contract of `sheet` states that the facts so far fit the sheet.
+        let _sheet = self.gathered.sheet();
         let number = self.reports + 1;
-        match read(self.alloc, sheet, bytes)? {
+        match read(&mut self.reader, bytes)? {
             Ok(report) => self.gathered.add(report)?,
             Err(refusal) => self.refusals.push(number, refusal)?,
         }

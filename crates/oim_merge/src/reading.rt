@@ -3,13 +3,32 @@ ghost use Rattle.oim_report.specs.Identifiers.{identifiers};
 ghost use Rattle.oim_report.specs.Outcome.{outcome};
 
 use oim_names::{Reason, Text};
-use oim_report::{Refusal, Report, Sheet, read_identified, read_report};
+use oim_report::{Refusal, Report, ReportReader, Sheet, read_identified};
 use std::alloc::{AllocError, Global};
 
-/// Reads a report under the sheet, or returns its refusal.
+/// Reads a report, or returns its refusal.
 ///
 /// Errors: out of memory, which is not a refusal here.
 pub(crate) fn read<'s>(
+    reader: &mut ReportReader<'s>,
+    bytes: &[u8],
+) -> Result<Result<Report<'s>, Refusal>, AllocError>
+    ensures same { reader.new ≡ reader.old }
+    ensures read { IfOk result (λ read. MatchResult read
+        (λ report. (outcome reader.old bytes.now ≡ Ok report.document) × (report.sheet ≡ reader.old))
+        (λ refusal. outcome reader.old bytes.now ≡ Err refusal)) }
+{
+    match reader.read(bytes) {
+        Ok(report) => Ok(Ok(report)),
+        Err(refusal) if refusal.reason == Reason::OutOfMemory => Err(AllocError),
+        Err(refusal) => Ok(Err(refusal)),
+    }
+}
+
+/// Reads one report under the sheet, or returns its refusal.
+///
+/// Errors: out of memory, which is not a refusal here.
+pub(crate) fn read_alone<'s>(
     alloc: Global,
     sheet: &'s Sheet,
     bytes: &[u8],
@@ -18,11 +37,8 @@ pub(crate) fn read<'s>(
         (λ report. (outcome sheet.now bytes.now ≡ Ok report.document) × (report.sheet ≡ sheet.now))
         (λ refusal. outcome sheet.now bytes.now ≡ Err refusal)) }
 {
-    match read_report(alloc, sheet, bytes) {
-        Ok(report) => Ok(Ok(report)),
-        Err(refusal) if refusal.reason == Reason::OutOfMemory => Err(AllocError),
-        Err(refusal) => Ok(Err(refusal)),
-    }
+    let mut reader = ReportReader::new(alloc, sheet);
+    read(&mut reader, bytes)
 }
 
 /// Reads a report under the sheet with the identifiers of its facts, or returns its refusal.
