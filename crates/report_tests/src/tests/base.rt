@@ -68,6 +68,9 @@ fn base_of<'s>(rt: &HostRuntime, sheet: &'s Sheet, values: &[&str]) -> Option<Ba
 fn judged(base: &Base<'_>) -> Option<(Verdict, Evidence)> {
     let row = base.rows().next()?;
     let judged = (row.verdict(), row.evidence());
-    let found = (base.verdict(row.dimensions)?, base.evidence(row.dimensions)?);
+    let found = (
+        base.verdict(row.dimensions)?,
+        base.evidence(row.dimensions)?,
+    );
     (judged == found).then_some(judged)
 }

@@ -11,6 +11,7 @@ mod identifiers;
 mod limits;
 mod malformed;
 mod pieces;
+mod readers;
 mod references;
 mod said;
 mod sheets;

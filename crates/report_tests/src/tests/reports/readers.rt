@@ -1,0 +1,59 @@
+//! Reads several reports with one reader.
+
+use super::SHEET;
+use oim_names::Name;
+use oim_report::{Refusal, Report, ReportReader};
+use std::test::Fail;
+use test_helpers::asked_again::{is_want_of_memory, joined, read_sheet, tell_refused};
+
+// A report of one fact, without the URI that `x` is bound to.
+const START: &str =
+    r#"{"documentInfo":{"documentType":"https://xbrl.org/2021/xbrl-json","namespaces":{"eg":"http://example.org/t","x":""#;
+
+const REST: &str =
+    r#""}},"facts":{"a":{"value":"1","dimensions":{"concept":"eg:A","entity":"x:1"}}}}"#;
+
+fn read_once<'s>(reader: &mut ReportReader<'s>, bytes: &[u8]) -> Result<Report<'s>, Refusal> {
+    reader.read(bytes)
+}
+
+// Reads a report. The call is repeated if memory is refused.
+fn read<'s>(
+    rt: &HostRuntime,
+    reader: &mut ReportReader<'s>,
+    bytes: &[u8],
+) -> Result<Report<'s>, Refusal> {
+    match read_once(reader, bytes) {
+        Err(refusal) if is_want_of_memory(refusal) => {
+            tell_refused(rt);
+            read_once(reader, bytes)
+        }
+        answer => answer,
+    }
+}
+
+fn entity_of<'r>(report: &'r Report<'_>) -> Option<&'r Name> {
+    report.facts().first()?.dimensions.entity()
+}
+
+// Returns whether the entity of the report's fact has the URI that the report binds.
+fn has_own_entity(rt: &HostRuntime, reader: &mut ReportReader<'_>, uri: &str) -> bool {
+    let Ok(text) = joined(rt, &[START, uri, REST]) else {
+        return false;
+    };
+    match read(rt, reader, &text) {
+        Ok(report) => matches!(entity_of(&report), Some(entity) if entity.uri() == uri),
+        Err(_) => false,
+    }
+}
+
+#[test]
+fn a_prefix_has_the_uri_that_its_report_binds(rt: HostRuntime) -> Result<(), Fail> {
+    let sheet = read_sheet(&rt, SHEET)?;
+    let mut reader = ReportReader::new(rt.alloc(), &sheet);
+    assert!(rt; has_own_entity(&rt, &mut reader, "http://example.org/u"));
+    assert!(rt; has_own_entity(&rt, &mut reader, "http://example.org/u"));
+    assert!(rt; has_own_entity(&rt, &mut reader, "http://example.org/v"));
+    assert!(rt; has_own_entity(&rt, &mut reader, "http://example.org/u"));
+    Ok(())
+}
