@@ -163,9 +163,6 @@ meet_where_shared vs s summed several meet =
 
 -- ---- verdicts
 
-is_some_of : {A : Type 0} (a : Option A) (x : A) → a ≡ Some x → is_some a ≡ true
-is_some_of a x h = ap is_some h
-
 pub one_is_complete : (vs : List Value) → length vs ≡ 1 → verdict_of vs ≡ Some Complete
 one_is_complete [] h = absurd (omega (arith, h))
 one_is_complete (v ∷ []) h = refl
@@ -332,8 +329,3 @@ inconsistent_elsewhere vs s summed more none = by_shared (shared_by s) refl
     by_shared : (a : Option Interval) → shared_by s ≡ a → verdict_of vs ≡ Some Inconsistent
     by_shared None is = others_are_inconsistent vs s summed (are_several vs summed.some more) is
     by_shared (Some ends) is = absurd (true≢false (sym (ap is_some is) ∙ none))
-
-pub judged_where_some : (vs : List Value) → vs ≢ [] → is_some (verdict_of vs) ≡ true
-judged_where_some [] some = absurd (some refl)
-judged_where_some (v ∷ []) some = refl
-judged_where_some (v ∷ w ∷ vs) some = refl
