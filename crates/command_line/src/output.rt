@@ -58,6 +58,7 @@ pub(crate) fn write_file<'n, F: Files, E: Write>(
     done
 }
 
+// The file is open until it is in place, and both of its names are needed.
 fn settle<'n, F: Files>(
     files: &F,
     done: Result<Success, Error<'n>>,

@@ -64,6 +64,7 @@ fn mentions_of(
     Ok(mentions)
 }
 
+// The first three are the same for all reports, the next two belong to this one.
 fn add_report(
     alloc: Global,
     sheet: &Sheet,
@@ -89,6 +90,7 @@ fn add_report(
     )
 }
 
+// As `add_report`, with the report's identifiers and facts in place of its bytes.
 fn add_facts(
     alloc: Global,
     facts: &[LentFact<'_>],

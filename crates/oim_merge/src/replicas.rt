@@ -112,6 +112,7 @@ impl<'s> Replicas<'s> {
         Ok(())
     }
 
+    // `i` is the replica, `r` the report.
     fn take(
         &mut self,
         alloc: Global,

@@ -92,6 +92,7 @@ fn write_all<S: Sink, F: SourceFormat>(
     buffer.flush(out)
 }
 
+// The buffer is passed with its sink, since it does not own it.
 fn push_rows<S: Sink, F: SourceFormat>(
     alloc: Global,
     buffer: &mut SinkBuffer,

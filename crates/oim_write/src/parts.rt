@@ -103,7 +103,8 @@ pub(crate) fn append_reference(
     Ok(())
 }
 
-/// `before` is the number of facts before this one.
+/// `before` is the number of facts before this one. A fact is not copied, so its parts are separate
+/// parameters.
 pub(crate) fn append_fact(
     text: &mut Vec<u8>,
     scratch: &mut Scratch,

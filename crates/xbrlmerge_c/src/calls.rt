@@ -16,6 +16,8 @@ use oim_value::Level;
 use oim_write::StdSink;
 use std::alloc::Global;
 
+// C has no slices: each is a pointer and a length, so the calls have many parameters.
+
 pub(crate) fn level_numbered(number: u32) -> Option<Level>
     ensures { result ≡ slice_get levels number }
 {

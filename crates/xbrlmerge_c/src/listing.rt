@@ -23,7 +23,8 @@ pub(crate) enum Listing {
     SourcesJson,
 }
 
-/// The body of each exported call that lists verdicts or sources, under the same contract.
+/// The body of each exported call that lists verdicts or sources, under the same contract and with
+/// the same parameters.
 pub(crate) fn list(
     alloc: Global,
     listing: Listing,

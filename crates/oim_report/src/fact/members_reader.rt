@@ -18,6 +18,7 @@ use std::alloc::Global;
 
 /// The keys are in byte order of their spelling, not in the order of names. So the members are
 /// sorted once, at the end.
+// Each member needs the allocator, the sheet, the prefixes and the caches.
 pub(crate) fn read_members<'s>(
     alloc: Global,
     sheet: &'s Sheet,

@@ -14,6 +14,7 @@ use oim_names::{Aliases, Reason};
 use serde_json::Value;
 use std::alloc::{AllocError, Global};
 
+// The first four decide which conditions apply, the last two take the faults.
 pub(crate) fn add_fact_faults(
     alloc: Global,
     sheet: &Sheet,
@@ -54,6 +55,7 @@ pub(crate) fn add_fact_faults(
     add_each(alloc, sheet, aliases, object, place, reasons, faults)
 }
 
+// As `add_fact_faults`, for some of the conditions.
 fn add_each(
     alloc: Global,
     sheet: &Sheet,

@@ -18,6 +18,7 @@ use std::alloc::Global;
 
 /// Returns the facts in byte order of their identifiers, or `None` if a piece cannot be read, a
 /// fact is refused, or a request for memory is refused.
+// Each fact needs the allocator, the sheet, the prefixes and the caches.
 pub(crate) fn read_facts_in_pieces<'s>(
     alloc: Global,
     sheet: &'s Sheet,
