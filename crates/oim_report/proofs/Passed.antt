@@ -22,8 +22,8 @@ use Rattle.oim_report.proofs.Pairs.{allows_each-push, passes_is}
 use Rattle.oim_report.proofs.Places.{facts_at, facts_at-cons, facts_at-drop, level_at_order, places_within, rises_from_first}
 use Rattle.oim_report.proofs.Runs.{RisesFrom, walk, walk-nil, walk_from_first}
 
--- the loop has read `first` and `before`, and the facts at the indices of `rest` from i on are left; for any further facts, the
--- loop returns the same from this state as from the start
+-- the loop has read `first` and `before`; it has yet to read the facts at the indices of `rest` from i on. Whatever facts follow,
+-- it returns the same from this state as from the start
 pub record Passed (facts : List Fact) (order rest : List ℕ) (i : ℕ) (last : Fact) (shared : Option Interval) (level : Level) : Type 0 where
   pub first : Fact
   pub before : List Fact

@@ -18,13 +18,13 @@ pub record Document : Type 0 where
   pub references : List (List ℕ)
   pub level : Level
 
--- the parts of a fact object say this fact
+-- the parts of a fact object denote this fact
 pub record ObjectSays (sheet : Sheet) (bs : List Binding) (object : Data) (said : Fact) : Type 0 where
   pub parts : FactParts
   pub are : fact_parts object ≡ Some parts
   pub says : SaysFact sheet bs parts said
 
--- the document that a report's bytes say under a sheet; each fact object says the fact with the same index
+-- the document that a report's bytes denote under a sheet; each fact object denotes the fact with the same index
 pub record SaysDocument (sheet : Sheet) (bytes : List ℕ) (document : Document) : Type 0 where
   pub tree : Data
   pub read : json bytes ≡ Some tree
@@ -32,6 +32,6 @@ pub record SaysDocument (sheet : Sheet) (bytes : List ℕ) (document : Document)
   pub references : references_said tree ≡ Some document.references
   pub level : level_said tree ≡ Some document.level
 
--- a report's bytes say at most one document under a sheet (own)
+-- a report's bytes denote at most one document under a sheet (own)
 abbrev pub SaysOneDocument : Type 0
 SaysOneDocument = (sheet : Sheet) (bytes : List ℕ) (d e : Document) → SaysDocument sheet bytes d → SaysDocument sheet bytes e → d ≡ e

@@ -1,4 +1,4 @@
--- The document that a report's bytes say, or the first refusal (own).
+-- The document that a report's bytes denote, or the first refusal (own).
 use Rattle.std.specs.Prelude.{◌≢◌, ℕ, ◌+◌, List, [], ◌∷◌, map, if◌then◌else◌, Option, Some, None, option_and_then, Result, Ok, Err, ◌≡◌, ◌↔◌, false, ◌⊎◌, ◌++◌, length, true}
 use Rattle.std.specs.Option.{unwrap_or}
 use Rattle.std.specs.Ordering.{is_lt}
@@ -74,7 +74,7 @@ tree_outcome sheet None = Err (at AtDocument NotJson)
 tree_outcome sheet (Some tree) =
     unless_refused (document_refusal tree) (then_allowed (map_ok (document_with tree) (facts_said sheet (bindings_of tree) (facts_of tree))))
 
--- the document that the bytes say under the sheet, or the first refusal: of the document, a fact or the duplicates
+-- the document that the bytes denote under the sheet, or the first refusal: of the document, a fact or the duplicates
 unfoldable pub outcome : Sheet → List ℕ → Result Document Refusal
 outcome sheet bytes = tree_outcome sheet (json bytes)
 

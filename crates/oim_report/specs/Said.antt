@@ -1,4 +1,4 @@
--- The fact that a fact object says, as a function (sources in `Fact`). A part is None if it cannot be read or is not allowed.
+-- The fact that a fact object denotes, as a function (sources in `Fact`). A part is None if it cannot be read or is not allowed.
 use Rattle.std.specs.Prelude.{ℕ, ℤ, List, [], ◌∷◌, not, ◌&&◌, if◌then◌else◌, Option, Some, None, option_map, option_and_then}
 use Rattle.std.specs.FinMap as map
 use Rattle.std.specs.List.{filter_map}

@@ -131,7 +131,7 @@ abbrev pub sheet_of : Option Data → Result Sheet Reason
 sheet_of None = Err NotJson
 sheet_of (Some tree) = unless (least (sheet_holds tree)) (said_sheet tree)
 
--- the sheet that the bytes say, or the reason to refuse them
+-- the sheet that the bytes denote, or the reason to refuse them
 unfoldable pub sheet_outcome : List ℕ → Result Sheet Reason
 sheet_outcome bytes = sheet_of (json bytes)
 
