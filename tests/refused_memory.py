@@ -38,7 +38,7 @@ JOBS = int(os.environ.get("JOBS", len(os.sched_getaffinity(0))))
 # if a test makes more than MANY requests, the first ALL are refused, and then each EVERY-th
 MANY, ALL, EVERY = 5000, 2000, 7
 # if it makes more than MOST, as tests with a device for each byte do, FEW are refused, spread evenly. If its runs would take
-# more than SECONDS of a processor, as many are refused as fit in that time
+# more than SECONDS of a processor, as many are refused as fit in that time, or about 100 if fewer fit
 MOST, FEW, SECONDS = 50_000, 1000, 240
 # how many requests a process refuses in turn, and the time limit of a run in seconds
 SHARE, LIMIT = 40, 60

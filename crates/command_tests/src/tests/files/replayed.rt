@@ -132,7 +132,8 @@ pub(super) const REPLAYED: [Row; 10] = [
     ),
 ];
 
-/// A line, a file or the sheet stops the program. Nothing else is printed.
+/// A bad event, a file that cannot be read, or a refused sheet ends the run. Only the line about it
+/// is printed.
 pub(super) const STOPPED: [Row; 15] = [
     // a line that is not an event, before any report is opened
     (

@@ -260,7 +260,7 @@ pub(super) const LISTED: [Row; 8] = [
     ),
 ];
 
-/// A file or the sheet stops the program. Nothing else is printed.
+/// A file that cannot be read, or a refused sheet, ends the run. Only the line about it is printed.
 pub(super) const STOPPED: [Row; 13] = [
     ("merge --sheet none", 3, &[], NOT_READ),
     ("verdicts --sheet none list", 3, &[], NOT_READ),
