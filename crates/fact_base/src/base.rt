@@ -79,9 +79,8 @@ impl<'s> Base<'s> {
         }
     }
 
-    /// Returns the sheet under which the reports were read. The contract also states that each fact
-    /// fits it, that both lists ascend, and that resolving a reference again without a base does not
-    /// change it.
+    /// Returns the sheet of the reports. Each fact fits it, both lists ascend, and resolving a
+    /// reference again without a base URL changes nothing.
     pub fn sheet(&self) -> &'s Sheet
         ensures sheet { result.now ≡ self.now.sheet }
         ensures fits { Fits self.now.sheet self.now.body }
