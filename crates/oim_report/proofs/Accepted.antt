@@ -1,4 +1,4 @@
--- If an object says a fact, each of its parts says a part of the fact.
+-- If an object denotes a fact, each of its parts denotes a part of the fact.
 use Rattle.std.proofs.Common.{◌≡◌, List, Option, Some, None, Ok, refl, ap, ◌∙◌}
 use Rattle.std.specs.Prelude.{option_and_then}
 use Rattle.std.specs.Option.{option_map}

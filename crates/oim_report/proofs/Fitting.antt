@@ -1,4 +1,4 @@
--- A fact that an object says fits the sheet, part by part.
+-- A fact that an object denotes fits the sheet, part by part.
 use Rattle.std.proofs.Common.{◌≡◌, ◌≢◌, ℕ, List, [], ◌∷◌, Bool, true, false, not, ◌&&◌, cond, bytes_eq, Option, Some, None, refl, sym, ap, subst, length, ◌==◌, arith}
 use Rattle.std.specs.Prelude.{ℤ, All, IsTrue, option_and_then, codes}
 use Rattle.std.specs.Option.{option_map, option_map_or, unwrap_or}

@@ -32,7 +32,7 @@ module _ (sheet : Sheet) (bs : List Binding) where
   found_append (member l d ms) ns (s ∷ ss) ts [] gs h k = absurd h
   found_append (member l d ms) ns (s ∷ ss) ts (f ∷ fs) gs h k = (h.0, h.1, found_append ms ns ss ts fs gs h.2 k)
 
-  -- ---- the facts that the pieces say
+  -- ---- the facts that the pieces denote
 
   said_from : (n : ℕ) (ms : Members) (ss : List (String Global)) (fs : List Fact) → AreFound sheet bs ms ss fs → all_or_first n (map (fact_outcome sheet bs) (values ms)) ≡ Ok fs
   said_from n no_members [] [] h = refl

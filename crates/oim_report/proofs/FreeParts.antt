@@ -1,4 +1,4 @@
--- A part of a fact object says its part of the fact exactly if no condition on this part applies.
+-- A part of a fact object denotes its part of the fact exactly if no condition on this part applies.
 use Rattle.std.proofs.Common.{◌≡◌, ℕ, ℤ, List, [], ◌∷◌, ◌++◌, map, Bool, true, false, not, ◌||◌, ◌&&◌, Ok, Err, refl, sym, ap, ◌∙◌}
 use Rattle.std.specs.Prelude.{Option, Some, None, int_lt, is_none, option_and_then, option_map, if◌then◌else◌}
 use Rattle.std.specs.Option.{option_map_or, option_to_list}

@@ -25,7 +25,7 @@ use Rattle.oim_report.proofs.RisingNames.{name_total}
 use Rattle.oim_report.proofs.SheetEntries.{tied}
 
 module _ {K : Type 0} (kind_named : List ℕ → Option K) (same : K → K → Bool) (same_is : (k l : K) → same k l ≡ true → k ≡ l) (bs : List Binding) where
-  -- ---- the member says each entry of the map
+  -- ---- the member lists each entry of the map
 
   by_tie : (b : Bool) (n m : QName) (j k : K) (rest : Option K) → eq_by_cmp name_cmp n m ≡ b → cond b (Some j) rest ≡ Some k → ((Some m ≡ Some n) × (Some j ≡ Some k)) ⊎ (rest ≡ Some k)
   by_tie true n m j k rest t e = inl (ap Some (sym (tied true n m t refl)), e)
@@ -46,7 +46,7 @@ module _ {K : Type 0} (kind_named : List ℕ → Option K) (same : K → K → B
     | inr there ↦ later key d ms n k (is_said ms n k there)
   ]
 
-  -- ---- the map has each entry that the member says
+  -- ---- the map has each entry that the member lists
 
   past_entry : (test : QName × K → Bool) (o : Option QName) (p : Option K) (es : List (QName × K)) → list_any test (entry kind_named same o p ++ es) ≡ false → list_any test es ≡ false
   past_entry test (Some m) (Some j) es e = (or_parts (test (m, j)) (list_any test es) e).1

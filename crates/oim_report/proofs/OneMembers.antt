@@ -1,4 +1,4 @@
--- Keys say at most one list of members that is sorted by name.
+-- Keys denote at most one list of members that is sorted by name.
 use Rattle.std.proofs.Common.{◌≡◌, ⊎_elim, ℕ, List, [], ◌∷◌, true, Option, Some, refl, sym, ap, subst, ◌∙◌}
 use Rattle.std.specs.Prelude.{Any, Contains, IsTrue}
 use Rattle.std.specs.Ordering.{is_lt}

@@ -62,7 +62,7 @@ module _ (sheet : Sheet) (bs : List Binding) where
   abbrev NamesNo : QName → Keyed → Type 0
   NamesNo n d = (o : QName) → named bs d.0 ≡ Some o → o ≢ n
 
-  -- ---- one more key says one more member
+  -- ---- one more key denotes one more member
 
   module _ (key : List ℕ) (g : Given) (n : QName) (m : Member) (is : named bs key ≡ Some n) (says : said_member bs (dimension_kind sheet bs key) g ≡ Some m) where
     said_first : (es : List Entry) (ds : List Keyed) → members_with sheet bs es ((key, g) ∷ ds) ≡ members_with sheet bs (with_member n m es) ds

@@ -1,4 +1,4 @@
--- Reading a part returns the part that the object says.
+-- Reading a part returns the part that the object denotes.
 use Rattle.std.proofs.Common.{◌≡◌, ℕ, ℤ, List, Bool, true, false, not, ◌&&◌, cond, Result, Ok, Err, refl, sym, ap, ◌∙◌}
 use Rattle.std.specs.Prelude.{Option, Some, None, IfOk, IfSome, if◌then◌else◌}
 use Rattle.oim_names.specs.Bindings.{Binding}

@@ -1,4 +1,4 @@
--- A fact object says a fact exactly if no condition applies to it.
+-- A fact object denotes a fact exactly if no condition applies to it.
 use Rattle.std.proofs.Common.{◌≡◌, ℕ, List, [], ◌++◌, map, Bool, true, false, not, ◌||◌, ◌&&◌, Ok, refl, sym, ap, subst, ◌∙◌}
 use Rattle.std.specs.Prelude.{Option, Some, None, codes, if◌then◌else◌, is_none, is_some, option_and_then, option_map}
 use Rattle.std.specs.Option.{option_map_or, option_to_list}
@@ -33,7 +33,7 @@ use Rattle.oim_report.proofs.LeastOf.{none_is}
 use Rattle.oim_report.proofs.NameRefusals.{AreFree, are_free, names-parts, names_append, none_refused}
 use Rattle.oim_report.proofs.ValueWords.{absent_same, defined_same, no_text_same, no_value_same, no_whole_same, seen_member, text_same, there_same, whole_of, whole_same}
 
--- ---- the parts of an object that says a fact
+-- ---- the parts of an object that denotes a fact
 
 -- no condition on the parts applies; `xs` are the taxonomy-defined dimensions
 record PartsFree (sheet : Sheet) (bs : List Binding) (kind : ConceptKind) (p : FactParts) (ds : DimensionParts) (xs : List (List ℕ × Data)) : Type 0 where
@@ -300,7 +300,7 @@ module _ (sheet : Sheet) (bs : List Binding) (fms ms : Members) where
         let c = concept_said sheet bs ds.concept concept_row in
         parts_said sheet bs (parts_of fms) ds (defined sheet bs fact ms) (defined_same ms) c (free_parts c.kind c.listed)
 
--- ---- a fact object that says a fact
+-- ---- a fact object that denotes a fact
 
 free_inside : (sheet : Sheet) (bs : List Binding) (fms ms : Members) (f : Fact) → option_and_then as_object (get_member (codes "dimensions") fms) ≡ Some ms → HasForm (parts_of fms) (dimension_parts ms) → fact_of sheet bs (parts_of fms) (dimension_parts ms) ≡ Some f → IsFree sheet bs (object fms)
 unfolding holds

@@ -1,4 +1,4 @@
--- Which fact an object says, member by member (OIM Common 1.0; xBRL-JSON 1.0, section 3.1; own where marked).
+-- Which fact an object denotes, member by member (OIM Common 1.0; xBRL-JSON 1.0, section 3.1; own where marked).
 use Rattle.std.specs.Prelude.{◌≡◌, ℕ, ℤ, List, Contains, All, Any, Option, Some, None, Ok, IsTrue}
 use Rattle.std.specs.Str.{str_to_ascii_lowercase}
 use Rattle.std.specs.FinMap as map
@@ -65,14 +65,14 @@ SaysMember bs Typed g (MemberName n) = ⊥
 SaysMember bs Typed g (MemberText t) = g ≡ text t
 SaysMember bs Typed g NoMember = g ≡ nil
 
--- a key says a dimension that the sheet lists, and its value says the member
+-- a key denotes a dimension that the sheet lists, and its value denotes the member
 pub record SaysDimension (sheet : Sheet) (bs : List Binding) (d : List ℕ × Given) (said : QName × Member) : Type 0 where
   pub name : Expands bs d.0 said.0
   pub kind : DimensionKind
   pub listed : map.get sheet.dimensions said.0 ≡ Some kind
   pub member : SaysMember bs kind d.1 said.1
 
--- each key says one of the members, and for each member there is a key that says it
+-- each key denotes one of the members, and for each member there is a key that denotes it
 pub record SaysMembers (sheet : Sheet) (bs : List Binding) (defined : List (List ℕ × Given)) (said : List (QName × Member)) : Type 0 where
   pub each : All (λ d. (e : QName × Member) × Contains said e × SaysDimension sheet bs d e) defined
   pub others : All (λ e. Any (λ d. SaysDimension sheet bs d e) defined) said
@@ -102,7 +102,7 @@ SaysValue bs kind g decimals said = ⊥
 
 -- ---- the fact
 
--- the members of `dimensions` say this dimension set; the sheet lists its taxonomy-defined dimensions
+-- the members of `dimensions` denote this dimension set; the sheet lists its taxonomy-defined dimensions
 pub record SaysDimensions (sheet : Sheet) (bs : List Binding) (ds : DimensionParts) (said : DimensionSet) : Type 0 where
   pub concept : GivesText ds.concept (λ t. Expands bs t said.concept)
   pub entity : SaysEntity bs ds.entity said.entity
@@ -112,7 +112,7 @@ pub record SaysDimensions (sheet : Sheet) (bs : List Binding) (ds : DimensionPar
   pub members : SaysMembers sheet bs ds.defined said.members
   pub set : IsDimensionSet said
 
--- a fact object with these parts says the fact under these bindings
+-- a fact object with these parts denotes the fact under these bindings
 pub record SaysFact (sheet : Sheet) (bs : List Binding) (p : FactParts) (said : Fact) : Type 0 where
   pub parts : DimensionParts
   pub there : p.dimensions ≡ Some parts

@@ -37,7 +37,7 @@ abbrev pub or_else : List Refusal → List Refusal → List Refusal
 or_else [] later = later
 or_else (r ∷ rs) later = r ∷ rs
 
--- the facts that the fact objects of a report say
+-- the facts that the fact objects of a report denote
 abbrev pub facts_in : Sheet → Data → List Fact
 facts_in sheet tree = filter_map (λ d. option_and_then (said_fact sheet (bindings_of tree)) (fact_parts d)) (values (facts_of tree))
 

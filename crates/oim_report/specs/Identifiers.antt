@@ -28,11 +28,11 @@ identifiers bytes = option_map tree_identifiers (json bytes)
 abbrev pub IdentifiersRise : Type 0
 IdentifiersRise = (bytes : List ℕ) (tree : Data) → json bytes ≡ Some tree → IsStrictlySortedBy (slice_cmp nat_cmp) (tree_identifiers tree)
 
--- the object of an identifier says the fact
+-- the object of an identifier denotes the fact
 abbrev pub IdentifierSays : Sheet → List Binding → List ℕ × Data → Fact → Type 0
 IdentifierSays sheet bs object said = ObjectSays sheet bs object.1 said
 
--- the identifiers of a document's facts; the object under each identifier says the fact with the same index
+-- the identifiers of a document's facts; the object under each identifier denotes the fact with the same index
 pub record Identify (sheet : Sheet) (bytes : List ℕ) (document : Document) (is : List (List ℕ)) : Type 0 where
   pub tree : Data
   pub read : json bytes ≡ Some tree

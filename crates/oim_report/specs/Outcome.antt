@@ -30,7 +30,7 @@ at place reason = record { reason = reason; place = place }
 
 -- ---- a fact
 
--- the fact that an object says, if no condition applies; an object that says no fact is refused for its form
+-- the fact that an object denotes, if no condition applies; an object that denotes no fact is refused for its form
 abbrev pub fact_or : Option Reason → Option Fact → Result Fact Reason
 fact_or None (Some fact) = Ok fact
 fact_or None None = Err MemberForm
@@ -88,14 +88,14 @@ OutcomesWantNoMemory = (sheet : Sheet) (bytes : List ℕ) (place : Place) → ou
 abbrev pub IsFree : Sheet → List Binding → Data → Type 0
 IsFree sheet bs d = (r : Reason) → holds sheet bs d r ≡ false
 
--- a fact object to which no condition applies says a fact, so `fact_or None None` never occurs
+-- a fact object to which no condition applies denotes a fact, so `fact_or None None` never occurs
 abbrev pub FactsAreSaid : Type 0
 FactsAreSaid = (sheet : Sheet) (bs : List Binding) (d : Data) → IsFree sheet bs d → (f : Fact) × (option_and_then (said_fact sheet bs) (fact_parts d) ≡ Some f)
 
 -- ---- accepted reports, in terms of the conditions instead of `outcome` (own)
 
--- the bytes are JSON, no condition applies to the document or a fact, they say this document, and the level of its facts is not
--- above the declared one
+-- the bytes are JSON, no condition applies to the document or a fact, they denote this document, and the level of its facts
+-- is not above the declared one
 pub record Accepts (sheet : Sheet) (bytes : List ℕ) (d : Document) : Type 0 where
   pub tree : Data
   pub read : json bytes ≡ Some tree

@@ -146,7 +146,7 @@ NamesAreAccepted = (sheet : Sheet) (bs : List Binding) (spelled : QName → List
 abbrev pub FactObjectIsPlain : Type 0
 FactObjectIsPlain = (sheet : Sheet) (bs : List Binding) (spelled : QName → List ℕ) (f : Fact) → FactFits sheet f → SpellsFact bs spelled f → IsPlainJson (fact_object spelled f) 2
 
--- no condition applies to a fact object, its parts say the fact, and the outcome of the object is this fact
+-- no condition applies to a fact object, its parts denote the fact, and the outcome of the object is this fact
 pub record IsReadAs (sheet : Sheet) (bs : List Binding) (d : Data) (f : Fact) : Type 0 where
   pub parts : FactParts
   pub are : fact_parts d ≡ Some parts
@@ -154,6 +154,6 @@ pub record IsReadAs (sheet : Sheet) (bs : List Binding) (d : Data) (f : Fact) : 
   pub says : SaysFact sheet bs parts f
   pub outcome : fact_outcome sheet bs d ≡ Ok f
 
--- the object of a fact that fits says the fact, if its names are spelled with prefixes that are bound to their URIs
+-- the object of a fact that fits denotes the fact, if its names are spelled with prefixes that are bound to their URIs
 abbrev pub FactObjectReadsBack : Type 0
 FactObjectReadsBack = (sheet : Sheet) (bs : List Binding) (spelled : QName → List ℕ) (f : Fact) → FactFits sheet f → SpellsFact bs spelled f → IsReadAs sheet bs (fact_object spelled f) f

@@ -33,7 +33,7 @@ pub record IsReading (r : Reading) : Type 0 where
   pub references : All IsKeptReference r.document.references
   pub order : IsOrderOf r.document.facts r.order
 
--- the bytes of an accepted report say its document
+-- the bytes of an accepted report denote its document
 abbrev pub OutcomesAreSaid : Type 0
 OutcomesAreSaid = (sheet : Sheet) (bytes : List ℕ) (d : Document) → outcome sheet bytes ≡ Ok d → SaysDocument sheet bytes d
 
