@@ -65,7 +65,7 @@ typedef struct {
 typedef struct {
     uint64_t facts;     /* the number of its facts, repeats included */
     uint32_t level;     /* the strictest level that its facts satisfy: XBRLMERGE_ALLOW_NONE to _ALL */
-    uint32_t canonical; /* 1 if its bytes are the canonical text of its facts, otherwise 0 */
+    uint32_t canonical; /* 1 if its bytes are the canonical text of its facts and references, otherwise 0 */
 } xbrlmerge_checked;
 
 /* Merges reports, as `merge --allow` does. The canonical text is written to the start of `out`, without a NUL or a line

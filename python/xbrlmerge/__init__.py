@@ -141,7 +141,7 @@ class Checked:
 
     facts: int  #: the number of its facts, repeats included
     level: str  #: the strictest level that its facts satisfy
-    canonical: bool  #: whether its bytes are the canonical text of its facts
+    canonical: bool  #: whether its bytes are the canonical text of its facts and references
 
     def __str__(self) -> str:
         return f"accepted {self.facts} {self.level} {'canonical' if self.canonical else 'other'}"

@@ -33,8 +33,8 @@ class Near:
 
     The difference may be: an entity, a concept or an explicit member with the same local part in another namespace; letter
     case or white space; dates at most a day apart; another unit or language; a dimension that one of the two lacks.
-    Of the rows that differ only in the same dimension, the nearest ones are compared first, up to a limit. `cut` counts
-    the pairs that are not compared.
+    Rows that differ only in the same dimension form a group. In a group, neighbours in the order of the rows are compared
+    first, up to a limit. `cut` counts the pairs that are not compared.
     """
 
     def __init__(self, providers: Sequence[str]) -> None:
