@@ -90,7 +90,7 @@ class Merged:
 
 @dataclasses.dataclass(frozen=True)
 class Row:
-    """The verdict on a row: all facts with the same dimensions."""
+    """A row, which is all facts with the same dimensions, and the verdict on it."""
 
     number: int  #: from 1, in the order of the canonical text
     first: str  #: the identifier of its first fact in the canonical text

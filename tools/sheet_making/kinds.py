@@ -79,7 +79,8 @@ class Judge:
         self.bases = ends_of({name: base for name, base in types.items() if is_followed(name)})
 
     def judged(self, name: Name) -> tuple[Optional[str], Optional[str], Optional[str]]:
-        """Returns the table and the kind of an element, or the reason why it has none; neither if reports cannot use it."""
+        """Returns the table and the kind of an element, and the reason to leave it out if it has no kind. All three are None if
+        reports cannot use the element."""
         head, element = self.heads[name], self.elements[name]
         if head and not is_specification(head.uri):
             return None, None, f"its head {head.shown()} is unknown, or leads to itself"

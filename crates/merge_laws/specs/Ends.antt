@@ -8,7 +8,7 @@ use Rattle.oim_value.specs.declared.value.Value.{Value}
 use Rattle.oim_value.specs.declared.value.Value.TheVariants.{Nil, Number}
 use Rattle.merge_laws.specs.Union.{either_or_both}
 
--- whether one of the values is nil, and the ends of the numbers' intervals, if there is a number
+-- whether one of the values is nil; if there is a number, the greatest low and least high end of the numbers' intervals
 pub record Summarised : Type 0 where
   pub nil : Bool
   pub ends : Option Interval
@@ -28,7 +28,8 @@ abbrev pub summary_of_all : List Value → Summarised
 summary_of_all [] = record { nil = false; ends = None }
 summary_of_all (v ∷ vs) = both_summaries (summary_of v) (summary_of_all vs)
 
--- a summary records whether a value is nil, whether a value is a number, and the ends of the numbers' intervals
+-- a summary records whether a value is nil, whether a value is a number, and the greatest low and least high end of the
+-- numbers' intervals
 pub record TellsAll (vs : List Value) (s : Summarised) : Type 0 where
   pub nil : IsTrue s.nil ↔ Contains vs Nil
   pub number : is_some s.ends ≡ list_any has_interval vs

@@ -39,7 +39,7 @@ abbrev pub with_accepted : Result Document Refusal → ℕ → Numbers → Numbe
 with_accepted (Ok d) r numbers = both numbers (r ∷ [])
 with_accepted (Err refusal) r numbers = numbers
 
--- replicas that keep and send the set of reports that reached them, by number
+-- replicas that keep and send the set of accepted reports that reached them, by number
 abbrev pub reached : Sheet → List (List ℕ) → Machine Numbers Numbers
 reached sheet reports = record {
   fresh = [];
