@@ -26,7 +26,7 @@ EachTwoMeetByMembers = (vs : List Value) → EachTwoValuesMeet vs ↔ ((x y : Va
 abbrev pub AreNilOrOfKind : ℕ → List Value → Type 0
 AreNilOrOfKind kind = All (λ v. (v ≡ Nil) ⊎ (kind_order v ≡ kind))
 
--- no value is nil, and the interval e between the ends of the numbers' intervals is not empty
+-- no value is nil, and the interval e from the greatest low end to the least high end is not empty
 pub record MeetBetween (vs : List Value) (e : Interval) : Type 0 where
   pub no_nil : Contains vs Nil → ⊥
   pub ends : AreEnds e (intervals_of vs)
