@@ -61,13 +61,13 @@ fn run_args<F: Files, R: Read + Drop, O: Write + Drop, E: Write>(
     }
 }
 
-fn run_named<F: Files, O: Write + Drop, E: Write>(
+fn run_named<'n, F: Files, O: Write + Drop, E: Write>(
     alloc: Global,
-    files: &F,
-    args: &Args<'_>,
-    bytes: &[u8],
+    files: &'n F,
+    args: &'n Args<'n>,
+    bytes: &'n [u8],
     out: O,
-    console: &mut Console<E>,
+    console: &'n mut Console<E>,
 ) -> u8 {
     match args.reports.names(alloc, bytes) {
         Ok(names) => {
