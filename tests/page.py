@@ -157,7 +157,8 @@ def look_at_large(words, room):
 
 
 def changed(page, name, before, after):
-    """Writes the page with another part and without its policy. Returns the path of that page, and its text."""
+    """Writes the page without its policy and with `before` replaced once. Returns the path of that copy, and its text before
+    the replacement."""
     with open(page, encoding="utf-8") as file:
         text = re.sub("<meta http-equiv=[^>]*>", "", file.read())
     place = os.path.join(os.path.dirname(page), name)

@@ -71,7 +71,7 @@ class Library:
             comment = comment if line.lstrip().startswith("#[") else []
 
     def found(self, module, owner, is_trait, function, promise, law):
-        """Returns the promise if the function is public, otherwise None."""
+        """Records and returns the promise if the function or law is public; otherwise records its name and returns None."""
         is_pub, is_for_c, name = function.groups() if function else (None, None, law[1])
         promise.has_contract = function is None
         scope = owner or (module if module in self.exports else None)

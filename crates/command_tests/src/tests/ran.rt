@@ -78,7 +78,8 @@ fn ends_once(
     Some(same)
 }
 
-/// Returns whether the program, with this standard output, stops with this line on standard error.
+/// Returns whether the program, with this standard output, ends with status 3 and prints only this
+/// line on standard error.
 pub(crate) fn stops<O: Write + Copy + Drop>(
     rt: &HostRuntime,
     words: &[&str],

@@ -17,7 +17,7 @@ const DOCUMENTS: Rows<'static> = &[
     ),
     // a missing type is not reported if `documentInfo` is missing
     (r#"{"x":1,"facts":{"a":7}}"#, &[(2, 0), (3, 0)]),
-    // if the base URL is refused, references are tested as if there were none
+    // if the base URL is refused, references are tested as if there were no base URL
     (
         r#"{"documentInfo":{"documentType":"https://xbrl.org/2021/xbrl-json","baseURL":"x","taxonomy":["y"]},"facts":{"a":7}}"#,
         &[(6, 0)],
