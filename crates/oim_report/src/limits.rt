@@ -8,6 +8,10 @@ pub const MOST_LEVELS: usize = 127;
 /// bounds the memory, and the time of a search among texts with the same hash.
 pub const MOST_MEANINGS: usize = 1_024;
 
+/// The greatest length in bytes of a text in a glossary. A `ReportReader` keeps its glossaries, even
+/// after a report is refused. The limit bounds the memory that they take.
+pub const MOST_MEANING_BYTES: usize = 1_024;
+
 /// The least size in bytes of each piece of a report except the last. For each piece the JSON
 /// parser fills 16 kB with zeros, so small pieces are slow. Larger pieces cause more page faults.
 pub const PIECE_BYTES: usize = 65_536;

@@ -2,7 +2,7 @@ ghost use Rattle.std.specs.Prelude.{◌≡◌, ℕ, List, None};
 ghost use Rattle.std.specs.Option.{option_copied};
 ghost use Rattle.oim_report.specs.code.Glossary.{Adds, meaning};
 
-use crate::limits::MOST_MEANINGS;
+use crate::limits::{MOST_MEANING_BYTES, MOST_MEANINGS};
 use std::alloc::Global;
 use std::collections::HashMap;
 
@@ -35,12 +35,12 @@ impl<T> Glossary<T> {
 }
 
 impl<T: Drop> Glossary<T> {
-    /// If the cache contains `MOST_MEANINGS` texts, or a request for memory is refused, nothing
-    /// changes.
+    /// If the cache is full, if the text is longer than `MOST_MEANING_BYTES`, or if a request for
+    /// memory is refused, nothing changes.
     pub(crate) fn add(&mut self, text: &str, value: T)
         ensures { Adds self.old text.now value self.new }
     {
-        if self.is_full() {
+        if self.is_full() || text.len() > MOST_MEANING_BYTES {
             return;
         }
         if let Ok(key) = String::from_str(self.alloc, text) {
