@@ -12,7 +12,7 @@ use Rattle.oim_report.specs.Info.{bindings_of, facts_of, level_said}
 use Rattle.oim_report.specs.Outcome.{facts_said}
 use Rattle.oim_report.specs.Sheet.{Sheet}
 
--- the level does not allow the facts at two indices
+-- there are facts at both indices, and the level does not allow them together
 abbrev pub are_apart : Level → List Fact → ℕ → ℕ → Bool
 are_apart level facts i j = option_map_or (λ f. option_map_or (λ g. not (allows level f g)) (slice_get facts j) false) (slice_get facts i) false
 

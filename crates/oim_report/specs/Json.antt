@@ -108,7 +108,7 @@ has_member ms = any_in (λ key d. true) ms
 
 -- ---- keys
 
--- a key has a colon: in `dimensions` it names a taxonomy-defined dimension, in other tested objects an extension (own)
+-- a key has a colon: in `dimensions` it names a taxonomy-defined dimension, in other objects with known keys an extension (own)
 abbrev pub has_colon : List ℕ → Bool
 has_colon key = list_any is_colon key
 

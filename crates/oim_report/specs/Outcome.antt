@@ -51,7 +51,7 @@ all_or_first n (Err reason ∷ outcomes) = Err (at (AtFact n) reason)
 abbrev pub facts_said : Sheet → List Binding → Members → Result (List Fact) Refusal
 facts_said sheet bs objects = all_or_first 1 (map (fact_outcome sheet bs) (values objects))
 
--- a document, if its facts have no duplicates above the declared level
+-- the document, or its refusal if the level found is above the declared one
 abbrev pub unless_above : Level → Document → Result Document Refusal
 unless_above found d = if is_lt (level_cmp d.level found) then Err (at AtDocument DisallowedDuplicates) else Ok d
 
@@ -94,8 +94,8 @@ FactsAreSaid = (sheet : Sheet) (bs : List Binding) (d : Data) → IsFree sheet b
 
 -- ---- accepted reports, in terms of the conditions instead of `outcome` (own)
 
--- the bytes are JSON, no condition applies to the document or a fact, they denote this document, and the level of its facts
--- is not above the declared one
+-- the bytes are JSON and denote this document, no condition applies to the document or a fact, and the level of the facts is
+-- not above the declared one
 pub record Accepts (sheet : Sheet) (bytes : List ℕ) (d : Document) : Type 0 where
   pub tree : Data
   pub read : json bytes ≡ Some tree

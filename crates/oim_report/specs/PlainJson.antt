@@ -1,5 +1,5 @@
--- JSON values that are read back from their compact text: no float, integers in range, keys in order (RFC 8259; the ranges are
--- own).
+-- JSON values that are read back from their compact text: no float, integers in range, keys in order, UTF-8 texts, nesting within
+-- a limit (RFC 8259; the ranges are own).
 use Rattle.std.specs.Prelude.{◌≡◌, ℕ, ◌^◌, ◌<◌, ◌≤◌, pos, negsuc, List, IsUtf8, ⊤, false, Some}
 use Rattle.std.specs.declared.cmp.Ordering.TheVariants.{Less}
 use Rattle.std.specs.Ordering.{nat_cmp}

@@ -121,7 +121,7 @@ module _ (spelled : QName → List ℕ) where
     unknown = false;
   }
 
--- the object of a fact has these parts
+-- the object of a fact that fits, with names spelled as in `SpellsFact`, has these parts
 abbrev pub FactObjectHasParts : Type 0
 FactObjectHasParts = (sheet : Sheet) (bs : List Binding) (spelled : QName → List ℕ) (f : Fact) → FactFits sheet f → SpellsFact bs spelled f → fact_parts (fact_object spelled f) ≡ Some (parts_given spelled f)
 
@@ -136,13 +136,13 @@ pub record AreFormed (p : FactParts) (ds : DimensionParts) : Type 0 where
 abbrev pub FormsAreAccepted : Type 0
 FormsAreAccepted = (spelled : QName → List ℕ) (f : Fact) → AreFormed (parts_given spelled f) (dimensions_given spelled f.dimensions)
 
--- none of the names is refused
+-- no name in the object of a fact that fits is refused, if the names are spelled as in `SpellsFact`
 abbrev pub NamesAreAccepted : Type 0
 NamesAreAccepted = (sheet : Sheet) (bs : List Binding) (spelled : QName → List ℕ) (f : Fact) → FactFits sheet f → SpellsFact bs spelled f → let applies = holds sheet bs (fact_object spelled f) in (applies NameForm ≡ false) × (applies UnboundPrefix ≡ false) × (applies ReservedNamespace ≡ false)
 
 -- ---- the fact
 
--- the object of a fact is plain JSON that is at most two levels deep
+-- the object of a fact that fits, with names spelled as in `SpellsFact`, is plain JSON that is at most two levels deep
 abbrev pub FactObjectIsPlain : Type 0
 FactObjectIsPlain = (sheet : Sheet) (bs : List Binding) (spelled : QName → List ℕ) (f : Fact) → FactFits sheet f → SpellsFact bs spelled f → IsPlainJson (fact_object spelled f) 2
 

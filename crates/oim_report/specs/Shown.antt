@@ -79,7 +79,7 @@ first_of (t ∷ ts) = if t.0 then t.1 else first_of ts
 abbrev pub unknown_in : List (List ℕ) → Option Members → Option (List ℕ × Data)
 unknown_in known ms = find (λ m. is_unknown known m.0 m.1) (entries (members ms))
 
--- the first unknown key of the whole, or else of the object at `place`
+-- the first unknown key of the whole value, or else of the object at its key `place`
 abbrev pub unknown_key : List (List ℕ) → Data → List (List ℕ) → List ℕ → Shown
 unknown_key known d inner place =
     option_map_or (λ m. key m.0) (unknown_in known (as_object d)) (option_map_or (λ m. key_in m.0 place) (unknown_in inner (object_at place d)) nothing)

@@ -23,8 +23,8 @@ ghost use Rattle.oim_report.specs.ReadBack.{FactObjectHasParts, FactObjectIsPlai
 
 use url::Url;
 
-/// The text of an http or https URL is UTF-8 and parses as that URL. So the URL is always kept
-/// under this text (URL Standard, sections 4.4 and 4.5).
+/// The text of an http or https URL is UTF-8 and parses as that URL. So this text is always the
+/// kept text of the URL (URL Standard, sections 4.4 and 4.5).
 pub fn web_texts_read_back(url: &Url)
     ensures utf8 { IsTrue (is_web url.now) → IsTrue (is_utf8 (serialize url.now)) }
     ensures parsed { IsTrue (is_web url.now) → parse_url None (serialize url.now) ≡ Ok url.now }
@@ -40,7 +40,7 @@ pub fn names_are_expanded()
 {}
 
 /// Keeping a kept text again without a base URL does not change it. If a reference is accepted, its
-/// kept text is accepted. If a reference is UTF-8, its kept text is UTF-8.
+/// kept text is accepted without a base URL. If a reference is UTF-8, its kept text is UTF-8.
 pub fn kept_is_kept()
     ensures kept { KeptIsKept }
     ensures accepted { KeptIsAccepted }
@@ -143,14 +143,14 @@ pub fn fact_object_has_parts()
     ensures { FactObjectHasParts }
 {}
 
-/// No condition on form or names applies to the object of a written fact.
+/// No condition on form or names applies to the object of a fact as in `fact_object_has_parts`.
 pub fn written_facts_are_accepted()
     ensures form { FormsAreAccepted }
     ensures names { NamesAreAccepted }
 {}
 
 /// Suppose that each name of a fact is spelled with a bound prefix of ASCII letters and digits. If
-/// the fact fits a sheet, its object denotes it, and no condition applies to the object.
+/// the fact fits a sheet, its object denotes the fact, and no condition applies to the object.
 pub fn fact_object_reads_back()
     ensures { FactObjectReadsBack }
 {}
@@ -175,8 +175,8 @@ pub fn plain_text_reads_back()
     ensures whole { PlainHasNoFloat }
 {}
 
-/// The object of a written fact is plain and at most two levels deep, so its compact text is read
-/// as that object.
+/// The object of a fact as in `fact_object_has_parts` is plain and at most two levels deep. So the
+/// compact text of the object is read as that object.
 pub fn fact_object_is_plain()
     ensures { FactObjectIsPlain }
 {}

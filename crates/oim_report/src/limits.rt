@@ -12,7 +12,7 @@ pub const MOST_MEANINGS: usize = 1_024;
 /// after a report is refused. The limit bounds the memory that they take.
 pub const MOST_MEANING_BYTES: usize = 1_024;
 
-/// The least size in bytes of each piece of a report except the last. For each piece the JSON
+/// The least size in bytes of each piece of a report's facts except the last. For each piece the JSON
 /// parser fills 16 kB with zeros, so small pieces are slow. Larger pieces cause more page faults.
 pub const PIECE_BYTES: usize = 65_536;
 

@@ -20,11 +20,11 @@ use oim_names::Reason;
 use serde_json::Value;
 use std::alloc::Global;
 
-/// Reads a report under a sheet (xBRL-JSON 1.0; the profile is own).
+/// Reads a report under a sheet (xBRL-JSON 1.0; further conditions are own).
 ///
 /// Errors, the first that applies: `NotJson`; the least condition of the document; the least
 /// condition of the first fact that has one, in byte order of the identifiers;
-/// `DisallowedDuplicates`. `OutOfMemory` may replace any of these. A condition of a fact has that
+/// `DisallowedDuplicates`. `OutOfMemory` may replace any result. A condition of a fact has that
 /// fact as its place. All other errors have the document as their place.
 pub fn read_report<'s>(alloc: Global, sheet: &'s Sheet, bytes: &[u8]) -> Result<Report<'s>, Refusal>
     ensures ok { IfOk result (λ r. outcome sheet.now bytes.now ≡ Ok r.document) }
@@ -84,9 +84,10 @@ pub(crate) fn read_document<'s>(
     Ok(Report::new(sheet, facts, info.references, info.level, order))
 }
 
-/// Does the same as `read_report`, but parses the facts in pieces of `size` bytes or more, so that
-/// the tree of only one piece is in memory. It returns `None` if the text cannot be read in pieces,
-/// or if the report or a request for memory is refused. To find out why, read the whole text.
+/// Does the same as `read_report`, but parses the facts in pieces. Each piece except the last has
+/// `size` bytes or more, and only one is in memory as a tree at a time. The result is `None` if the
+/// text cannot be read in pieces, or if the report or a request for memory is refused. To find out
+/// why, read the whole text.
 pub(crate) fn read_in_pieces<'s>(
     alloc: Global,
     sheet: &'s Sheet,

@@ -13,8 +13,8 @@ use std::alloc::Global;
 use std::marker::Model;
 
 /// Reads reports under one sheet, one after another. Reports often bind the same prefixes, and then
-/// most of their texts mean the same. The reader caches these meanings from one report to the next,
-/// so the facts of many reports share their names. Contracts see the sheet.
+/// a text means the same in all of them. While the prefixes stay the same, the reader caches the
+/// meanings of texts, so the facts of many reports share their names. Contracts see only the sheet.
 #[derive(Drop)]
 pub struct ReportReader<'s> {
     alloc: Global,

@@ -48,7 +48,7 @@ impl Sheet {
     /// is not an object; `UnknownMember` for another key without a colon; `Namespace` if an entry
     /// of `namespaces` binds nothing; the first of `NameForm`, `UnboundPrefix` and
     /// `ReservedNamespace` that applies to any key of `concepts` and `dimensions`; `SheetKind` if a
-    /// kind is invalid, or a member gives a name two kinds. `OutOfMemory` may replace any of these.
+    /// kind is invalid, or a member gives a name two kinds. `OutOfMemory` may replace any result.
     #[tactic(auto, unfolding(crate::specs::Sheet::sheet_outcome))]
     pub fn read(alloc: Global, bytes: &[u8]) -> Result<Sheet, Reason>
         ensures ok { IfOk result (λ s. sheet_outcome bytes.now ≡ Ok s) }

@@ -1,4 +1,4 @@
--- The meanings of a report's texts, given its sheet and its prefixes (own).
+-- The meanings of texts under one sheet and one set of prefixes (own).
 use Rattle.std.specs.Prelude.{◌≡◌, ℕ, List, true, Option, Ok, IfSome}
 use Rattle.std.specs.Str.{str_to_ascii_lowercase}
 use Rattle.oim_names.specs.Bindings.{Binding}

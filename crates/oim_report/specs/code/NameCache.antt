@@ -1,4 +1,4 @@
--- The names of a sheet that a report's texts spell, and the group of names for each prefix (own).
+-- The names of a sheet that texts spell under one set of prefixes, and the group of names for each prefix (own).
 use Rattle.std.specs.Prelude.{◌≡◌, ℕ, List, String, Option, Some, option_and_then}
 use Rattle.std.specs.BTreeMap.{BTreeMap, get_by_text}
 use Rattle.std.specs.Borrow.{Bor}

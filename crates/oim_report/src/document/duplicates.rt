@@ -10,8 +10,8 @@ ghost use Rattle.oim_report.specs.Report.{IsOrderOf};
 use oim_dims::Fact;
 use oim_value::{Interval, Level, Value, common, interval_of, meets};
 
-/// Returns whether the facts have duplicates above this level. `All` allows any facts, so the
-/// function then does not look at them.
+/// Returns whether the facts have duplicates above the declared level. `All` allows any facts, so
+/// they are not compared if this level is declared.
 pub(crate) fn is_above(declared: Level, facts: &[Fact], order: &[usize]) -> bool
     requires { IsOrderOf facts.now order.now }
     ensures { result ≡ is_lt (level_cmp declared (level_of facts.now)) }
@@ -64,9 +64,9 @@ pub(crate) fn level_within(limit: Level, facts: &[Fact], order: &[usize]) -> Res
     Ok(level)
 }
 
-// Returns what `value` adds to the level of the earlier values with the same dimensions. The level
-// of all these values is the maximum of both. Only the last earlier value and the common part of
-// the intervals of all earlier ones matter.
+// Returns what `value` adds to the level of the earlier values with the same dimensions: the level
+// of all these values is the maximum of that level and the result. Only the last earlier value and
+// the common part of the intervals of all earlier ones matter.
 fn level_beside(last: &Value, shared: Option<Interval>, value: &Value) -> Level
     ensures { result ≡ level_beside last.now shared value.now }
 {

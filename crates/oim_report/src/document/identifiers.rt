@@ -30,7 +30,7 @@ pub fn fact_identifiers(alloc: Global, bytes: &[u8]) -> Result<Vec<Text>, Reason
 }
 
 /// Reads a report under a sheet as `read_report` does, and its identifiers as `fact_identifiers`
-/// does (xBRL-JSON 1.0; the profile is own). The bytes are parsed only once.
+/// does (xBRL-JSON 1.0; further conditions are own). The bytes are parsed only once.
 ///
 /// Errors: as for `read_report`.
 #[tactic(auto, unfolding(crate::specs::Outcome::outcome))]

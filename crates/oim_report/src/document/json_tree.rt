@@ -70,8 +70,8 @@ pub(crate) fn has_member(object: Option<&Map<String, Value>>) -> bool
     }
 }
 
-/// In `dimensions`, a key with a colon names a taxonomy-defined dimension. In the root,
-/// `documentInfo`, a fact or a sheet, it belongs to an extension.
+/// In `dimensions`, a key with a colon names a taxonomy-defined dimension. In the root of a report
+/// or a sheet, in `documentInfo` and in a fact, it belongs to an extension.
 pub(crate) fn has_colon(key: &str) -> bool
     ensures { result ≡ has_colon key.now }
 {

@@ -14,7 +14,7 @@ use oim_dims::Dimensions;
 use oim_names::{Aliases, Name, Reason, Text};
 use std::alloc::Global;
 
-// Each dimension needs the allocator, the sheet, the prefixes and the caches.
+// Together, the dimensions need the allocator, the sheet, the prefixes and the caches.
 pub(crate) fn read_dimensions<'s>(
     alloc: Global,
     sheet: &'s Sheet,

@@ -81,7 +81,7 @@ fn read_object<'s>(
     read_content(alloc, sheet, aliases, glossaries, &parts, dimensions)
 }
 
-// Each part of a fact needs the allocator, the sheet, the prefixes and the caches.
+// Together, the parts of a fact need the allocator, the sheet, the prefixes and the caches.
 fn read_content<'s>(
     alloc: Global,
     sheet: &'s Sheet,

@@ -39,7 +39,7 @@ impl<'s> Glossaries<'s> {
         }
     }
 
-    /// A cache is full, so it is time to begin again.
+    /// Returns whether a cache is full. Then `turn_to` replaces all of them.
     pub(crate) fn is_full(&self) -> bool {
         self.concepts.texts.is_full()
             || self.dimensions.texts.is_full()

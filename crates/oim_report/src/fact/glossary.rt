@@ -22,7 +22,7 @@ impl<T> Glossary<T> {
         Glossary { alloc, meanings }
     }
 
-    /// No more texts can be added.
+    /// Returns whether no more texts can be added.
     pub(crate) fn is_full(&self) -> bool {
         self.meanings.len() >= MOST_MEANINGS
     }
@@ -35,8 +35,8 @@ impl<T> Glossary<T> {
 }
 
 impl<T: Drop> Glossary<T> {
-    /// If the cache is full, if the text is longer than `MOST_MEANING_BYTES`, or if a request for
-    /// memory is refused, nothing changes.
+    /// If the cache is full, if the text has more than `MOST_MEANING_BYTES` bytes, or if a request
+    /// for memory is refused, nothing changes.
     pub(crate) fn add(&mut self, text: &str, value: T)
         ensures { Adds self.old text.now value self.new }
     {

@@ -13,8 +13,8 @@ use oim_names::{Aliases, Name};
 use std::alloc::Global;
 use std::collections::BTreeMap;
 
-/// Finds the names of a sheet that the texts of one report spell. It finds a group once per prefix,
-/// so further names with this prefix need no comparison of URIs.
+/// Finds the names of a sheet that texts spell under one set of prefixes. It finds the group of
+/// names once per prefix, so further names with this prefix need no comparison of URIs.
 #[derive(Drop)]
 pub(crate) struct NameCache<'s, K: Kind> {
     alloc: Global,

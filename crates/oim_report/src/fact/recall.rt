@@ -1,5 +1,6 @@
-//! Looks up the meaning of a text in a glossary. If the text is missing, it is read and added. A
-//! condition that needs more than the text, such as `UnitOnOther`, is tested for each fact.
+//! Looks up the meaning of a text in a glossary. If the text is missing, it is read; if it is then
+//! accepted and the glossary has room, its meaning is added. A condition that needs more than the
+//! text, such as `UnitOnOther`, is tested for each fact.
 
 ghost use Rattle.std.specs.Prelude.{◌≡◌, ◌⊎◌, Some, IsTrue, IfOk, IfErr, IfSome};
 ghost use Rattle.std.specs.Str.{str_to_ascii_lowercase};

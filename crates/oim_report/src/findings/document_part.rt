@@ -11,9 +11,9 @@ use oim_names::Reason;
 use serde_json::Value;
 use std::alloc::{AllocError, Global};
 
-/// Returns the part of a document that violates a condition from `MemberForm` to `Feature`, or
-/// `None` exactly if the condition does not apply or is hidden by another one (own). If several
-/// parts violate it, the first is returned. For all other conditions the result is `None`.
+/// Returns the part of a document that violates a condition from `MemberForm` to `Feature`: the
+/// first one, or all features if `xbrl:allowedDuplicates` is repeated with valid values (own). The
+/// result is `None` exactly if the condition is not one of these, does not apply or is hidden.
 ///
 /// Errors: out of memory.
 #[tactic(auto, unfolding(crate::specs::Holds::document_holds, crate::specs::Shown::document_shown))]

@@ -33,7 +33,7 @@ pub(crate) fn refused_base(alloc: Global, tree: &Value) -> Result<Option<Part<'_
     Ok(value_if(base.is_none(), within(tree, "documentInfo", "baseURL")))
 }
 
-// Returns `None` if the base URL is refused, and `Some(None)` if there is none.
+// Returns `None` if the base URL is refused, and `Some(None)` if the report has no `baseURL`.
 fn said_base(alloc: Global, tree: &Value) -> Result<Option<Option<Base>>, AllocError>
     ensures { IfOk result (λ base. base ≡ base_said (view tree.now)) }
 {

@@ -14,7 +14,8 @@ use oim_names::{Aliases, Reason};
 use serde_json::Value;
 use std::alloc::{AllocError, Global};
 
-// The first four decide which conditions apply, the last two take the faults.
+// The first four parameters determine which conditions apply. The last two are the place of the
+// faults and their list.
 pub(crate) fn add_fact_faults(
     alloc: Global,
     sheet: &Sheet,
@@ -55,7 +56,7 @@ pub(crate) fn add_fact_faults(
     add_each(alloc, sheet, aliases, object, place, reasons, faults)
 }
 
-// As `add_fact_faults`, for some of the conditions.
+// As `add_fact_faults`, for the conditions in `reasons`.
 fn add_each(
     alloc: Global,
     sheet: &Sheet,

@@ -20,8 +20,8 @@ use oim_value::{Level, Value as Said, value_meets};
 use serde_json::Value;
 use std::alloc::{AllocError, Global};
 
-/// Returns the indices, counted from 0, of two facts that the declared level does not allow together
-/// (own). It finds two if the report is refused for its duplicates, and otherwise returns `None`.
+/// If a report is refused for its duplicates, returns two facts that its declared level forbids
+/// together, as indices from 0 in byte order of the identifiers. Otherwise returns `None` (own).
 ///
 /// Errors: out of memory.
 pub fn facts_apart(

@@ -7,8 +7,9 @@ use crate::pieces::spaces::strip_front;
 use serde_json::{Map, Value};
 use std::alloc::Global;
 
-/// Reads the next piece of a text of members, which ends at a comma after at least `size` bytes or
-/// at the end of the text. It returns `None` if the piece cannot be read.
+/// Reads the next piece of a text of members, and also returns the rest of the text. The piece ends
+/// at a comma after at least `size` bytes, or at the end of the text. The result is `None` if the
+/// piece cannot be read or a request for memory is refused.
 pub(crate) fn read_next<'t>(
     alloc: Global,
     buffer: &mut String,
