@@ -25,7 +25,7 @@ values_meet x y = false
 abbrev pub are_duplicates : Fact → Fact → Bool
 are_duplicates f g = is_eq (dimensions_cmp f.dimensions g.dimensions)
 
--- a level allows two values with the same dimensions
+-- a level allows the values of two duplicates
 abbrev pub allows_values : Level → Value → Value → Bool
 allows_values Unique v w = false
 allows_values Complete v w = is_eq (value_cmp v w)

@@ -42,7 +42,7 @@ is_some_and test o = option_map_or test o false
 abbrev pub as_text : Data → Option (List ℕ)
 as_text d = option_and_then (λ s. if is_utf8 s then Some s else None) (as_str d)
 
--- the value, if it is a whole number
+-- the value, if it is a number that `serde_json` reads as an integer
 abbrev pub as_whole : Data → Option ℤ
 as_whole d = option_and_then as_integer (as_number d)
 

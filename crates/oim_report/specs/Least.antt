@@ -1,4 +1,4 @@
--- A refusal is the least condition that applies; faults are all conditions that apply and are not hidden (own).
+-- A refusal is the condition with the least number that applies; faults are all conditions that apply and are not hidden (own).
 use Rattle.std.specs.Prelude.{◌≡◌, ◌↔◌, ◌≤◌, List, [], ◌∷◌, map, Contains, Bool, false, not, ◌&&◌, IsTrue, Option, Some, None}
 use Rattle.std.specs.List.{filter, find, list_any}
 use Rattle.std.specs.List.Sorted.{IsStrictlyIncreasing}

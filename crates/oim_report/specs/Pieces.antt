@@ -1,4 +1,4 @@
--- The text of an object's members, in pieces. Each piece is read as the only object of an array (own).
+-- The text of an object's members, in pieces. Each piece is read as the members of the only object of an array (own).
 use Rattle.std.specs.Prelude.{◌≡◌, ℕ, List, [], ◌∷◌, ◌++◌, Some, ⊤}
 use Rattle.serde_json.specs.Data.{Data, array, object, no_items, item, Members, no_members, member, put}
 use Rattle.serde_json.specs.Read.{read}

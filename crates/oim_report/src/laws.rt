@@ -115,8 +115,8 @@ pub fn accepted_where_free()
 {}
 
 /// A report is refused for exactly one reason, the first that applies: its bytes are not JSON; the
-/// least condition of the document; the least condition of the first fact that has one, with that
-/// fact as the place; the level of its facts is above the declared level.
+/// document's condition with the least number; the first refused fact's condition with the least
+/// number, with that fact as the place; the level of its facts is above the declared level.
 pub fn refused_where_held()
     ensures { RefusedWhereHeld }
 {}

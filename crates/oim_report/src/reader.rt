@@ -22,8 +22,8 @@ use std::alloc::Global;
 
 /// Reads a report under a sheet (xBRL-JSON 1.0; further conditions are own).
 ///
-/// Errors, the first that applies: `NotJson`; the least condition of the document; the least
-/// condition of the first fact that has one, in byte order of the identifiers;
+/// Errors, the first that applies: `NotJson`; the document's condition with the least number; in
+/// byte order of the identifiers, the first refused fact's condition with the least number;
 /// `DisallowedDuplicates`. `OutOfMemory` may replace any result. A condition of a fact has that
 /// fact as its place. All other errors have the document as their place.
 pub fn read_report<'s>(alloc: Global, sheet: &'s Sheet, bytes: &[u8]) -> Result<Report<'s>, Refusal>

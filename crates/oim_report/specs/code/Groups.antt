@@ -32,7 +32,7 @@ module _ {K Y : Type 0} where
   abbrev pub with_group : BTreeMap (String Y) (QName × K) → FinMap name_cmp K → FinMap name_cmp K
   with_group g m = map.from_entries (values g ++ map.entries m)
 
-  -- each URI has at most one group, and its names have this URI
+  -- each URI has at most one group, and the names in the group have this URI
   pub record AreGroups (m : BTreeMap (String Y) (BTreeMap (String Y) (QName × K))) : Type 0 where
     pub ordered : IsOrdered string_cmp m
     pub each : AllByRecursion (λ e. IsGroup (string_bytes e.0) e.1) m.entries

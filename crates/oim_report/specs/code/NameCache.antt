@@ -17,7 +17,7 @@ module _ {K : Type 0} (m : FinMap name_cmp K) (bs : List Binding) where
   abbrev pub kind_of : List ℕ → Option K
   kind_of t = option_and_then (map.get m) (named bs t)
 
-  -- the text names this name, which the map has with this kind
+  -- the text spells this name, which the map has with this kind
   abbrev pub NamesListed : List ℕ → Bor QName × K → Type 0
   NamesListed t e = (named bs t ≡ Some e.0.now) × (kind_of t ≡ Some e.1)
 

@@ -12,7 +12,7 @@ pub(crate) enum Given<'a> {
     /// JSON `null`.
     Nil,
     Text(&'a str),
-    /// A whole number in the range of `i64` or `u64`.
+    /// A number that `serde_json` reads as an integer.
     Whole(i128),
     Other,
 }

@@ -25,7 +25,8 @@ struct Split<'t> {
     behind: Option<&'t str>,
 }
 
-/// Splits a document. If the text of its facts can be parsed, so can the whole document.
+/// Splits a document, or returns `None` if it cannot be split or a request for memory is refused.
+/// If the text of its facts can be parsed as a piece, the whole document can be parsed.
 pub(crate) fn read_outline(alloc: Global, text: &str) -> Option<Outline<'_>>
     ensures { IfSome result (λ o. IsOutline text.now (view o.tree) o.facts.now) }
 {
