@@ -2,7 +2,7 @@ use std::fmt;
 
 const MOST_CHARACTERS: usize = 80;
 
-/// A text that is safe to print on a terminal. Control characters, invisible characters, and
+/// A text that is safe to print on a terminal. Control characters, common invisible characters, and
 /// characters that end the line or change its direction are written as JSON escapes. Otherwise a
 /// name with an invisible character would look correct, and a file name could imitate a line.
 #[derive(Clone, Copy)]
@@ -10,7 +10,7 @@ pub struct Escaped<'t>(pub &'t str);
 
 impl fmt::Display for Escaped<'_> {
     fn fmt<W: fmt::Write>(&self, f: &mut fmt::Formatter<W>) -> fmt::Result {
-        // the text between two escapes is written at once; a text without escapes is one piece
+        // one call writes all characters up to the next escape
         let mut from = 0;
         for (place, character) in self.0.char_indices() {
             if !is_shown(character) {

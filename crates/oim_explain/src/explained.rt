@@ -11,14 +11,14 @@ use oim_report::{
 use serde_json::{Error, Value};
 use std::alloc::{AllocError, Global};
 
-/// Returns one line for each fault of a report that is read under a sheet. The faults that
-/// `tree_faults` lists come first, in its order. Members that are repeated in an object follow;
-/// only the last one is read (RFC 8259, section 4). A line of text begins with the name of the
-/// file and shows at most 80 characters of a value or key. No line contains anything that changes
-/// a terminal.
+/// Returns one line for each fault of a report that is read under a sheet, in the order of
+/// `tree_faults`. One line follows for each key that is repeated in an object whose members are
+/// read; only the last member with that key is read (RFC 8259, section 4). A line of text begins
+/// with the name of the file and shows at most 80 characters of a value or key. No line contains
+/// anything that changes a terminal.
 ///
-/// If the file cannot be read as JSON, the only line says so. Repeated members are then not listed,
-/// even if the crate `json` can read the file because it accepts numbers of any size.
+/// If the file cannot be read as JSON, the only line contains the parser's message. This is so even
+/// if the crate `json` can read the file because it accepts numbers of any size.
 ///
 /// Errors: out of memory.
 pub fn explain(

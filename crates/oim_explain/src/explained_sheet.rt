@@ -8,8 +8,8 @@ use oim_report::{after_mark, sheet_part};
 use serde_json::Value;
 use std::alloc::{AllocError, Global};
 
-/// Returns a line with the reason to refuse a sheet. The line shows the part at fault, and the
-/// kind of file if its first bytes or members reveal it (own).
+/// Returns a line with the reason to refuse a sheet and the part at fault. The parser's message and
+/// a guess at the file's kind follow, if any. An accepted sheet is reported to have no fault (own).
 ///
 /// Errors: out of memory.
 pub fn explain_sheet(alloc: Global, name: &str, bytes: &[u8]) -> Result<String, AllocError> {
@@ -34,8 +34,8 @@ fn sentence_of_sheet(alloc: Global, tree: &Value) -> Result<String, AllocError> 
     finding.sentence(alloc)
 }
 
-/// Returns one line for each member that is repeated in an object of a sheet. Only the last one is
-/// read (own).
+/// Returns one line for each key that is repeated in an object of a sheet. Only the last member
+/// with that key is read (own). A file that is not JSON has no such lines.
 ///
 /// Errors: out of memory.
 pub fn explain_repeated(

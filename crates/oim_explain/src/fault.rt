@@ -85,8 +85,8 @@ fn put_text(writer: &mut Writer, key: &str, text: Option<&str>) -> Result<(), Al
     }
 }
 
-/// Writes the part at fault in full: a text, a value, an object with one member, an array of two
-/// texts, or null.
+/// Writes the part at fault in full: a text, a value, an object with one member or an array of two
+/// texts. For other parts, such as a missing member, null is written.
 fn put_part(alloc: Global, writer: &mut Writer, part: Part<'_>) -> Result<(), AllocError> {
     match part {
         Part::Key(text) | Part::KeyIn(text, _) | Part::Name(text) | Part::Entity(text) => {
@@ -109,8 +109,8 @@ fn put_part(alloc: Global, writer: &mut Writer, part: Part<'_>) -> Result<(), Al
     }
 }
 
-/// Writes a value of `serde_json`. It is printed and parsed again, since `json` writes only its
-/// own values.
+/// Writes a value of `serde_json`, or null if `json` cannot parse it. The value is printed and
+/// parsed again, since `json` writes only its own values.
 fn put_value(alloc: Global, writer: &mut Writer, value: &Value) -> Result<(), AllocError> {
     let text = value.to_string(alloc)?;
     let mut scratch = Scratch::new(alloc);

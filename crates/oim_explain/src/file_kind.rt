@@ -35,8 +35,8 @@ fn kind_of_text(text: &str) -> Option<&'static str> {
     }
 }
 
-/// Returns whether a line looks like a row of a table. JSON contains braces or colons, and prose has
-/// spaces after its commas.
+/// Returns whether a line looks like a row of a table. Most lines of JSON contain braces or keys,
+/// and prose has spaces after its commas.
 fn is_row(line: &str) -> bool {
     line.contains([',', ';', '\t'])
         && !line.contains(['{', '}'])

@@ -2,9 +2,9 @@
 //! fault. `oim_report` finds the faults; this crate finds only repeated members.
 //!
 //! Sentences may change between versions, but numbers, names and their order do not. A sentence
-//! shows at most 80 characters of a key or value. Those of a text are counted before escaping, so
-//! no escape is cut in two. Identifiers are cut too: each is repeated in every line for its fact,
-//! so otherwise a short file could print gigabytes.
+//! shows at most 80 characters of a key or value. Characters of a text are counted before escaping,
+//! so no escape is cut in two. Identifiers are cut too: each is repeated in every line for its
+//! fact, so the lines for a short file could otherwise take gigabytes.
 #![tactic(auto)]
 
 mod escaped;

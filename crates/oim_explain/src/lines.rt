@@ -62,8 +62,8 @@ impl<'n> Lines<'n> {
         })
     }
 
-    /// Adds a line for a repeated member. Only the sentence contains the identifier, and may cut it:
-    /// a fact with many such members would otherwise repeat a long identifier in each line.
+    /// Adds a line for a repeated member. The identifier of its fact is only in the sentence, which
+    /// cuts long identifiers. Otherwise each line for such a member would repeat a long identifier.
     pub(crate) fn push_repeated(&mut self, key: &str, sentence: &str) -> Result<(), AllocError> {
         self.put(&Fault {
             place: None,

@@ -11,7 +11,8 @@ pub(crate) enum Role {
     Sheet,
 }
 
-/// Adds the repeated members of the objects that are read. It adds none if the file is not JSON.
+/// Adds a line for each repeated key of the objects that are read. If the file is not JSON, no line
+/// is added.
 pub(crate) fn push_repeated(
     lines: &mut Lines<'_>,
     role: Role,
@@ -69,8 +70,8 @@ fn push_sheet(lines: &mut Lines<'_>, tree: &Value<'_>) -> Result<(), AllocError>
     push_of(lines, "", tree.get("dimensions"), " in \"dimensions\"")
 }
 
-/// Adds the repeated members of an object. In each sentence, `before` precedes the key, and `place`
-/// follows "is repeated".
+/// Adds a line for each repeated key of an object. In each sentence, `before` precedes the key, and
+/// `place` follows "is repeated".
 fn push_of(
     lines: &mut Lines<'_>,
     before: &str,

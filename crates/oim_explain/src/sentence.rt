@@ -27,7 +27,7 @@ pub(crate) fn around(
     }
 }
 
-/// Appends the whole sentence if no part is shown.
+/// Appends the whole sentence of a fault whose part is not shown.
 pub(crate) fn push_alone(line: &mut String, reason: Reason) -> Result<(), AllocError> {
     match reason {
         Reason::NotJson => {
@@ -56,7 +56,7 @@ fn alone_of(reason: Reason) -> &'static str {
     }
 }
 
-/// Appends the last words of a sentence that contains a limit.
+/// Appends the last words of the sentence if they contain a limit, and nothing otherwise.
 pub(crate) fn push_limit(line: &mut String, reason: Reason) -> Result<(), AllocError> {
     let bytes = Grouped(MOST_REFERENCE_BYTES);
     match reason {
