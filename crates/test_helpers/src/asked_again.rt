@@ -13,7 +13,7 @@ pub const SHEET: &str =
 pub const INFO: &str =
     r#"{"documentInfo":{"documentType":"https://xbrl.org/2021/xbrl-json","namespaces":{"eg":"http://example.org/t","x":"http://example.org/u","xbrli":"http://www.xbrl.org/2003/instance","xbrl":"https://xbrl.org/2021"}},"facts":{"#;
 
-/// The beginning of a report, up to the other members of `documentInfo`.
+/// The beginning of a report, up to and including its document type.
 pub const OPEN_INFO: &str = r#"{"documentInfo":{"documentType":"https://xbrl.org/2021/xbrl-json""#;
 
 pub fn tell_refused(rt: &HostRuntime) {
@@ -34,7 +34,7 @@ pub fn read_sheet(rt: &HostRuntime, text: &str) -> Result<Sheet, Reason> {
     }
 }
 
-/// Reads a report. The call is repeated if memory is refused.
+/// Reads a report. If memory is refused, the call is repeated once.
 pub fn read<'s>(rt: &HostRuntime, sheet: &'s Sheet, bytes: &[u8]) -> Result<Report<'s>, Refusal> {
     match read_once(rt.alloc(), sheet, bytes) {
         Err(refusal) if is_want_of_memory(refusal) => {
@@ -59,7 +59,7 @@ pub fn is_want_of_memory(refusal: Refusal) -> bool {
         }
 }
 
-/// Returns the result of the call, which is repeated if memory is refused.
+/// Returns whether the call returns true. If memory is refused, the call is repeated once.
 pub fn holds<F: Fn(Global) -> Result<bool, AllocError>>(rt: &HostRuntime, call: F) -> bool
     requires { F.IsAlwaysCallable call }
 {
@@ -79,7 +79,7 @@ pub fn joined(rt: &HostRuntime, parts: &[&str]) -> Result<Vec<u8>, AllocError> {
     Ok(all)
 }
 
-/// Returns the text repeated this often.
+/// Returns the text repeated `count` times.
 pub fn repeated(rt: &HostRuntime, piece: &str, count: usize) -> Result<String, AllocError> {
     match piece.repeat(rt.alloc(), count) {
         Err(_) => {

@@ -98,7 +98,7 @@ pub struct TestWriter {
 }
 
 impl TestWriter {
-    /// Reserves memory for `room` bytes, so that a write requests none.
+    /// Reserves memory for `room` bytes, so that no write requests memory.
     pub fn new(
         alloc: Global,
         step: Step,
@@ -194,7 +194,7 @@ impl Write for NeverFlushed {
     }
 }
 
-/// Takes this many bytes, then fails, and counts its flushes.
+/// Takes `room` bytes, then fails to write, and counts its flushes.
 #[derive(Clone, Copy)]
 pub struct FullAfter {
     room: usize,

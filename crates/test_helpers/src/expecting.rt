@@ -27,7 +27,7 @@ impl<'a> Expecting<'a> {
         }
     }
 
-    /// Returns whether all written bytes are as expected, and none is missing.
+    /// Returns whether the bytes written so far are as expected and complete the text.
     pub fn is_met(&self) -> bool {
         self.left.is_empty() && !self.differs
     }

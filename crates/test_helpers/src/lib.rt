@@ -1,5 +1,4 @@
-//! Devices, texts and calls that the tests of several crates share. It judges nothing and has no
-//! contracts.
+//! Devices, texts and calls that the tests of several crates share.
 #![tactic(auto)]
 
 pub mod asked_again;

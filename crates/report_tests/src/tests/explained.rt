@@ -4,7 +4,7 @@ use std::alloc::AllocError;
 use std::test::Fail;
 use test_helpers::asked_again::{joined, read_sheet, tell_refused};
 
-// Tests the sentences about faults. After a refused request for memory, the call is repeated.
+// Tests the sentences about faults. If memory is refused, the call is repeated once.
 
 const SHEET: &str =
     r#"{"namespaces":{"eg":"http://example.org/t"},"concepts":{"eg:A":"numeric","eg:T":"text","eg:Q":"name"},"dimensions":{"eg:Reg":"explicit","eg:Sku":"typed"}}"#;
@@ -13,7 +13,7 @@ const SHEET: &str =
 const START: &str =
     r#"{"documentInfo":{"documentType":"https://xbrl.org/2021/xbrl-json","namespaces":{"eg":"http://example.org/t","x":"http://example.org/u","zz":"http://example.org/t","xbrl":"https://xbrl.org/2021"},"features":{"xbrl:allowedDuplicates":"consistent"}},"facts":{"#;
 
-// The beginning of a report, up to the other members of `documentInfo`.
+// The beginning of a report, up to and including its document type.
 const TYPED: &str = r#"{"documentInfo":{"documentType":"https://xbrl.org/2021/xbrl-json""#;
 
 struct Table<'t> {
@@ -68,7 +68,7 @@ const DOCUMENTS: [Table<'static>; 2] = [
                 "{\0\"\0",
                 "r: 1 NotJson: the file cannot be read as JSON of at most 127 levels: invalid JSON at line 1 column 2; the file looks like text in UTF-16: convert it to UTF-8\n",
             ),
-            // repeated members are not reported if the file is not JSON
+            // repeated members are not reported if the file cannot be read
             (
                 r#"{"documentInfo":{},"facts":{"a":1,"a":2},"x:y":1e999}"#,
                 "r: 1 NotJson: the file cannot be read as JSON of at most 127 levels: number out of range at line 1 column 53\n",

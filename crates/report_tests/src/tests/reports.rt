@@ -27,7 +27,7 @@ use test_helpers::asked_again::{
 
 // If a request for memory is refused, the call is repeated once.
 
-/// Returns `holds`, and prints the text if it is false.
+/// Returns `holds`, and prints the text if `holds` is false.
 fn told(rt: &HostRuntime, holds: bool, text: &str) -> bool {
     if !holds {
         let _ = eprintln!(rt; "otherwise: {text}");
@@ -35,7 +35,7 @@ fn told(rt: &HostRuntime, holds: bool, text: &str) -> bool {
     holds
 }
 
-// The start of a report, up to the other members of `documentInfo`.
+// The start of a report, up to and including its document type.
 const TYPED: &str = r#"{"documentInfo":{"documentType":"https://xbrl.org/2021/xbrl-json""#;
 
 // The start of a report with the prefixes `eg`, `x`, `xbrli` and `xbrl`.

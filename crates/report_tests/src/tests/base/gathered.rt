@@ -11,7 +11,7 @@ const TWO: &str = r#""value":"2","decimals":0"#;
 
 const NINE: &str = r#""value":"9","decimals":0"#;
 
-// If a request is refused, the report is lost.
+// If memory is refused, the report is lost.
 fn add(rt: &HostRuntime, gathered: &mut Gathering<'_>, value: &str) -> Option<bool> {
     let text = joined(rt, &[FACT, value, OF_A]).ok()?;
     let report = read(rt, gathered.sheet(), &text).ok()?;
@@ -45,7 +45,7 @@ fn gather<'s>(
     Some(gathered.into_base())
 }
 
-// If a request for the base is refused, all reports are added again.
+// If memory for the base is refused, all reports are added again.
 fn gathered_of<'s>(rt: &HostRuntime, sheet: &'s Sheet, values: &[&str]) -> Option<Base<'s>> {
     match gather(rt, sheet, values)? {
         Ok(base) => Some(base),

@@ -1,5 +1,5 @@
 // Adds small reports after a large one. Their facts and references are collected in two lists. A
-// list is sorted when it has more than doubled.
+// list is sorted when half its length, rounded down, exceeds its length after the last sort.
 
 use fact_base::{Base, Gathering};
 use oim_names::Reason;
@@ -26,8 +26,8 @@ const TWO_FACTS: &str =
     r#"","decimals":0,"dimensions":{"concept":"eg:A"}},"b":{"value":"1","decimals":0,"dimensions":{"concept":"eg:B"}}}}"#;
 
 // There is one small report for each number. The numbers rise and fall, the large report has one of
-// them, and two are repeated. The list of references is sorted before the third report and before
-// the seventh report.
+// them, and two are repeated. The list of references is sorted before the third and before the
+// seventh small report.
 const NUMBERS: [&str; 8] = ["16", "12", "14", "12", "9", "11", "16", "10"];
 
 fn small(rt: &HostRuntime, number: &str, facts: &str) -> Result<String, AllocError> {

@@ -3,7 +3,7 @@ use oim_value::Level::{All, Complete, Consistent, Unique};
 use std::test::Fail;
 
 const LEVELS: &[Table] = &[
-    // the level of a report counts repeats
+    // equal facts in one report are complete duplicates
     Table {
         start: FACTS,
         rows: &[
@@ -101,7 +101,7 @@ const LEVELS: &[Table] = &[
         )],
         end: "}}",
     },
-    // prefixes have no meaning
+    // names are compared by URI, not by prefix
     Table {
         start: "",
         rows: &[(

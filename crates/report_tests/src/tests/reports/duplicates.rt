@@ -79,7 +79,7 @@ const SPELLINGS: Table = Table {
     rows: &[(
         HasLevel(2, Complete),
         &[
-            // prefixes have no meaning
+            // names are compared by URI, not by prefix
             r#"{"value":"100","decimals":0,"dimensions":{"concept":"eg:A","unit":"(x:b*x:a)/x:c"}},"g":{"value":"100.0","decimals":0,"eg:note":[],"dimensions":{"concept":"zz:A","unit":"x:a*x:b/x:c"}}"#,
             // the end of a day is the start of the next
             r#"{"value":"Blue","dimensions":{"concept":"eg:T","entity":"x:529900:A1","period":"2020-01-01T00:00:00/2020-12-31T24:00:00","language":"en-GB","eg:Reg":"eg:North","eg:Sku":"a b"}},"g":{"dimensions":{"concept":"zz:T","entity":"x:529900:A1","language":"en-gb","period":"2020-01-01T00:00:00/2021-01-01T00:00:00","zz:Reg":"zz:North","zz:Sku":"a b"},"value":"Blue"}"#,

@@ -41,7 +41,7 @@ const PLACES: [Table; 3] = [
         ],
         end: "}}",
     },
-    // a text is tested again if other conditions apply to it
+    // a text of an earlier fact is tested again if other conditions apply to it
     Table {
         start: FACTS,
         rows: &[
@@ -82,7 +82,7 @@ const PLACES: [Table; 3] = [
 ];
 
 const PARTS: [Table; 5] = [
-    // links and notes are refused
+    // notes are refused, and links unless they are empty
     Table {
         start: r#"{"documentInfo":{"documentType":"https://xbrl.org/2021/xbrl-json","namespaces":{"eg":"http://example.org/t"}},"facts":{"a":"#,
         rows: &[
@@ -101,7 +101,7 @@ const PARTS: [Table; 5] = [
         ],
         end: "}}",
     },
-    // numbers have the form of a number, and at most 18 digits that count
+    // a number has at most 18 digits; leading zeros and trailing zeros of its fraction do not count
     Table {
         start: r#"{"documentInfo":{"documentType":"https://xbrl.org/2021/xbrl-json","namespaces":{"eg":"http://example.org/t"}},"facts":{"a":{"dimensions":{"concept":"eg:A"},"value":""#,
         rows: &[
@@ -122,7 +122,7 @@ const PARTS: [Table; 5] = [
         ],
         end: r#""}}}"#,
     },
-    // decimals are whole numbers in a range
+    // `decimals` is a whole number from -18 to 18
     Table {
         start: r#"{"documentInfo":{"documentType":"https://xbrl.org/2021/xbrl-json","namespaces":{"eg":"http://example.org/t"}},"facts":{"a":{"dimensions":{"concept":"eg:A"},"value":"1","decimals":"#,
         rows: &[
@@ -148,7 +148,7 @@ const PARTS: [Table; 5] = [
         ],
         end: "}}}",
     },
-    // periods are real date-times in order
+    // a period has dates and times that exist, in order
     Table {
         start: r#"{"documentInfo":{"documentType":"https://xbrl.org/2021/xbrl-json","namespaces":{"eg":"http://example.org/t"}},"facts":{"a":{"value":"1","dimensions":{"concept":"eg:A","period":""#,
         rows: &[

@@ -26,7 +26,7 @@ const DOCUMENTS: Rows<'static> = &[
         r#"{"documentInfo":{"documentType":"https://xbrl.org/2021/xbrl-json","baseURL":"x","taxonomy":[1]}}"#,
         &[(6, 0), (7, 0)],
     ),
-    // if a prefix is refused, the declared level is not tested
+    // if an entry of `namespaces` is refused, the declared level is not tested
     (
         r#"{"documentInfo":{"documentType":"https://xbrl.org/2021/xbrl-json","namespaces":{"a":"","xbrl":"https://xbrl.org/2021"},"features":{"xbrl:allowedDuplicates":1}}}"#,
         &[(5, 0)],
@@ -58,12 +58,12 @@ const FACTS: Rows<'static> = &[
         r#""a":{"dimensions":{"concept":"q:A","noteId":1}},"b":{"value":"1","dimensions":{"concept":1}}"#,
         &[(2, 1), (10, 1), (13, 1), (2, 2)],
     ),
-    // all conditions on names, in several names
+    // the conditions on the form and the prefix of names, in several names
     (
         r#""a":{"value":"1","dimensions":{"concept":"A","eg:Reg":"xbrl:b","entity":"q:a"}}"#,
         &[(12, 1), (13, 1), (14, 1)],
     ),
-    // all conditions on names, in the pieces of one unit
+    // the conditions on the form and the prefix of names, in one unit
     (
         r#""a":{"value":"1","dimensions":{"concept":"eg:A","unit":"xbrl:a*a/q:a"}}"#,
         &[(12, 1), (13, 1), (14, 1)],
@@ -94,7 +94,7 @@ const FACTS: Rows<'static> = &[
         r#""a":{"value":"x","dimensions":{"concept":"eg:A"}},"b":{"value":"1","dimensions":{"concept":"eg:A"}},"c":{"value":"1234567890123456789","dimensions":{"concept":"eg:A"}}"#,
         &[(26, 1), (27, 3)],
     ),
-    // duplicates are reported only if nothing else is wrong
+    // duplicates are reported only if there are no other faults
     (
         r#""a":{"value":"1","dimensions":{"concept":"eg:A"}},"b":{"value":"1","dimensions":{"concept":"eg:A"}}"#,
         &[(31, 0)],

@@ -50,7 +50,7 @@ fn what_is_no_json_has_no_identifiers(rt: HostRuntime) {
 const TWO: &str =
     r#"{"documentInfo":{"documentType":"https://xbrl.org/2021/xbrl-json","namespaces":{"eg":"http://example.org/t"}},"facts":{"b":{"value":"last","dimensions":{"concept":"eg:T"}},"a":{"value":"first","dimensions":{"concept":"eg:T"}}}}"#;
 
-/// If a request is refused, the call is repeated once.
+/// If memory is refused, the call is repeated once.
 fn identified<'s>(
     rt: &HostRuntime,
     sheet: &'s Sheet,

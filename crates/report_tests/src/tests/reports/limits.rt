@@ -26,7 +26,7 @@ const LIMITS: [Long; 5] = [
             (128, InDocument(1)),
         ],
     },
-    // a reference and its resolved text have at most 65,536 bytes
+    // a reference has at most 65,536 bytes, as written and as a URL
     Long {
         start: r#"{"documentInfo":{"documentType":"https://xbrl.org/2021/xbrl-json","taxonomy":[""#,
         piece: "a",
@@ -49,7 +49,7 @@ const LIMITS: [Long; 5] = [
         end: r#""},"facts":{}}"#,
         counts: &[(65_523, Read), (65_524, InDocument(6))],
     },
-    // the limit of a reference applies after it is resolved against the base URL
+    // the limit of a reference also applies to the URL after resolving it against the base URL
     Long {
         start: r#"{"documentInfo":{"documentType":"https://xbrl.org/2021/xbrl-json","baseURL":"http://x.org/r","taxonomy":[""#,
         piece: "a",

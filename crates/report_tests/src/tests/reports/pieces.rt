@@ -6,7 +6,7 @@ use oim_value::Level::{All, Unique};
 use std::alloc::AllocError;
 use std::test::Fail;
 
-// Reports that are long enough to be read in pieces. An `@` stands for 70,000 letters.
+// Reports that are long enough to be read in pieces. Each `@` is replaced by 70,000 letters.
 const LONG: [(Answer, &str); 6] = [
     // members in any order, and with spaces
     (

@@ -17,7 +17,7 @@ fn read_once<'s>(reader: &mut ReportReader<'s>, bytes: &[u8]) -> Result<Report<'
     reader.read(bytes)
 }
 
-// Reads a report. The call is repeated if memory is refused.
+// Reads a report. If memory is refused, the call is repeated once.
 fn read<'s>(
     rt: &HostRuntime,
     reader: &mut ReportReader<'s>,

@@ -3,7 +3,7 @@ use oim_names::{Aliases, Name, Reason};
 use oim_report::{ConceptKind, DimensionKind, Sheet};
 use std::test::Fail;
 
-// Sheets, each with the reason why it is refused, if any.
+// Sheets, grouped by the reason why they are refused, if any.
 const SHEETS: [(Option<Reason>, &[&str]); 9] = [
     (Some(Reason::NotJson), &["", "{"]),
     // the form of a sheet
@@ -58,7 +58,7 @@ const SHEETS: [(Option<Reason>, &[&str]); 9] = [
     (
         Some(Reason::SheetKind),
         &[
-            // kinds belong to concepts or to dimensions
+            // concepts and dimensions have different kinds, and each entry has one of them
             r#"{"namespaces":{"eg":"u:t"},"concepts":{"eg:A":"typed"}}"#,
             r#"{"namespaces":{"eg":"u:t"},"concepts":{"eg:A":"Numeric"}}"#,
             r#"{"namespaces":{"eg":"u:t"},"concepts":{"eg:A":1}}"#,
