@@ -137,9 +137,9 @@ wrapped s3 s4 f s5 fs h3 h4 h5 m =
           ∙ sym (append_assoc (body fs) (end_object ∷ []) (punctuate after_value more)) ∙ ap (λ l. l ++ punctuate after_value more) (sym (closed_body fs) ∙ sym (append-nil (members_tokens fs))));
     }
 
--- ---- the data that texts give
+-- ---- the data that texts denote
 
--- the text is read as these members, nested at most n deep
+-- the text is read as these members, nested at most n levels deep
 pub record Gives (text : List ℕ) (n : ℕ) (found : d.Members) : Type 0 where
   pub ms : Members
   pub members : Members_of text ms
@@ -147,7 +147,7 @@ pub record Gives (text : List ℕ) (n : ℕ) (found : d.Members) : Type 0 where
   pub gives : of_members ms d.no_members ≡ Some found
   pub shallow : members_depth ms ≤ n
 
--- a piece is read inside an array and an object, so it is nested at most 125 deep
+-- a piece is read inside an array and an object, so it is nested at most 125 levels deep
 pub piece_gives : (a : List ℕ) (found : d.Members) → IsPiece a found → Gives a 125 found
 piece_gives a found p =
     let r = piece_as a found p in

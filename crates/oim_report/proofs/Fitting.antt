@@ -94,7 +94,7 @@ entity_fits bs t n are utf8 e = record {
   utf8 = subst IsUtf8 (sym e.local_part) (local_utf8 t utf8);
 }
 
--- ---- given texts are UTF-8
+-- ---- the texts that `given` returns are UTF-8
 
 abbrev pub IsClean : Given → Type 0
 IsClean g = (t : List ℕ) → g ≡ text t → IsUtf8 t
@@ -153,7 +153,7 @@ parts_clean ms = record {
 pub are_clean : (d : Data) (p : FactParts) → fact_parts d ≡ Some p → AreClean p
 are_clean d p e = let ms = map_some parts_of (as_object d) p e in subst AreClean ms.2 (parts_clean ms.0)
 
--- ---- each part that is said fits
+-- ---- each part that the object denotes fits the sheet
 
 text_clean : (g : Given) (t : List ℕ) → IsClean g → text_of g ≡ Some t → IsUtf8 t
 text_clean g t clean e = clean t (text_is g t e)

@@ -148,7 +148,7 @@ shut-body o (j.member k v ms) e = opened-append true (json_tokens v) (body ms) �
 abbrev pub one : Members → Json
 one ms = j.array (j.item (j.object ms) j.no_items)
 
--- the text is read as these members, and nothing else
+-- the text, inside an object and an array, is read as these members, and no token is left
 abbrev pub Reads : ℕ → List ℕ → Members → Type 0
 Reads d a ms = value d (tokens (alone a)) ≡ Some (one ms, [])
 

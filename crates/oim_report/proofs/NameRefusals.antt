@@ -1,4 +1,4 @@
--- Several names are refused if one of them is, for the first of three reasons.
+-- Several names are refused if one of them is refused. The reason is the first of three that applies to some name.
 use Rattle.std.proofs.Common.{◌≡◌, List, [], ◌∷◌, ◌++◌, Bool, true, false, not, ◌||◌, ◌&&◌, refl, sym, ◌∙◌}
 use Rattle.std.specs.Prelude.{Option, Some, None, if◌then◌else◌}
 use Rattle.std.proofs.lemmas.Bool.{or_parts}

@@ -15,7 +15,7 @@ expanded has_form bs t n e =
     let free : bytes_eq n.uri reserved_uri ≡ false = bytes_not_eq n.uri reserved_uri e.allowed in
     rw (e.form, e.uri, free) (λ i. Some (record { uri = n.uri; local_part = sym e.local_part i }))
 
--- a name consists of the prefix's URI and the text's local part
+-- the name of a well-formed text consists of the prefix's URI, which is not reserved, and the text's local part
 record IsMade (formed : Bool) (found : Option (List ℕ)) (t : List ℕ) (n : QName) : Type 0 where
   form : IsTrue formed
   uri : found ≡ Some n.uri

@@ -103,7 +103,7 @@ left_false : (a b : Bool) → a ≡ false → (a && b) ≡ false
 left_false false b h = refl
 left_false true b h = absurd (false≢true (sym h))
 
--- if a level does not allow f with each of the facts at some indices, one of these indices is apart from the index of f
+-- if a level does not allow f beside each of the facts at some indices, `are_apart` holds for one of these indices and f's index
 pub one_apart : (l : Level) (facts : List Fact) (place : ℕ) (f : Fact) → slice_get facts place ≡ Some f → (places : List ℕ) → All (λ p. p < length facts) places → list_all (λ g. allows l g f) (facts_at facts places) ≡ false → list_any (λ one. are_apart l facts one place) places ≡ true
 one_apart l facts place f here [] within h = absurd (false≢true (sym h))
 one_apart l facts place f here (p ∷ ps) within h =
@@ -120,7 +120,7 @@ one_apart l facts place f here (p ∷ ps) within h =
     either true b x y is later h = ap (λ z. z || y) is ∙ later h
     either false b x y is later h = ap (λ z. z || y) is
 
--- some fact is apart from the fact at which the level exceeds the limit
+-- the limit does not allow some fact beside the fact at which the level exceeds the limit
 pub passed_above : (facts : List Fact) (order rest : List ℕ) (i : ℕ) (limit : Level) (last f : Fact) (shared later : Option Interval) (level found : Level) → IsOrderOf facts order → i < length rest → get_or rest i 0 < length facts → f ≡ get_or facts (get_or rest i 0) f
     → is_lt (level_cmp limit level) ≡ false → is_lt (level_cmp limit found) ≡ true → (passed : Passed facts order rest i last shared level) → ((fs : List Fact) → walk last shared level (f ∷ fs) ≡ walk f later found fs)
     → list_any (λ one. are_apart limit facts one (get_or rest i 0)) order ≡ true
@@ -138,7 +138,7 @@ passed_above facts order rest i limit last f shared later level found sorted her
     ∙ left_false _ _ apart in
     one_apart limit facts (get_or rest i 0) f (slice_get-get_or facts (get_or rest i 0) f within ∙ ap Some (sym is)) order (places_within facts order sorted) all
 
--- no facts are apart at the level `All`
+-- the level `All` allows any two facts
 pub none_apart : (facts : List Fact) (place : ℕ) (places : List ℕ) → list_any (λ one. are_apart AllLevel facts one place) places ≡ false
 none_apart facts place [] = refl
 none_apart facts place (p ∷ ps) = ap (λ b. b || list_any (λ one. are_apart AllLevel facts one place) ps) (never (slice_get facts p) (slice_get facts place)) ∙ none_apart facts place ps

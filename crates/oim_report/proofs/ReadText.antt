@@ -88,7 +88,7 @@ mutual
       ∙ of_members-outline ms next h.2 (precedes_more found k d ms p.1 h.1)
       ∙ ap Some (join-join found (member k d no_members) ms)
 
--- ---- its numbers can be written, and its depth is kept
+-- ---- the outline has numbers that can be written, and the depth of the value
 
 mutual
   numbers : (d : Data) → IsPlain d → tree.HasNumbers (outline d)

@@ -1,4 +1,4 @@
--- The first member whose key spells the name of an earlier one, while the members are read.
+-- The first member whose key spells the name of an earlier member, while the members are read.
 use Rattle.std.proofs.Common.{◌≡◌, ℕ, List, [], ◌∷◌, Bool, true, false, cond, ◌||◌, refl, sym, ap, ◌∙◌}
 use Rattle.std.specs.Prelude.{Option, Some, None, if◌then◌else◌, is_some}
 use Rattle.std.specs.FinMap as map
@@ -27,7 +27,7 @@ Entry = List ℕ × Data
 abbrev pub names_of : List Binding → List Entry → List QName
 names_of bs es = filter_map (λ e. named bs e.0) es
 
--- the first member whose name is in the map, or is the name of an earlier one
+-- the first member whose name is in the map, or is the name of an earlier member
 abbrev pub repeated_in : List Binding → Names → List Entry → Option Entry
 repeated_in bs m [] = None
 repeated_in bs m (e ∷ es) = option_map_or (λ n. if map.contains_key m n then Some e else repeated_in bs (map.insert m n Explicit) es) (named bs e.0) (repeated_in bs m es)

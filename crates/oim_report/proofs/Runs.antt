@@ -80,8 +80,8 @@ walk-other last f shared level fs h =
 
 -- ---- properties of the facts so far
 
--- no fact so far has greater dimensions than the last fact; a later fact with the same dimensions meets the others exactly if it
--- meets their common part
+-- no fact so far has greater dimensions than the last fact; a later fact with the same dimensions meets all facts with these
+-- dimensions exactly if it meets their common part
 pub record Knows (before : List Fact) (last : Fact) (shared : Option Interval) : Type 0 where
   pub below : list_all (λ f. not (is_gt (dims f last))) (before ++ last ∷ []) ≡ true
   pub sharing : (h : Fact) → dims last h ≡ Equal → value_cmp last.value h.value ≡ Less → list_all (λ f. allows Consistent f h) (before ++ last ∷ []) ≡ both_meet shared (interval_at h.value)

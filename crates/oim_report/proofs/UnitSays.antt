@@ -44,7 +44,7 @@ side_is bs ps ns e =
 abbrev pub unit_made : List QName → List QName → Measures
 unit_made ns ds = record { numerators = ns; denominators = ds }
 
--- u is None for `pure` alone, or else the unit with these sides
+-- u is None if these sides are `pure` alone; otherwise u is the unit with these sides
 pub data Made (ns ds : List QName) (u : Option Measures) : Type 0 where
   alone : u ≡ None → unit_made ns ds ≡ pure_alone → Made ns ds u
   unit : u ≡ Some (unit_made ns ds) → unit_made ns ds ≢ pure_alone → Made ns ds u
