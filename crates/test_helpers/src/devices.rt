@@ -47,7 +47,7 @@ fn fault(then: Then) -> io::Error {
     io::Error::from(kind)
 }
 
-/// Gives its remaining bytes in steps and counts the calls.
+/// Gives its remaining bytes in steps, then behaves as `then`. It counts the calls.
 #[derive(Clone, Copy)]
 pub struct TestReader<'a> {
     left: &'a [u8],
@@ -88,7 +88,7 @@ impl Read for TestReader<'_> {
     }
 }
 
-/// Takes bytes in steps until it holds `room` of them.
+/// Takes bytes in steps until it holds `room` of them, then behaves as `then`.
 #[derive(Drop)]
 pub struct TestWriter {
     held: Vec<u8>,
