@@ -1,6 +1,6 @@
 /* xbrlmerge.h - merges xBRL-JSON reports about one entity into one canonical report, judges their duplicates, and lists
    who reported what. Refused reports are returned with numbers. The calls that merge or list write the bytes that the
-   program's command of the same name prints. docs/LIBRARY.md says what is proved about the calls, and what is not.
+   program's commands print. docs/LIBRARY.md lists what is proved about the calls, and what is not.
 
    Memory. The caller provides all buffers. A call keeps no pointer after it returns, and returns none. If the buffer for
    the text or for the refused reports is too short, the call returns the required lengths and leaves both unchanged: make
@@ -14,8 +14,8 @@
 
    Reports. They are concatenated in `reports`, and `ends` contains the position where each report ends, counted from the
    start: reports of 3 and 4 bytes have the ends 3 and 7. Bytes after the last end are ignored. If an end is less than the
-   one before it, or beyond `reports_length`, the call returns XBRLMERGE_BAD_ENDS and reads nothing (or XBRLMERGE_BAD_LEVEL,
-   if `allow` is not a level either).
+   one before it, or beyond `reports_length`, the call returns XBRLMERGE_BAD_ENDS and reads neither sheet nor reports. (If
+   `allow` is not a level either, it returns XBRLMERGE_BAD_LEVEL.)
 
    Threads. Calls share no state: several threads may call at the same time. Do not call from a signal handler, or in the
    forked child of a process with several threads.
@@ -78,7 +78,7 @@ uint32_t xbrlmerge_merge(const uint8_t *sheet, size_t sheet_length, const uint8_
                          size_t *needed, xbrlmerge_refusal *refusals, size_t refusals_length, size_t *refused);
 
 /* Judges the duplicates of reports, as `verdicts` does: `out` gets a line for each row. Otherwise it is like
-   xbrlmerge_merge, but never returns XBRLMERGE_TOO_LOOSE. */
+   xbrlmerge_merge, but never returns XBRLMERGE_TOO_LOOSE or XBRLMERGE_BAD_LEVEL. */
 uint32_t xbrlmerge_verdicts(const uint8_t *sheet, size_t sheet_length, const uint8_t *reports, size_t reports_length,
                             const size_t *ends, size_t ends_length, uint8_t *out, size_t out_length, size_t *needed,
                             xbrlmerge_refusal *refusals, size_t refusals_length, size_t *refused);
@@ -104,7 +104,7 @@ uint32_t xbrlmerge_check(const uint8_t *sheet, size_t sheet_length, const uint8_
                          xbrlmerge_checked *checked, xbrlmerge_refusal *refusal);
 
 /* Writes the name of a refusal, such as "UnboundPrefix", to the start of `out`, without a NUL, and returns its length: at
-   most 20, and 0 if no refusal has this number. If `out` is shorter than the name, it is unchanged. */
+   most 20 bytes, and 0 if no refusal has this number. If `out` is shorter than the name, it is unchanged. */
 size_t xbrlmerge_refusal_name(uint32_t number, uint8_t *out, size_t out_length);
 
 #ifdef __cplusplus

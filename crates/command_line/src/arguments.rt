@@ -12,7 +12,7 @@ pub(crate) const REPORT: &str = "REPORT";
 /// The option for a file of report names.
 pub(crate) const LIST: &str = "reports-from";
 
-/// The option that separates these names by NUL.
+/// The option for report names that end with NUL instead of a line end.
 pub(crate) const NULL: &str = "null";
 
 /// The option that suppresses the progress line.

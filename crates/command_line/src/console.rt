@@ -11,7 +11,7 @@ const TOO_LOOSE: u8 = 2;
 
 const FAILED: u8 = 3;
 
-// Terminal codes that move to the start of the line and erase it.
+// Terminal codes: `BACK` moves to the start of the line, and `CLEARED` also erases the line.
 
 const BACK: &str = "\r";
 
@@ -71,7 +71,7 @@ impl<E: Write> Console<E> {
         }
     }
 
-    /// Prints how the program ended and returns its exit status.
+    /// Erases the progress line, prints the refused reports or the error, and returns the exit status.
     pub(crate) fn tell(&mut self, done: &Result<Success, Error<'_>>) -> u8 {
         self.clear();
         match done {

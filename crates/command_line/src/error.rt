@@ -21,7 +21,7 @@ pub(crate) enum Error<'n> {
     /// The file with this name cannot be read. The name `-` is standard input. The text is the
     /// cause, if it is known.
     Unread(&'n str, Option<&'static str>),
-    /// The file with this name has more bytes than are read.
+    /// The file with this name has more than `MOST_BYTES` bytes.
     TooLong(&'n str),
     /// The file with this name should list reports, but neither it nor the arguments name one.
     NoNames(&'n str),
@@ -29,9 +29,9 @@ pub(crate) enum Error<'n> {
     Unwritten(&'n str),
     /// The line with this number, from 1, is not an event, or names something that does not exist.
     Event(u64),
-    /// The sheet is refused. `explain` adds its lines about the sheet.
+    /// The sheet is refused. `explain` adds a line that describes the fault.
     Sheet(Reason, Option<String>),
-    /// The row with this number is above the allowed level.
+    /// The row with this number is above the allowed level, and these reports were refused.
     TooLoose(u64, Refusals),
     /// The output failed after this many bytes.
     Device(u64),

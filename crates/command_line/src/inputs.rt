@@ -33,13 +33,13 @@ impl<'n, F: Files, E: Write> Inputs<'n, F, E> {
         read_file(self.alloc, self.files, name)
     }
 
-    /// Errors: `Unread`; `Sheet` if the sheet is refused; out of memory.
+    /// Errors: `Unread`; `TooLong`; `Sheet` if the sheet is refused; out of memory.
     pub(crate) fn read_sheet(&self, name: &'n str) -> Result<Sheet, Error<'n>> {
         let bytes = self.read(name)?;
         sheet_of(self.alloc, bytes.as_bytes())
     }
 
-    /// Shows how many reports were read before, and reads the report with this name.
+    /// Shows how many reports were read before. Then reads the report with this name and counts it.
     pub(crate) fn read_report(&mut self, name: &'n str) -> Result<Encoded, Error<'n>> {
         self.console.show(self.names.len());
         let report = self.read(name)?;
@@ -47,7 +47,7 @@ impl<'n, F: Files, E: Write> Inputs<'n, F, E> {
         Ok(report)
     }
 
-    /// Reads all reports in order, up to the first that cannot be read.
+    /// Returns the bytes of all reports, in order. It stops at the first that cannot be read.
     pub(crate) fn read_reports(&mut self) -> Result<Vec<Encoded>, Error<'n>> {
         let names = self.names;
         let mut all = Vec::new(self.alloc);
@@ -58,8 +58,8 @@ impl<'n, F: Files, E: Write> Inputs<'n, F, E> {
         Ok(all)
     }
 
-    /// Reads and adds all reports in order, up to the first that cannot be read. The bytes of a
-    /// report are dropped once it is added.
+    /// Reads and adds all reports, in order. It stops at the first that cannot be read. The bytes of
+    /// a report are dropped once it is added.
     pub(crate) fn consolidate<'s>(
         &mut self,
         sheet: &'s Sheet,

@@ -58,7 +58,7 @@ pub(crate) fn write_file<'n, F: Files, E: Write>(
     done
 }
 
-// The file is open until it is in place, and both of its names are needed.
+// The new file stays open until it is renamed from `beside` to `name`.
 fn settle<'n, F: Files>(
     files: &F,
     done: Result<Success, Error<'n>>,
@@ -81,8 +81,8 @@ type Named<F> = (String, F);
 /// Creates a file that will replace the file with this name. It is in the same folder. If the name
 /// belongs to a file, the new one gets its mode bits within `KEPT_BITS`.
 ///
-/// Errors: `Unwritten` if it cannot be created, its mode cannot be set, the name is invalid, or it
-/// belongs to anything but a regular file, such as a symbolic link; out of memory.
+/// Errors: `Unwritten` if the new file cannot be created or its mode cannot be set, or if the name
+/// is invalid or belongs to anything but a regular file, such as a symbolic link; out of memory.
 fn new_beside<'w, F: Files>(
     alloc: Global,
     files: &F,
@@ -116,7 +116,7 @@ fn remove<F: Files>(files: &F, name: &str) {
     let _ = fs::remove_file(files, name);
 }
 
-/// Returns None if no file has this name.
+/// Returns the bits of the file's mode within `KEPT_BITS`; None if no file has this name.
 ///
 /// Errors: `Unwritten` if the name is invalid, cannot be looked up, or belongs to anything but a
 /// regular file.
@@ -131,8 +131,8 @@ fn old_mode<'w, F: Files>(files: &F, name: &'w str) -> Result<Option<Permissions
     }
 }
 
-/// The name has the first free number. Files with lower numbers belong to running programs, and to
-/// programs that a signal ended.
+/// Creates a file whose name has the first free number; None if it cannot be created. Files with
+/// lower numbers belong to running programs, or to programs that a signal ended.
 fn first_new<F: Files>(
     alloc: Global,
     files: &F,

@@ -14,11 +14,11 @@ use std::rt::Files;
 // alive at each exit.
 
 /// Runs the program with the arguments after its name. Without arguments, it merges the bundle on
-/// standard input. On standard error it prints a line for each refused report, or why it stopped;
-/// if a row is above the allowed level, it prints both. On terminals, it also prints that a bundle
-/// is expected, how many reports were read, and why a file cannot be read. Returns the exit status:
-/// 1 if a report was refused or `explain` found a fault; 2 if a row is above the allowed level; 3
-/// if the program stopped for another reason; otherwise 0.
+/// standard input. On standard error it prints a line for each refusal (`explain` prints none), or
+/// why it stopped; if a row is above the allowed level, it prints both. On terminals, it also prints
+/// that a bundle is expected, how many reports were read, and why a file cannot be read. Returns the
+/// exit status: 1 if a report was refused or `explain` found a fault; 2 if a row is above the
+/// allowed level; 3 if the program stopped for another reason; otherwise 0.
 pub fn run<F, W, R, O, E>(alloc: Global, files: &F, words: &[W], streams: Streams<R, O, E>) -> u8
 where
     F: Files,

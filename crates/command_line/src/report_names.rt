@@ -6,7 +6,7 @@ use std::alloc::{AllocError, Global};
 
 #[derive(Drop)]
 pub(crate) struct ReportNames<'w> {
-    /// The names in the arguments, which come first.
+    /// The names in the arguments. They precede the names in the file.
     words: Vec<&'w str>,
     /// The file that lists more names; it may be standard input.
     pub list: Option<&'w str>,

@@ -23,7 +23,7 @@ pub(crate) struct Args<'w> {
 impl<'w> Args<'w> {
     /// Returns the bytes of the bundle or of the file of names; empty if neither is read.
     ///
-    /// Errors: `Unread`.
+    /// Errors: `Unread`, `TooLong`, and out of memory.
     pub(crate) fn read_input<F: Files, R: Read + Drop>(
         &self,
         alloc: Global,

@@ -62,7 +62,8 @@ pub(crate) fn read_words<W: AsStr>(alloc: Global, words: &[W]) -> Result<Args<'_
     }
 }
 
-/// Returns the error for the escaped arguments, since clap prints arguments unescaped.
+/// Returns the error for the escaped arguments, since clap prints arguments unescaped. If these are
+/// valid, it returns `raw`.
 fn error_shown<W: AsStr>(
     alloc: Global,
     words: &[W],

@@ -22,7 +22,7 @@ use Rattle.oim_write.specs.Ordered.{defined_members}
 use Rattle.oim_merge.specs.Lines.{verdict_shown, verdict_word}
 use Rattle.row_formats.specs.Spelled.{braced}
 
--- commas between fields, quotes where they are needed, doubled quotes inside them, and CRLF at a line end (RFC 4180)
+-- commas between fields, quotes around a field that needs them, doubled quotes inside it, and CRLF at a line end (RFC 4180)
 abbrev pub rfc_4180 : WriterBuilder
 rfc_4180 = with_terminator default_writer term.CRLF
 
@@ -38,7 +38,7 @@ columns =
 
 -- ---- texts that a spreadsheet reads as a formula
 
--- bytes that a spreadsheet may skip before a formula: blanks, quotes, and the bytes of space characters such as U+00A0 and U+3000
+-- bytes that a spreadsheet may skip before a formula: control characters, blanks, quotes, and the bytes of space characters such as U+00A0 and U+3000
 abbrev pub is_skipped : ℕ → Bool
 is_skipped b = nat_lt b 33 || b == 34 || b == 39 || (nat_lt 127 b && nat_lt b 195) || (nat_lt 224 b && nat_lt b 228)
 

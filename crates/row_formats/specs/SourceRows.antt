@@ -12,7 +12,7 @@ use Rattle.row_formats.specs.CsvRows.{guarded, record_text}
 use Rattle.row_formats.specs.declared.row_format.RowFormat.{RowFormat}
 use Rattle.row_formats.specs.declared.row_format.RowFormat.TheVariants.{Json, Csv, SpreadsheetCsv}
 
--- a mention as data: the canonical identifier of the fact, the report number, and the object's own identifier
+-- a source as data: the fact's identifier in the canonical text, the number of the report, and the fact's identifier in the report
 abbrev pub source_data : List ℕ → ℕ → List ℕ → Data
 source_data fact report own =
     object (member (codes "fact") (string fact) (
@@ -45,7 +45,7 @@ sources_in format sheet reports = source_header format ++ sources_by (source_tex
 
 -- ---- the state after a call
 
--- the header and the rows were appended, and the refusals of the other reports were returned
+-- the header and the rows of the accepted reports were appended, and the refusals of the others were returned
 abbrev pub ListsSourceRows : RowFormat → Sheet → List (List ℕ) → Option (List ℕ) → Option (List ℕ) → List (ℕ × Refusal) → Type 0
 ListsSourceRows format = AppendsSources (source_header format) (source_text format)
 

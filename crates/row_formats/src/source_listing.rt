@@ -40,8 +40,8 @@ impl SourceFormat for RowFormat {
 }
 
 /// Merges reports under a sheet and appends one row in this format to the sink for each fact object
-/// in an accepted report (own). The rows list the same sources as `source_lines`. Returns the
-/// refusals with the numbers of their reports, from 1.
+/// in an accepted report (own). CSV begins with a header. The rows list the same sources as
+/// `source_lines`. Returns the refusals with the numbers of their reports, from 1.
 ///
 /// Errors: `Device` if the sink failed; `OutOfMemory`.
 pub fn source_rows<S: Sink>(

@@ -6,7 +6,7 @@ use Rattle.oim_report.specs.declared.refusal.Refusal.{Refusal}
 use Rattle.xbrlmerge_c.specs.Rows.{rows_of}
 use Rattle.xbrlmerge_c.specs.declared.output.RefusedReport.{RefusedReport}
 
--- the caller's buffers for bytes and records, and the two numbers that a call returns
+-- the caller's buffers for bytes and records, and the two numbers that a call sets
 pub record Room : Type 0 where
   pub out : List ℕ
   pub needed : ℕ

@@ -35,9 +35,9 @@ pub(crate) fn level_numbered(number: u32) -> Option<Level>
 /// text is written to the start of `out` and the refused reports to the start of `refusals`;
 /// `needed` and `refused` get their lengths.
 ///
-/// Errors, by the status: `TOO_LOOSE`, with the number of the first row above the level in
-/// `needed`; `TOO_SHORT`; `SHEET_REFUSED`, with the number of the refusal in `needed`; `NO_MEMORY`,
-/// `BAD_ENDS` and `BAD_LEVEL`, with nothing changed.
+/// Errors, by the status: `TOO_LOOSE`, with no text, and the number of the first row above the level
+/// in `needed`; `TOO_SHORT`, with only the lengths; `SHEET_REFUSED`, with the number of the refusal
+/// in `needed` and 0 in `refused`; `NO_MEMORY`, `BAD_ENDS` and `BAD_LEVEL`, with nothing changed.
 #[unsafe(no_mangle)]
 pub extern "C" fn xbrlmerge_merge(
     alloc: Global,
@@ -107,8 +107,8 @@ fn merged(
     })
 }
 
-/// Writes a line with the verdict on each row, as `oim_merge::verdict_lines` does. Otherwise it is
-/// like `xbrlmerge_merge`, but without a level.
+/// Writes one line for each row, with its verdict, as `oim_merge::verdict_lines` does. Otherwise it
+/// is like `xbrlmerge_merge`, but without a level.
 ///
 /// Errors, by the status: as for `xbrlmerge_merge`, but never `TOO_LOOSE` or `BAD_LEVEL`.
 #[unsafe(no_mangle)]
@@ -191,8 +191,8 @@ pub extern "C" fn xbrlmerge_sources(
     )
 }
 
-/// Writes a JSON object with the verdict on each row, one per line, as `row_formats::verdict_rows`
-/// does. Otherwise it is like `xbrlmerge_verdicts`.
+/// Writes one JSON object for each row, one per line, as `row_formats::verdict_rows` does. Otherwise
+/// it is like `xbrlmerge_verdicts`.
 #[unsafe(no_mangle)]
 pub extern "C" fn xbrlmerge_verdicts_json(
     alloc: Global,

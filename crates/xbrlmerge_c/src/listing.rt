@@ -23,8 +23,8 @@ pub(crate) enum Listing {
     SourcesJson,
 }
 
-/// The body of each exported call that lists verdicts or sources, under the same contract and with
-/// the same parameters.
+/// The body of each exported call that lists verdicts or sources. It has the same contract, and one
+/// more parameter, `listing`.
 pub(crate) fn list(
     alloc: Global,
     listing: Listing,

@@ -21,7 +21,8 @@ const BAD_SHEET: &str = r#"{"concepts":{"eg:A":"numeric"}}"#;
 const HUNDRED: &str =
     r#"{"documentInfo":{"documentType":"https://xbrl.org/2021/xbrl-json","namespaces":{"eg":"http://example.org/t"}},"facts":{"a":{"value":"100","decimals":0,"dimensions":{"concept":"eg:A"}}}}"#;
 
-/// An accepted report, one with a prefix that is not bound, and one that contradicts the first.
+/// An accepted report, a refused one with an unbound prefix, and an accepted one that contradicts
+/// the first.
 const REPORTS: &str =
     r#"{"documentInfo":{"documentType":"https://xbrl.org/2021/xbrl-json","namespaces":{"eg":"http://example.org/t"}},"facts":{"a":{"value":"100","decimals":0,"dimensions":{"concept":"eg:A"}}}}{"documentInfo":{"documentType":"https://xbrl.org/2021/xbrl-json","namespaces":{"eg":"http://example.org/t"}},"facts":{"a":{"value":"1","dimensions":{"concept":"q:A"}}}}{"documentInfo":{"documentType":"https://xbrl.org/2021/xbrl-json","namespaces":{"eg":"http://example.org/t"}},"facts":{"b":{"value":"102","decimals":0,"dimensions":{"concept":"eg:A"}}}}"#;
 
@@ -40,7 +41,7 @@ const VERDICTS_JSON: &[u8] =
 const SOURCES_JSON: &[u8] =
     b"{\"fact\":\"f1\",\"report\":1,\"identifier\":\"a\"}\n{\"fact\":\"f2\",\"report\":3,\"identifier\":\"b\"}\n";
 
-/// The content of a buffer before a call.
+/// The content of each output record before a call.
 const BEFORE: RefusedReport = RefusedReport {
     report: 7,
     fact: 7,

@@ -9,7 +9,7 @@ complete -c xbrlmerge -n '__fish_seen_subcommand_from merge verdicts sources che
 complete -c xbrlmerge -n '__fish_seen_subcommand_from merge verdicts sources check explain replay' -l sheet -r -F -d 'The sheet'
 complete -c xbrlmerge -n '__fish_seen_subcommand_from merge verdicts sources check explain replay' -s o -l output -r -F -d 'Write the complete output to this file, or nothing'
 complete -c xbrlmerge -n '__fish_seen_subcommand_from merge verdicts sources explain replay' -l reports-from -r -F -d 'Also read the reports named in this file'
-complete -c xbrlmerge -n '__fish_seen_subcommand_from merge verdicts sources explain replay' -s 0 -l null -d 'Names in it end with NUL'
+complete -c xbrlmerge -n '__fish_seen_subcommand_from merge verdicts sources explain replay' -s 0 -l null -d 'Report names in the file end with NUL'
 complete -c xbrlmerge -n '__fish_seen_subcommand_from merge verdicts sources explain replay' -l quiet -d 'Do not show progress'
 complete -c xbrlmerge -n '__fish_seen_subcommand_from merge' -l allow -x -a 'none complete consistent all' -d 'The loosest level that a row may have'
 complete -c xbrlmerge -n '__fish_seen_subcommand_from verdicts sources' -l format -x -a 'lines json csv' -d 'The output format'

@@ -58,7 +58,7 @@ pub(crate) fn of<'w>(matches: &ArgMatches<'w>) -> Option<Subcommand<'w>> {
 /// Reads the report with this name and writes a line to `out` if it is accepted. A refused report
 /// is returned as report 1.
 ///
-/// Errors: `Unread`, out of memory, and `Device`.
+/// Errors: `Unread`, `TooLong`, out of memory, and `Device`.
 pub(crate) fn run<'n, F: Files, E: Write, S: Sink>(
     report: &'n str,
     sheet: &Sheet,

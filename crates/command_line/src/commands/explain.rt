@@ -60,9 +60,10 @@ pub(crate) fn words<'w>(alloc: Global) -> Result<Command<'w>, AllocError> {
     with_reports(alloc, command.arg(format_argument(alloc))?)
 }
 
-/// Reads the sheet and the reports, one after another, and writes the lines for each file to `out`.
+/// Reads the sheet and the reports, one after another, and writes a line for each fault to `out`.
+/// In the format `Text`, a line with the counts follows. Returns the number of faults.
 ///
-/// Errors: `Unread`, `Sheet`, out of memory, and `Device`.
+/// Errors: `Unread`, `TooLong`, `Sheet`, out of memory, and `Device`.
 pub(crate) fn run<'n, F: Files, E: Write, S: Sink>(
     name: &'n str,
     format: Format,
@@ -112,7 +113,7 @@ fn put_under<'n, F: Files, E: Write, S: Sink>(
     put_each(&sheet, format, inputs, out, repeated)
 }
 
-/// Errors: `Sheet` with the lines that explain it; out of memory.
+/// Errors: `Sheet` with the line that describes its fault; out of memory.
 fn read_sheet<'n>(alloc: Global, name: &str, bytes: &[u8]) -> Result<Sheet, Error<'n>> {
     match sheet_of(alloc, bytes) {
         Err(Error::Sheet(reason, _)) => {
@@ -139,7 +140,7 @@ impl Counts {
     }
 }
 
-/// Returns the number of lines.
+/// Writes the lines and returns their number.
 fn put_explained<'n, S: Sink>(
     out: &mut S,
     explained: Result<Explained, AllocError>,
@@ -152,7 +153,7 @@ fn put_explained<'n, S: Sink>(
     Ok(explained.faults)
 }
 
-/// `faults` is the number of lines about the sheet, which were printed before.
+/// `faults` is the number of lines about the sheet, which were written before.
 fn put_each<'n, F: Files, E: Write, S: Sink>(
     sheet: &Sheet,
     format: Format,

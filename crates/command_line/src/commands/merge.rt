@@ -62,7 +62,7 @@ pub(crate) fn of<'w>(matches: &ArgMatches<'w>) -> Option<Subcommand<'w>> {
 /// Reads and adds the reports, and writes the merged text to `out`. Returns the refused reports
 /// with their numbers, from 1.
 ///
-/// Errors: `Unread`, and the errors of `Consolidation::finish_last`.
+/// Errors: `Unread`, `TooLong`, and the errors of `Consolidation::finish_last`.
 pub(crate) fn run<'n, F: Files, E: Write, S: Sink>(
     allow: Level,
     sheet: &Sheet,

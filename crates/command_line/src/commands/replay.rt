@@ -71,8 +71,8 @@ pub(crate) fn of<'w>(matches: &ArgMatches<'w>) -> Option<Subcommand<'w>> {
 /// Reads the schedule and the reports, runs the schedule on the replicas and writes the text of
 /// each replica to `out`. Returns the refused takes with the numbers of their reports, from 1.
 ///
-/// Errors: `Unread`; `Event` if a line is not an event or names something that does not exist; out
-/// of memory; `Device`. A line that is not an event is found before any report is read.
+/// Errors: `Unread`; `TooLong`; `Event` if a line is not an event or names something that does not
+/// exist; out of memory; `Device`. A line that is not an event is found before any report is read.
 pub(crate) fn run<'n, F: Files, E: Write, S: Sink>(
     replicas: usize,
     schedule: &'n str,

@@ -53,7 +53,7 @@ pub(crate) fn words<'w>(alloc: Global) -> Result<Command<'w>, AllocError> {
 /// Reads the reports and writes the line of each fact object in an accepted report to `out`.
 /// Returns the refused reports with their numbers, from 1.
 ///
-/// Errors: `Unread`, and the errors of `source_lines` and `source_rows`.
+/// Errors: `Unread`, `TooLong`, and the errors of `source_lines` and `source_rows`.
 pub(crate) fn run<'n, F: Files, E: Write, S: Sink>(
     format: PrintFormat,
     sheet: &Sheet,

@@ -55,7 +55,8 @@ pub(crate) fn words<'w>(alloc: Global) -> Result<Command<'w>, AllocError> {
 /// Reads and adds the reports, and writes each row to `out`. Returns the refused reports with their
 /// numbers, from 1.
 ///
-/// Errors: `Unread`, and the errors of `Consolidation::finish_lines_last` and `finish_rows_last`.
+/// Errors: `Unread`, `TooLong`, and the errors of `Consolidation::finish_lines_last` and
+/// `finish_rows_last`.
 pub(crate) fn run<'n, F: Files, E: Write, S: Sink>(
     format: PrintFormat,
     sheet: &Sheet,

@@ -49,7 +49,8 @@ fn stop_unflushed(rt: &HostRuntime, rows: &[(&str, &str)]) -> Result<bool, Fail>
     Ok(all)
 }
 
-/// Returns whether the program ends like this when standard error takes only three bytes.
+/// Returns whether the program ends with this status and this standard output when standard error
+/// takes only three bytes.
 fn ends_unheard(rt: &HostRuntime, words: &[&str], status: u8, out: &[u8]) -> bool {
     let input = TestReader::new(b"", Step::All, Then::Fails);
     let mut out = Expecting::just(out);
@@ -90,7 +91,8 @@ fn holds(rt: &HostRuntime, name: &str, parts: &[&str]) -> Result<bool, Fail> {
     Ok(held.as_slice() == text.as_slice())
 }
 
-/// Returns whether the program ends with status 0 and prints this on a terminal.
+/// Returns whether the program ends with status 0 and prints exactly this on standard error, which
+/// is a terminal.
 fn shows_once(rt: &HostRuntime, words: &[&str], shown: &str) -> bool {
     let mut err = Expecting::just(shown.as_bytes());
     let mut streams = piped(
@@ -115,7 +117,7 @@ fn show(rt: &HostRuntime, rows: &[(&str, &str)]) -> Result<bool, Fail> {
     Ok(all)
 }
 
-// One test makes the files, since tests may run in parallel.
+// One test makes and uses the files: tests may run in parallel, and share the current folder.
 #[test]
 fn files_are_read_and_answered(rt: HostRuntime) -> Result<(), Fail> {
     made(&rt)?;

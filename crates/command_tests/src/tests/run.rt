@@ -139,8 +139,8 @@ fn a_refused_sheet_ends_the_run(rt: HostRuntime) -> Result<(), Fail> {
     Ok(())
 }
 
-/// Returns whether the run stops with this line and standard output contains exactly this text, if
-/// standard output has this much room.
+/// Returns whether the run ends with status 3 and this line, and standard output contains exactly
+/// this text, if standard output has this much room.
 fn stops(
     rt: &HostRuntime,
     input: TestReader<'_>,
@@ -163,8 +163,8 @@ fn a_full_device_ends_the_run(rt: HostRuntime) -> Result<(), Fail> {
     Ok(())
 }
 
-/// Returns whether the run stops, reports that its input cannot be read, and writes nothing else;
-/// None if memory was refused.
+/// Returns whether the run ends with status 3 and prints only that its input cannot be read; None
+/// if memory was refused.
 fn is_unread(rt: &HostRuntime, input: TestReader<'_>) -> Option<bool> {
     let mut out = Expecting::just(b"");
     let mut err = Either(

@@ -5,8 +5,8 @@ use test_helpers::asked_again::tell_refused;
 use test_helpers::devices::{FullAfter, Step, TestReader, Then};
 use test_helpers::expecting::Expecting;
 
-/// Returns whether the program stops with these lines when its input and standard error are
-/// terminals.
+/// Returns whether the program ends with status 3 and these lines when its input and standard error
+/// are terminals.
 fn shows_once(rt: &HostRuntime, words: &[&str], input: &str, lines: &str) -> bool {
     let mut err = Expecting::just(lines.as_bytes());
     let streams = Streams {
@@ -20,7 +20,7 @@ fn shows_once(rt: &HostRuntime, words: &[&str], input: &str, lines: &str) -> boo
     status == 3 && err.is_met()
 }
 
-// The program is run again if the lines differ, since memory may have been refused.
+// The program is run again if the status or the lines differ: memory may have been refused.
 fn shows(rt: &HostRuntime, words: &[&str], input: &str, lines: &str) -> bool {
     if shows_once(rt, words, input, lines) {
         return true;

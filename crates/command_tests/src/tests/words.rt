@@ -3,15 +3,16 @@ use std::test::Fail;
 use test_helpers::devices::FullAfter;
 use test_helpers::expecting::Expecting;
 
-// clap prints help and usage.
+// clap prints help and errors, so only the beginning of these texts is compared.
 
-/// Returns whether the arguments are refused, with clap's text on standard error only.
+/// Returns whether the program ends with status 3 and prints an error, on standard error only.
 fn is_usage(rt: &HostRuntime, words: &[&str]) -> bool {
     let out = Expecting::just(b"");
     ends(rt, words, 3, out, Expecting::front(b"error: "))
 }
 
-/// Returns whether a text that begins like this is printed on standard output only.
+/// Returns whether the program ends with status 0 and prints a text that begins like this, on
+/// standard output only.
 fn is_answered(rt: &HostRuntime, words: &[&str], front: &str) -> bool {
     let out = Expecting::front(front.as_bytes());
     ends(rt, words, 0, out, Expecting::just(b""))

@@ -48,7 +48,7 @@ pub(crate) fn reports(alloc: Global, each: &[&str]) -> Result<Vec<Encoded>, Allo
     Ok(reports)
 }
 
-/// True if only the second report is refused, at its first fact.
+/// True if only the second report is refused, for the unbound prefix of its first fact.
 fn tells_second(refused: &Refusals) -> bool {
     let mut refused = refused.as_slice().iter();
     let told = match refused.next() {

@@ -169,7 +169,7 @@ fn calls_of_endless(rt: &HostRuntime) -> Option<u64> {
     }
 }
 
-/// Reads a source that repeats one byte. Also returns the number of its failures.
+/// Reads a source of `LONG` equal bytes. Also returns the number of its failures.
 fn read_repeated(rt: &HostRuntime) -> (Result<Encoded, ReadFault>, u64) {
     let mut source = StdSource::new(io::repeat(7).take(u64::from(LONG)));
     let mut answer = read_all(rt.alloc(), &mut source, LONG);

@@ -48,7 +48,8 @@ fn holds(sink: &StdSink<Expecting<'_>>, text: &[u8], written: u64) -> bool {
     sink.taken() == written && sink.failures() == 0 && written <= text.len() as u64
 }
 
-/// Returns None if the sink took exactly the first `written` bytes of the text, otherwise false.
+/// If the sink took exactly the first `written` bytes of the text, prints the refusal on standard
+/// error and returns None. Otherwise returns false.
 fn wanted_memory(
     rt: &HostRuntime,
     sink: StdSink<Expecting<'_>>,
@@ -171,13 +172,14 @@ fn a_refused_base_comes_back(rt: HostRuntime) -> Result<(), Fail> {
 /// Fifty letters.
 const LETTERS: &str = "abcdefghijklmnopqrstuvwxyzabcdefghijklmnopqrstuvwx";
 
-// The last text is longer than the others. Memory for it is requested after the sink took a chunk.
+// The last value repeats `LETTERS` `MORE` times, and each other value `MANY` times. Memory for the
+// last value is requested after the sink took a chunk.
 
 const MANY: usize = 400;
 
 const MORE: usize = 1_200;
 
-/// The text of a fact with a long value, before and after the value.
+/// The text of a fact between its identifier and its value, and after the value.
 const OPEN_TEXT: [&str; 2] = [r#"":{"value":""#, r#"","dimensions":{"concept":"eg:T"}}"#];
 
 const LONG_ROOM: usize = 1 << 18;

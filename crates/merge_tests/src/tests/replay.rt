@@ -10,7 +10,7 @@ use std::alloc::{AllocError, Global};
 
 // Tests `read_events` and `replay`. After a refused request for memory, the calls are repeated.
 
-/// A fact that `calls` does not have.
+/// A fact that is not in the module `calls`.
 const HUNDRED_ONE: &str = r#""a":{"value":"101","decimals":0,"dimensions":{"concept":"eg:A"}}"#;
 
 /// Three replicas each take a report. Two of them receive texts, and one joins another.
@@ -30,7 +30,7 @@ fn played<'s>(
     replay(alloc, sheet, n, &reports, &events)
 }
 
-/// The result, if memory was not refused.
+/// Separates `OutOfMemory` from the other results.
 fn with_memory<T: Drop>(
     answer: Result<T, ReplayFault>,
 ) -> Result<Result<T, ReplayFault>, AllocError> {

@@ -119,7 +119,7 @@ fn asked<S: Sink>(
     }
 }
 
-/// The call must also return one refusal.
+/// True if the call writes exactly these bytes and returns one refusal.
 fn writes(alloc: Global, call: Call, format: RowFormat, wanted: &[u8]) -> Result<bool, AllocError> {
     let mut sink = StdSink::new(Vec::new(alloc));
     match asked(alloc, call, format, &mut sink) {

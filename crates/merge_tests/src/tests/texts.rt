@@ -18,7 +18,7 @@ const LINE: &str = "\n";
 
 const TWO_URIS: &str = r#""n1":"http://example.org/t","n2":"http://example.org/u""#;
 
-/// None if memory was refused.
+/// True if no report is refused and the merged text is exactly this; None if memory was refused.
 fn merges(rt: &HostRuntime, bundle: &[u8], text: &[u8]) -> Option<bool> {
     let mut sink = StdSink::new(Expecting::just(text));
     let accepted = match consolidate_bundle(rt.alloc(), bundle, &mut sink) {

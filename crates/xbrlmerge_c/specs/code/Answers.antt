@@ -7,7 +7,7 @@ use Rattle.xbrlmerge_c.specs.Room.{IsHanded, IsTooShort, Room, TellsReason, Tell
 use Rattle.xbrlmerge_c.specs.Statuses.{done, no_memory, refused_some, sheet_refused, too_loose, too_short}
 use Rattle.xbrlmerge_c.specs.declared.output.Made.{Made}
 
--- the text was written and the status says whether reports were refused, unless a buffer is too short
+-- the text was written and the status shows whether reports were refused, unless a buffer is too short
 abbrev pub AnswersText : List ℕ → List (ℕ × Refusal) → Room → Room → ℕ → Type 0
 AnswersText text told old new status =
     ((status ≡ too_short) × IsTooShort text told old new)

@@ -3,7 +3,7 @@ use std::test::Fail;
 use std::{env, fs};
 use test_helpers::asked_again::{INFO, OPEN_INFO, SHEET, joined, repeated};
 
-/// With this many spaces, two reports have more than a megabyte.
+/// Two reports with this many spaces each have more than a megabyte together.
 const SPACES: usize = 600_000;
 
 /// The folder for the files, which is not under version control.
@@ -12,7 +12,7 @@ pub(super) const FOLDER: &str = "out/made";
 const OTHER_INFO: &str =
     r#"{"documentInfo":{"documentType":"https://xbrl.org/2021/xbrl-json","namespaces":{"zz":"http://example.org/t"}},"facts":{"#;
 
-/// The name of each file, and its text in two parts. `zz` has the facts of `100` with another
+/// The name of each file, and its text in two parts. `zz` has the fact of `100` with another
 /// prefix.
 const FILES: [(&str, &str, &str); 24] = [
     ("sheet", "", SHEET),

@@ -53,7 +53,8 @@ fn tells_first(refused: &Refusals) -> bool {
     }
 }
 
-/// None if memory was refused.
+/// True if the whole text was written and only the first report was refused; None if memory was
+/// refused.
 pub(crate) fn came_to(
     rt: &HostRuntime,
     answer: Result<Refusals, Fault>,

@@ -5,7 +5,7 @@ use test_helpers::asked_again::holds;
 
 /// Bytes, and the number of their first line that is not an event.
 const BAD: &[(&[u8], u64)] = &[
-    // numbers that are zero, too large, or not only digits without a leading zero
+    // numbers that are zero or too large, begin with zero, or contain other characters than digits
     (b"take 01 1", 1),
     (b"take 1 01\n", 1),
     (b"take 0 1\n", 1),

@@ -156,7 +156,7 @@ fn were_sent(replayed: &Replayed<'_>, texts: &[Parts]) -> bool {
     replayed.sent(0).is_none() && replayed.sent(texts.len() + 1).is_none()
 }
 
-/// True if exactly the takes of these reports were refused, in this order, each at its first fact.
+/// True if exactly the takes of these reports were refused, in this order, with `AT_FIRST_FACT`.
 fn were_refused(replayed: &Replayed<'_>, reports: &[u64]) -> bool {
     let mut left = reports;
     for (report, refusal) in replayed.refused().as_slice() {
@@ -205,8 +205,8 @@ fn tells_what_is_apart(alloc: Global) -> Result<bool, AllocError> {
     )
 }
 
-/// The number of replicas, event lines, and the first line that names something that does not
-/// exist. There are two reports.
+/// The number of replicas, event lines, and the number of the first line that names something that
+/// does not exist. There are two reports.
 const MISSING: &[(usize, &str, u64)] = &[
     (2, "receive 1 1", 1),
     (2, "take 3 1", 1),

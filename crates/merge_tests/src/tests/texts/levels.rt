@@ -9,7 +9,7 @@ use test_helpers::canonical_parts::{
     MIDDLE_ALONE, ONE_URI, WRITTEN_BOTH, WRITTEN_HUNDRED,
 };
 
-// Tests the level that a text declares, and texts in the earlier form, which declare none.
+// Tests the level that a text declares, and texts in the earlier form, which declare no level.
 
 /// The text before and after the declared level.
 const BEFORE_LEVEL: &str =
@@ -101,7 +101,7 @@ const ROWS: &[Row] = &[
         ],
         &[CONTRADICTING_HEAD, ONE_URI, MIDDLE, WITH_NIL, END],
     ),
-    // a level that is too loose is replaced by the strictest
+    // a level that is too loose is replaced by the strictest that the facts satisfy
     (
         &[
             SHEET,
@@ -149,7 +149,8 @@ fn the_least_level_is_declared(rt: HostRuntime) -> Result<(), Fail> {
     Ok(())
 }
 
-/// A text in the earlier form and its length, and the same text in the present form and its length.
+/// A text in the earlier form and its length, and its merged text in the present form and its
+/// length, both in bytes.
 type Earlier = (
     &'static [&'static str],
     usize,
@@ -182,7 +183,7 @@ fn length(rt: &HostRuntime, parts: &[&str]) -> Result<usize, AllocError> {
     Ok(joined(rt, parts)?.len())
 }
 
-/// True if the earlier text is read and written in the present form.
+/// True if merging the earlier text gives the text in the present form.
 fn is_renewed(rt: &HostRuntime, earlier: &[&str], text: &[&str]) -> Result<bool, Fail> {
     let earlier = joined(rt, earlier)?;
     match std::str::from_utf8(&earlier) {

@@ -14,7 +14,8 @@ const FACT: &str = r#"}},"facts":{"a":{"value":"1","dimensions":{"concept":"eg:A
 const WRITTEN: &str =
     r#","xbrl":"https://xbrl.org/2021"},"taxonomy":[]},"facts":{"f1":{"dimensions":{"concept":""#;
 
-/// A fact whose unit has one name in each of 99 namespaces. Its concept is in another namespace.
+/// A bundle with one fact. Its unit has one name in each of 99 namespaces, and its concept is in
+/// another namespace.
 const NINETY_NINE: &[&str] = &[
     SHEET,
     LINE,
