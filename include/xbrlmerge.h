@@ -1,5 +1,5 @@
 /* xbrlmerge.h - merges xBRL-JSON reports about one entity into one canonical report, judges their duplicates, and lists
-   who reported what. Refused reports are returned with numbers. The calls that merge or list write the bytes that the
+   who reported what. Refused reports are returned as numbers. The calls that merge or list write the bytes that the
    program's commands print. docs/LIBRARY.md lists what is proved about the calls, and what is not.
 
    Memory. The caller provides all buffers. A call keeps no pointer after it returns, and returns none. If the buffer for

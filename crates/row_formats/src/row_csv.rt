@@ -30,7 +30,7 @@ use oim_write::{spell, spell_unit, write_defined};
 use std::alloc::{AllocError, Global};
 use std::str;
 
-/// The initial capacity of a record in bytes; few records are longer.
+/// The initial capacity of a record, in bytes. Few records are longer.
 const RECORD: usize = 1 << 9;
 
 /// The number of fields in a record.

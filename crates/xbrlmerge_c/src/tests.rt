@@ -64,7 +64,7 @@ enum Call {
     SourcesJson,
 }
 
-/// The caller's memory after a call.
+/// The status and the caller's memory after a call.
 #[derive(Drop)]
 struct Left {
     status: u32,

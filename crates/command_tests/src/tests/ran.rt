@@ -38,8 +38,8 @@ pub(crate) fn words_of<'t>(rt: &HostRuntime, line: &'t str) -> Result<Vec<&'t st
     Ok(words)
 }
 
-/// Returns whether the program ends with this status and prints these texts if standard input fails.
-/// Otherwise it also prints the status and the numbers of missing bytes.
+/// Returns whether the program, with a standard input that fails, ends with this status and prints
+/// these texts. If not, the status and the numbers of missing bytes are printed.
 pub(crate) fn ends(
     rt: &HostRuntime,
     words: &[&str],

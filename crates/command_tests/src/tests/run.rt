@@ -78,7 +78,7 @@ fn no_report_gives_the_empty_text(rt: HostRuntime) -> Result<(), Fail> {
     Ok(())
 }
 
-/// The text of the fact 100.
+/// The merged text of one fact, with the value 100.
 const HUNDRED_TEXT: &[&str] = &[HEAD, ONE_URI, MIDDLE, WRITTEN_HUNDRED, END];
 
 /// Three facts. The prefix of the second is not bound.

@@ -65,7 +65,7 @@ const ROWS: [Row; 9] = [
     ),
 ];
 
-/// Reports with the fact 100 that are not canonical, each for another reason.
+/// Reports of one fact, with the value 100, that are not canonical, each for another reason.
 const SPELLED: [&[&str]; 9] = [
     // members in another order
     &[
@@ -125,7 +125,7 @@ const SPELLED: [&[&str]; 9] = [
     ],
 ];
 
-/// A sheet with another prefix. It lists the concept of the fact 100 and three others.
+/// A sheet with another prefix. It lists the concept of that fact and three others.
 const MORE: &str =
     r#"{"namespaces":{"q":"http://example.org/t","z":"http://example.org/z"},"concepts":{"q:A":"numeric","q:B":"numeric","z:C":"text","q:Q":"name"}}"#;
 

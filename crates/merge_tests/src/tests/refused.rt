@@ -137,7 +137,7 @@ fn comes_back(rt: &HostRuntime, base: &Base<'_>) -> bool {
     }
 }
 
-/// The text of the facts 100 and 101.
+/// The merged text of two facts, with the values 100 and 101.
 const BOTH: [&str; 5] = [CONSISTENT_HEAD, ONE_URI, MIDDLE, WRITTEN_BOTH, END];
 
 fn base_writes(rt: &HostRuntime, sheet: &Sheet, report: &[u8], text: &[u8]) -> bool {

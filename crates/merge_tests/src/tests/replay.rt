@@ -30,7 +30,7 @@ fn played<'s>(
     replay(alloc, sheet, n, &reports, &events)
 }
 
-/// Separates `OutOfMemory` from the other results.
+/// Returns `AllocError` if memory was refused, otherwise the result.
 fn with_memory<T: Drop>(
     answer: Result<T, ReplayFault>,
 ) -> Result<Result<T, ReplayFault>, AllocError> {

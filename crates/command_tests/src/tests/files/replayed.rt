@@ -17,7 +17,7 @@ const NOTHING_TWICE: &[&str] = &[
     LINE_END,
 ];
 
-/// The texts of two replicas with the facts 100 and 101.
+/// The texts of two replicas, each with the values 100 and 101.
 const BOTH_TWICE: &[&str] = &[
     CONSISTENT_HEAD,
     ONE_URI,
@@ -35,7 +35,7 @@ const BOTH_TWICE: &[&str] = &[
     LINE_END,
 ];
 
-/// The texts of a replica with the fact 100 and of a replica without facts.
+/// The texts of a replica with the value 100 and of a replica without facts.
 const ONE_AND_NOTHING: &[&str] = &[
     HEAD,
     ONE_URI,

@@ -19,19 +19,19 @@ pub(super) const NOT_READ: &str = "file none: cannot be read\n";
 
 const A_FOLDER: &str = "file .: cannot be read\n";
 
-/// The text without facts.
+/// The merged text without facts.
 const EMPTY: &[&str] = &[HEAD, MIDDLE_ALONE, END];
 
-/// The text of the fact 100.
+/// The merged text of one fact, with the value 100.
 pub(super) const ONE: &[&str] = &[HEAD, ONE_URI, MIDDLE, WRITTEN_HUNDRED, END];
 
 pub(super) const FIRST: &str =
     r#""f1":{"decimals":0,"dimensions":{"concept":"n1:A"},"value":"100"},"f2":{"decimals":0,"dimensions":{"concept":"n1:A"},"value":"#;
 
-/// The text of the facts 100 and 101.
+/// The merged text of two facts, with the values 100 and 101.
 const BOTH: &[&str] = &[CONSISTENT_HEAD, ONE_URI, MIDDLE, FIRST, r#""101"}"#, END];
 
-/// The text of the facts 100 and 102.
+/// The merged text of two facts, with the values 100 and 102.
 const WIDE: &[&str] = &[CONTRADICTING_HEAD, ONE_URI, MIDDLE, FIRST, r#""102"}"#, END];
 
 pub(super) const MERGED: [Row; 17] = [
@@ -99,7 +99,7 @@ pub(super) const MERGED: [Row; 17] = [
     ),
 ];
 
-/// The line for row 1 if the row contains 100 and 101.
+/// The line for row 1 if its values are 100 and 101.
 const TOUCHING: &[&str] = &["1 f1 f2 consistent common 100.5 100.5\n"];
 
 const APART: &[&str] = &["1 f1 f2 inconsistent apart f1 f2\n"];

@@ -80,7 +80,7 @@ const ROWS: &[Row] = &[
         &[BOTH_TEXT],
     ),
     (&[SHEET, LINE, BOTH_TEXT], &[BOTH_TEXT]),
-    // every dimension that a text may have is written
+    // every dimension that a text fact may have is written
     (
         &[
             SHEET,
@@ -151,7 +151,7 @@ const ROWS: &[Row] = &[
         &[HEAD, NO_URI, r#""a.xsd","b.xsd","urn:x:Y""#, "]", NO_FACTS],
     ),
     (&[SHEET, LINE, REFERENCE], &[REFERENCE]),
-    // a text with every kind of part
+    // a report with every kind of part
     (
         &[
             SHEET,

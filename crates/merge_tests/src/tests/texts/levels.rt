@@ -17,11 +17,11 @@ const BEFORE_LEVEL: &str =
 
 const BEHIND_LEVEL: &str = r#""},"namespaces":{"#;
 
-/// Facts that contradict each other.
+/// Two facts that contradict each other: nil and 5.
 const WITH_NIL: &str =
     r#""f1":{"dimensions":{"concept":"n1:A"},"value":null},"f2":{"dimensions":{"concept":"n1:A"},"value":"5"}"#;
 
-/// Facts 100 and 102.
+/// Two facts, with the values 100 and 102.
 const WIDE: &str =
     r#""f1":{"decimals":0,"dimensions":{"concept":"n1:A"},"value":"100"},"f2":{"decimals":0,"dimensions":{"concept":"n1:A"},"value":"102"}"#;
 

@@ -6,7 +6,7 @@ use test_helpers::canonical_parts::{CONTRADICTING_HEAD, END, HEAD, MIDDLE, ONE_U
 // Tests the order of facts and their identifiers. In the first four rows, the report lists the
 // facts in reverse order.
 
-/// The facts 1 to 9.
+/// Nine facts, with the values 1 to 9.
 const NINE: &str =
     r#""a":{"value":"1","decimals":0,"dimensions":{"concept":"eg:A"}},"b":{"value":"2","decimals":0,"dimensions":{"concept":"eg:A"}},"c":{"value":"3","decimals":0,"dimensions":{"concept":"eg:A"}},"d":{"value":"4","decimals":0,"dimensions":{"concept":"eg:A"}},"e":{"value":"5","decimals":0,"dimensions":{"concept":"eg:A"}},"f":{"value":"6","decimals":0,"dimensions":{"concept":"eg:A"}},"g":{"value":"7","decimals":0,"dimensions":{"concept":"eg:A"}},"h":{"value":"8","decimals":0,"dimensions":{"concept":"eg:A"}},"i":{"value":"9","decimals":0,"dimensions":{"concept":"eg:A"}}"#;
 
