@@ -17,8 +17,8 @@ const BACK: &str = "\r";
 
 const CLEARED: &str = "\r\x1b[K";
 
-/// Standard error. On a terminal, one line shows the number of reports read. Failed writes are
-/// ignored.
+/// Standard error. If it is a terminal and `is_quiet` is not set, one line shows how many reports
+/// and megabytes were read. Failed writes are ignored.
 #[derive(Drop)]
 pub(crate) struct Console<E> {
     err: E,

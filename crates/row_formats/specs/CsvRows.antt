@@ -42,7 +42,7 @@ columns =
 abbrev pub is_skipped : ℕ → Bool
 is_skipped b = nat_lt b 33 || b == 34 || b == 39 || (nat_lt 127 b && nat_lt b 195) || (nat_lt 224 b && nat_lt b 228)
 
--- the first byte of a formula: + - = @, or the first byte of a full-width sign or of U+FEFF
+-- a byte that may begin a formula: + - = @, or 239, which begins full-width signs and U+FEFF
 abbrev pub is_sign : ℕ → Bool
 is_sign b = b == 43 || b == 45 || b == 61 || b == 64 || b == 239
 

@@ -23,7 +23,7 @@ pub(crate) fn piped<R, O, E>(input: R, out: O, err: E) -> Streams<R, O, E> {
     }
 }
 
-/// Returns the arguments in a line, separated by single spaces.
+/// Splits a line into arguments at each space.
 pub(crate) fn words_of<'t>(rt: &HostRuntime, line: &'t str) -> Result<Vec<&'t str>, AllocError> {
     let mut words = match Vec::with_capacity(rt.alloc(), MOST_WORDS) {
         Ok(made) => made,

@@ -205,7 +205,7 @@ pub(super) const WRITTEN: [Row; 6] = [
     ),
 ];
 
-/// The progress that a terminal shows.
+/// Arguments, and the progress that a terminal shows.
 pub(super) const SHOWN: [(&str, &str); 3] = [
     (
         "verdicts --sheet sheet 100 101",

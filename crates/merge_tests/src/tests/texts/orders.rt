@@ -75,7 +75,7 @@ const ROWS: &[Row] = &[
             END,
         ],
     ),
-    // members are in order
+    // taxonomy-defined members, and then languages, are in order
     (
         &[
             SHEET,
