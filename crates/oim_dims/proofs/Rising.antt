@@ -21,7 +21,7 @@ use Rattle.oim_dims.proofs.Places.{below_all, less_is}
 abbrev Item : Type 0
 Item = QName × Member
 
--- members are ordered by name, then by member
+-- dimensions with their members are ordered by name, then by member
 abbrev pub item_order : Item → Item → Ordering
 item_order x y = ordering_then (name_cmp x.0 y.0) (derived_member.it x.1 y.1)
 

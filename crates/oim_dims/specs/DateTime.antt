@@ -18,7 +18,7 @@ matches_picture e = if e.0 == 48 then is_ascii_digit e.1 else e.1 == e.0
 unfoldable pub has_picture : List ℕ → Bool
 has_picture t = length t == 19 && list_all matches_picture (zip picture t)
 
--- the number that the bytes i to j - 1 write
+-- the number that the bytes i to j - 1 denote
 abbrev pub number : List ℕ → ℕ → ℕ → ℕ
 number t i j = digits_value 10 (slice_range t i j)
 
@@ -63,12 +63,12 @@ is_date_time t = has_picture t && has_date t && has_time t && int_le (second_at 
 abbrev pub moment_of : List ℕ → Option ℤ
 moment_of t = if is_date_time t then Some (second_at t) else None
 
--- the greatest number up to a limit that passes the test, or 0
+-- the greatest number up to a limit that passes the test, or 0 if none does
 unfoldable pub greatest : (ℕ → Bool) → ℕ → ℕ
 greatest p zero = 0
 greatest p (suc n) = if p (suc n) then suc n else greatest p n
 
--- the year of a day number: the last one that begins on that day or before; the same for the month and the day
+-- the year of a day number: the last year up to 9999 that begins on that day or before; the same for the month and the day
 unfoldable pub year_of : ℤ → ℕ
 year_of d = greatest (λ y. int_le (days_from_civil (pos y) 1 1) d) 9999
 

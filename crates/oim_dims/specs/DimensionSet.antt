@@ -42,7 +42,7 @@ pub record DimensionSet : Type 0 where
   pub language : Option (List ℕ)
   pub members : List (QName × Member)
 
--- each dimension set has each dimension once, a unit that satisfies IsUnit, and moments in range
+-- a dimension set has each dimension at most once; its unit, if any, satisfies IsUnit, and its moments are in range
 pub record IsDimensionSet (d : DimensionSet) : Type 0 where
   pub members : IsTrue (rises d.members)
   pub unit : IfSome d.unit IsUnit
@@ -52,7 +52,7 @@ pub record IsDimensionSet (d : DimensionSet) : Type 0 where
 abbrev pub NamesAreThere : Type 0
 NamesAreThere = (n : QName) (es : List (QName × Member)) → IsTrue (has_name n es) ↔ ((m : Member) × Contains es (n, m))
 
--- the new list has one more member; all other members are the same
+-- the new list is in the order of names, has one more member, and keeps all others
 pub record IsOneMore (old new : List (QName × Member)) (e : QName × Member) : Type 0 where
   pub rises : IsTrue (rises new)
   pub members : (f : QName × Member) → Contains new f ↔ (Contains old f ⊎ (f ≡ e))

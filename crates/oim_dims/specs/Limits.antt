@@ -3,8 +3,8 @@ use Rattle.std.specs.Prelude.{◌≡◌, Some, None, codes}
 use Rattle.oim_dims.specs.declared.limits.TheConstants.{DAY_SECONDS, FIRST_MOMENT, LAST_MOMENT}
 use Rattle.oim_dims.specs.DateTime.{moment_of}
 
--- a day has 86,400 seconds, the first moment begins the year 0001, and the last moment is the last second of the year 9999; the
--- end of that year is not a moment
+-- a day has 86,400 seconds; moments range from the first to the last second of the years 0001 to 9999; 24:00:00 on the last day
+-- is not a moment
 pub record LimitsAre : Type 0 where
   pub day : DAY_SECONDS ≡ 86_400
   pub first : moment_of (codes "0001-01-01T00:00:00") ≡ Some FIRST_MOMENT

@@ -100,7 +100,7 @@ pub record IsUnit (m : Measures) : Type 0 where
   pub some : m.numerators ≢ []
   pub unit : m ≢ pure_alone
 
--- a measure can be written if its URI has a prefix and its first prefix has no reserved character
+-- a measure can be written if its URI has a prefix, and the first prefix of the URI has no reserved character
 abbrev pub is_writable : List Binding → QName → Bool
 is_writable bs n = option_map_or (λ p. not (list_any is_mark p)) (prefix_of bs n.uri) false
 

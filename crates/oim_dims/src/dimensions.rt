@@ -74,7 +74,7 @@ impl Dimensions {
         &self.concept
     }
 
-    /// Returns the entity that the fact is about: the URI of a scheme and an identifier.
+    /// Returns the entity that the fact is about, or None: the URI of a scheme and an identifier.
     pub fn entity(&self) -> Option<&Name>
         ensures { option_copied result ≡ self.now.entity }
     {
@@ -88,14 +88,14 @@ impl Dimensions {
         self.period
     }
 
-    /// Returns the unit of a number.
+    /// Returns the unit of a number, or None.
     pub fn unit(&self) -> Option<&Unit>
         ensures { option_copied result ≡ self.now.unit }
     {
         self.unit.as_ref()
     }
 
-    /// Returns the language of a text, as it was set.
+    /// Returns the language of a text as it was set, or None.
     pub fn language(&self) -> Option<&Text>
         ensures { option_copied result ≡ self.now.language }
     {

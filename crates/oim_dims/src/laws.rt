@@ -33,8 +33,8 @@ pub fn languages_are_kept()
     ensures { LanguagesAreKept }
 {}
 
-/// If the text of each measure is a piece that expands to the measure, the text of the unit denotes
-/// that unit and no other. Bindings that can write the unit give each measure such a text.
+/// If each measure's text expands to it and contains none of `*`, `/`, `(` and `)`, the unit's text
+/// denotes that unit and no other. Bindings that can write the unit give each measure such a text.
 pub fn units_read_back()
     ensures back { UnitsReadBack }
     ensures spelled { BindingsSpell }

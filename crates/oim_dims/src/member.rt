@@ -9,7 +9,7 @@ use std::alloc::{AllocError, Global};
 pub enum Member {
     /// The value null of a typed dimension.
     Nil,
-    /// The value of a typed dimension, as it is spelled in the report.
+    /// The value of a typed dimension: the characters that the JSON string denotes.
     Text(Text),
     /// The member of an explicit dimension.
     Name(Name),

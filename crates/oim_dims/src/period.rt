@@ -37,10 +37,10 @@ impl Period {
     }
 }
 
-/// Reads a period: one date-time, or two with `/` between them. It does not allocate.
+/// Reads a period: one date-time, or two with `/` between them. Two equal date-times denote an
+/// instant. It does not allocate.
 ///
-/// Errors: `PeriodForm` exactly if the text does not have this form; `PeriodOrder` exactly if it
-/// has this form and the end is before the start.
+/// Errors: `PeriodForm` if the text has another form; `PeriodOrder` if the end is before the start.
 pub fn read_period(_alloc: Global, text: &str) -> Result<Period, Reason>
     ensures { result ≡ period_of text.now }
 {

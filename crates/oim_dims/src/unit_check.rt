@@ -29,8 +29,8 @@ fn inner(side: &str) -> &str
 }
 
 /// Returns why a text is refused as a unit under these aliases, or None. It tests the form of the
-/// unit first (`UnitForm`). Then it tests all pieces, in this order: `NameForm`, `UnboundPrefix`,
-/// `ReservedNamespace`. It does not allocate.
+/// unit first (`UnitForm`). Then it tests all measures, first for `NameForm`, then for
+/// `UnboundPrefix`, then for `ReservedNamespace`. It does not allocate.
 pub fn unit_refusal(aliases: &Aliases, text: &str) -> Option<Reason>
     ensures { result ≡ unit_refusal aliases.now text.now }
 {
@@ -79,7 +79,7 @@ pub(crate) fn has_mark(text: &[u8]) -> bool
         .any(|c| *c == b'(' || *c == b')' || *c == b'*' || *c == b'/')
 }
 
-/// Returns the first piece of a unit's text that is refused for this reason. It does not allocate.
+/// Returns the first measure in a unit's text that is refused for this reason, or None.
 pub fn refused_piece<'t>(aliases: &Aliases, reason: Reason, text: &'t str) -> Option<&'t str>
     ensures any { is_some result ≡ some_piece (λ p. refuses reason aliases.now (a_name p)) text.now }
     ensures first { let all = numerator_pieces text.now ++ denominator_pieces text.now in

@@ -17,7 +17,7 @@ use std::alloc::Global;
 /// alone, which is not a unit.
 ///
 /// Errors: `UnitForm` exactly if the text does not have this form; otherwise the first of
-/// `NameForm`, `UnboundPrefix` and `ReservedNamespace` that applies to any piece; `OutOfMemory`.
+/// `NameForm`, `UnboundPrefix` and `ReservedNamespace` that applies to a measure; `OutOfMemory`.
 pub fn read_unit(alloc: Global, aliases: &Aliases, text: &str) -> Result<Option<Unit>, Reason>
     ensures unit { IfOk result (UnitOf aliases.now text.now) }
     ensures sorted { IfOk result (λ unit. IfSome unit IsUnit) }

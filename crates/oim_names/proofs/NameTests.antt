@@ -10,7 +10,7 @@ use Rattle.oim_names.specs.contracts.reason.ReasonPartialEq.TheImpl.{eq-value as
 use Rattle.oim_names.specs.declared.reason.Reason.{Reason}
 use Rattle.oim_names.specs.declared.reason.Reason.TheVariants.{NameForm, UnboundPrefix, ReservedNamespace}
 
--- whether a name is refused for this reason, given whether it has the form, and the URI of its prefix if it is bound
+-- whether a name is refused for this reason, given whether it has the form, and the URI that its prefix is bound to, if any
 abbrev refuses_so : Reason → Bool → Option (List ℕ) → Bool
 refuses_so NameForm form uri = not form
 refuses_so UnboundPrefix form uri = form && is_none uri

@@ -1,8 +1,8 @@
--- For each class of texts, the index of the text that was added last (own).
+-- A cache with one index for each class of texts (own).
 use Rattle.std.specs.Prelude.{ℕ, List, length, ◌+◌, ◌-◌, ◌*◌, ◌%◌}
 use Rattle.std.specs.List.{slice_index_or}
 
--- the byte at a distance from a text's end; the first byte if the text is shorter, and 0 if it is empty
+-- the byte at a distance from a text's end; the first byte if the text is shorter than the distance, and 0 if the text is empty
 abbrev pub byte_from_end : List ℕ → ℕ → ℕ
 byte_from_end t back = slice_index_or t (length t - back) 0
 

@@ -20,7 +20,7 @@ const RESERVED: &str = "https://xbrl.org/2021";
 
 /// Prefixes and the URIs that they are bound to. Contracts see the bindings in the order in which
 /// they were added. Adding n bindings takes about n log n steps, and finding the URI of a prefix
-/// about log n.
+/// among them takes at most about log n steps.
 #[derive(Debug, Drop)]
 pub struct Aliases {
     bindings: Vec<Binding>,
@@ -52,7 +52,7 @@ impl Aliases {
         }
     }
 
-    /// Returns whether both have the same bindings in the same order.
+    /// Returns whether `other` has the same bindings in the same order.
     pub fn same_as(&self, other: &Aliases) -> bool
         ensures { IsTrue result ↔ (self.now ≡ other.now) }
     {
@@ -102,7 +102,7 @@ impl Aliases {
         Ok(())
     }
 
-    /// Returns the URI that the prefix is bound to.
+    /// Returns the URI that the prefix is bound to, or None.
     pub fn uri(&self, prefix: &str) -> Option<&str>
         ensures found { option_copied result ≡ uri_of self.now prefix.now }
         ensures filled { IfSome result (λ uri. uri.now ≢ []) }
@@ -129,7 +129,7 @@ impl Aliases {
         let _bindings = &self.bindings;
     }
 
-    /// Returns the prefix that was bound to the URI first.
+    /// Returns the prefix that was bound to the URI first, or None.
     pub fn prefix_of(&self, uri: &str) -> Option<&str>
         ensures { option_copied result ≡ prefix_of self.now uri.now }
     {

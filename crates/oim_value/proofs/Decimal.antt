@@ -1,4 +1,4 @@
--- The digits that `decimal` writes for numbers of at most 64 digits.
+-- The digits that `decimal` returns for numbers of at most 64 digits.
 use Rattle.std.proofs.Common.{◌≡◌, ℕ, ◌+◌, ◌*◌, ◌/◌, ◌%◌, ◌^◌, ◌<◌, true, List, [], ◌∷◌, ◌++◌, length, get_or, append_assoc, length-append, sym, ap, ◌∙◌, arith}
 use Rattle.std.proofs.Math.ListN.{get_or-append}
 use Rattle.std.proofs.lemmas.List.{append-nil}
@@ -34,7 +34,7 @@ decimal_after n (c ∷ cs) some e small =
     ∙ ap (λ ds. ds ++ cs) (decimal_step_wide m (omega arith) (omega (arith, after_grows m cs)) ∙ (λ i. decimal (front i) ++ (last i ∷ [])))
     ∙ append_assoc (decimal n) (c ∷ []) cs
 
--- `decimal` writes the digits of a numeral that has no leading zero or is a single zero
+-- `decimal` returns a numeral's digits, given its value, if it has no leading zero or is a single zero
 pub decimal_of_digits : (ds : List ℕ) → list_all is_ascii_digit ds ≡ true → 0 < length ds → (get_or ds 0 0 ≡ 48 → length ds ≡ 1) → digits_value_after 10 0 ds < 10 ^ 64 → decimal (digits_value_after 10 0 ds) ≡ ds
 decimal_of_digits [] e some lone small = absurd (omega arith)
 decimal_of_digits (c ∷ []) e some lone small =

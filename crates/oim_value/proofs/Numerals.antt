@@ -1,4 +1,4 @@
--- The numbers that digits write.
+-- The numbers that digits denote.
 use Rattle.std.proofs.Common.{◌≡◌, ℕ, ◌+◌, ◌*◌, ◌^◌, ◌<◌, ◌≤◌, Bool, true, false, cond, eqb, List, [], ◌∷◌, ◌++◌, length, get_or, take, drop, length-append, refl, sym, ap, ◌∙◌, arith}
 use Rattle.std.specs.Prelude.{nat_lt}
 use mathlib.Core.Bool.{◌&&◌, false≢true}
@@ -121,7 +121,7 @@ few_digits xs ys dx dy few =
     let p : 10 ^ length (xs ++ ys) ≤ 10 ^ MOST_DIGITS = pow-le-pow_right {n = 10} (omega arith) {i = length (xs ++ ys)} {j = MOST_DIGITS} (omega (arith, length-append xs ys)) in
     omega (arith, after_lt 0 (xs ++ ys) (list_all-append is_ascii_digit xs ys ∙ (ap (λ b. b && list_all is_ascii_digit ys) dx ∙ dy)), p)
 
--- all digits and the significant digits write the same number of units
+-- all digits and the significant digits denote the same number of units
 pub whole_value : (i f : List ℕ) (k : ℕ) → k + length (without_trailing f) ≡ UNIT_PLACES → (digits_value_after 10 0 (without_leading i ++ without_trailing f) * 10 ^ k) * 10 ^ length f ≡ 10 ^ UNIT_PLACES * digits_value_after 10 0 (i ++ f)
 whole_value i f k e =
     let n : ℕ = digits_value_after 10 0 i in

@@ -49,7 +49,7 @@ different_meet_as_numbers (AName m) (Number n e) other meet = absurd meet
 different_meet_as_numbers (AName m) (AText t) other meet = absurd meet
 different_meet_as_numbers (AName m) (AName n) other meet = absurd (other (ap AName meet))
 
--- ---- any two members, if every two values meet
+-- ---- every two values meet exactly if any two members do
 
 pub each_two_meet_by_members : EachTwoMeetByMembers
 each_two_meet_by_members vs = (
@@ -205,7 +205,7 @@ different_meet_between_ends kind vs two different alike = (
       each_two_from vs all ((all_meet_iff_ends_meet (map interval_at vs) between.0 (all_points vs) (subst (AreEnds between.0) (intervals_are vs all) between.1.ends)).1 between.1.points),
 )
 
--- ---- the low end is above the high end
+-- ---- the greatest low end is above the least high end
 
 first_place : (p : Value → Bool) (vs : List Value) (k : ℕ) → k < length vs → p (get_or vs k Nil) ≡ true → position_or_len p vs < length vs
 first_place p vs k lt is_so = elim (cases_lt (position_or_len p vs) (length vs)) [

@@ -35,7 +35,7 @@ short_signed b n p few within = record { number = n; places = p; few = few; with
 pub ten_to : (i j : ℕ) → i ≤ j → 10 ^ i ≤ 10 ^ j
 ten_to i j h = pow-le-pow_right {n = 10} (omega arith) {i = i} {j = j} h
 
--- a text denotes the number that its significant digits write, scaled to units
+-- a text denotes the number that its significant digits denote, scaled to units
 pub denotes_from : (t i f : List ℕ) (n p : ℕ) (z : ℤ) → i ≡ integer_part t → f ≡ fraction_part t → IsTrue (is_number t) → n ≡ digits_value_after 10 0 (without_leading i ++ without_trailing f) → p ≡ length (without_trailing f) → p ≤ MOST_DIGITS → z ≡ signed (is_negative t) (n * 10 ^ (UNIT_PLACES - p)) → Denotes t z
 denotes_from t i f n p z ei ef form en ep le ez = record {
   form = form;

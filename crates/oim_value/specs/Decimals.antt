@@ -4,7 +4,7 @@ use Rattle.oim_value.specs.declared.limits.TheConstants.{MOST_DECIMALS}
 use Rattle.oim_value.specs.declared.decimals.Places.{Places}
 use Rattle.oim_value.specs.declared.decimals.Places.TheVariants.{Finite, Infinite}
 
--- finite decimals must lie in this range (own)
+-- finite decimals range from -MOST_DECIMALS to MOST_DECIMALS (own)
 abbrev pub is_finite_decimals : ℤ → Bool
 is_finite_decimals d = nat_le (unsigned_abs d) (unsigned_abs MOST_DECIMALS)
 
@@ -13,7 +13,7 @@ abbrev pub AreDecimals : Option ℤ → Type 0
 AreDecimals (Some d) = IsTrue (is_finite_decimals d)
 AreDecimals None = Unit {0}
 
--- contracts see the number of finite decimals, and None for infinite ones
+-- contracts see the number of places, or None for infinite decimals
 abbrev pub finite_of : Places → Option ℤ
 finite_of (Finite d) = Some d
 finite_of Infinite = None

@@ -74,10 +74,10 @@ pub record IsCommonPoint (a b : Interval) (units : ℤ) : Type 0 where
   pub first : IsWithin units a
   pub second : IsWithin units b
 
--- non-empty intervals meet exactly if some number lies in both
+-- two non-empty intervals meet exactly if some number lies in both
 abbrev pub MeetsByCommonPoint : Type 0
 MeetsByCommonPoint = (a b : Interval) → HasPoints a → HasPoints b → IsTrue (intervals_meet a b) ↔ ((units : ℤ) × IsCommonPoint a b units)
 
--- non-empty intervals meet exactly if their common part is not empty
+-- two non-empty intervals meet exactly if their common part is not empty
 abbrev pub MeetsByCommonPart : Type 0
 MeetsByCommonPart = (a b : Interval) → HasPoints a → HasPoints b → IsTrue (intervals_meet a b) ↔ HasPoints (common_part a b)

@@ -27,7 +27,7 @@ abbrev pub sign_text : ℤ → List ℕ
 sign_text (pos n) = []
 sign_text (negsuc n) = 45 ∷ []
 
--- a number of units as a text: a sign if it is negative, the digits before the point, and the significant digits after it
+-- a number of units as a text: `-` if it is negative, the integer digits, and a point with the fraction digits if there are any
 abbrev pub plain : ℤ → List ℕ
 plain units = sign_text units ++ (integer_digits (unsigned_abs units) ++ with_point (fraction_digits (unsigned_abs units)))
 

@@ -66,6 +66,6 @@ pub record AreApart (vs : List Value) (i j : ℕ) : Type 0 where
   pub second_there : slice_get vs j ≡ Some second
   pub apart : Meets first second → ⊥
 
--- if the low end is above the high end, the values at the indices of these ends do not meet
+-- if the greatest low end is above the least high end, the first values with these ends do not meet
 abbrev pub CrossedEndsAreApart : Type 0
 CrossedEndsAreApart = (vs : List Value) (e : Interval) → AreEnds e (intervals_of vs) → e.high <ℤ e.low → AreApart vs (place_of_least_high e vs) (place_of_greatest_low e vs)

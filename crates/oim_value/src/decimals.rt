@@ -15,8 +15,8 @@ enum Places {
 }
 
 /// How precisely a number is reported (Open Information Model, `decimals`): rounded to a number of
-/// places after the point, or exact. A negative number counts places before the point. Contracts
-/// see the number of places, or None for an exact number. Finite decimals are ordered by number;
+/// places after the point, or exact. Negative decimals count places before the point. Contracts see
+/// the number of places, or None for an exact number. Finite decimals are ordered by number;
 /// infinite decimals are last.
 #[derive(Clone, Copy, Debug, PartialEq, Eq, PartialOrd, Ord)]
 pub struct Decimals {

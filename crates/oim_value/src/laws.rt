@@ -41,8 +41,8 @@ pub fn short_is_kept()
     ensures { ShortIsKept }
 {}
 
-/// Every number of units that fits an `i128` is writable. So is every number with at most
-/// `MOST_DIGITS` significant digits.
+/// A number of units is writable if it has at most 64 digits. Every number that fits an `i128` is
+/// writable, and so is every number with at most `MOST_DIGITS` significant digits.
 pub fn units_are_writable()
     ensures fitting { FittingIsWritable }
     ensures short { ShortIsWritable }
@@ -113,13 +113,13 @@ pub fn common_ignores_order()
     ensures idempotent { CommonIsIdempotent }
 {}
 
-/// The common part contains exactly the numbers that lie in both intervals.
+/// The common part of two intervals contains exactly the numbers that lie in both.
 pub fn common_has_both()
     ensures { CommonIsBoth }
 {}
 
-/// Non-empty intervals meet exactly if some number lies in both, and exactly if their common part
-/// is not empty.
+/// Two non-empty intervals meet exactly if some number lies in both, and exactly if their common
+/// part is not empty.
 pub fn meets_by_common_point()
     ensures point { MeetsByCommonPoint }
     ensures part { MeetsByCommonPart }
@@ -137,8 +137,8 @@ pub fn each_two_meet_by_members()
     ensures { EachTwoMeetByMembers }
 {}
 
-/// One or more intervals have one greatest low end and one least high end. A number lies between
-/// these ends exactly if it lies in every interval.
+/// One or more intervals have one greatest low end and one least high end. Between these ends lie
+/// exactly the numbers in every interval. No other non-empty interval contains exactly these.
 pub fn ends_are_common_interval()
     ensures exist { EndsExist }
     ensures one { EndsAreOne }

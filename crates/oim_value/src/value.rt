@@ -15,7 +15,7 @@ pub enum Value {
     Nil,
     /// A number and its decimals.
     Number(Fixed, Decimals),
-    /// A text as it is spelled in the report.
+    /// A text: the characters that the JSON string denotes.
     Text(Text),
     /// An expanded name.
     Name(Name),
