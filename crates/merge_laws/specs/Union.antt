@@ -10,7 +10,7 @@ module _ {K E : Type 0} (R : K → K → Ordering) (key : E → K) (join : E →
   with_item x [] = x ∷ []
   with_item x (e ∷ es) = match_ordering (R (key x) (key e)) (x ∷ e ∷ es) (join e x ∷ es) (e ∷ with_item x es)
 
-  -- the items of the second list are added to the first, the last one first
+  -- the items of the second list are added to the first, the last item first
   abbrev pub union_of : List E → List E → List E
   union_of es [] = es
   union_of es (f ∷ fs) = with_item f (union_of es fs)

@@ -15,7 +15,7 @@ use std::alloc::{AllocError, Global};
 pub(crate) struct Changes<K: Drop, V: Drop> {
     /// The merged values of the keys that both maps have, each with the index of its key.
     pub(crate) values: Vec<(usize, V)>,
-    /// The entries with new keys, each with the index of the entry before which it is inserted.
+    /// The entries with new keys, each with the index of the first old entry above it.
     pub(crate) new_entries: Vec<(usize, (K, V))>,
 }
 
@@ -40,7 +40,7 @@ pub(crate) fn changes_by<K: Key, V: Merge>(
     Ok(changes)
 }
 
-/// Does the same as `changes_by`, but consumes the other entries, so nothing is copied.
+/// Does the same as `changes_by`, but consumes the other entries, so no entry is copied.
 pub(crate) fn changes_of<K: Key, V: Merge>(
     alloc: Global,
     entries: &[(K, V)],

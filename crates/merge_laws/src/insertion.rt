@@ -3,8 +3,8 @@ ghost use Rattle.merge_laws.specs.code.Insertions.{IsFirstLeast, first_place, in
 
 use std::alloc::AllocError;
 
-// Each new item has the index of the item before which it is inserted. The first index is the
-// least.
+// Each new item has the index of the item before which it is inserted, or the length if it is
+// appended. The first new item has the least index.
 
 pub(crate) fn insert_new<E: Drop>(
     items: &mut Vec<E>,
@@ -38,7 +38,7 @@ pub(crate) fn room_for<E: Drop>(
     Vec::with_capacity(*items.allocator(), moved + news.len())
 }
 
-/// Moves only the items that follow the first new one.
+/// Inserts the new items, and moves only the items that follow the first new one.
 pub(crate) fn insert_all<E: Drop>(items: &mut Vec<E>, mut news: Vec<(usize, E)>, mut above: Vec<E>)
     requires order { IsFirstLeast (vec_len items.old) news.items }
     requires empty { above.items ≡ [] }

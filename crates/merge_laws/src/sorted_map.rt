@@ -47,7 +47,7 @@ impl<K: Key, V: Merge> SortedMap<K, V> {
         SortedMap { entries }
     }
 
-    /// Merges the value into the one at the key, or adds copies of key and value.
+    /// Merges the value into the one at the key, or adds copies of both if the key is new.
     ///
     /// Errors: out of memory; the map is then unchanged.
     pub fn put(&mut self, key: &K, value: &V) -> Result<(), AllocError>
@@ -69,7 +69,7 @@ impl<K: Key, V: Merge> SortedMap<K, V> {
     /// Merges the other map into this one, as `merge` does, but consumes the other map. New entries
     /// are moved, and values of shared keys are not copied.
     ///
-    /// Errors: out of memory; the map is then unchanged, and the other is lost.
+    /// Errors: out of memory; the map is then unchanged, and the other map is lost.
     pub fn absorb(&mut self, other: Self) -> Result<(), AllocError>
         ensures ok { OnOk result (self.new ≡ map_union K.cmp V.merged self.old other) }
         ensures err { OnErr result (self.new ≡ self.old) }
@@ -83,7 +83,7 @@ impl<K: Key, V: Merge> SortedMap<K, V> {
         moved.make(&mut self.entries)
     }
 
-    /// Returns the value at a key.
+    /// Returns the value at a key, or None.
     pub fn get(&self, key: &K) -> Option<&V>
         ensures { option_copied result ≡ value_at K.cmp key.now self.now }
     {
@@ -93,8 +93,8 @@ impl<K: Key, V: Merge> SortedMap<K, V> {
         }
     }
 
-    /// Returns the entry at an index. Entries are in the order of their keys, and indices begin
-    /// with 0.
+    /// Returns the entry at an index, or None. Entries are in the order of their keys, and indices
+    /// begin with 0.
     pub fn at(&self, place: usize) -> Option<(&K, &V)>
         ensures { option_map (λ e. (e.0.now, e.1.now)) result ≡ slice_get self.now place }
     {

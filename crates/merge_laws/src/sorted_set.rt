@@ -77,7 +77,7 @@ impl<T: Key> SortedSet<T> {
     /// Merges the other set into this one, as `merge` does, but consumes the other set. New items
     /// are moved.
     ///
-    /// Errors: out of memory; the set is then unchanged, and the other is lost.
+    /// Errors: out of memory; the set is then unchanged, and the other set is lost.
     pub fn absorb(&mut self, other: Self) -> Result<(), AllocError>
         ensures ok { OnOk result (self.new ≡ set_union T.cmp self.old other) }
         ensures err { OnErr result (self.new ≡ self.old) }

@@ -9,7 +9,7 @@ use oim_value::{Interval, Value, common, interval_of};
 use std::alloc::{AllocError, Global};
 use std::marker::Model;
 
-/// A summary of several values. It records whether one is nil and, if some are numbers, the
+/// A summary of several values. It records whether any is nil and, if some are numbers, the
 /// greatest low end and the least high end of their rounding intervals. The ends decide whether
 /// every two of the numbers meet. Texts and names are not recorded.
 #[derive(Clone, Copy, Debug, PartialEq, Eq)]

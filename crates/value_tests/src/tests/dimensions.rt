@@ -9,8 +9,8 @@ use oim_dims::{
 use oim_names::{Aliases, Copied, Name, Reason, Text};
 use std::alloc::AllocError;
 
-// `tests/refused_memory` refuses one request for memory in each run. The test then prints a line,
-// which shows whether the request was its own, and repeats the call.
+// `tests/refused_memory` refuses one request for memory in a run. The test then repeats the call,
+// and prints `refused here` if it made the request itself, or `refused` if the library made it.
 
 fn tell_refused(rt: &HostRuntime) {
     let _ = eprintln!(rt; "refused");

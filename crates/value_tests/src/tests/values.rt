@@ -11,7 +11,7 @@ pub(crate) const UNIT: i128 = 10_000_000_000_000_000_000;
 /// The greatest number: eighteen nines.
 const GREATEST: i128 = 999_999_999_999_999_999 * UNIT;
 
-// `tests/refused_memory` refuses one request for memory in each run. The test then prints a line
+// `tests/refused_memory` refuses one request for memory in a run. The test then prints `refused`
 // and repeats the call.
 
 fn tell_refused(rt: &HostRuntime) {

@@ -102,7 +102,7 @@ fn other_texts_are_no_periods(rt: HostRuntime) {
     }
 }
 
-// Returns the start and the end of a duration in seconds.
+// Returns the start and the end of a duration in seconds, or None for other periods.
 fn bounds(period: &Period) -> Option<(i64, i64)> {
     match period {
         Period::Duration(start, end) => Some((start.seconds(), end.seconds())),
@@ -174,7 +174,7 @@ fn instants_are_written_with_hours_to_23(rt: HostRuntime) {
     assert!(rt; period_text(&rt, &Period::Forever) == Ok(None));
 }
 
-// Periods in ascending order, all above forever.
+// Periods in ascending order. All are greater than `Forever`.
 const RISING: [&str; 5] = [
     "2020-01-01T00:00:00",
     "2021-01-01T00:00:00",

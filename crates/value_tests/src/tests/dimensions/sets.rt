@@ -41,7 +41,7 @@ fn add_once(
     set.add(name, member(rt, aliases, kind)?)
 }
 
-// The call consumes the name and the member, so a repeated call makes both again.
+// `Dimensions::add` consumes the name and the member, so each call needs new ones.
 fn add(
     rt: &HostRuntime,
     set: &mut Dimensions,
@@ -199,7 +199,7 @@ const TWICE: [Part; 2] = [
 
 const NIL: [Part; 1] = [Part::Member("eg:b", Kind::Nil)];
 
-// Returns whether a repeated dimension is refused and the members do not change.
+// Returns whether a repeated dimension is refused and the set still has two members.
 fn is_kept_once(rt: &HostRuntime, aliases: &Aliases) -> bool {
     match with(rt, aliases, "eg:A", &TWICE) {
         Ok(mut set) => {
@@ -275,7 +275,7 @@ pub(super) fn equals_its_copy<T: Copied + PartialEq>(rt: &HostRuntime, value: &T
     }
 }
 
-// Returns whether the call succeeded and its value equals its copy.
+// Returns whether a call succeeded and the value that it returned equals its copy.
 pub(super) fn is_copied<T: Copied + PartialEq>(rt: &HostRuntime, made: Result<T, Reason>) -> bool {
     match made {
         Ok(value) => equals_its_copy(rt, &value),

@@ -9,7 +9,7 @@ type Many = SortedMap<Place, Summary>;
 
 type Place = ((Decimals, Decimals), (Decimals, Decimals));
 
-// Returns a key that needs no memory. A greater number gives a greater key.
+// Returns a key that needs no memory. From 0 to 390,624, a greater number gives a greater key.
 fn place(number: i64) -> Place {
     (digits(number / 625), digits(number))
 }
@@ -44,7 +44,7 @@ fn is_key_right(map: &Many, number: i64) -> bool {
     map.get(&place(number)).is_some() == there
 }
 
-// Tests each 997th number.
+// Looks up only every 997th number, to save time.
 fn are_keys_right(map: &Many) -> bool {
     for number in 0..200_000i64 {
         if number % 997 == 0 && !is_key_right(map, number) {
