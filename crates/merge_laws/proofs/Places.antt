@@ -66,7 +66,7 @@ module _ {K E : Type 0} {R : K → K → Ordering} (key : E → K) (o : IsTotalO
   parted es k i h found = found (searchable_from_sorted o key es k (λ j d _ lt.
       ap is_lt (turned_less key o _ _ (rising_at es h j (j + 1) d (omega arith) lt))))
 
-  -- if the item at an index is below a key, so are all before it; if it is above, so are all after it
+  -- if the item at an index is below a key, so are all items before it; if the item is above the key, so are all items after it
   pub less_before : (es : List E) (k : K) (i : ℕ) (x : E) → IsRising R key es → i < length es → R (key (get_or es i x)) k ≡ Less → (j : ℕ) (d : E) → j < i + 1 → R (key (get_or es j d)) k ≡ Less
   less_before es k i x h within p j d lt =
       let read : R (key (get_or es i d)) k ≡ Less = ap (λ e. R (key e) k) (get_or_default es i d x within) ∙ p in

@@ -72,7 +72,7 @@ module _ {K V : Type 0} {R : K → K → Ordering} (o : IsTotalOrder R) where
       ] refl
 
   module _ (merged : V → V → V) where
-    -- an entry whose value is merged with the value at its key in the other map, if there is one
+    -- an entry whose value is merged with the other map's value at its key, if the other map has the key
     abbrev pub revalued : Option (K × V) → Option (K × V) → Option (K × V)
     revalued None b = None
     revalued (Some e) None = Some e

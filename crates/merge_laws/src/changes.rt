@@ -15,7 +15,7 @@ use std::alloc::{AllocError, Global};
 pub(crate) struct Changes<K: Drop, V: Drop> {
     /// The merged values of the keys that both maps have, each with the index of its key.
     pub(crate) values: Vec<(usize, V)>,
-    /// The entries with new keys, each with the index of the first old entry above it.
+    /// The entries with new keys, each with the index in the old entries at which it is inserted.
     pub(crate) new_entries: Vec<(usize, (K, V))>,
 }
 

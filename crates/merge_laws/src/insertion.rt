@@ -3,8 +3,8 @@ ghost use Rattle.merge_laws.specs.code.Insertions.{IsFirstLeast, first_place, in
 
 use std::alloc::AllocError;
 
-// Each new item has the index of the item before which it is inserted, or the length if it is
-// appended. The first new item has the least index.
+// Each new item has the index in the old list at which it is inserted. The first new item has the
+// least index.
 
 pub(crate) fn insert_new<E: Drop>(
     items: &mut Vec<E>,

@@ -74,7 +74,7 @@ impl Dimensions {
         &self.concept
     }
 
-    /// Returns the entity that the fact is about, or None: the URI of a scheme and an identifier.
+    /// Returns the entity that the fact is about (the URI of a scheme and an identifier), or None.
     pub fn entity(&self) -> Option<&Name>
         ensures { option_copied result ≡ self.now.entity }
     {

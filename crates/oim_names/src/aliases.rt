@@ -59,7 +59,7 @@ impl Aliases {
         self.bindings.as_slice() == other.bindings.as_slice()
     }
 
-    /// Binds the prefix to the URI. Binding it to the same URI again changes nothing.
+    /// Binds the prefix to the URI. Binding it to the same URI again, or an error, changes nothing.
     ///
     /// Errors: `Namespace` if the prefix is empty or contains white space or a colon, if the URI is
     /// empty, or if the prefix is bound to another URI (XML Namespaces 1.0, section 3; the last

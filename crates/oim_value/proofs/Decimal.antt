@@ -22,7 +22,7 @@ decimal_some n small = (lead n small).0
 pub decimal_first : (n : ℕ) → 0 < n → n < 10 ^ 64 → 48 < get_or (decimal n) 0 0
 decimal_first n some small = (lead n small).1 some
 
--- appending digits to a number appends them to its text
+-- appending digits to a positive number appends them to its text
 decimal_after : (n : ℕ) (ds : List ℕ) → 0 < n → list_all is_ascii_digit ds ≡ true → digits_value_after 10 n ds < 10 ^ 64 → decimal (digits_value_after 10 n ds) ≡ decimal n ++ ds
 decimal_after n [] some e small = sym (append-nil (decimal n))
 decimal_after n (c ∷ cs) some e small =

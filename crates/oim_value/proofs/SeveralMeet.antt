@@ -71,7 +71,7 @@ each_two_meet_by_members vs = (
 
 -- ---- numbers and their intervals
 
--- the interval of a value, or some interval if the value has none
+-- the interval of a value, or the interval of 0 if the value is not a number
 abbrev interval_at : Value → Interval
 interval_at (Number m d) = interval m d
 interval_at other = interval (pos 0) None

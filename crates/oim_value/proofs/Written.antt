@@ -47,7 +47,7 @@ point_some : (fs : List ℕ) → 0 < length fs → with_point fs ≡ 46 ∷ fs
 point_some [] some = absurd (omega arith)
 point_some (f ∷ fs) some = refl
 
--- the text of a number with all its decimal places
+-- the text of a number with all UNIT_PLACES decimal places
 abbrev pub all_places : ℤ → List ℕ
 all_places m = sign_text m ++ (integer_digits (unsigned_abs m) ++ 46 ∷ with_leading_zeros UNIT_PLACES (decimal (unsigned_abs m % 10 ^ UNIT_PLACES)))
 

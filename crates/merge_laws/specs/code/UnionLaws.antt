@@ -1,4 +1,4 @@
--- The laws of unions (own). A union is associative, commutative or idempotent if the join of two items is.
+-- The laws of unions (own). A union is associative, commutative or idempotent if joining items with equal keys is.
 use Rattle.std.specs.Prelude.{◌≡◌, true, false, cond, List, [], ◌∷◌, Option, Some, None, IfSome, refl}
 use Rattle.std.proofs.Common.{sym, ap, ◌∙◌}
 use Rattle.std.specs.declared.cmp.Ordering.{Ordering}

@@ -110,7 +110,7 @@ fn absorb_items(rt: &HostRuntime, set: &mut Items, items: &[&str]) -> Result<(),
     }
 }
 
-// Items, other items, and the items of both.
+// Two lists of items, and the items of their union.
 type Union = (
     &'static [&'static str],
     &'static [&'static str],

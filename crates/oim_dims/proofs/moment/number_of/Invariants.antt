@@ -4,7 +4,7 @@ use Rattle.std.specs.Char.{is_ascii_digit}
 use Rattle.std.specs.Str.Parse.{digits_value_after}
 use Rattle.oim_dims.proofs.moment.number_of.Given as goal
 
--- the number so far, followed by the remaining digits, is the number of all digits
+-- the number so far, extended by the remaining digits, is the number that all digits denote
 abbrev pub invariant-loop-c : goal.invariant-loop-c
 invariant-loop-c l = record {
   told : digits_value_after 10 l.number (drop l.c-index l.digits) ≡ digits_value_after 10 0 l.digits;
