@@ -1,4 +1,4 @@
--- The code's types are ordered and merged as the definitions say.
+-- The orders and merges of the code's types are the defined ones.
 use Rattle.std.proofs.Common.{◌≡◌, List, Result, Ok, Err, sym, subst}
 use Rattle.std.specs.Prelude.{OnOk}
 use Rattle.merge_laws.specs.Ends.{both_summaries}

@@ -75,7 +75,7 @@ module _ {K : Type 0} {R : K → K → Ordering} (o : IsTotalOrder R) (exact : (
   pub sets_swap : (xs ys zs : List K) → set_of R (set_of R (xs ++ ys) ++ zs) ≡ set_of R (set_of R (xs ++ zs) ++ ys)
   sets_swap xs ys zs = sym (sets_associate xs ys zs) ∙ ap (λ s. set_of R (xs ++ s)) (sets_commute ys zs) ∙ sets_associate xs zs ys
 
--- ---- the code's types are ordered as the definitions say
+-- ---- the orders of the code's types are the defined ones
 
 pub derived_set : (facts : List Fact) → set_of derived_fact.it facts ≡ set_of fact_cmp facts
 derived_set facts = λ i. set_of (λ (x y : Fact). facts_agree x y i) facts

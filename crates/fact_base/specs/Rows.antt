@@ -28,7 +28,7 @@ unfoldable pub rows_of : List Fact → List Row
 rows_of [] = []
 rows_of (f ∷ fs) = before_rows f (rows_of fs)
 
--- the dimension sets of the rows are distinct and in order; each row has exactly its values, distinct and in order
+-- the dimension sets of the rows are distinct and in order, and each fact has a row; each row has exactly its values, distinct and in order
 pub record AreRowsOf (facts : List Fact) (rows : List Row) : Type 0 where
   pub rise : IsRising dimensions_cmp entry_key rows
   pub values : All (λ r. r.1 ≡ values_at r.0 facts) rows

@@ -23,13 +23,13 @@ abbrev pub each_meet : List Value → Bool
 each_meet [] = true
 each_meet (v ∷ vs) = list_all (values_meet v) vs && each_meet vs
 
--- one value is complete; several are consistent if every two of them meet, and inconsistent otherwise
+-- None without values; one value is complete; several are consistent if every two of them meet, and inconsistent otherwise
 abbrev pub verdict_of : List Value → Option Verdict
 verdict_of [] = None
 verdict_of (v ∷ []) = Some Complete
 verdict_of (v ∷ w ∷ vs) = Some (if each_meet (v ∷ w ∷ vs) then Consistent else Inconsistent)
 
--- the verdict on the facts with these dimensions, or None if there are none
+-- the verdict on the facts with these dimensions, or None if no fact has them
 abbrev pub verdict : List Fact → DimensionSet → Option Verdict
 verdict facts s = verdict_of (values_at s facts)
 
@@ -41,7 +41,7 @@ InconsistentIsApart =
 
 -- ---- evidence
 
--- there are several values, every two meet, and the interval contains exactly the numbers that lie in all their intervals
+-- there are several values, every two meet, and the interval, which is not empty, contains exactly the numbers in all their intervals
 pub record IsCommonOf (vs : List Value) (common : Interval) : Type 0 where
   pub several : 2 ≤ length vs
   pub each : EachTwoValuesMeet vs

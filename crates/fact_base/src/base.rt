@@ -79,8 +79,8 @@ impl<'s> Base<'s> {
         }
     }
 
-    /// Returns the sheet of the reports. Each fact fits it, both lists ascend, and resolving a
-    /// reference again without a base URL changes nothing.
+    /// Returns the sheet of the reports. Each fact fits it, facts and references ascend, and
+    /// resolving a reference again without a base URL changes nothing.
     pub fn sheet(&self) -> &'s Sheet
         ensures sheet { result.now ≡ self.now.sheet }
         ensures fits { Fits self.now.sheet self.now.body }
@@ -153,7 +153,7 @@ impl<'s> Base<'s> {
         let references = with_all(self.alloc, &self.references, other.taxonomy())?;
         // Values of a shared dimension set are copied into the other base, so that a refused
         // request leaves this base unchanged. Absorbing many bases one by one therefore takes
-        // quadratic time if they share dimension sets.
+        // quadratic time if each adds values to the same dimension set.
         self.entries.absorb(other.entries)?;
         replace(&mut self.references, references);
         Ok(())
@@ -197,15 +197,15 @@ impl<'s> Base<'s> {
         same_rows(&self.entries, &other.entries) && self.taxonomy() == other.taxonomy()
     }
 
-    /// Returns the verdict on the facts with these dimensions, or None if there are none.
+    /// Returns the verdict on the facts with these dimensions, or None if no fact has them.
     pub fn verdict(&self, dimensions: &Dimensions) -> Option<Verdict>
         ensures { result ≡ verdict self.now.body.facts dimensions.now }
     {
         Some(self.row(dimensions)?.verdict())
     }
 
-    /// Returns the evidence for the verdict on the facts with these dimensions, or None if there
-    /// are none.
+    /// Returns the evidence for the verdict on the facts with these dimensions, or None if no fact
+    /// has them.
     pub fn evidence(&self, dimensions: &Dimensions) -> Option<Evidence>
         ensures there { is_some result ≡ is_some (verdict self.now.body.facts dimensions.now) }
         ensures evidence { IfSome result (IsEvidence (values_at dimensions.now self.now.body.facts)) }
@@ -225,8 +225,8 @@ impl<'s> Base<'s> {
         })
     }
 
-    /// Returns the strictest level of duplicates that allows the facts. It is never `Complete`,
-    /// because the facts are distinct.
+    /// Returns the strictest level of duplicates that allows the facts. The level is never
+    /// `Complete`, because the facts are distinct.
     pub fn level(&self) -> Level
         ensures level { result ≡ level_of self.now.body.facts }
         ensures never_complete { result ≢ Level.Complete }

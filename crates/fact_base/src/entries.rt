@@ -88,7 +88,8 @@ fn push(alloc: Global, entries: &mut Vec<Entry>, fact: &Fact) -> Result<(), Allo
     Ok(())
 }
 
-// Adds the value to the last entry, or returns false if that entry has other dimensions.
+// Adds the value to the last entry and returns true. Without an entry, or if the last has other
+// dimensions, returns false.
 fn joins_last(alloc: Global, entries: &mut Vec<Entry>, fact: &Fact) -> Result<bool, AllocError>
     requires rise { IsRising dimensions_cmp entry_key entries.old.items }
     requires below { NoneAbove fact.now.dimensions entries.old.items }
@@ -167,7 +168,7 @@ fn same_at(one: &Entries, other: &Entries, place: usize) -> bool
     }
 }
 
-/// For each dimension set, it reads only the number of values and their summary.
+/// Of each dimension set, only the number of values and their summary are read.
 pub(crate) fn level_of(entries: &Entries) -> Level
     requires rise { IsRising dimensions_cmp entry_key entries.now }
     requires summed { All (λ e. AreSummarised e.1.0 e.1.1) entries.now }

@@ -20,20 +20,19 @@ use std::marker::Model;
 /// The base absorbs a report that has at least half as many facts and references as the base,
 /// rounded down. If providers report the same figures, each fact then costs one look-up. Absorbing
 /// a smaller report would walk the whole base, so its facts and references are appended to two
-/// lists instead. When a list has more than doubled since it was last sorted, it is sorted again
-/// and repeats are removed.
+/// lists instead. Before that, a list is sorted and loses its repeats if half its length, rounded
+/// down, exceeds its length after its last sort.
 ///
-/// References count like facts. Otherwise the base would absorb reports of the same facts with
-/// different references one by one.
+/// References count like facts. Otherwise the base would absorb each report of the same facts with
+/// new references, and copy all references each time.
 #[derive(Drop)]
 pub struct Gathering<'s> {
     alloc: Global,
-    // the base that absorbed the reports of at least half its size
+    // the base of the absorbed reports
     base: Base<'s>,
     // the number of facts and references in the base
     size: u128,
-    // the facts and references of smaller reports, and how many there were when they were last
-    // sorted
+    // the facts and references of smaller reports, and how many remained after the last sort
     facts: Vec<Fact>,
     settled_facts: usize,
     references: Vec<Text>,
@@ -73,8 +72,8 @@ impl<'s> Gathering<'s> {
         }
     }
 
-    /// Returns the sheet of the reports. Each fact fits it, both lists ascend, and resolving a
-    /// reference again without a base URL changes nothing.
+    /// Returns the sheet of the reports. Each fact fits it, facts and references ascend, and
+    /// resolving a reference again without a base URL changes nothing.
     pub fn sheet(&self) -> &'s Sheet
         ensures sheet { result.now ≡ self.now.sheet }
         ensures fits { Fits self.now.sheet self.now.body }
@@ -126,7 +125,7 @@ impl<'s> Gathering<'s> {
         settle(&mut self.references, &mut self.settled_references)
     }
 
-    // Moves all facts and references to the end of the lists.
+    // Moves these facts and references to the ends of the lists.
     fn append(&mut self, mut facts: Vec<Fact>, mut references: Vec<Text>) -> Result<(), AllocError>
         requires { Fits self.old.sheet (gathered facts.items references.items) }
         ensures ok { OnOk result (self.new ≡ record self.old { body = union self.old.body (gathered facts.items references.items) }) }

@@ -9,7 +9,7 @@ use merge_laws::Summary;
 use oim_value::{Interval, Value, interval_of};
 
 /// The number of values and their summary determine the verdict, because the values fit a sheet:
-/// each is nil or of one kind. Different values meet only if both are numbers.
+/// those that are not nil are of one kind. Different values meet only if both are numbers.
 pub(crate) fn verdict_of(values: &[Value], summary: &Summary) -> Verdict
     requires { AreSummarised values.now summary.now }
     ensures { verdict_of values.now ≡ Some result }

@@ -40,8 +40,8 @@ fn place_now(places: &[usize], i: usize) -> usize
     place
 }
 
-/// Sorts the items and removes repeats if their number has more than doubled since the last time.
-/// The set of items does not change.
+/// If half the number of items, rounded down, exceeds `settled`, sorts them, removes repeats and
+/// stores their new number in `settled`. The set of items does not change.
 ///
 /// Errors: out of memory.
 pub(crate) fn settle<T: Key>(items: &mut Vec<T>, settled: &mut usize) -> Result<(), AllocError>

@@ -38,7 +38,7 @@ with_fact f es = map_with dimensions_cmp summed_of_both f.dimensions (summed f.v
 abbrev pub NoneAbove : DimensionSet → List Entry → Type 0
 NoneAbove s es = All (λ e. is_gt (dimensions_cmp e.0 s) ≡ false) es
 
--- an entry has values in order and their summary, and its facts fit the sheet
+-- an entry has one or more values in order and their summary, and its facts fit the sheet
 pub record EntryFits (sheet : Sheet) (s : DimensionSet) (kept : Summed) : Type 0 where
   pub some : kept.0 ≢ []
   pub in_order : IsSet value_cmp kept.0

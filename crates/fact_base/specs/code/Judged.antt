@@ -17,7 +17,7 @@ use Rattle.fact_base.specs.declared.verdict.Verdict.TheVariants.{Complete, Consi
 abbrev pub AreAlike : List Value → Type 0
 AreAlike vs = (v w : Value) → Contains vs v → Contains vs w → v ≢ Nil → w ≢ Nil → kind_order v ≡ kind_order w
 
--- different values in order, alike, and their summary
+-- one or more different values in order, alike, and their summary
 pub record AreSummarised (vs : List Value) (told : Summarised) : Type 0 where
   pub some : vs ≢ []
   pub in_order : IsSet value_cmp vs
@@ -25,7 +25,7 @@ pub record AreSummarised (vs : List Value) (told : Summarised) : Type 0 where
   pub alike : AreAlike vs
   pub summary : told ≡ summary_of_all vs
 
--- the common part of the intervals of values that meet: the interval between their ends, if no value is nil and low is at most high
+-- the common part of the intervals of values; None with nil, without numbers, or if no number lies in all intervals
 abbrev pub shared_by : Summarised → Option Interval
 shared_by s = option_and_then (λ ends. if s.nil || int_lt ends.high ends.low then None else Some ends) s.ends
 
