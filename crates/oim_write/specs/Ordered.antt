@@ -1,4 +1,4 @@
--- A fact object, member by member in the order of writing (own). A law says that this is the byte order of the keys.
+-- A fact object, member by member in the order of writing (own). By a law, this is the byte order of the keys.
 use Rattle.std.specs.Prelude.{◌≡◌, ℕ, List, [], ◌∷◌, codes, Option, Some, None, Contains}
 use Rattle.serde_json.specs.Data.{Data, number, string, object, Members, no_members, member}
 use Rattle.serde_json.specs.Find.{of_integer}

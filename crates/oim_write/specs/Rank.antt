@@ -52,6 +52,6 @@ WidthIsFewestDigits = (n : ℕ) → IsFewestDigits n (width n)
 abbrev pub RanksAreWithin : {K : Type 0} → (K → K → Ordering) → Type 0
 RanksAreWithin {K} R = (members : List K) (x : K) → IsStrictlySortedBy R members → Contains members x → (1 ≤ rank R x members) × (rank R x members ≤ length members)
 
--- padded texts of one width have the byte order of their numbers
+-- if numbers fit in a width, their padded texts have the byte order of the numbers
 abbrev pub PaddedKeepsOrder : Type 0
 PaddedKeepsOrder = (digits m n : ℕ) → m < n → n < 10 ^ digits → slice_cmp nat_cmp (padded digits m) (padded digits n) ≡ Less

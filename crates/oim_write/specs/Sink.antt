@@ -12,7 +12,7 @@ AppendsFirst old new text n = Appends old new (take n text) × (n ≤ length tex
 abbrev pub saturated : ℕ → ℕ
 saturated n = min n (2 ^ 64 - 1)
 
--- the sink took a first part of the text, and `written` is the number of its bytes
+-- the sink took a first part of the text; `written` counts its bytes, and saturates
 pub record AppendsFront (old new : Option (List ℕ)) (text : List ℕ) (written : ℕ) : Type 0 where
   pub front : List ℕ
   pub rest : List ℕ
@@ -20,7 +20,7 @@ pub record AppendsFront (old new : Option (List ℕ)) (text : List ℕ) (written
   pub appended : Appends old new front
   pub count : written ≡ saturated (length front)
 
--- the length that a fault contains
+-- the number of written bytes that a fault contains
 abbrev pub written_of : WriteFault → ℕ
 written_of (OutOfMemory n) = n
 written_of (Device n) = n

@@ -19,7 +19,7 @@ pub record Passes (old new : Option (List ℕ)) (before after : Pending) (text :
   pub appended : Appends old new front
   pub count : saturated after.written ≡ saturated (before.written + length front)
 
--- a fault during a push: the sink took a first part of the waiting bytes and the text, and `written` is the number of all bytes that it took
+-- a fault during a push: the sink took a first part of the waiting bytes and the text; `written` counts all bytes that it took, and saturates
 pub record Breaks (old new : Option (List ℕ)) (before : Pending) (text : List ℕ) (written : ℕ) : Type 0 where
   pub front : List ℕ
   pub rest : List ℕ

@@ -1,6 +1,6 @@
 -- The JSON value that is written for a body: xBRL-JSON 1.0, sections 2 and 3; the choice of prefixes and identifiers is own. The feature
--- `xbrl:allowedDuplicates` declares a level of duplicates (OIM Common 1.0). The earlier form declares none. In bytes, `:` is 58, `f` 102,
--- `n` 110.
+-- `xbrl:allowedDuplicates` declares a level of duplicates (OIM Common 1.0). The earlier form lacks this feature. In bytes, `:` is 58, `f`
+-- is 102 and `n` is 110.
 use Rattle.std.specs.Prelude.{ℕ, List, [], ◌∷◌, ◌++◌, codes, Option, Some, None}
 use Rattle.serde_json.specs.Data.{Data, string, array, object, Items, no_items, item, Members, no_members, member}
 use Rattle.oim_names.specs.Expansion.{reserved_uri}
@@ -14,7 +14,7 @@ use Rattle.fact_base.specs.Body.{Body, text_cmp}
 use Rattle.oim_write.specs.Rank.{numbered}
 use Rattle.oim_write.specs.Uris.{uris}
 
--- the prefix of a URI: the letter n and its rank among all URIs
+-- the prefix of a URI: the letter n and its padded rank among all URIs
 abbrev pub prefix : List (List ℕ) → List ℕ → List ℕ
 prefix us uri = numbered 110 text_cmp uri us
 
@@ -22,7 +22,7 @@ prefix us uri = numbered 110 text_cmp uri us
 abbrev pub name_text : List (List ℕ) → QName → List ℕ
 name_text us n = prefix us n.uri ++ 58 ∷ n.local_part
 
--- an identifier: the letter f and the rank of the fact among all facts
+-- an identifier: the letter f and the padded rank of the fact among all facts
 abbrev pub identifier : List Fact → Fact → List ℕ
 identifier facts f = numbered 102 fact_cmp f facts
 
@@ -42,7 +42,7 @@ text_items (t ∷ ts) = item (string t) (text_items ts)
 
 -- ---- the declared level
 
--- the feature that declares a level, before other members; no member if no level is declared
+-- the feature that declares a level, before other members; nothing is added if no level is declared
 abbrev pub features_member : Option Level → Members → Members
 features_member None others = others
 features_member (Some level) others =
@@ -55,7 +55,7 @@ xbrl_member (Some level) = member (codes "xbrl") (string reserved_uri) no_member
 
 -- ---- the whole object
 
--- each URI under its prefix, and `xbrl` last
+-- each URI under its prefix; `xbrl` is last if a level is declared
 abbrev pub namespaces_object : Option Level → List (List ℕ) → Data
 namespaces_object declared us = object (members_before (prefix us) string us (xbrl_member declared))
 
@@ -79,6 +79,6 @@ tree_declaring declared b =
 abbrev pub tree : Body → Data
 tree b = tree_declaring (Some (level_of b.facts)) b
 
--- the earlier form declares none
+-- the earlier form declares no level
 abbrev pub earlier_tree : Body → Data
 earlier_tree b = tree_declaring None b

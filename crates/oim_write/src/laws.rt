@@ -11,8 +11,8 @@ pub fn bytes_ignore_order()
     ensures { BytesIgnoreOrder }
 {}
 
-/// The tree of a body that fits a sheet has UTF-8 texts and no float, and the keys of its objects
-/// are distinct and in byte order.
+/// The tree of a body that fits a sheet has UTF-8 texts and no float, and nests at most four deep.
+/// The keys of its objects are distinct and in byte order.
 pub fn trees_are_plain()
     ensures { TreesArePlain }
 {}
@@ -33,7 +33,7 @@ pub fn padded_writes_number()
     ensures { PaddedWritesNumber }
 {}
 
-/// The width of a number is the smallest count of digits that can write it.
+/// The width of a number is the smallest count of digits, at least 1, that can write it.
 pub fn width_is_fewest_digits()
     ensures { WidthIsFewestDigits }
 {}
@@ -44,7 +44,7 @@ pub fn ranks_are_within()
     ensures uris { RanksAreWithin text_cmp }
 {}
 
-/// The byte order of numbers padded to one width is their numeric order.
+/// If numbers fit in a width, their padded texts have the byte order of the numbers.
 pub fn padded_keeps_order()
     ensures { PaddedKeepsOrder }
 {}

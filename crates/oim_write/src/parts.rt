@@ -18,7 +18,7 @@ use oim_value::{Level, Value};
 use std::alloc::{AllocError, Global};
 use std::mem;
 
-// The parts of the canonical text. If memory is refused, the text so far is dropped.
+// The parts of the canonical text. If memory is refused, the text so far may be lost.
 
 /// The text before the declared level.
 const TYPE_AND_FEATURE: &[u8] =
@@ -103,8 +103,8 @@ pub(crate) fn append_reference(
     Ok(())
 }
 
-/// `before` is the number of facts before this one. A fact is not copied, so its parts are separate
-/// parameters.
+/// `before` is the number of facts before this one. The fact is not copied, so its dimensions and
+/// its value are separate parameters.
 pub(crate) fn append_fact(
     text: &mut Vec<u8>,
     scratch: &mut Scratch,

@@ -11,7 +11,7 @@ use std::marker::Model;
 /// The number of classes. It is prime, so that days spread over all classes.
 const CLASSES: u64 = 251;
 
-/// A period with its text; `Period::Forever` has none.
+/// A period with its text; `Period::Forever` has no text.
 #[derive(Drop)]
 struct PeriodText {
     period: Period,

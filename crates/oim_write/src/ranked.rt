@@ -4,11 +4,11 @@ ghost use Rattle.oim_write.specs.Rank.{padded, width};
 use oim_names::Text;
 use std::alloc::{AllocError, Global};
 
-/// The initial capacity of a label; few labels are longer.
+/// The initial capacity of a label in bytes; few labels are longer.
 const LABEL: usize = 16;
 
-/// The identifier of a fact in a canonical text: the letter `f` and the rank of the fact, from 1,
-/// padded with zeros to as many digits as `count` has (own).
+/// Returns a fact's identifier in a canonical text: the letter `f` and the fact's rank, from 1,
+/// padded with zeros to the width of `count` (own). A longer rank is cut to its last digits.
 ///
 /// Errors: out of memory.
 pub fn identifier(alloc: Global, rank: u128, count: u128) -> Result<Text, AllocError>

@@ -8,8 +8,8 @@ pub struct SinkError;
 
 /// Takes bytes and counts its failures.
 pub trait Sink {
-    /// The bytes that it holds, if contracts can see them. A list in memory shows its bytes; a file
-    /// does not.
+    /// The bytes that it holds, if contracts can see them. They see the bytes of a list in memory,
+    /// but not those of a file.
     ghost told: { Self → Option (List ℕ) };
 
     /// The number of failures so far.

@@ -44,7 +44,7 @@ impl SinkBuffer {
 
     /// Appends bytes. Once a chunk is full, all waiting bytes are written to the sink.
     ///
-    /// Errors: `Device` if the sink failed; `OutOfMemory`.
+    /// Errors: `Device` if the sink failed; `OutOfMemory` once the waiting bytes are written.
     pub fn push<S: Sink>(&mut self, sink: &mut S, bytes: &[u8]) -> Result<(), WriteFault>
         requires { S.failures sink.old < 2 ^ 64 - 1 }
         ensures ok { OnOk result
@@ -83,8 +83,8 @@ impl SinkBuffer {
         }
     }
 
-    /// Ends the text because memory was refused. The waiting bytes are written first, so the
-    /// reported length is the length of the text so far.
+    /// Ends the text after memory was refused: writes the waiting bytes and returns `OutOfMemory`
+    /// with the length of the text so far, or `Device` if the sink failed.
     pub fn stop<S: Sink>(&mut self, sink: &mut S) -> WriteFault
         requires { S.failures sink.old < 2 ^ 64 - 1 }
         ensures broken { Breaks (S.told sink.old) (S.told sink.new) self.old [] (written_of result) }
@@ -96,7 +96,7 @@ impl SinkBuffer {
         }
     }
 
-    /// The number of bytes that the sink took.
+    /// The number of bytes that the sink took. The count saturates.
     pub fn written(&self) -> u64
         ensures { result ≡ self.now.written }
     {

@@ -15,8 +15,8 @@ use std::alloc::{AllocError, Global};
 use std::marker::Model;
 
 /// The URIs of names. Contracts see them distinct and in byte order. In memory, a sorted part is
-/// followed by later URIs in order of arrival. When the list has more than doubled since it was
-/// last sorted, it is sorted again.
+/// followed by later URIs in order of arrival, which may repeat. A new URI is appended, and then
+/// the list is sorted if half its earlier length, rounded down, exceeds the sorted part.
 #[derive(Drop)]
 pub(crate) struct UriSet {
     uris: Vec<Text>,
@@ -139,7 +139,7 @@ impl UriSet {
         }
     }
 
-    // Most URIs are at the index that is cached for their class. They request no memory.
+    // For most names, the cached index is that of their URI, and no memory is requested.
     fn add(&mut self, alloc: Global, name: &Name) -> Result<(), AllocError>
         ensures { OnOk result (Gains self.old (name.now ∷ []) self.new) }
     {

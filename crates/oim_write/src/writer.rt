@@ -34,8 +34,8 @@ pub fn text(alloc: Global, base: &Base<'_>) -> Result<Encoded, AllocError>
     }
 }
 
-/// Appends the canonical text of the base to the sink, fact by fact. Each chunk but the last has at
-/// least 64 kB. After a fault the sink has a first part of the text; the fault contains its length.
+/// Appends the canonical text of the base to the sink, in chunks of at least 65,536 bytes except
+/// the last. After a fault the sink has a first part of the text; the fault contains its length.
 ///
 /// Errors: `Device` if the sink failed; `OutOfMemory`.
 pub fn write_to<S: Sink>(alloc: Global, base: &Base<'_>, out: &mut S) -> Result<(), WriteFault>
@@ -60,7 +60,7 @@ pub fn write_to<S: Sink>(alloc: Global, base: &Base<'_>, out: &mut S) -> Result<
     buffer.flush(out)
 }
 
-// A struct of the six parameters would serve only this call.
+// The six parameters are separate, since a struct would serve only this call.
 fn write_parts<S: Sink>(
     alloc: Global,
     buffer: &mut SinkBuffer,
