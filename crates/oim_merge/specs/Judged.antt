@@ -21,7 +21,7 @@ names_of j = named j.identifiers.before j.identifiers.count
 abbrev pub judged_text : RowText → JudgedRow → List ℕ
 judged_text written j = written (names_of j) j.number (shown j.row) j.evidence
 
--- the text of a row is the same if the identifiers of its facts are
+-- the text of a row depends on the identifiers of its facts, and on no other identifiers
 abbrev pub DependsOnItsNames : RowText → Type 0
 DependsOnItsNames written =
     (name other : ℕ → List ℕ) (number : ℕ) (r : Row) (e : Evidence) → 0 < length r.1 → HasPlaces (length r.1) e →

@@ -73,7 +73,7 @@ abbrev pub text_by : Writer → Body → List ℕ
 text_by present b = canonical b
 text_by earlier b = earlier_text b
 
--- the list chooses a writer for each sent text; the present writer writes the texts after its end
+-- the list chooses a writer for each sent text; texts beyond its end have the present writer
 abbrev pub text_chosen : List Writer → ℕ → Body → List ℕ
 text_chosen writers sent b = text_by (slice_index_or writers sent present) b
 

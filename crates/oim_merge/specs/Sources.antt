@@ -31,7 +31,7 @@ mentions_in n [] facts = []
 mentions_in n (i ∷ is) [] = []
 mentions_in n (i ∷ is) (f ∷ facts) = record { report = n; identifier = i; fact = f } ∷ mentions_in n is facts
 
--- a refused report has no mentions
+-- the mentions in a report; a refused report has no mentions
 abbrev pub mentions_of : ℕ → Option (List (List ℕ)) → Result Document Refusal → List Mention
 mentions_of n None said = []
 mentions_of n (Some is) (Ok d) = mentions_in n is d.facts

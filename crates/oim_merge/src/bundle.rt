@@ -13,9 +13,9 @@ use oim_value::Level;
 use oim_write::Sink;
 use std::alloc::{AllocError, Global};
 
-/// Merges a bundle: its first line is a concept sheet, and each later line that is not empty is a
-/// report. Writes the canonical text of the accepted reports to the sink and allows all duplicates.
-/// Returns the refusals of the other reports with their numbers, from 1.
+/// Merges a bundle: its first line is a sheet, and each later line that is not empty is a report.
+/// Writes the canonical text of the accepted reports to the sink and allows all duplicates. Returns
+/// the refusals with the numbers of their reports, from 1.
 ///
 /// Errors: `Sheet` if the sheet is refused, with nothing written; `Device` if the sink failed;
 /// `OutOfMemory`.

@@ -24,9 +24,9 @@ pub struct Checked {
     pub canonical: bool,
 }
 
-/// Reads a report under a sheet, counts its facts, and compares its bytes with its canonical text
-/// (xBRL-JSON 1.0; levels as in OIM Common 1.0; the canonical text is own). The report and its
-/// canonical text may be in memory at the same time.
+/// Reads a report under a sheet, counts its facts, finds their level, and compares its bytes with
+/// its canonical text (xBRL-JSON 1.0; levels: OIM Common 1.0; the canonical text is own). The
+/// report and its canonical text may be in memory at the same time.
 ///
 /// Errors: the report's first refusal, with its place; `OutOfMemory`, at the document.
 pub fn check_report(alloc: Global, sheet: &Sheet, bytes: &[u8]) -> Result<Checked, Refusal>
@@ -48,7 +48,7 @@ pub fn check_report(alloc: Global, sheet: &Sheet, bytes: &[u8]) -> Result<Checke
     })
 }
 
-// The facts of a canonical text rise. If the facts of the report do not, no text is written.
+// The facts of a canonical text ascend. If those of the report do not, no text is made.
 fn is_canonical(
     alloc: Global,
     sheet: &Sheet,

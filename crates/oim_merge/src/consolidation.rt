@@ -11,9 +11,9 @@ use oim_value::Level;
 use oim_write::{Encoded, Sink, write_to};
 use std::alloc::Global;
 
-/// Merges reports under a sheet. Writes the canonical text of the accepted ones to the sink
-/// (xBRL-JSON 1.0; the choice of prefixes and identifiers is own). Returns the refusals of the
-/// others with their numbers, from 1.
+/// Merges reports under a sheet. Writes the canonical text of the accepted reports to the sink
+/// (xBRL-JSON 1.0; the choice of prefixes and identifiers is own). Returns the refusals with the
+/// numbers of their reports, from 1.
 ///
 /// Errors: `TooLoose` if a dimension set has duplicates above `allow`, with nothing written;
 /// `Device` if the sink failed; `OutOfMemory`.

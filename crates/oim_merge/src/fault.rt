@@ -15,7 +15,7 @@ pub enum Fault {
     TooLoose {
         /// The number of the first such dimension set, from 1.
         row: u64,
-        /// The refused reports.
+        /// The refusals, with the numbers of their reports, from 1.
         refused: Refusals,
     },
     /// The sheet is refused.

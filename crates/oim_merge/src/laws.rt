@@ -29,8 +29,8 @@ pub fn canonical_reads_back()
     ensures { CanonicalReadsBack }
 {}
 
-/// The text in the earlier form declares no level. It is read as the same facts and references,
-/// with all duplicates allowed.
+/// The text in the earlier form of a body that fits a sheet is read as the same facts and
+/// references. It declares no level, so all duplicates are allowed.
 pub fn earlier_reads_back()
     ensures { EarlierReadsBack }
 {}
@@ -100,8 +100,8 @@ pub fn lines_tell_verdicts()
 {}
 
 /// An accepted report has one mention for each fact object, with the fact that the object reports.
-/// `source_lines` lists each mention once and nothing else. Each fact of the merged reports has a
-/// line.
+/// `source_lines` has one line for each mention and no other line. Each fact of the merged reports
+/// has a line.
 pub fn sources_are_whole()
     ensures objects { EachObjectIsMentioned }
     ensures told { EachMentionIsTold }
@@ -115,14 +115,14 @@ pub fn sources_ignore_order()
 {}
 
 /// After every schedule without a bad event, a replica has the base of the documents that reached
-/// it. Replicas exchange only texts. Each sent text is accepted, whichever version wrote it.
+/// it, and each sent text is accepted, whichever version wrote it. No replica is added or lost.
 pub fn wire_agrees()
     ensures agrees { WireAgrees }
     ensures stay { ReplicasStay }
 {}
 
-/// After every schedule without a bad event, a replica has the text, verdicts and level of a new
-/// merge of the reports that reached it.
+/// After every schedule without a bad event, a replica has the text, verdicts, values and level of
+/// a new merge of the reports that reached it.
 pub fn replicas_say_as_afresh()
     ensures { ReplicasSayAsAfresh }
 {}

@@ -18,8 +18,8 @@ use oim_report::Sheet;
 use oim_write::Encoded;
 use std::alloc::{AllocError, Global};
 
-/// Finds the mentions of a base's facts in the reports that it was merged from. The mentions are
-/// sorted by fact, then report, then identifier.
+/// Returns the mentions of a base's facts in the reports that it was merged from, sorted by fact,
+/// then report, then identifier.
 ///
 /// Errors: out of memory.
 pub fn mentions_by_fact(
@@ -64,7 +64,7 @@ fn mentions_of(
     Ok(mentions)
 }
 
-// The first three are the same for all reports, the next two belong to this one.
+// The first three parameters are the same for all reports; the next two belong to this report.
 fn add_report(
     alloc: Global,
     sheet: &Sheet,
@@ -90,7 +90,7 @@ fn add_report(
     )
 }
 
-// As `add_report`, with the report's identifiers and facts in place of its bytes.
+// Does the same as `add_report`, given the report's identifiers and facts instead of its bytes.
 fn add_facts(
     alloc: Global,
     facts: &[LentFact<'_>],

@@ -9,12 +9,12 @@ use oim_report::Sheet;
 use oim_write::Encoded;
 use std::alloc::{AllocError, Global};
 
-/// Merged reports: the accepted ones as one base, and the refusals of the others.
+/// Merged reports: the accepted reports as one base, and the refusals of the others.
 #[derive(Drop)]
 pub struct Merged<'s> {
     /// The base of the accepted reports.
     pub base: Base<'s>,
-    /// The refusals of the others, with their report numbers, from 1.
+    /// The refusals, with the numbers of their reports, from 1.
     pub refusals: Refusals,
 }
 

@@ -20,8 +20,8 @@ use std::marker::Model;
 use std::mem;
 
 /// Merges reports one at a time. It stores the facts and references of the accepted reports, the
-/// refusals, and the count of all reports, but no bytes of a report. It borrows the sheet under
-/// which it reads them.
+/// refusals, the count of all reports, and a limited number of short texts of reports. It borrows
+/// the sheet under which it reads reports.
 #[derive(Drop)]
 pub struct Consolidation<'s> {
     alloc: Global,
@@ -75,8 +75,8 @@ impl<'s> Consolidation<'s> {
         Ok(consolidation)
     }
 
-    /// Reads one more report under the sheet and takes its facts, or stores its refusal with the
-    /// number of the report, from 1.
+    /// Reads one more report under the sheet and adds its facts and references, or stores its
+    /// refusal with the number of the report, from 1.
     ///
     /// Errors: out of memory; then nothing changes, and the report can be added again.
     pub fn add(&mut self, bytes: &[u8]) -> Result<(), AllocError>

@@ -14,7 +14,8 @@ use std::alloc::{AllocError, Global};
 use std::cmp::Ordering;
 
 /// The sent texts in order. Equal texts are stored and read once. The contracts guarantee that a
-/// text found here is equal. They allow `find` to miss an equal text, which only costs memory.
+/// text found by `find` is equal. They allow `find` to miss an equal text, which would cost only
+/// memory and time.
 #[derive(Drop)]
 pub(crate) struct Messages<'s> {
     /// The distinct texts, in the order of first sending.
@@ -120,7 +121,8 @@ impl<'s> Messages<'s> {
         }
     }
 
-    /// Adds the sent text with a number, from 0, to a base. Each text is read only once.
+    /// Adds the sent text at an index, from 0, to a base. Each text is read only once. If the text
+    /// is refused, the base does not change.
     ///
     /// Errors: out of memory.
     pub(crate) fn give(

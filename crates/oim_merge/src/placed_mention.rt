@@ -1,6 +1,6 @@
 use oim_names::Text;
 
-/// A mention of a base's fact in a report.
+/// A mention: a fact object in a report that reports a fact of a base.
 #[derive(Debug, Drop)]
 pub struct PlacedMention {
     /// The number of facts in the base that are less than the fact.

@@ -63,7 +63,7 @@ impl<'s> Replayed<'s> {
         self.bases.as_slice()
     }
 
-    /// The replica with this number, from 1, or None if there is none.
+    /// The replica with this number, from 1, or None if no replica has it.
     pub fn replica(&self, number: usize) -> Option<&Base<'s>>
         ensures { MatchOption result (numbered self.now.world.replicas number ≡ None)
             (λ base. numbered self.now.world.replicas number ≡ Some base.now) }
@@ -74,7 +74,7 @@ impl<'s> Replayed<'s> {
         }
     }
 
-    /// The sent text with this number, from 1, or None if there is none.
+    /// The sent text with this number, from 1, or None if no text has it.
     pub fn sent(&self, number: usize) -> Option<&Encoded>
         ensures { MatchOption result (numbered self.now.world.sent number ≡ None)
             (λ text. numbered self.now.world.sent number ≡ Some text.now) }
@@ -89,7 +89,7 @@ impl<'s> Replayed<'s> {
         &self.refused
     }
 
-    /// Returns the refused takes and drops the replicas.
+    /// Returns the refused takes and drops the replicas and the sent texts.
     pub fn into_refused(self) -> Refusals
         ensures { result ≡ self.entry.refused }
     {

@@ -5,8 +5,8 @@ use oim_report::read_report;
 use oim_write::text;
 use std::alloc::{AllocError, Global};
 
-/// Writes the canonical text of a base, reads it under the base's sheet, and takes the report into
-/// a new base. The new base is equal to the first (own).
+/// Makes the canonical text of a base, reads it under the base's sheet, takes the report into a new
+/// base, and returns the new base. It equals the given base (own).
 ///
 /// Errors: out of memory.
 pub fn read_back<'s>(alloc: Global, base: &Base<'s>) -> Result<Base<'s>, AllocError>

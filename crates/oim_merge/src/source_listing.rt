@@ -17,10 +17,10 @@ use oim_report::Sheet;
 use oim_write::{Encoded, Sink, SinkBuffer, WriteFault, identifier};
 use std::alloc::{AllocError, Global};
 
-/// Merges reports under a sheet and appends one line to the sink for each fact object in an accepted
-/// report (own). A line has the identifier of the fact in the canonical text, the number of the
-/// report from 1, and the object's own identifier as a JSON string. The lines are sorted by these
-/// three. Returns the refusals with the numbers of their reports.
+/// Merges reports under a sheet and appends one line to the sink for each fact object in an
+/// accepted report (own). A line has the identifier of the fact in the canonical text, the number
+/// of the report from 1, and the object's own identifier as a JSON string. The lines are sorted by
+/// fact, report and object identifier. Returns the refusals with the numbers of their reports.
 ///
 /// Each report is read a second time after the merge, so a plain merge need not store identifiers.
 ///
@@ -92,7 +92,7 @@ fn write_all<S: Sink, F: SourceFormat>(
     buffer.flush(out)
 }
 
-// The buffer is passed with its sink, since it does not own it.
+// The buffer is passed with its sink, since it does not own the sink.
 fn push_rows<S: Sink, F: SourceFormat>(
     alloc: Global,
     buffer: &mut SinkBuffer,

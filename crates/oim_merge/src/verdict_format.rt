@@ -27,6 +27,6 @@ pub trait VerdictFormat {
         requires { IsJudged judged.now }
         ensures { IfOk result (λ text. text.items ≡ judged_text (row_text self.now) judged.now) };
 
-    /// The text depends on the identifiers of the row's facts, and on no others.
+    /// The text depends on the identifiers of the row's facts, and on no other identifiers.
     ghost names: { (format : Self) → DependsOnItsNames (row_text format) };
 }

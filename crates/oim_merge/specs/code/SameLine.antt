@@ -1,4 +1,4 @@
--- A verdict line is the same if the identifiers of its facts are.
+-- A verdict line depends on the identifiers of its facts, and on no other identifiers.
 use Rattle.std.proofs.Common.{◌≡◌, ℕ, ◌-◌, ◌<◌, List, [], ◌∷◌, ◌++◌, length, codes, refl, arith}
 use Rattle.std.specs.Fmt.{decimal}
 use Rattle.fact_base.specs.declared.evidence.Evidence.{Evidence}
