@@ -1,4 +1,4 @@
--- Facts that fit a sheet have values of one kind, and a summary.
+-- Facts of one dimension set that fit a sheet: their values that are not nil are of one kind.
 use Rattle.std.proofs.Common.{◌≡◌, ◌≢◌, ℕ, List, Option, Some, None, refl, sym, ap, ◌∙◌}
 use Rattle.std.specs.Prelude.{Contains}
 use Rattle.std.specs.FinMap as map

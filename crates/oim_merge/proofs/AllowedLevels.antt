@@ -68,7 +68,7 @@ unique_first = each (λ l. ord_max level_cmp Unique l ≡ l) refl refl refl refl
 unique_within : (l : Level) → is_le (level_cmp Unique l) ≡ true
 unique_within = each (λ l. is_le (level_cmp Unique l) ≡ true) refl refl refl refl
 
--- ---- a row is within a level if the level of its values is
+-- ---- a row is within a level if and only if the level of its values is
 
 abbrev Within : Level → List Value → Type 0
 Within l vs = some_above l (verdict_of vs) ≡ not (is_le (level_cmp (level_of_values vs) l))

@@ -35,7 +35,7 @@ digits_are_text text digits some leads small =
     (λ e. leads (ap (λ t. get_or t 0 0) (sym text_is ∙ ap decimal e ∙ decimal_digit 0 (omega arith)))) in
     (sym text_is, (grind (arith, not_zero), small))
 
--- the parsed value, if the text begins with neither a plus nor a zero
+-- parsing succeeds exactly on the text of a number, if the text begins with neither a plus nor a zero
 pub parses_number : {E : Type 0} (text : List ℕ) (r : Result ℕ E) → ParsesUnsigned 32 10 text r → get_or text 0 0 ≢ 43 → get_or text 0 0 ≢ 48 → MatchOption (result_ok r) ((n : ℕ) → ¬ (IsNumberText text n)) (IsNumberText text)
 parses_number {E = E} text (Ok x) h plus zero =
     let read = parse_plain own {E = E} 32 text (Ok x) h plus in

@@ -44,7 +44,7 @@ joined_numbers text m n place found first second =
     let rest : drop place text ≡ 32 ∷ decimal n = drop_more text place 0 space.0 ∙ (λ i. eqb-true (get_or text place 0) 32 space.1 i ∷ second.0 i) in
     (sym (take-append-drop place text) ∙ (λ i. first.0 i ++ rest i), (first.1, second.1))
 
--- ---- a text is one number, one pair, or neither
+-- ---- a text spells at most one number, and at most one pair of numbers
 
 pub same_number : (text : List ℕ) (m n : ℕ) → IsNumberText text m → IsNumberText text n → m ≡ n
 same_number text m n is also = decimal_injective m n (omega (arith, is.1.1)) (omega (arith, also.1.1)) (sym is.0 ∙ also.0)

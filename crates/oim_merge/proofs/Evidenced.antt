@@ -38,7 +38,7 @@ use Rattle.fact_base.proofs.Summaries.{crossed_are_apart, nil_is_apart, no_numbe
 use Rattle.oim_merge.specs.Lines.{LinesTellVerdicts, WordsShowVerdicts, verdict_shown}
 use Rattle.oim_write.proofs.NumberedFacts.{row_facts, rows_facts_are}
 
--- the values of a dimension set are distinct and sorted, and each is nil or of one kind
+-- the values of a dimension set are distinct and sorted, and those that are not nil are of one kind
 summarised : (sheet : Sheet) (b : Body) → Fits sheet b → (r : Row) → Contains (rows_of b.facts) r → AreSummarised r.1 (summary_of_all r.1)
 summarised sheet b fits r at =
     let are = rows_tell_facts b.facts fits.rises.facts in

@@ -20,7 +20,7 @@ use Rattle.oim_merge.specs.Reports.{accepted, document_in}
 use Rattle.oim_merge.specs.Replicas.{Numbers, base_named, both, documents_named, joined_with, report}
 
 module _ (sheet : Sheet) (reports : List (List ℕ)) where
-  -- the document of an accepted report
+  -- the document of the report with this number, if the report is accepted
   abbrev documents_at : ℕ → List Document
   documents_at r = document_in (outcome sheet (report reports r))
 

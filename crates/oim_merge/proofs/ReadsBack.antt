@@ -93,7 +93,7 @@ type_said = is_utf8-from_IsUtf8 document_type (IsUtf8-from_ascii document_type (
 
 -- ---- the level
 
--- the level that the document declares
+-- the declared level; `all` if no level is declared
 abbrev declared_level : Option Level → Level
 declared_level None = AllLevel
 declared_level (Some l) = l
@@ -165,7 +165,7 @@ not_empty : (u : List ℕ) → u ≢ [] → bytes_eq u [] ≡ false
 not_empty [] h = absurd (h refl)
 not_empty (c ∷ cs) h = refl
 
--- the bindings after the prefixes n1, n2 ..
+-- the binding after those of the names' URIs: `xbrl`, if a level is declared
 abbrev last_bindings : Option Level → List Binding
 last_bindings None = []
 last_bindings (Some l) = (record { prefix = codes "xbrl"; uri = reserved_uri }) ∷ []
