@@ -14,7 +14,7 @@ use Rattle.fact_base.specs.Verdict.{verdict_of}
 use Rattle.fact_base.specs.declared.verdict.Verdict.{Verdict}
 use Rattle.fact_base.specs.declared.verdict.Verdict.TheVariants.{Complete, Inconsistent}
 
--- an inconsistent dimension set is above `consistent`; one with several distinct facts is above `complete` and `none`
+-- no dimension set is above `all`; an inconsistent set is above `consistent`; a set with several distinct facts is above `complete` and `none`
 abbrev pub is_above : Level → Verdict → Bool
 is_above AllLevel v = false
 is_above ConsistentLevel Inconsistent = true

@@ -30,7 +30,7 @@ pub record StopsWithin (level : Level) (b : Body) (old new : Option (List ℕ)) 
   pub within : StaysWithin level b
   pub front : AppendsFront old new (canonical b) written
 
--- nothing was appended yet
+-- nothing was appended yet, and `written` is 0
 abbrev pub StopsBefore : Option (List ℕ) → Option (List ℕ) → ℕ → Type 0
 StopsBefore old new written = (written ≡ 0) × Appends old new []
 

@@ -8,7 +8,7 @@ use Rattle.oim_merge.specs.declared.read_fault.ReadFault.TheVariants.{OutOfMemor
 abbrev pub Gives : Option (List ℕ) → Option (List ℕ) → (List ℕ → Type 0) → Type 0
 Gives old new P = (given : List ℕ) × Consumes old new given × P given
 
--- the bytes before a fault: `Device` contains their number; after `TooLong` their number exceeds the limit
+-- the bytes before a fault: `Device` contains their number, `TooLong` means more than the limit, and `OutOfMemory` means any number
 abbrev pub GivesBefore : Option (List ℕ) → Option (List ℕ) → ℕ → ReadFault → Type 0
 GivesBefore old new limit OutOfMemory = Unit {0}
 GivesBefore old new limit (Device n) = Gives old new (λ given. length given ≡ n)

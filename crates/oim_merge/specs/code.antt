@@ -1,4 +1,4 @@
--- Definitions that only private code cites: event lines, cached readings, buffered rows, and a law about verdict lines. No public contract uses them.
+-- Definitions that only private code cites: event lines, cached readings, stored texts, buffered rows, and a law about verdict lines. No public contract uses them.
 pub mod EventParts
 pub mod Held
 pub mod Kept

@@ -1,5 +1,5 @@
 //! Merges xBRL-JSON reports, from bytes to bytes. Reports are read under a sheet. Functions write
-//! the canonical text, list verdicts or sources, or run replicas that exchange texts.
+//! canonical texts, list verdicts or sources, check reports, or run replicas that exchange texts.
 #![tactic(auto)]
 
 mod bundle;

@@ -4,7 +4,7 @@ ghost use Rattle.std.specs.Io.KnownBytes.{WriteAppends};
 use crate::sink::{Sink, SinkError};
 use std::io::Write;
 
-/// A sink over a writer. It fails if a write fails, is interrupted or takes no bytes.
+/// A sink over a writer. It fails if a write fails, is interrupted or takes none of its bytes.
 #[derive(Drop)]
 pub struct StdSink<W: Write> {
     writer: W,
