@@ -9,7 +9,7 @@ use Rattle.oim_report.specs.Sheet.{Sheet}
 use Rattle.fact_base.specs.Body.{Body, body, union}
 use Rattle.fact_base.specs.BodyLaws.{IsBody}
 
--- facts fit the sheet, references are as a report keeps them, and both lists ascend
+-- facts fit the sheet; references are UTF-8, within the length limit, and do not change if resolved again without a base URL; both lists ascend
 pub record Fits (sheet : Sheet) (b : Body) : Type 0 where
   pub rises : IsBody b
   pub facts : All (FactFits sheet) b.facts

@@ -4,7 +4,7 @@
 pub enum Verdict {
     /// All facts are equal, so there is only one distinct fact.
     Complete,
-    /// There are several distinct facts, and every two of them meet.
+    /// There are several distinct facts, and every two meet: their intervals share a number.
     Consistent,
     /// Two of the facts do not meet.
     Inconsistent,

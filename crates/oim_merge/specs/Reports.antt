@@ -6,7 +6,7 @@ use Rattle.oim_report.specs.Sheet.{Sheet}
 use Rattle.oim_report.specs.declared.refusal.Refusal.{Refusal}
 use Rattle.fact_base.specs.Body.{Body, body}
 
--- the document of an accepted report
+-- the document of an accepted report; a refused report has no document
 abbrev pub document_in : Result Document Refusal → List Document
 document_in (Ok d) = d ∷ []
 document_in (Err r) = []
@@ -19,7 +19,7 @@ accepted sheet reports = flat_map (λ bytes. document_in (outcome sheet bytes)) 
 abbrev pub merged : Sheet → List (List ℕ) → Body
 merged sheet reports = body (accepted sheet reports)
 
--- the refusal of a report, with the report's number
+-- the refusal of a report, with the report's number; an accepted report has no refusal
 abbrev pub refusal_in : ℕ → Result Document Refusal → List (ℕ × Refusal)
 refusal_in n (Ok d) = []
 refusal_in n (Err r) = (n, r) ∷ []

@@ -10,7 +10,7 @@ use Rattle.fact_base.specs.Body.{Body, body}
 use Rattle.fact_base.specs.Fits.{Fits}
 use Rattle.oim_write.specs.Tree.{earlier_tree, tree, tree_declaring}
 
--- the JSON text of the body's tree, without spaces
+-- the JSON text of the body's tree, without white space between tokens
 unfoldable pub canonical : Body → List ℕ
 canonical b = compact_text (tree b)
 
