@@ -1,4 +1,4 @@
--- Facts of one dimension set that fit a sheet: their values that are not nil are of one kind.
+-- If facts of one dimension set fit a sheet, their values that are not nil are of one kind.
 use Rattle.std.proofs.Common.{◌≡◌, ◌≢◌, ℕ, List, Option, Some, None, refl, sym, ap, ◌∙◌}
 use Rattle.std.specs.Prelude.{Contains}
 use Rattle.std.specs.FinMap as map

@@ -43,7 +43,7 @@ fn place_now(places: &[usize], i: usize) -> usize
 /// If half the number of items, rounded down, exceeds `settled`, sorts them, removes repeats and
 /// stores their new number in `settled`. The set of items does not change.
 ///
-/// Errors: out of memory.
+/// Errors: out of memory; the items are then unchanged.
 pub(crate) fn settle<T: Key>(items: &mut Vec<T>, settled: &mut usize) -> Result<(), AllocError>
     ensures { set_of T.cmp items.new.items ≡ set_of T.cmp items.old.items }
 {
@@ -56,7 +56,7 @@ pub(crate) fn settle<T: Key>(items: &mut Vec<T>, settled: &mut usize) -> Result<
 
 /// Sorts the items and removes repeats.
 ///
-/// Errors: out of memory; nothing has changed.
+/// Errors: out of memory; the items are then unchanged.
 pub(crate) fn put_in_order<T: Key>(items: &mut Vec<T>) -> Result<(), AllocError>
     ensures ok { OnOk result (items.new.items ≡ set_of T.cmp items.old.items) }
     ensures err { OnErr result (items.new.items ≡ items.old.items) }

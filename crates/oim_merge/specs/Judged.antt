@@ -13,11 +13,11 @@ pub record IsJudged (j : JudgedRow) : Type 0 where
   pub room : j.identifiers.before + length j.row.values.now ≤ j.identifiers.count
   pub places : HasPlaces (length j.row.values.now) j.evidence
 
--- the identifiers of its facts
+-- the identifiers of the facts in a judged row
 abbrev pub names_of : JudgedRow → ℕ → List ℕ
 names_of j = named j.identifiers.before j.identifiers.count
 
--- its text in a format
+-- the text of a judged row in a format
 abbrev pub judged_text : RowText → JudgedRow → List ℕ
 judged_text written j = written (names_of j) j.number (shown j.row) j.evidence
 

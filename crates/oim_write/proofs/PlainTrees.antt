@@ -1,4 +1,4 @@
--- The tree of a body that fits a sheet is plain: its texts are UTF-8, the keys of its objects rise, and it nests at most four deep.
+-- The tree of a body that fits a sheet is plain: its texts are UTF-8, it has no float, the keys of its objects rise, and it nests at most four deep.
 use Rattle.std.proofs.Common.{◌≡◌, ℕ, suc, ◌≤◌, ◌<◌, List, [], ◌∷◌, length, get_or, Option, Some, None, refl, codes, arith}
 use Rattle.std.specs.Prelude.{All, IsUtf8}
 use Rattle.std.specs.Cmp.Lexicographic.{slice_cmp}
