@@ -5,35 +5,37 @@
     tools/contradictions --taxonomy PACKAGE -o DIR [options] [NAME=]REPORT ..
     tools/contradictions --from MERGED SHEET VERDICTS -o DIR [options] [PROVIDER=TEXT ..]
 
-The first form runs `xbrlmerge` on the reports and writes these files into the folder DIR:
+The first two forms run `xbrlmerge` on the reports. Each form writes these files into the folder DIR, except that --from writes
+no merged.json:
 
-    page.html           the contradictions, the largest differences first
+    page.html           the contradictions: texts, names and nil values first, then the largest differences
     contradictions.csv  their facts as a table
     rows.csv            all rows, with how many providers report each ("1 of 3")
     merged.json         the merged report
 
 Providers are named after their files: the provider of issuer.json is "issuer". NAME=REPORT sets another name. If a provider
-made several reports, repeat its NAME. A refused report is listed with the lines of `xbrlmerge explain`, and the other reports
-are used. --taxonomy makes the sheet first and writes it as sheet.json; the option may be repeated.
+made several reports, repeat its NAME. A refused report is listed with the first 20 faults that `xbrlmerge explain` finds, and
+the other reports are used. --taxonomy makes the sheet first and writes it as sheet.json; the option may be repeated.
 
 --normalise applies the rules of tools/normalise to each report first, with the same options, and lists the changes in
-changes.csv.
+changes.csv. A report that it cannot normalise is used as it is.
 
 --near NEAR.csv writes a table of pairs of rows that differ in one dimension only, perhaps by mistake: the same name or
 identifier in another namespace or scheme, other letter case or white space, dates at most a day apart, another unit or
 language, or a dimension that one row lacks. Pairs are left out if one provider reports both rows. For each set of rows that
-differ in the same dimension, at most 1,000 pairs are compared.
+differ in the same dimension, at most 1,000 pairs, or pairs with about 10,000 facts, are compared.
 
 --from uses the earlier output of `xbrlmerge merge` and `xbrlmerge verdicts`. --sources uses the output of `xbrlmerge sources`,
 and --names lists the providers in the order of the reports. Instead of both, you can name the merged report of each
 provider's own reports, as PROVIDER=TEXT.
 
 The page and changes.csv show at most 80 characters of an identifier, a URI or a text; the other tables contain them whole.
-In the tables, a ' precedes each text that a spreadsheet would read as a formula.
+In the tables, a ' precedes each text that a spreadsheet might read as a formula.
 
 Status 0: all reports were read without loss, and there is no contradiction. 1: the files are written, and there is something
-to look at: a contradiction, a refused report, a loss of --normalise or --taxonomy, or pairs that --near did not compare
-(0 with --exit-zero). 2: invalid arguments. 3: not done, and standard error says why. Then no output has changed.
+to look at: a contradiction, a refused report, a loss of --normalise, a report that it cannot normalise, a part that --taxonomy
+leaves out, or pairs that --near did not compare (0 with --exit-zero). 2: invalid arguments. 3: not done, and standard error
+says why. Then no output has changed.
 """
 from __future__ import annotations
 
@@ -84,7 +86,7 @@ def read_options() -> argparse.Namespace:
 
 
 def check(parser: argparse.ArgumentParser, options: argparse.Namespace) -> None:
-    """Exits with a usage error if options do not fit together."""
+    """Exits with a usage error if the options or the reports are invalid, or an output is also an input or another output."""
     if options.texts:
         if options.normalise or options.program:
             parser.error("--from takes neither --normalise nor --program")
@@ -112,7 +114,7 @@ def outputs_of(options: argparse.Namespace) -> list[str]:
 
 
 def inputs_of(options: argparse.Namespace) -> list[str]:
-    """Returns the input files. Errors: ValueError, as in `reports_of`."""
+    """Returns the paths of the input files. Errors: ValueError, as in `reports_of`."""
     inputs = [*options.labels, *(options.taxonomy or []), *[options.sheet] * bool(options.sheet)]
     if options.texts:
         return [*inputs, *options.texts, *[options.sources] * bool(options.sources), *(word.partition("=")[2] for word in options.words)]
@@ -136,7 +138,7 @@ def run_program(options: argparse.Namespace, progress: Progress) -> Status:
 
 
 def write(inputs: Inputs, options: argparse.Namespace, progress: Progress) -> Status:
-    """Writes the page and the tables, and prints the summary."""
+    """Writes all output files, prints the notes and the summary, and returns the status."""
     progress.show("reading the rows")
     near = Near(inputs.sources.names) if options.near else None
     reader = Reader(inputs.text, inputs.sheet, inputs.sources, near, [])
@@ -160,7 +162,7 @@ def write(inputs: Inputs, options: argparse.Namespace, progress: Progress) -> St
 
 
 def summary(reader: Reader) -> str:
-    """Returns the number of rows of each kind, as text."""
+    """Returns the number of all rows and of those of each kind, as text."""
     of = reader.counts
     rows = counted(of["inconsistent"] + of["consistent"] + of["complete"], "row")
     return f"{rows}: {counted(of['inconsistent'], 'contradiction')}, {of['consistent']} consistent, {of['complete']} reported once"

@@ -10,8 +10,8 @@ META-INF/catalog.xml maps the URL to it. The schemas of the specifications, at x
 item types are built in, except some of the data type registry.
 
 Enumeration sets are listed as text, and in the member xbrlmerge:sets, which tools/normalise reads. Standard error lists
-the parts that are left out: fractions, texts that contain prefixes (which would not be expanded), elements with an unknown
-type or substitution group or in a reserved namespace, and schemas without a namespace that no schema includes.
+the parts that are left out: concepts whose values are fractions or contain prefixes (which would not be expanded), elements
+with an unknown type or substitution group or in a reserved namespace, and schemas without a namespace that no schema includes.
 
 Files may come from untrusted sources. Only regular files are read, and, without --outside, only those in a named folder, in
 the folder of a named file, or in a package. The limits are:
@@ -40,7 +40,7 @@ def read_options() -> argparse.Namespace:
     parser.add_argument("--union", action="store_true", help="make one sheet from several")
     parser.add_argument("--megabytes", type=int, default=64, metavar="N", help="the largest file to read, by default 64")
     parser.add_argument("--outside", action="store_true", help="follow references to files outside the named folders")
-    parser.add_argument("inputs", nargs="+", metavar="INPUT", help="a schema, a package, a folder; or a sheet")
+    parser.add_argument("inputs", nargs="+", metavar="INPUT", help="a schema, a package or a folder; with --union, a sheet")
     options = parser.parse_args()
     if options.megabytes < 1:
         parser.error("--megabytes takes a number from 1")

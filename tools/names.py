@@ -16,7 +16,7 @@ Uris = Mapping[str, str]  # by prefix
 
 
 class Name(NamedTuple):
-    """A namespace and a local part. Equal namespaces are one object (`sys.intern`), which makes comparing cheap."""
+    """A namespace and a local part. Namespaces read from files are interned (`sys.intern`), which makes comparing cheap."""
 
     uri: str
     local: str

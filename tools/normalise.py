@@ -3,11 +3,11 @@
 
     tools/normalise REPORT OUT CHANGES.jsonl [--sheet SHEET] [options]
 
-REPORT is an xBRL-JSON report. OUT is the new report, on one line. CHANGES.jsonl contains a line for each change: the fact,
-the JSON pointer, the old value (was), the new value (now) if there is one, the rule, and whether something was lost.
-Identifiers, URIs and texts are shortened to 80 characters. Without options, nothing is lost. Some rules need the kind of a
-concept or dimension, and act only if SHEET lists it. If a rule has to leave a value outside the profile, such as a moment
-with a time zone, standard error says where and why. docs/GUIDE.md describes the rules.
+REPORT is an xBRL-JSON report. OUT is the new report, on one line. CHANGES.jsonl contains a line for each change, with the
+fact, the JSON pointer, the old and the new value, the rule, and whether something was lost. Identifiers, URIs and texts in it
+are shortened to 80 characters. Without options, nothing is lost. Some rules need the kind of a concept or dimension, and act
+only if SHEET lists it. If a rule has to leave a value as it is, such as a number with too many digits or, without --zones,
+a moment with a time zone, standard error says where and why. docs/GUIDE.md describes the rules and the list of changes.
 
 --drop-unreadable runs the program `xbrlmerge`, which should have the same version, and drops the facts that it refuses.
 

@@ -38,9 +38,9 @@ class Stopped(BaseException):
 def run(main: Callable[[], Status]) -> NoReturn:
     """Ends the process with the status that `main` returns.
 
-    Any exception of `main` becomes a line on standard error and NOT_DONE, so an exception never leads to status 1. A failed
-    write on standard output or standard error is NOT_DONE as well. After a signal in STOPPING the process cleans up, and
-    then ends by that signal.
+    An exception of `main` becomes lines on standard error and NOT_DONE, so it never leads to status 1. SystemExit, which
+    argparse raises, becomes USAGE or DONE. A failed write on standard output or standard error is NOT_DONE as well. After a
+    signal in STOPPING the process cleans up, and then ends by that signal.
     """
     fill_standard_files()
     handled = [number for number in STOPPING if signal.getsignal(number) is not signal.SIG_IGN]  # SIGHUP stays ignored under `nohup`
@@ -58,7 +58,7 @@ def run(main: Callable[[], Status]) -> NoReturn:
 
 
 def finished(main: Callable[[], Status]) -> Status:
-    """Prints the reason why a tool failed, if it did, and returns its status."""
+    """Runs a tool, prints why it failed if it did, and returns its status."""
     try:
         status, lines = outcome(main)
         print_lines(lines)
@@ -68,7 +68,7 @@ def finished(main: Callable[[], Status]) -> Status:
 
 
 def outcome(main: Callable[[], Status]) -> tuple[Status, tuple[str, ...]]:
-    """Returns the status of a tool, and the lines that say why it failed. By then, the memory that the tool used is free."""
+    """Runs a tool. Returns its status, and the reasons why it failed. By then, the memory that the tool used is free."""
     try:
         status = status_of(main)
         sys.stdout.flush()
@@ -117,7 +117,7 @@ def signals_held() -> Iterator[None]:
 def fill_standard_files() -> None:
     """Opens the null device in place of each closed standard stream, in the wrong direction, so that each use fails.
 
-    Otherwise the next file that is opened would get its number, and lines for standard error would go into that file.
+    Otherwise the next opened file would get the number of a closed stream, and lines for that stream would be written to it.
     Standard output and standard error are buffered, even if PYTHONUNBUFFERED is set: an unbuffered stream may take a part of
     the bytes and raise no exception.
     """
@@ -131,7 +131,7 @@ def fill_standard_files() -> None:
 
 
 def are_flushed() -> bool:
-    """Returns whether standard output and standard error took all bytes. A stream that failed is closed."""
+    """Flushes both output streams, and returns whether they took all bytes. A stream that failed gets the null device instead."""
     taken = True
     for file in (sys.stdout, sys.stderr):
         try:
@@ -143,7 +143,7 @@ def are_flushed() -> bool:
 
 
 def print_lines(lines: Iterable[str]) -> None:
-    """Prints lines on standard error, after the name of the tool.
+    """Prints lines on standard error, each after the name of the tool.
 
     Print notes before the output is written: if standard error fails, the tool then stops before it changes anything.
     Errors: OSError.

@@ -22,7 +22,10 @@ def add_program(parser: argparse.ArgumentParser) -> None:
 
 
 def program_at(given: Optional[str]) -> str:
-    """Returns the path of the program: the given one, or else the one beside the tool, or else the one on the PATH."""
+    """Returns the path of the program: the given one, or else the one beside or in tools/, or else the one on the PATH.
+
+    Errors: NotDone if there is none.
+    """
     places = [place for place in BESIDE if os.path.isfile(place) and os.access(place, os.X_OK)]
     found = given or next(iter(places), None) or shutil.which(NAME)
     if not found:
@@ -40,7 +43,7 @@ class Program:
         return os.path.join(self.folder, name)
 
     def run(self, command: str, words: Sequence[str]) -> tuple[int, list[str]]:
-        """Runs a command and writes its output to the file of the same name. Returns its status and its lines on standard error."""
+        """Runs a command and writes its output to the file named after it. Returns its status and its lines on standard error."""
         with open(self.place(command), "wb") as out:
             run = [self.path, command, "--sheet", self.sheet, *words]
             done = subprocess.run(run, stdin=subprocess.DEVNULL, stdout=out, stderr=subprocess.PIPE, cwd=self.folder)  # nosec B603

@@ -70,7 +70,7 @@ def write_beside(path: str, pieces: Iterable[str], folders: contextlib.ExitStack
     if os.path.exists(place) and not os.path.isfile(place):
         raise OSError(f"{path} exists and is not a file that can be replaced")
     try:
-        with signals_held():  # a signal must not come between making the folder and recording it
+        with signals_held():  # a signal must not arrive between making the folder and recording it
             folder = folders.enter_context(tempfile.TemporaryDirectory(prefix=".new-", dir=os.path.dirname(place)))
         output = Output(place, folder)
         with open(output.new, "x", encoding="utf-8", newline="") as file:
@@ -82,7 +82,7 @@ def write_beside(path: str, pieces: Iterable[str], folders: contextlib.ExitStack
 
 
 def copy_permissions(place: str, file: int) -> None:
-    """Copies the owner, group and permissions of the file at a path to an open file, each if permitted."""
+    """Copies the owner, group and permissions of the file at a path, if there is one, to an open file, each if permitted."""
     if os.path.exists(place):
         old = os.stat(place)
         for owner, group in ((old.st_uid, -1), (-1, old.st_gid)):

@@ -26,7 +26,7 @@ class Label(NamedTuple):
 
 
 class Labelled(Taxonomy):
-    """A taxonomy with the labels in the .xml files of the named folders and packages."""
+    """A taxonomy with the standard labels of one language in the .xml files of the named folders and packages."""
 
     def __init__(self, files: Files, language: str) -> None:
         self.language = language.lower()
@@ -43,7 +43,7 @@ class Labelled(Taxonomy):
             self.identified[place, part.identifier] = part.name
 
     def name_at(self, href: str, base: str) -> Optional[Name]:
-        """Returns the name to which a reference in the document at `base` leads."""
+        """Returns the name to which a reference in the document at `base` leads, or None."""
         location, _, identifier = href.partition("#")
         return self.identified.get((self.rewrites.place_of(location, base)[0], identifier))
 

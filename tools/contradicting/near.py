@@ -11,8 +11,8 @@ from contradicting.tables import DIMENSIONS, Cell, cell, check_lengths, dimensio
 from names import Name
 
 COLUMNS = ["pair", "differs", "row", "fact", *DIMENSIONS, *"value decimals low high providers label".split()]
-MOST_PAIRS = 1_000  # pairs compared for each set of rows that differ only in the same dimension
-MOST_FACTS = 10_000  # the most facts in the pairs that are found; the last pair may exceed it
+MOST_PAIRS = 1_000  # the most pairs compared for each group of rows that differ only in the same dimension
+MOST_FACTS = 10_000  # the most facts in the pairs found in a group; the last pair may exceed it
 WORD = (1 << 64) - 1
 
 Axis = Union[str, Name]
@@ -79,7 +79,7 @@ class Near:
         yield from alike.values()
 
     def compared(self, numbers: list[int]) -> Iterator[tuple[tuple[int, int], Axis]]:
-        """Yields the pairs of a group for the table, up to the limits."""
+        """Yields the pairs of a group for the table, each with its dimension. Counts the pairs beyond the limits in `cut`."""
         count, facts = len(numbers) * (len(numbers) - 1) // 2, 0
         pairs = itertools.chain.from_iterable(zip(numbers, numbers[step:]) for step in range(1, len(numbers)))
         for done, (one, other) in enumerate(pairs):

@@ -1,5 +1,4 @@
-"""The page of contradictions. It begins with the largest differences; an index by concept and groups with the other rows
-follow.
+"""The page of contradictions: counts, refused reports, the first rows, an index by concept, and groups with the other rows.
 
 It shows at most 80 characters of an identifier, a URI or a text, because it repeats them. The table of contradictions
 contains them in full.
@@ -166,7 +165,7 @@ class NumberLine(NamedTuple):
     gap: Optional[Interval]
 
     def place(self, number: Decimal) -> str:
-        """Returns the place of a number on the line."""
+        """Returns the position of a number on the line, as a percentage."""
         return f"{(number - self.low) * 100 / (self.high - self.low):.2f}%" if self.low < self.high else "50%"
 
 

@@ -44,7 +44,7 @@ class Refusals:
         self.reports.append(Refused(path, tuple(first or [refusal]), count or 1))
 
     def lacking_lines(self, most: int = MOST_NAMES) -> Iterator[str]:
-        """Yields the concepts and dimensions that the sheet lacks, and how to add them."""
+        """Yields lines with the concepts and dimensions that the sheet lacks, and then the advice, if there is any."""
         for kind, names in self.lacking.items():
             if names:
                 count = f"{len(names)}{' or more' * (len(names) == MOST_NAMES)} {kind}{'s' * (len(names) > 1)}"

@@ -18,7 +18,8 @@ class Report(NamedTuple):
 def reports_of(words: Iterable[str]) -> list[Report]:
     """Returns the reports that are named as FILE or NAME=FILE. A file that is repeated under one name is returned once.
 
-    Without NAME the provider is named after the file. Errors: ValueError if a name or a file has two meanings or is empty.
+    Without NAME the provider is named after the file. Errors: ValueError if a name or a file is empty, if a file gets two names,
+    or if two files get the same name and NAME= does not precede both.
     """
     reports: dict[str, Report] = {}
     first: dict[str, tuple[bool, str]] = {}
@@ -45,7 +46,7 @@ def report_of(word: str) -> tuple[bool, Report]:
 
 
 def written(name: str) -> str:
-    """Returns a name that can be written as UTF-8."""
+    """Returns a name in which bytes that are not valid UTF-8 are escaped."""
     return os.fsencode(name).decode("utf-8", "backslashreplace")
 
 

@@ -26,7 +26,7 @@ Value = Union[Decimal, Name, str, None]
 
 
 class Dimensions(NamedTuple):
-    """The dimensions of a row with expanded names; a unit is its numerators and its denominators. Absent ones are empty."""
+    """The dimensions of a row with expanded names; a unit is its numerators and its denominators. Absent ones are empty or None."""
 
     concept: Name
     entity: Optional[Name]
@@ -105,7 +105,7 @@ def dimensions_given(fact: tuple[str, Tree]) -> Any:
 
 
 def contradiction(row: Row) -> Optional[Row]:
-    """Returns a row with its gap, or None if its pair is not a contradiction."""
+    """Returns a row with its gap, or None if its pair is not two facts, or is two numbers without a gap."""
     one, two = (row.facts.get(name) for name in row.pair)
     if not one or not two or one is two:
         return None
@@ -127,7 +127,10 @@ class Reader:
         self.providers = len(set(sources.names))
 
     def rows(self, path: str) -> list[Row]:
-        """Returns the rows that are contradictions. The lines must match the facts."""
+        """Returns the rows that are contradictions, and counts and lists all rows.
+
+        Errors: NotDone if a line does not match the facts.
+        """
         kept, groups = [], itertools.groupby(self.text.facts(), dimensions_given)
         with using(path), open(path, encoding="utf-8", newline="\n") as file:
             lines = iter(functools.partial(file.readline, LONGEST_LINE), "")
@@ -153,7 +156,9 @@ class Reader:
         return f"{count} of {self.providers}" if self.providers else ""
 
     def row(self, number: int, facts: dict[str, Tree], line: str) -> Optional[Row]:
-        """Returns a row, or None if its line does not match. The row has its facts only if it is a contradiction."""
+        """Returns a row, or None if its line does not match. The row has its facts only if it is a contradiction. A row that
+        `near` wants is added to it.
+        """
         with using(self.text.path):
             is_numeric = [self.kind(tree) == "numeric" for tree in facts.values()][0]
         names = [*facts]

@@ -61,7 +61,7 @@ class Sources:
         return tuple(Holder(provider, tuple(identifiers)) for provider, identifiers in found.items())
 
     def finish(self) -> None:
-        """Raises an error if there are lines for other facts."""
+        """Raises NotDone if there are lines after those of the last fact."""
         with using(self.path):
             if self.head:
                 raise ValueError(f"it has a source of {self.head[0]}, which does not exist, or is in the wrong place")

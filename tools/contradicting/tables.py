@@ -47,7 +47,7 @@ def cell(value: Cell) -> str:
 
 
 def safe(text: str) -> str:
-    """Returns a text with a ' wherever a spreadsheet would read the beginning of a formula."""
+    """Returns a text with a ' wherever a spreadsheet might read the beginning of a formula."""
     return BEFORE_FORMULA.sub(guarded, text)
 
 
@@ -64,7 +64,7 @@ def guarded(found: re.Match[str]) -> str:
 
 
 def check_lengths(rows: Iterable[tuple[Dimensions, int]]) -> None:
-    """Raises NotDone if a table would be too long. `rows` lists dimensions with a count of facts; each fact repeats them."""
+    """Raises NotDone if a table or one row would be too long. `rows` lists dimensions with a count of facts; each fact repeats them."""
     total = 0
     for dimensions, facts in rows:
         length = length_of(dimensions)

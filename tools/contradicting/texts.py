@@ -17,7 +17,7 @@ WHITE = " \t\r\n"  # `in` is also true for the empty text, which means the end o
 SPACE = re.compile(r"[ \t\r\n]*")
 FACT = re.compile(r'(,?)[ \t\r\n]*"(f\d+)"[ \t\r\n]*:[ \t\r\n]*(?={)')
 CORE = ("concept", "entity", "period", "unit", "language")
-DIGITS = 18  # the most characters of a whole number; longer ones stay texts, since parsing takes quadratic time
+DIGITS = 18  # the most characters of a whole number that is parsed; longer ones stay texts, since parsing takes quadratic time
 
 
 @contextlib.contextmanager
@@ -88,7 +88,7 @@ class Text:
                 raise ValueError("there is more after its end")
 
     def fact(self, is_behind: bool) -> tuple[str, Tree]:
-        """Returns the identifier and the tree of the next fact. Usually one pattern matches all before its object."""
+        """Returns the identifier and the tree of the next fact. Usually one pattern matches everything before its object."""
         found = FACT.match(self.piece, self.at)
         if found and bool(found[1]) == is_behind:
             self.at = found.end()
@@ -139,7 +139,7 @@ class Text:
         return self.piece[self.at : self.at + 1]
 
     def fill(self) -> bool:
-        """Reads PIECE characters, or as many as are still unread in the piece if those are more. Returns whether any were left."""
+        """Reads PIECE characters, or as many as are still unread in the piece if those are more. Returns whether the file had any."""
         self.piece = self.piece[self.at :]
         self.at = 0
         more = self.file.read(max(PIECE, len(self.piece)))

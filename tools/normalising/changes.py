@@ -10,7 +10,7 @@ Path = tuple[str, ...]  # the keys that lead to a part of a report
 
 
 class Reason(NamedTuple):
-    """The option that drops a fact, and a message with placeholders for names."""
+    """The option that drops a fact, and a message with the names for its placeholders."""
 
     rule: str
     why: str
@@ -18,9 +18,10 @@ class Reason(NamedTuple):
 
 
 class Log:
-    """Collects the lines for one fact or for the document: its changes, and its parts that stay outside the profile.
+    """Collects the lines for one fact or for the document: its changes, and its parts that a rule had to leave.
 
-    Each line repeats identifiers, URIs and texts, so they are shortened; `number` identifies the fact.
+    Each line repeats identifiers, URIs and texts, so they are shortened. A line with a shortened fact identifier also has
+    the number of the fact.
     """
 
     def __init__(self, fact: Optional[str] = None, number: int = 0) -> None:
@@ -96,7 +97,7 @@ class Part:
         self.log.tell((*self.path, key), rule, loss, was=self.members.pop(key))
 
     def rename(self, key: str, name: str, rule: str) -> None:
-        """Renames a member. It keeps its place."""
+        """Renames a member, which keeps its place, and logs the change. Errors: NotDone if the new name is taken."""
         path = (*self.path, key)
         if name in self.members:
             values = " and ".join(shortened(text_of(self.members[each])) for each in (name, key))

@@ -38,7 +38,7 @@ def read_json(path: str) -> Tree:
 def read_json_of_length(path: str) -> tuple[Tree, int]:
     """Returns the tree of a file, and the number of its characters.
 
-    Raises NotDone if it cannot be read, if it is not JSON, or if two members of one object share a name.
+    Raises NotDone if the file cannot be read, is not JSON or is nested too deeply, or if two members of one object share a name.
     """
     try:
         text = read_text(path)

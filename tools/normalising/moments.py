@@ -8,11 +8,12 @@ from typing import Callable, Iterator, Optional
 MOMENT = re.compile(r"(?P<day>\d{4}-\d\d-\d\d)(?P<time>T\d\d:\d\d:\d\d)?(?P<part>\.\d+)?(?P<zone>Z|[+-]\d\d:\d\d)?", re.ASCII)
 UTC = ("Z", "+00:00", "-00:00")
 
-Rewriting = Callable[["re.Match[str]", bool], Optional[str]]  # a moment, and whether it is a start
+# takes a moment and whether it is a start; returns the new text, or None to keep the moment
+Rewriting = Callable[["re.Match[str]", bool], Optional[str]]
 
 
 def each_moment(period: str, rewritten: Rewriting) -> str:
-    """Returns a period with each moment rewritten by a function, which gets the match and whether it is a start."""
+    """Returns a period with its moments rewritten by a function. Parts that are not moments stay as they are."""
     texts = period.split("/")
     if len(texts) > 2:
         return period
@@ -27,7 +28,7 @@ def without_zero_fraction(moment: re.Match[str], _: bool) -> Optional[str]:
 
 
 def with_time(moment: re.Match[str], is_start: bool) -> Optional[str]:
-    """Returns a date with the time at the end of its day, or at the beginning if it is a start."""
+    """Returns a date with the time at the end of its day, or at the beginning if it is a start. None if it is not a date alone."""
     day, time, part, zone = moment.groups(default="")
     if time or part or not is_date(day):
         return None
@@ -35,7 +36,10 @@ def with_time(moment: re.Match[str], is_start: bool) -> Optional[str]:
 
 
 def in_utc(moment: re.Match[str], _: bool) -> Optional[str]:
-    """Converts a moment with a zone to UTC and removes the zone. If the zone is UTC already, midnight keeps its spelling."""
+    """Returns a moment in UTC without its zone. If the zone is UTC already, midnight keeps its spelling.
+
+    None if the moment has no zone, no time or a fraction, or is invalid.
+    """
     day, time, part, zone = moment.groups(default="")
     if not zone or not time or part:
         return None
@@ -64,7 +68,7 @@ def is_date(day: str) -> bool:
 
 
 def doubts(period: str) -> Iterator[str]:
-    """Yields the reasons why the moments of a period stay outside the profile."""
+    """Yields what `xbrlmerge` refuses in the moments of a period: a fraction, a time zone, or a missing time."""
     for moment in map(MOMENT.fullmatch, period.split("/")):
         if moment and moment["part"]:
             yield "it has a fraction of a second"

@@ -1,4 +1,4 @@
-"""The rules that bring a report into the profile. docs/GUIDE.md describes each with its source."""
+"""The rules that rewrite a report so that `xbrlmerge` can read it. docs/GUIDE.md describes each with its source."""
 from __future__ import annotations
 
 import argparse
@@ -30,8 +30,7 @@ GROWTH, SMALL = 16, 1_000_000  # the names of sets may add GROWTH times the repo
 
 
 class Normaliser:
-    """Brings reports into the profile, by a sheet and options. With --drop-unreadable it drops the facts that the program
-    refuses."""
+    """Applies the rules to reports, by a sheet and options. With --drop-unreadable it drops the facts that the program refuses."""
 
     def __init__(self, sheet: Sheet, options: argparse.Namespace, program: Optional[Program] = None) -> None:
         self.sheet, self.options, self.program = sheet, options, program
@@ -203,7 +202,8 @@ def trimmed(key: str, text: str) -> str:
 
 
 def whole_number(text: str) -> Optional[str]:
-    """Returns the plain spelling of a whole number, given as text or as a JSON number such as 2.0; otherwise None."""
+    """Returns the plain spelling of a whole number, given as text or as a JSON number such as 2.0. None if it is not a whole
+    number, or is too long."""
     if isinstance(text, Number):
         number = Decimal(text) if len(text) <= 18 and abs(Decimal(text).adjusted()) < 18 else None
         return str(int(number)) if number is not None and number == number.to_integral_value() else None
@@ -226,7 +226,8 @@ def plain_number(scientific: re.Match[str]) -> Optional[str]:
 
 
 def full_name(item: str, uris: Uris) -> Optional[tuple[str, str]]:
-    """Returns the URI and the local part of an item in a set, or None if it is not a name or its prefix is not bound."""
+    """Returns the URI and the local part of an item in a set. None if it is not a name, or if its prefix is not bound or is bound
+    to a URI with white space."""
     if "#" in item:
         uri, _, local = item.rpartition("#")
         return (uri, local) if uri and local else None

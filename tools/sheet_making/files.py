@@ -42,7 +42,7 @@ class Files:
         return [word]
 
     def schemas(self) -> list[str]:
-        """Returns the named files, and those whose name ends in .xsd."""
+        """Returns the files that are named themselves, and all files whose name ends in .xsd."""
         return [place for place in self.listed if place in self.named or place.lower().endswith(".xsd")]
 
     def catalogs(self) -> list[str]:
@@ -61,8 +61,8 @@ class Files:
     def read(self, place: str) -> bytes:
         """Returns the bytes of a file.
 
-        Errors: ValueError if it is not a regular file, is outside the named folders or is too long; OSError; exceptions of
-        zipfile.
+        Errors: ValueError if it is not a regular file, is outside the named folders, is too long or grew while it was read;
+        OSError; exceptions of zipfile.
         """
         if place in self.packed:
             return self.packed[place].read(place)
@@ -75,7 +75,7 @@ class Files:
 def read_regular(place: str, limits: Limits) -> bytes:
     """Returns the bytes of a regular file. A FIFO does not block it.
 
-    Errors: ValueError if it is not a regular file or is too long; OSError.
+    Errors: ValueError if it is not a regular file, is too long or grew while it was read; OSError.
     """
     with open(place, "rb", opener=lambda path, flags: os.open(path, flags | os.O_NONBLOCK)) as file:
         status = os.fstat(file.fileno())

@@ -1,4 +1,4 @@
-"""Reads one schema: its declarations, and the schemas that it refers to."""
+"""Reads one schema: its declarations, and its references to other schemas."""
 from __future__ import annotations
 
 import sys

@@ -57,7 +57,8 @@ class Taxonomy:
         namespaces.add(visitor.namespace)
 
     def refer(self, location: str, base: str, wanted: str) -> None:
-        """Schedules the schema to which a location in the document at `base` leads."""
+        """Schedules the schema to which a location in the document at `base` leads. A missing schema is recorded, unless it
+        belongs to a specification."""
         place, origin = self.rewrites.place_of(location, base)
         found = self.files.found(place, origin)
         if found:
@@ -94,6 +95,6 @@ class Declaring(SchemaVisitor):
 
 
 def shown_lines(lines: list[str]) -> list[str]:
-    """Returns the first lines, and the number of the others."""
+    """Returns the first MOST_LINES lines, and a line with the number of the others, if there are any."""
     more = len(lines) - MOST_LINES
     return lines if more <= 0 else [*lines[:MOST_LINES], f"and {more} more"]
