@@ -38,7 +38,7 @@ from sheet_making.sheets import sheet_text, union  # noqa: E402
 def read_options() -> argparse.Namespace:
     parser = argparse.ArgumentParser(prog="make_sheet", description=__doc__, formatter_class=argparse.RawDescriptionHelpFormatter)
     parser.add_argument("--union", action="store_true", help="make one sheet from several")
-    parser.add_argument("--megabytes", type=int, default=64, metavar="N", help="the largest file to read, by default 64")
+    parser.add_argument("--megabytes", type=int, default=64, metavar="N", help="the most megabytes of a file, by default 64")
     parser.add_argument("--outside", action="store_true", help="follow references to files outside the named folders")
     parser.add_argument("inputs", nargs="+", metavar="INPUT", help="a schema, a package or a folder; with --union, a sheet")
     options = parser.parse_args()

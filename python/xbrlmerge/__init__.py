@@ -6,11 +6,11 @@
     merged.text           # the bytes that `xbrlmerge merge` writes
     merged.refusals       # the refused reports; each prints as the program's line
 
-A sheet or a report is given as bytes or as the path of a file. Each call returns the same bytes and refusals as the
-program's command of the same name, and runs in this process. Other threads continue to run. Refused reports are returned,
-not raised. Exceptions: SheetRefused and TooLoose, both subclasses of ValueError; MemoryError; OSError if a file cannot be
-read; TypeError if `reports` is one file or one report's bytes instead of a list; and ValueError if `allow` is not "none",
-"complete", "consistent" or "all".
+A sheet or a report is given as bytes or as the path of a file. Each call has the same results as the program's command of
+the same name; verdict_columns and source_columns have those of verdicts and sources with --format json. Calls run in this
+process, and other threads continue to run. Refused reports are returned, not raised. Exceptions: SheetRefused and TooLoose,
+both subclasses of ValueError; MemoryError; OSError if a file cannot be read; TypeError if `reports` is one file or one
+report's bytes instead of a list; and ValueError if `allow` is not "none", "complete", "consistent" or "all".
 """
 import dataclasses
 import decimal
@@ -60,7 +60,8 @@ class SheetRefused(ValueError):
 
 
 class TooLoose(ValueError):
-    """A row exceeds the allowed level; `row` is the number of the first such row, from 1."""
+    """A row exceeds the allowed level; `row` is the number of the first such row, from 1, and `refusals` lists the refused
+    reports."""
 
     def __init__(self, row: int, refusals: List[Refusal]) -> None:
         self.row, self.refusals = row, refusals
@@ -80,9 +81,9 @@ class Merged:
     def rows(self) -> List[Dict[str, Any]]:
         """Returns a record for each fact, for example for pandas.DataFrame.
 
-        It has the identifier, the value, the decimals, the core dimensions (None if the fact lacks one), and the other
-        dimensions under their names. A value is the text in the report, or None for a nil fact. Names have the prefixes of
-        this report, n1, n2 and so on, which its documentInfo binds; another report may bind them to other namespaces.
+        A record has the identifier, the value, the decimals and the core dimensions (None if the fact lacks one), and the
+        other dimensions under their names. A value is the text in the report, or None for a nil fact. Names have the prefixes
+        that the documentInfo of this report binds, such as n1; another report may bind them to other namespaces.
         """
         facts = json.loads(self.text)["facts"]
         return [_record(identifier, fact) for identifier, fact in facts.items()]
@@ -96,8 +97,8 @@ class Row:
     first: str  #: the identifier of its first fact in the canonical text
     last: str  #: the identifier of its last fact
     verdict: str  #: complete, consistent or inconsistent
-    common: Optional[Tuple[decimal.Decimal, decimal.Decimal]] = None  #: the lowest and the highest number that fit all facts
-    apart: Optional[Tuple[str, str]] = None  #: the identifiers of two facts that contradict each other
+    common: Optional[Tuple[decimal.Decimal, decimal.Decimal]] = None  #: if consistent: the lowest and highest number that fit all facts
+    apart: Optional[Tuple[str, str]] = None  #: if inconsistent: the identifiers of two facts that contradict each other
 
 
 @dataclasses.dataclass(frozen=True)
@@ -126,8 +127,8 @@ class Sources(List[Source]):
 
 
 class Columns(Dict[str, List[Any]]):
-    """Columns by their names, for pandas.DataFrame; `text` contains the JSON objects that the program prints, one
-    per line, and `refusals` the refused reports."""
+    """Columns by their names, for pandas.DataFrame; `text` contains the JSON objects that the program prints with
+    --format json, one per line, and `refusals` the refused reports."""
 
     def __init__(self, names: Iterable[str], rows: Iterable[Tuple[Any, ...]], text: bytes, refusals: List[Refusal]) -> None:
         found = [*rows]

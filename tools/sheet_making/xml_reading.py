@@ -8,7 +8,7 @@ from __future__ import annotations
 import sys
 from typing import Optional, Sequence
 
-# read_xml rejects document types, so a document has no entities
+# read_xml rejects document types, so a document cannot declare entities
 from xml.parsers import expat  # nosec
 
 from names import Name
