@@ -75,7 +75,10 @@ def _room(size: int) -> Tuple[bytearray, ctypes.c_char]:
 
 
 def _answered(call: Callable[..., int], sheet: bytes, reports: Sequence[bytes], *more: int) -> Answer:
-    """Makes a call with buffers that are usually large enough, and repeats it with larger ones if they are not."""
+    """Makes a call with buffers that are usually large enough, and repeats it with larger ones if they are not.
+
+    Raises MemoryError, and ValueError if the library rejects the arguments.
+    """
     together, ends, end = b"".join(reports), array.array("Q"), 0
     for report in reports:
         end += len(report)

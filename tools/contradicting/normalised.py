@@ -51,7 +51,7 @@ class Normalised:
         source = [cell(report.provider), cell(written(report.path))]
         with open(self.table, "a", encoding="utf-8", newline="") as file:
             table = ([*source, *(cell(shown(change, key)) for key in COLUMNS[2:])] for change in changes)
-            file.writelines(itertools.islice(lines_of(table), 1, None))  # without its byte order mark
+            file.writelines(itertools.islice(lines_of(table), 1, None))  # without the byte order mark, which `lines_of` yields first
         return sum(change["loss"] for change in changes)
 
     def pieces(self) -> Iterator[str]:

@@ -45,7 +45,7 @@ def expanded(text: str, uris: Uris) -> Name:
 
 
 class Text:
-    """A merged report: the URIs of its prefixes, and then its facts in order. The file is closed at its end."""
+    """A merged report: the URIs of its prefixes, and then its facts in order. The file is closed after the last fact."""
 
     def __init__(self, path: str) -> None:
         self.path, self.piece, self.at = path, "", 0
