@@ -74,7 +74,7 @@ def read_options() -> argparse.Namespace:
     parser.add_argument("--labels", action="append", default=[], metavar="TAXONOMY",
                         help="show the standard labels of this package or folder; may be repeated")
     parser.add_argument("--language", default="en", help="the language of the labels, by default en")
-    parser.add_argument("--near", metavar="NEAR.csv", help="write a table of pairs of rows that are nearly alike")
+    parser.add_argument("--near", metavar="NEAR.csv", help="write a table of pairs of rows that differ in one dimension only")
     parser.add_argument("--exit-zero", action="store_true", help="return 0 instead of 1")
     parser.add_argument("--sources", metavar="SOURCES", help="with --from: the output of `xbrlmerge sources`")
     parser.add_argument("--names", metavar="NAME,..", help="with --sources: the providers, in the order of the reports")
