@@ -3,8 +3,8 @@
 
     [XBRLMERGE=PROGRAM] tests/c_abi
 
-It checks the files that ./build --library wrote to lib/: that libxbrlmerge.so and libxbrlmerge.a export the calls of
-include/xbrlmerge.h and no other names, and that the types in the header agree with crates/xbrlmerge_c. Then it builds
+It checks libxbrlmerge.so and libxbrlmerge.a, which ./build --library wrote to lib/. Both must export the calls of
+include/xbrlmerge.h and no other names. The types in the header must agree with crates/xbrlmerge_c. Then the script builds
 tests/c_abi.c with each library and makes each call on the examples, also with buffers that are too short, bad ends, an
 unknown level and lengths of 0. With the static library, each request for memory is refused in turn. The texts, lines and
 statuses must equal the program's. The header is compiled as C and, if g++ is installed, as C++.
@@ -65,7 +65,7 @@ def calls_of_header():
 
 
 def calls_of_crate():
-    """Returns the same for the exports. An allocator has no size, so C passes none."""
+    """Returns the C types of each export's arguments and result. An allocator has no size, so C passes no argument for it."""
     calls = {}
     for path in sorted(os.listdir(CRATE)):
         for name, words, result in re.findall(r'extern "C" fn (\w+)\((.*?)\) -> (\w+)', content(f"{CRATE}/{path}"), re.DOTALL):
@@ -75,7 +75,7 @@ def calls_of_crate():
 
 
 def rows_agree():
-    """Compares the fields of the records, and the numbers of statuses and levels."""
+    """Checks the header: its records and statuses must equal the crate's, and its levels must be 0 to 3."""
     for source, name in ROWS.items():
         text = next(it for it in (content(f"{CRATE}/{path}") for path in sorted(os.listdir(CRATE))) if f"pub struct {source} " in it)
         fields = re.findall(r"pub (\w+): (u\d+)", text.partition(f"pub struct {source} ")[2].partition("}")[0])
@@ -100,7 +100,8 @@ def names_agree():
 
 
 def built(room):
-    """Builds the C program with each library. Only the one with the static library can refuse memory."""
+    """Builds the C program with each library, and compiles the header. Only the program with the static library can refuse
+    memory."""
     source = f"{TOP}/tests/c_abi.c"
     must("gcc", *SANITIZED, *WRAPS, source, STATIC, "-o", f"{room}/static")
     must("gcc", *SANITIZED, *WRAPS, source, f"-L{TOP}/lib", "-lxbrlmerge", f"-Wl,-rpath,{TOP}/lib", "-o", f"{room}/shared")
@@ -115,7 +116,7 @@ def lines(text):
 
 
 def compare(program, callers, words, files):
-    """Makes one call from C and compares it with the program's command. NAME-json is `NAME --format json`."""
+    """Makes one call with each C program, and compares it with the program's command. NAME-json is `NAME --format json`."""
     name, *rest = words
     command, _, in_json = name.partition("-")
     more = ("--allow", LEVELS[int(rest[0])]) if rest else ("--format", "json") if in_json else ()

@@ -5,9 +5,9 @@
     tests/gate_times FILE                               prints the table of such a file again
 
 A part is the proof of a crate, the proof of its tests, its must-fail edits or its runs. The processes are sampled twice a
-second to find when a part begins and ends; 'processor' is their time on all processors. Runs are not sampled: the lines of
-the gate give their times, and 'processor' is 0. The status is 0 if the last line of the run says that nothing failed,
-otherwise 1. With FILE it is 0, or 2 if FILE has no table.
+second to find when a part begins and ends; 'processor' is their seconds on all processors. Runs are not sampled: the lines of
+the gate give their times, and 'processor' is 0. The status is 0 if the last line `N passed, M failed` counts no failure,
+otherwise 1. With FILE the status is 0, or 2 if FILE has no table.
 """
 import os
 import re
@@ -24,7 +24,7 @@ ENDED = re.compile(r"\d+ passed, (\d+) failed")
 
 
 def contents(path):
-    """Returns the bytes of a file in /proc; none if its process has ended."""
+    """Returns the bytes of a file in /proc, or no bytes if its process has ended."""
     try:
         with open(path, "rb") as it:
             return it.read()
@@ -43,7 +43,7 @@ def processes():
 
 
 def writers(pipe):
-    """Returns the processes whose output is read here."""
+    """Returns the other processes whose standard output is this pipe."""
     found = set()
     for pid in filter(str.isdigit, os.listdir("/proc")):
         try:
@@ -55,7 +55,7 @@ def writers(pipe):
 
 
 def part_of(pid):
-    """Returns the crate and the part on which a process works, if it is a check."""
+    """Returns the crate and the part of a check, which is a process of the prover, and None for other processes."""
     words = contents(f"/proc/{pid}/cmdline").decode(errors="replace").split("\0")
     if os.path.basename(words[0]) != "rattle" or "--crate-name" not in words:
         return None

@@ -6,8 +6,8 @@
 It also names outputs that cannot be replaced, such as links. PROGRAM is $XBRLMERGE or the built one by default. The test
 needs cc.
 
-Status 0: the file is always the old one or the complete new one, and only killed runs leave other files. 1: it is not; each
-case is printed. 2: there is no program, or no cc.
+Status 0: the file is always the old one or the complete new one, and only killed runs leave other files. 1: some cases are not
+as expected; each is printed. 2: there is no program, or no cc.
 """
 import os
 import shutil
@@ -55,7 +55,7 @@ class Tests:
                               stdin=subprocess.DEVNULL, env={**os.environ, **environment})
 
     def calls(self, words, **environment):
-        """Runs the program with the preloaded library, and returns the run and the names of the calls."""
+        """Runs the program with the preloaded library, and returns the run and the names of the calls that write files."""
         if os.path.exists(self.told):
             os.remove(self.told)
         ran = self.run(words, LD_PRELOAD=self.library, CALLS_TOLD=self.told, **environment)
@@ -70,7 +70,7 @@ class Tests:
             self.wrong.append(what)
 
     def held(self):
-        """Returns the content of the file, or None."""
+        """Returns the content of the output, or None if it does not exist."""
         try:
             with open(f"{self.folder}/new", "rb") as file:
                 return file.read()
@@ -83,7 +83,7 @@ class Tests:
         self.is_(f"{what}: {left} remains", len(left) <= others)
 
     def each_call(self, name, old):
-        """Makes each call of a command fail, and kills the command at each call."""
+        """Runs a command without faults, with each of its calls failing in turn, and killed at each call."""
         words = COMMANDS[name]
         self.empty(False)
         text = self.run(words).stdout
@@ -108,7 +108,7 @@ class Tests:
             self.leaves(f"{at}, killed", before, 1)
 
     def refused(self):
-        """Tests outputs that are not regular files, and runs that end with status 2 or 3."""
+        """Tests outputs that cannot be replaced, and runs that end with status 2 or 3 for another reason."""
         words = [*COMMANDS["merge"], "-o", "new"]
         for what, make in (("a link", lambda it: os.symlink("../events", it)), ("a dangling link", lambda it: os.symlink("none", it)),
                            ("a folder", os.mkdir), ("a FIFO", os.mkfifo)):
@@ -137,7 +137,7 @@ class Tests:
         self.is_(f"over setuid: status {ran.returncode}, mode {mode:o}", (ran.returncode, mode) == (0, 0o755))
 
     def among_leftovers(self):
-        """Tests that the leftovers of a thousand killed runs do not stop the program."""
+        """Tests that the files left by 1,001 killed runs do not stop the program."""
         self.empty(True)
         text = self.run(COMMANDS["check"]).stdout
         for number in range(1_001):
@@ -148,7 +148,7 @@ class Tests:
         self.leaves("among leftovers", text, 1_001)
 
     def onto_itself(self):
-        """Tests a report that is its own output, and a refused report beside an accepted one."""
+        """Tests a report that is also the output, and a refused report beside an accepted one."""
         self.empty(False)
         shutil.copy(ONE, f"{self.folder}/new")
         text = self.run(["merge", "--sheet", SHEET, "new", TWO]).stdout

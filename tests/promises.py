@@ -3,9 +3,10 @@
 
     tests/promises [--write]
 
-A function is public if `lib.rt` exports it, its type, its trait or its module, or if it is `extern "C"`. A law of a public
-trait is public too. The page has a generated table for each library. It lists each public function with the names of its clauses
-and the first paragraph of its doc comment. --write writes these tables. The status is 1 if
+A `pub` function is public if `lib.rt` exports it, its type or its module. A function or a law of a trait is public if `lib.rt`
+exports the trait. An `extern "C"` function is always public. The page has a generated table for each library with contracts.
+It lists each public function with the names of its clauses and the first paragraph of its doc comment. --write writes these
+tables. The status is 1 if
 
 - the tables differ from the code;
 - a public function has no doc comment;
@@ -30,7 +31,7 @@ NAME = re.compile(r"`((?:\w+::)+\w+)`")
 
 
 class Promise:
-    """A function or a law: the first paragraph of its doc comment, and the names of its clauses; a clause may have no name."""
+    """A function or a law: the first paragraph of its doc comment, the names of its clauses, and whether it has a contract."""
 
     def __init__(self, comment):
         first = comment[: comment.index("")] if "" in comment else comment
@@ -43,7 +44,7 @@ class Promise:
 
 
 class Library:
-    """The public functions of a crate, and the names of all other functions of its types."""
+    """The promises of a crate's public functions, and the names of its other functions."""
 
     def __init__(self, crate):
         found = EXPORT.findall(content(f"crates/{crate}/src/lib.rt"))

@@ -3,9 +3,9 @@
 
     [CASES=20000] [SEED=1] [JOBS=N] tests/same_answers PROGRAM OTHER
 
-The reports are drawn and broken as in tests/malformed; about one in four is long enough to be read in pieces. A hundred reports
-and a sheet go into one `merge`. Both programs must print the same bytes and lines, and end with the same status; so each
-refusal has the same reason and place.
+The reports are drawn and broken as in tests/malformed; about one in four is long enough to be read in pieces. Each run of
+`merge` reads a sheet and at most a hundred reports. Both programs must end with the same status, 0 or 1, and print the same
+bytes and lines; so each refusal has the same reason and place.
 
 Status 0: all are equal. 1: some are not; the seed and the batch are printed, and the files are kept. 2: there is no program.
 """
@@ -28,7 +28,7 @@ BATCH, LIMIT = 100, 120
 
 
 def drawn(chance):
-    """Draws a report and breaks it; one in ten stays whole."""
+    """Draws a report. Nine in ten are broken, and one in five ends with so many spaces that it is read in pieces."""
     short = malformed.drawn_report(chance)
     text = malformed.drawn_long(chance) if chance.random() < 0.05 else short
     if chance.random() < 0.9:

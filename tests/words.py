@@ -1,10 +1,10 @@
 #!/usr/bin/env python3
-"""Compares the arguments and options in the program's help with the man page and the completions:
+"""Compares the commands, options, values and arguments in the program's help with the man page and the completions:
 
     tests/words [PROGRAM]
 
-PROGRAM is $XBRLMERGE or the built one by default. Status 0: they name the same words. 1: they do not; each word is printed
-with the place where it is missing or should not be. 2: there is no program.
+The man page must also show the same forms of lines. PROGRAM is $XBRLMERGE or the built one by default. Status 0: they have the
+same words. 1: they do not; each word is printed with the place where it is missing or should not be. 2: there is no program.
 """
 import os
 import re
@@ -33,7 +33,7 @@ def said(*words, folder=None):
 
 
 def part(text, title):
-    """Returns the lines below a title of a help text, up to the next empty one."""
+    """Returns the indented lines below a title of a help text, or an empty text if it has no such title."""
     found = re.search(rf"^{title}:\n((?:  .*\n)+)", text, re.MULTILINE)
     return found.group(1) if found else ""
 
@@ -80,7 +80,7 @@ def told_by_synopsis(told):
 
 
 def told_by_man():
-    """Returns the words in each part of COMMANDS in the man page. The font of a tag shows its kind."""
+    """Returns the words in each part of COMMANDS in the man page. In a tag, arguments have capitals, and values have none."""
     pieces = re.split(r"^\.SS (.*)\n", section("COMMANDS"), flags=re.MULTILINE)
     told = {}
     for title, text in zip(pieces[1::2], pieces[2::2]):
@@ -161,7 +161,7 @@ def told_by_fish():
 
 
 def differences(place, told, found):
-    """Returns a line for each word that only one of the two has."""
+    """Returns a line for each word that only one side has. Kinds of words that `found` lacks are not compared."""
     lines = []
     for command in sorted(set(told) | set(found)):
         ours, theirs = told.get(command, {}), found.get(command, {})

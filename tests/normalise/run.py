@@ -3,14 +3,15 @@
 
     tests/normalise/run [PROGRAM [DRAWN]]
 
-Each report in cases.jsonl is normalised with its options. `check` must accept or refuse the result as the case says, and the
-output files must equal the files beside the report. If nothing is lost and the report was accepted before, `check`,
-`verdicts` and `merge` must print the same for both. With a set of names only `check` must, because sets are spelled
-differently. The script also draws reports from DRAWN seeds, 200 by default. For a report and its spelling by another tool,
-the program must print the same; a report outside the profile must be accepted with all options.
+Each report in cases.jsonl is normalised with its options. `check` must accept or refuse the result as the case requires, and
+the output files must equal the files beside the report. If nothing is lost and the report was accepted before, `check`,
+`verdicts` and `merge` must print the same for both. If a set of names is spelled differently, only `check` must print the
+same. The script also draws reports from DRAWN seeds, 200 by default. For an accepted report and its spelling by another tool,
+both normalised, the program must print the same as for the accepted report. An untidy report must be accepted once it is
+normalised with all options.
 
-Status 0: all is as expected. 1: it is not; each difference is printed. 2: invalid arguments, or the program could not be
-run.
+Status 0: all is as expected. 1: it is not; each difference is printed. 2: the arguments are invalid, there is no program, or a
+run failed or took more than a minute.
 """
 import argparse
 import json
@@ -29,7 +30,7 @@ TOOL = os.path.join(TOP, "tools", "normalise.py")
 
 
 class Room:
-    """A folder to work in, and the program."""
+    """A folder to work in, the program, and the faults found so far."""
 
     def __init__(self, program, folder):
         self.program, self.folder, self.faults = program, folder, []
@@ -46,7 +47,7 @@ class Room:
         return done.returncode, done.stdout, done.stderr.decode()
 
     def said(self, sheet, report):
-        """Returns the program's output for a report."""
+        """Returns the statuses and outputs of three commands for a report."""
         return [self.run(command, sheet, report) for command in ("check", "verdicts", "merge")]
 
     def normalise(self, report, sheet, *options):
@@ -59,8 +60,8 @@ class Room:
 
 
 def look_at_cases(room):
-    """Checks the reports in cases.jsonl. Returns their number, how many are accepted, and how many were accepted before
-    normalising."""
+    """Checks the cases in cases.jsonl. Returns their number, and how many reports are accepted after normalising and before
+    it."""
     with open(os.path.join(HERE, "cases.jsonl"), encoding="utf-8") as file:
         cases = [json.loads(line) for line in file]
     accepted = before = 0
