@@ -4,8 +4,8 @@
     tests/devices [PROGRAM]
 
 PROGRAM is $XBRLMERGE or the built one by default. The tables below list the expected status and line for each case. If the
-line has a length, standard output must contain exactly that many bytes from the start of the text. Otherwise it must contain
-all of the text or nothing. No file may change.
+line contains a number of bytes, standard output must contain exactly that many bytes from the start of the text. Otherwise it
+must contain all of the text or nothing. No file may change.
 
 Status 0: all cases are as expected. 1: some are not; each is printed. 2: there is no program.
 """
@@ -27,8 +27,8 @@ from support import built_program, bytes_of
 NOBODY, LIMIT, ENDLESS_LIMIT = 65534, 20, 180
 # the command that returns the size of a pipe; Python has a name for it since 3.10
 PIPE_SIZE = 1032
-# kilobytes: LITTLE of address space is too little for an endless file, and enough for any other; with less than MUCH of free
-# memory, endless files are read only with LITTLE
+# kilobytes: LITTLE of address space is too little for an endless file, and enough for the other files; with less than MUCH of
+# free memory, endless files are read only with LITTLE
 LITTLE, MUCH = 150_000, 6_000_000
 
 GOOD, REFUSED, NOTHING_TAKEN = (0, ""), (1, "report 2: 1 NotJson at document\n"), (3, "device: 0 bytes written\n")
@@ -66,8 +66,8 @@ FILES = {
     "endless, little memory": (MEMORY, MEMORY, MEMORY),
     "endless": (LENGTH, LENGTH, LENGTH),
 }
-# command lines with the file as the sheet, the events or a report; endless files are slow, so only the first of each is run
-# with them
+# command lines with the file as the sheet, the events or a report; an `endless` file is slow, so only the first line of each
+# list is run with it
 PLACES = {
     "sheet": ("check --sheet strange report", "merge --sheet strange report", "verdicts --sheet strange report",
               "replay --sheet strange --replicas 2 --events events report"),
@@ -160,7 +160,7 @@ def compare_outputs(room):
 
 
 def compare_inputs(room):
-    """Makes standard input fail, which only the bundle reads."""
+    """Makes standard input fail. Only the program without arguments reads it."""
     for words, (ends, _) in WORDS.items():
         for case, redirection in STOPS_INPUT.items():
             ran, expected = room.run(words, redirection), (ends[0], room.whole[words].out, ends[1])
@@ -196,8 +196,8 @@ def take_late(child, reader):
 
 
 def run_with_pipe(room, words, take, waits):
-    """Runs the program with a pipe for its output, which is closed first if no byte should be taken. Returns the result with
-    the bytes that were read, and the number of bytes taken.
+    """Runs the program with a pipe for its output. Without `take`, the reading end is closed first. Returns the result with the
+    bytes that were read, and the number of bytes that the pipe took.
     """
     reader, writer = os.pipe()
     os.set_blocking(writer, waits)
@@ -272,8 +272,8 @@ def run_strange(room, kind, words):
 
 
 def compare_file(room, kind, name, words, ends):
-    """Runs the program on such a file. The output must be the same as for a regular file; a refused report counts as an empty
-    one."""
+    """Runs the program on a file of this kind. With status 3 the output must be empty. Otherwise it must be the same as for a
+    regular file; a refused report counts as an empty one."""
     writer = make(room, kind, name)
     try:
         ran = run_strange(room, kind, words)
@@ -285,7 +285,7 @@ def compare_file(room, kind, name, words, ends):
 
 
 def compare_files(room):
-    """Replaces the sheet, the events and a report by files that are not regular, or by none."""
+    """Replaces the sheet, the events and a report by each kind of file, and standard input by an endless one."""
     for kind, all_ends in FILES.items():
         if kind == "endless" and free_memory() < MUCH:
             room.left_out.append(f"endless files, with less than {MUCH:,} kB of free memory")

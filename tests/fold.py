@@ -1,14 +1,14 @@
 #!/usr/bin/env python3
-"""Compares folds of many reports with one run of the program. Not part of the gate.
+"""Compares folds, which merge many reports in groups, with one run of the program. Not part of the gate.
 
     [XBRLMERGE=PROGRAM] [REPORTS=200] [JOBS=2] [SEED=1] tests/fold
 
-It draws reports that overlap, agree, contradict each other, or are refused. It compares the bytes of one run with the results
-of examples/fold/Makefile and examples/fold/fold_dask.py, each at three widths, and checks how many branches a late report
-rebuilds. If Dask is not installed, a module of two functions runs the nodes in turn. Nodes that call the library are skipped
-if there is no lib/libxbrlmerge.so, which ./build --library makes.
+It draws reports that overlap, agree, contradict each other, or are refused. The results of examples/fold/Makefile and
+examples/fold/fold_dask.py, each at three widths, must equal the bytes of one run. The script also checks how many branches a
+late report rebuilds, and nodes that fail or are stopped. If Dask is not installed, a module of two functions runs the nodes in
+turn. Nodes that call the library are skipped if there is no lib/libxbrlmerge.so, which ./build --library makes.
 
-Status 0: all are equal. 1: some are not; each is printed. 2: the program is not built.
+Status 0: all is as expected. 1: it is not; each fault is printed. 2: the program is not built.
 """
 import argparse
 import json
@@ -56,13 +56,13 @@ def fact(chance, prefix):
         return {"dimensions": dimensions, "value": f"{prefix}:B" if concept[0] == "N" else text}
     dimensions["unit"] = chance.choice(["c:EUR", "c:EUR/x:shares"])
     made = {"dimensions": dimensions, "value": f"{chance.randint(980, 1020)}.{chance.randint(0, 9)}0"}
-    # mostly near the last digit of the values, where some facts agree and others do not; otherwise from the whole range
+    # decimals: mostly near the last digit of the values, where some facts agree and others do not; otherwise from -18 to 18
     places = chance.randint(-2, 1) if chance.random() < 0.8 else chance.randint(-18, 18)
     return {**made, "decimals": places} if chance.random() < 0.8 else made
 
 
 def report(chance, is_refused):
-    """Draws the text of a report with its own prefixes. A refused one has one of three faults."""
+    """Draws the text of a report with its own prefixes. `is_refused` is the number of its fault, from 1 to 3, or 0 for none."""
     prefix = chance.choice(["m", "made", "x-1"])
     uris = {prefix: URI, "e": "http://standards.iso.org/iso/17442"}
     uris.update({"c": "http://www.xbrl.org/2003/iso4217", "x": "http://www.xbrl.org/2003/instance"})
@@ -138,7 +138,7 @@ def late_reports(width):
 
 
 def nodes():
-    """Checks a node whose program fails, and that no fold uses a broken text."""
+    """Checks nodes that succeed and nodes that fail, and that no fold uses a broken text of a branch."""
     node, out = os.path.join(FOLD, "merge_files"), "node.json"
     check(run(node, "sheet.json", out, *paths()[:9]).returncode in (0, 1) and os.path.exists(out), "a node does not make its text")
     wrong = {"sheet": (paths()[0], out, paths()[0]), "file": ("sheet.json", out, "in/none.json"), "usage": ("sheet.json",)}
@@ -168,7 +168,7 @@ def odd_names():
 
 
 def stopped_nodes():
-    """Checks that a stopped node stops its program and leaves no files."""
+    """Checks that a stopped node stops its program and leaves no files, and that no file name contains its process number."""
     write("slow", "#!/bin/sh\nls -A >names\necho $$ >number.part\nmv number.part number\nexec sleep 60\n")
     os.chmod("slow", 0o755)
     for kind in (signal.SIGTERM, signal.SIGHUP, signal.SIGINT):
@@ -200,7 +200,8 @@ def dask_words():
 
 
 def on_dask(words, width, wanted):
-    """Compares both forms of a fold on Dask, whose nodes are processes or calls."""
+    """Compares folds on Dask with one run: one whose nodes are processes and, if the library is built, one whose nodes are
+    calls."""
     done = run(*words, "sheet.json", "dask.json", str(width), *paths())
     compare(f"Dask, {width} files a node", done, "dask.json", wanted)
     if LIBRARY:

@@ -3,10 +3,10 @@
 
     [SETS=300] [SEED=1] tests/formats [PROGRAM]
 
-It runs the examples, texts with quotes, line ends and formulas, and SETS sets of drawn reports. It computes the output of
-`--format json` and `--format csv` from the lines and from the output of `merge`. The program's output must equal it byte for
-byte. `--spreadsheet` may only add a ' before a text, and must add it wherever tools/contradictions does, except before a
-number.
+It runs the program on the examples, on texts with quotes, line ends and formulas, and on SETS sets of drawn reports. It
+computes the output of `--format json` and `--format csv` from the lines and from the output of `merge`. The program's output
+must equal it byte for byte. `--format lines` must print the lines. `--spreadsheet` may only add a ' before a text, and must add
+it wherever tools/contradictions begins a cell with one, except before a number.
 
 Status 0: all is as expected. 1: it is not. 2: the program is not built.
 """
@@ -55,7 +55,7 @@ def table(rows):
 
 
 class Merged:
-    """A merged text, with names that need no prefix."""
+    """A merged text. Its methods return names with their URIs instead of prefixes."""
 
     def __init__(self, text, sheet):
         tree = json.loads(text)
@@ -80,7 +80,7 @@ class Merged:
         return f"({names})" if side.startswith("(") else names
 
     def dimensions(self, given):
-        """Returns the dimensions in the order in which they are written."""
+        """Returns a fact's dimensions with full names, in the order of the merged text."""
         made = {}
         for key, text in given.items():
             if key in ("concept", "entity"):
@@ -134,7 +134,8 @@ def sources_of(lines):
 
 
 def is_guarded(plain, guarded):
-    """Returns whether the cells differ only by a ' before texts, and every text that would be read as a formula has one."""
+    """Returns whether the cells differ only by a ' before texts, and each text that a spreadsheet would read as a formula has
+    one, unless it is a number."""
     one, two = (list(csv.reader(io.StringIO(text, newline=""))) for text in (plain, guarded))
     numeric = {"decimals", "common_low", "common_high"}
     for cells, others in zip(one, two):

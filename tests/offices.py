@@ -96,7 +96,8 @@ def level_of(texts):
 
 
 def do_meet(row):
-    """Returns whether all pairs of facts in a row meet: their rounding intervals have a common number."""
+    """Returns whether all pairs of different facts in a row meet: their rounding intervals have a common number. Texts never
+    meet."""
     if any(isinstance(it, str) for it in row):
         return False
     ends = [(number, fractions.Fraction(10) ** -places / 2) for number, places in row]
@@ -133,7 +134,7 @@ class Schedule:
         return run(self.program, "merge", "--sheet", "sheet.json", "--", *files)
 
     def present(self, office):
-        """Returns the text of an office, or the text without facts if it has none."""
+        """Returns the text of an office. If the office has none, the text without facts is written there first."""
         if not os.path.exists(f"{office}/merged.json"):
             status, text, lines = self.merge()
             expect((status, lines) == (0, ""), f"a merge of no report ends with {status}: {lines}")
@@ -210,7 +211,7 @@ class Schedule:
             self.compare(office)
 
     def compare(self, office):
-        """Compares the text of an office with one merge of the reports that reached it, in any order."""
+        """Compares the text of an office with one merge of the reports that reached it, in a drawn order."""
         names = self.chance.sample(sorted(self.reached[office]), len(self.reached[office]))
         status, text, lines = self.merge(*(f"reports/{name}" for name in names))
         expect((status, lines) == (0, ""), f"a merge of {' '.join(names)} ends with {status}: {lines}")
@@ -218,7 +219,7 @@ class Schedule:
 
 
 def play(program, seed, counts):
-    """Runs a schedule and returns its length; 0 if something is wrong, which is printed."""
+    """Runs a schedule and returns the number of its events, or 0 if something is wrong, which is printed."""
     schedule = Schedule(program, seed, counts)
     with tempfile.TemporaryDirectory() as room:
         os.chdir(room)

@@ -9,8 +9,8 @@ is as expected, a picture of it in the light theme is written to PICTURE.png; do
 
 On 11,000 contradictions that the script generates, the tool may take at most 10 seconds of a processor and 300 MB. The
 browser must show something within 2 seconds, draw the page within 30 and return its whole text within 60. An entry of the
-index must open the rows of its concept. The filter must find as many rows as contain the words. Nothing may be wider than
-the window, at any of three widths.
+index must open the rows of its concept. The filter must count the rows that contain its words, and show at most 100 of them.
+Nothing may be wider than the window, at any of three widths.
 
 Status 0: all is as expected, or no Chromium is installed, which a line reports. 1: it is not; each fault is printed. 2: the
 program is not built, or a process failed or took too long.
@@ -63,7 +63,7 @@ setTimeout(() => {
 </script></body>"""
 # the providers of the two values of a contradiction, and their identifiers
 OWN_NAMES = ("issuer f56", "statfeed TS08780")
-# in each theme: the background, a value of the pair, and the gap
+# the colours of the background, of a value of the pair and of the gap, in each theme
 LOOKS = {"light": ("ffffff", "b3201f", "f3c9c5"), "dark": ("16181c", "ff8a80", "5c2b2b")}
 
 
@@ -109,7 +109,7 @@ def colours(picture):
 
 
 def look_at_example(words, room, kept):
-    """Returns the faults of the page of examples/. If there are none, it keeps the picture."""
+    """Returns the faults of the page of examples/. If it has none and `kept` is a path, the light picture is copied there."""
     page, rows = build(room)
     content = run([*words, "--window-size=1100,1200", "--dump-dom", f"file://{page}"]).decode()
     sections = {part.split('"')[0]: part for part in content.split(' id="row')[1:]}
@@ -157,8 +157,8 @@ def look_at_large(words, room):
 
 
 def changed(page, name, before, after):
-    """Writes the page without its policy and with `before` replaced once. Returns the path of that copy, and its text before
-    the replacement."""
+    """Writes a copy of the page without its security policy and with `before` replaced once. Returns the path of the copy, and
+    its text before the replacement."""
     with open(page, encoding="utf-8") as file:
         text = re.sub("<meta http-equiv=[^>]*>", "", file.read())
     place = os.path.join(os.path.dirname(page), name)
@@ -186,7 +186,7 @@ def ask(words, page, width):
     opened, seen, wide, is_wide, _, left, wide_left, is_wide_left, told = found[1].split("|")
     sections = re.findall('<section class="row .*?</section>', text, re.DOTALL)
     wanted = sum("Concept007" in section and "issuer" in section for section in sections)
-    faults = [f"the filter says {told}, not {wanted}"] * (told.split(",")[0] != f"{wanted} of {len(sections)}")
+    faults = [f"the filter shows the count {told}, not {wanted}"] * (told.split(",")[0] != f"{wanted} of {len(sections)}")
     faults += [f"the filter shows {left} rows"] * (int(left) != min(wanted, 100))
     faults += [f"the index opens {opened} rows, and {seen} are shown"] * (int(opened) < 1 or int(seen) != 100 + int(opened))
     faults += [f"the page is wider than {width} pixels"] * ("true" in (is_wide, is_wide_left))

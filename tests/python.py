@@ -49,7 +49,7 @@ def ran(command, sheet, reports, *words):
 
 
 def merged(sheet, reports, allow):
-    """Returns the same for the module's call."""
+    """Returns the status, text and lines of the module's `merge`, in the form that `ran` returns."""
     try:
         answer = xbrlmerge.merge(sheet, reports, allow)
     except xbrlmerge.TooLoose as fault:
@@ -177,7 +177,7 @@ class Examples(unittest.TestCase):
         self.assertRaises(ValueError, xbrlmerge.merge, sheet, [], "some")
 
     def test_long_texts_are_asked_for_again(self):
-        # the first buffer has no room
+        # the first buffer has a length of 0
         report = bytes_of(EXAMPLES[0])
         more, library.MORE = library.MORE, -len(report)
         try:
