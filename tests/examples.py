@@ -3,7 +3,7 @@
 
     tests/examples [PROGRAM [EMBEDDED]]
 
-It builds the program and, in a copy of the repository, examples/embed/main.txt, or uses the named programs. If only PROGRAM
+It builds the program and, with a copy of the libraries, examples/embed/main.txt, or uses the named programs. If only PROGRAM
 is named, examples/embed/main.txt is skipped. It compares
 
 - the output for the reports in examples/ with the files beside them; earlier.json is the merged report as it was
@@ -11,18 +11,19 @@ is named, examples/embed/main.txt is skipped. It compares
 - each page in PAGES with the results of its commands. The blocks of a page run in order, as a reader types them, by `sh`
   and then by `bash`, in a folder with the repository's files. They may leave no other file there. The last command of a block
   must return the status that the paragraph before it names, or 0; each other command must return 0. If a block of
-  output follows, the commands must print exactly that; `..` at the end of a line matches the rest of the line. If no
-  output follows, standard error may contain only refusals and `too loose`. A block that proves (`rt`, the gate) is skipped;
+  output follows, the commands must print exactly that; ` ..` at the end of a line matches the rest of the line. If no
+  output follows, standard error may contain only refusals and `too loose`. A block that proves (`rt`, ./build, the gate)
+  is skipped;
 - the JSON that docs/GUIDE.md shows with the examples;
 - the output of tools/contradictions when it makes the sheet from a taxonomy package and normalises reports in the form
   of other tools, in tests/normalise/vendors;
 - the commands in the man pages and in the program's help, in the same way;
 - each example in docs/REFUSALS.md with the line that refuses it.
 
-The code in docs/LIBRARY.md is proved together with the program that embeds the library. This takes minutes, and much longer
-if ./build was not run before.
+If no program is named, the code in docs/LIBRARY.md is proved too. This takes minutes, and much longer if ./build was not run
+before.
 
-Status 0: all is as shown. 1: something is not. 2: a program cannot be built.
+Status 0: all is as shown. 1: something is not. 2: the code cannot be proved, or a program cannot be built.
 """
 import glob
 import json
@@ -42,7 +43,7 @@ EMBED, SHOWN = "embed", "shown"
 NOT_MERGED = "not merged, or not to the end\n"
 PAGES = ("README", "docs/GUIDE", "docs/REFUSALS", "docs/COSTS")
 SHELLS = ("sh", "bash")
-# the program is built when the commands run
+# this beginning of a block is left out, since the program is built before the commands run
 BUILDS = "./build && "
 # a block with one of these is skipped: it proves for minutes
 SLOW = re.compile(r"(?:^|&& )(?:rt|bash \.ci/run|\./build)\b", re.MULTILINE)
@@ -53,7 +54,7 @@ LIMIT = 120
 GOOD = ("issuer.json", "ledgerline.json", "statfeed.json")
 BAD = "oldharbour.json"
 MERGED, EARLIER = "merged.json", "earlier.json"
-# the member that declares the level; rows 12, 34 and 37 are contradictions, so the level is `all`
+# the feature that declares the level, and its namespace; rows 12, 34 and 37 are contradictions, so the level is `all`
 DECLARED = ('"features":{"xbrl:allowedDuplicates":"all"},', ',"xbrl":"https://xbrl.org/2021"')
 # the reasons for which a vendor's report is refused without the lossy option that it needs
 ODD_UNITS = ('fact "TS1": 12 NameForm', 'fact "TS2": 26 NumberForm', 'fact "TS3": 19 PeriodForm')
@@ -104,7 +105,8 @@ def pieces():
 
 
 def build_embedded(room):
-    """Proves the pieces of docs/LIBRARY.md and builds the example of embedding. Returns its path, or an empty text."""
+    """Proves the pieces of docs/LIBRARY.md and builds the example of embedding. Returns its path, or an empty text if either
+    fails."""
     lines, embed = copied_libraries(room), re.search("'(embed: .*)'", content("docs/LIBRARY.md"))[1]
     below = " ".join(it.partition(":")[0] for it in lines)
     crates = {EMBED: (embed, {"main.rt": content("examples/embed/main.txt")}), SHOWN: (f"{SHOWN}: {below}", pieces())}
@@ -124,22 +126,23 @@ def build_embedded(room):
 
 
 def whole_lines(text):
-    """Returns the lines of a text. A backslash at the end of a line continues it."""
+    """Returns the lines of a text that are not empty, without spaces around them. A backslash at its end continues a line."""
     return [it.strip() for it in re.sub(r"\\\n *", "", text).splitlines() if it.strip()]
 
 
 def commands(text):
-    """Returns the commands on lines of their own, each as a block with its status."""
+    """Returns the commands on lines of their own, each as a block with status 0 and no shown output."""
     return [([it], 0, None) for it in whole_lines(text) if it.startswith(STARTS)]
 
 
 def status_before(text, gap):
-    """Returns the status that the last paragraph of a text names."""
+    """Returns the last status that the last paragraph of a text names, or 0 if it names none."""
     return int((re.findall(r"status (?:is )?(\d)", text.rstrip().rpartition(gap)[2]) or ["0"])[-1])
 
 
 def of_page(name):
-    """Returns a page's blocks of commands, each with the status of its last command and the output that is shown."""
+    """Yields a page's blocks of commands except the slow ones, each with the status of its last command and its shown output,
+    which is None if no output follows."""
     text = content(f"{name}.md")
     fences = list(re.finditer(r"^```(\w*)\n(.*?)^```$", text, re.MULTILINE | re.DOTALL))
     for place, fence in enumerate(fences):
@@ -172,7 +175,7 @@ def of_help(program):
 
 
 def run_lines(shell, lines, room):
-    """Runs lines one after another in one shell, and returns the status and the output of each."""
+    """Runs lines one after another in one shell, and yields the status, standard output and standard error of each."""
     script = ["set -o pipefail"] if shell == "bash" else []
     for place, line in enumerate(lines):
         with open(f"{room}/line{place}", "w", encoding="utf-8") as file:
@@ -192,7 +195,7 @@ def is_as_shown(shown, printed):
 
 
 def wrong_with(blocks, shell, room):
-    """Runs the blocks of a page, and returns the differences from the shown output."""
+    """Runs the blocks of a page, and returns the differences from the expected statuses and output."""
     ran, wrong = run_lines(shell, [line for lines, _, _ in blocks for line in lines], room), []
     for lines, status, shown in blocks:
         printed, told = [], []
@@ -341,7 +344,7 @@ def make_top(program, room):
 
 
 def told(program, embed):
-    """Returns the differences from the shown output, and the number of commands."""
+    """Returns the differences from the shown output, and a text with the numbers of commands and refusals."""
     wrong, ran = compared(program) + (embedded(embed) if embed else []) + fragments(program) + page_of_vendors(program), 0
     places = {**{it: list(of_page(it)) for it in PAGES}, "the man pages": list(of_man_pages()), "the help": of_help(program)}
     with tempfile.TemporaryDirectory() as room:

@@ -1,5 +1,5 @@
 #!/usr/bin/env python3
-"""Runs the program on drawn reports, sheets, events and bundles that are then broken. Not part of the gate.
+"""Draws reports, sheets, events and bundles, breaks them, and runs the program on them. Not part of the gate.
 
     [CASES=5000] [SEED=1] [CASE=N] [JOBS=N] tests/malformed [PROGRAM]
 
@@ -9,8 +9,8 @@ refused report beside two good ones must not change their text. An accepted repo
 merge to the same bytes. JOBS processes run in parallel, as many as there are processors by default. CASE runs only the case
 with this number.
 
-Status 0: all is as expected. 1: it is not; the seed and the case are printed, and the broken bytes are kept as a file. 2:
-there is no program.
+Status 0: all is as expected. 1: it is not; the seed and the case are printed, and the broken bytes are written to a file; or
+5,000 or more cases lack a usual result. 2: there is no program.
 """
 import argparse
 import collections
@@ -31,7 +31,7 @@ CASES, SEED, CASE = (int(os.environ.get(name, usual)) for name, usual in (("CASE
 JOBS = int(os.environ.get("JOBS", len(os.sched_getaffinity(0))))
 # cases that share a sheet and good reports, and the most seconds of a run
 BATCH, LIMIT = 25, 10
-# reports of this many bytes are read in pieces
+# reports of at least this many bytes are read in pieces
 IN_PIECES = 131_072
 # the number of facts, or of spaces after each comma, that make a report so long
 MANY, SPREAD = 1_300, 3_000
@@ -133,7 +133,7 @@ def drawn_events(chance):
 
 
 def stretch(chance, text):
-    """Draws the ends of a piece of a text."""
+    """Draws the start and the end of a part of a text."""
     start = chance.randint(0, len(text))
     return start, min(len(text), start + chance.choice((1, 1, 2, 5, 20, 100)))
 
@@ -169,7 +169,7 @@ def spliced(chance, text, other):
 
 
 def replaced(chance, text, pattern, choices):
-    """Replaces one of the pieces that match this pattern by one of the choices."""
+    """Replaces a part of a text that matches the pattern by one of the choices. If no part matches, it replaces a drawn part."""
     found = list(re.finditer(pattern, text))
     start, end = chance.choice(found).span() if found else stretch(chance, text)
     return text[:start] + chance.choice(choices) + text[end:]
@@ -243,7 +243,8 @@ class Batch:
         expect(self.written("text", sheet=sheet) == text, "merging the written text changes it")
 
     def expect_reports(self, status, lines, told, most):
-        """Checks that status 0 has no line, and that status 1 has only lines of refused reports, in the order of the reports."""
+        """Checks that status 0 has no line, and that status 1 has only lines of refused reports, in the order of the reports.
+        Counts the reasons."""
         found = list(REPORT_LINE.finditer(lines))
         numbers = [int(it[1]) for it in found]
         expect("".join(it[0] for it in found) == lines and bool(numbers) == (status == 1), told)
@@ -255,7 +256,8 @@ class Batch:
         write("broken", self.content)
 
     def of_report(self, chance, drawn=drawn_report):
-        """Tests a broken report between two good ones. The same must result if it is read in pieces, and from `check`."""
+        """Tests a broken report between two good ones. Reading it in pieces must have the same result, and `check` the same
+        refusal."""
         self.write_broken(chance, drawn(chance), self.one)
         status, text, lines, told = self.run("merge", "--sheet", "sheet", "one", "broken", "two")
         self.expect_reports(status, lines, told, 3)
@@ -272,7 +274,7 @@ class Batch:
         return status
 
     def of_long(self, chance):
-        """Does the same for a broken report that was long before it was broken."""
+        """Does the same as `of_report` for a report that was long before it was broken."""
         return self.of_report(chance, drawn_long)
 
     def of_sheet(self, chance):
@@ -350,7 +352,7 @@ def play(task):
 
 
 def is_tame(counts):
-    """Returns whether a result is missing that thousands of cases should have."""
+    """Returns whether 5,000 or more cases lack a usual result."""
     ends = [f"{kind} {status}" for kind, statuses in (("report", "01"), ("long", "01"), ("sheet", "013"), ("events", "03"), ("bundle", "013"))
             for status in statuses]
     return CASE < 0 and CASES >= 5000 and not all(counts[it] for it in ends)

@@ -1,17 +1,18 @@
 #!/usr/bin/env python3
-"""Runs the tools on drawn packages, reports, sheets and lines that are then broken. Not part of the gate.
+"""Draws packages, reports, sheets and lines, breaks them, and runs the tools on them. Not part of the gate.
 
     [CASES=5000] [SEED=1] [CASE=N] [JOBS=N] tests/tools_malformed
 
 make_sheet reads schemas, catalogs and sheets; contradictions reads label linkbases, merged texts, sheets and the lines of
-`verdicts` and `sources`; normalise reads reports and sheets. In each case one file is broken, or the package that contains
-it. Each run must end within 10 seconds of processor time and 1 GB of memory, with status 0, 1 or 3. It may print only lines
-that a terminal can show, and must not raise an exception that the tool does not expect. After 0 and 1 all outputs must be
-complete, and normalise must leave its own output unchanged. After 3 no output may have changed. The tools run in this
+`verdicts` and `sources`; normalise reads reports and sheets. In most cases one file is broken, or the package that contains
+it, or both. Each run must end within 10 seconds of processor time and 1 GB of memory, with status 0, 1 or 3. It may print only
+lines that a terminal can show, and must not raise an exception that the tool does not expect. With status 0 or 1 all outputs
+must be complete, and normalise must leave its own output unchanged. With status 3 no output may change. The tools run in this
 process; one case in 20 also runs as a process, with the same result. JOBS processes run in parallel, as many as there are
 processors by default. CASE runs only the case with this number.
 
-Status 0: all is as expected. 1: it is not; the seed and the case are printed, and the files are kept.
+Status 0: all is as expected. 1: it is not; the seed and the case are printed, and the files are kept; or 5,000 or more cases
+lack a usual result.
 """
 import argparse
 import collections
@@ -112,7 +113,7 @@ LINE_BREAKS = (reworded, reworded, malformed.reordered, malformed.renumbered, *m
 
 
 def broken(chance, text, other, breaks):
-    """Returns a text, broken up to three times, or sometimes unbroken."""
+    """Breaks a text up to three times. One text in six stays whole."""
     for _ in range(chance.choice((0, 1, 1, 1, 2, 3))):
         text = chance.choice(breaks)(chance, text, other)
     return text
@@ -248,7 +249,8 @@ def within_bounds(run):
 
 
 def write_taxonomy(room, chance, kinds):
-    """Writes a taxonomy in which one file of these kinds, or the package, is broken. Returns the argument that names it."""
+    """Writes a taxonomy as a folder or a package. One file whose name ends in one of `kinds` may be broken, and so may the
+    package. Returns the argument that names the taxonomy."""
     files = drawn_taxonomy(chance)
     name = chance.choice([name for name in files if name.endswith(kinds)])
     files[name] = broken(chance, files[name], files["t/base.xsd"], XML_BREAKS)
@@ -374,7 +376,7 @@ def limit_memory():
 
 
 def is_tame(counts):
-    """Returns whether a result is missing that thousands of cases should have."""
+    """Returns whether 5,000 or more cases lack a usual result."""
     return CASE < 0 and CASES >= 5000 and not all(counts[f"{tool} {status}"] for tool in TOOLS for status in (0, 1, 3))
 
 
