@@ -2,8 +2,8 @@
    SHEET REPORT ..; c_abi check SHEET REPORT; c_abi edges SHEET. It prints the text and the lines of refused reports as the
    program does, and returns the status of the call. Calls with buffers are also made with buffers that are too short. Each
    call is also made with each request for memory refused in turn. Standard error ends with the number of refused requests
-   that made the call fail, in a line that begins with `requests`. Status 90 with a line means that a call does not do what
-   the header says. */
+   that made the call fail, in a line that begins with `requests`. `edges` makes calls with unusual arguments instead, prints
+   nothing and returns 0. Status 90 with a line means that a call does not do what the header promises. */
 #include <stdio.h>
 #include <stdlib.h>
 #include <string.h>
@@ -115,7 +115,8 @@ static void tell_refusal(const xbrlmerge_refusal *row) {
         fprintf(stderr, "fact %llu\n", (unsigned long long)row->fact);
 }
 
-/* Makes the call with empty buffers, and with one byte or row too few. Returns buffers that are long enough. */
+/* Makes the call with empty buffers and, if they are too short, with one byte or row too few, and with enough. Returns buffers
+   that are long enough. */
 static struct room short_rooms(const struct asked *asked) {
     struct room none = make_room(0, 0);
     uint32_t status = call(asked, &none);
@@ -246,7 +247,7 @@ static int edges(struct asked *asked) {
     asked->command = "verdicts", asked->count = 3, asked->ends[0] = 2, asked->ends[1] = 2, asked->ends[2] = 4;
     EXPECT(call(asked, &room) == XBRLMERGE_REFUSED && room.needed == 0 && room.refused == 3 && is_kept(&room, 0, 3));
     EXPECT(room.rows[1].report == 2 && room.rows[1].number == 1 && room.rows[1].fact == 0 && room.rows[2].report == 3);
-    /* lengths of 0 with valid pointers, since none may be null */
+    /* lengths of 0 with valid pointers, since no pointer may be null */
     uint8_t byte = MARK;
     size_t end = 0, needed = 77, refused = 78;
     xbrlmerge_refusal row = {4, 5, 6};

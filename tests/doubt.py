@@ -4,19 +4,20 @@
     tests/doubt [--format] [--quiet] [--write]
 
 An entry, `- [FILE](../crates/..): `name`, ..`, lists contracts, types, limits and lines of code (`src/`), or definitions
-(`specs/`). A row `| [`word`](../crates/..) | [`law`](../crates/..) |` names a definition that needs no reading, and laws
-that say enough about it. FORMAT may use all that DOUBT lists, and may list words of DOUBT as entries. The status is 1 if
+(`specs/`). A row `| [`word`](../crates/..) | [`law`](../crates/..) |` names a word, which is a definition that needs no
+reading, and laws that state enough about it. FORMAT may use all that DOUBT lists, and may list words of DOUBT as entries. The
+status is 1 if
 
 - a name is not in its file, or is listed twice;
-- a listed definition or contract uses a definition of this repository that is neither listed nor a word;
-- the page has an entry or a word that none of its contracts needs;
+- a listed definition or contract uses a definition of this repository that is neither listed, nor a word, nor in the table;
+- a page has an entry or a word that none of its contracts needs;
 - a word has no law, or its law does not exist, is on neither page, or does not mention the word;
-- the table of conditions differs from `Reason`, its numbers, and the definitions of the conditions;
+- the table of conditions differs from `Reason`, its numbers, or the definitions of the conditions;
 - the number of lines on a page is wrong, or the headline has more than 600 lines.
 
 Definitions of the kit are not followed. A record field does not hide a definition of the same name; a variable does, in its
-scope. With --format it prints the definitions that docs/FORMAT.md lists; with --quiet it prints none. --write updates the
-entries, the conditions and the numbers of lines, but not the words.
+scope. With --format it prints the definitions that docs/FORMAT.md lists; with --quiet it prints no definitions. --write updates
+the entries, the conditions and the numbers of lines, but not the words.
 """
 import glob
 import os
@@ -91,7 +92,7 @@ class Specs:
                 self.types.setdefault((crate, name), path)
 
     def owner(self, path, word):
-        """Returns the definition, type or limit to which a word of a file refers, or its name in the kit."""
+        """Returns the definition, type or limit to which a word of a file refers, or its name in the kit, or None."""
         word, *rest = word.split(".")
         if (path, word) in self.owners:
             return self.owners[path, word]
@@ -230,7 +231,7 @@ class Page:
         self.there = [(path, name) for _, path, name in self.entries]
         self.contracts = [it for it in self.there if is_contract(specs, *it)]
         self.tabled = IN_THE_TABLE if CONDITION.search(self.text) else []
-        # names that need no entry: words, names in the table, and entries of the previous page that this page does not repeat
+        # names that need no entry: words, names in the table, and what the previous page lists and this page does not repeat
         self.stops = {*self.words, *self.tabled, *({*before.there, *before.words}.difference(self.there) if before else ())}
 
     def needed(self):
@@ -240,7 +241,7 @@ class Page:
         return [it for it in dict.fromkeys(found) if it not in self.contracts]
 
     def shown(self):
-        """Returns the listed definitions as one text without empty lines."""
+        """Returns the lines to print: the listed definitions without empty lines, the words with their laws, and the table."""
         lines, before = [], ("", "")
         for heading, path, name in self.entries:
             if heading != before[0]:

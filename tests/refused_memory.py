@@ -5,18 +5,18 @@
 
 The tests of a crate are crates/NAME/out/NAME_tests, which `rt test` makes. The program is ./xbrlmerge, or
 crates/xbrlmerge/out/xbrlmerge if that does not exist. Without arguments it tests all crates that have tests, and the program.
-A first run of each test counts the requests. A second run, with a number after the last one, must refuse none. Each later run
-refuses one of them. A test must pass and print that a call was refused (`refused`) or that its own setup was (`refused
-here`); if it prints neither, the request counts as passed over. The program runs with arguments for every command. It must
-print the line `out of memory`, end with status 3 and have written nothing or a first part of its text. It may also print its
-whole text, since two requests may be refused without harm: one for the key of a cache while a report is read, and one for
-clap's search for similar words. For the same reason no request counts as passed over in the tests of crates that read
+A first run of each test counts the requests. A second run, told to refuse the request after the last one, must refuse none.
+Each later run refuses one request. A test must pass and print that a call was refused (`refused`) or that its own setup was
+(`refused here`); if it prints neither, the request counts as passed over. The program runs with arguments for every command. It
+must print the line `out of memory`, end with status 3 and have written nothing or a first part of its text. It may also end as
+if nothing was refused, since two kinds of requests may be refused without harm: for the key of a cache while a report is read,
+and for clap's search for similar words. For the same reason no request counts as passed over in the tests of crates that read
 reports. JOBS runs are parallel, as many as there are processors by default. If a test makes more than 5,000 requests, only
 each 7th is refused from 2,001 on. Fewer are refused if it makes more than 50,000, or if its runs are long. A line reports
 which.
 
-Status 0: nothing failed and nothing was passed over. 1: something failed or was passed over. 2: tests or the program are not
-built, or are older than the sources.
+Status 0: nothing failed and nothing was passed over. 1: something failed or was passed over. 2: a name is unknown, there is no
+cc, or tests or the program are not built or are older than the sources.
 """
 import argparse
 import collections
@@ -37,8 +37,8 @@ PROGRAM = "program"
 JOBS = int(os.environ.get("JOBS", len(os.sched_getaffinity(0))))
 # if a test makes more than MANY requests, the first ALL are refused, and then each EVERY-th
 MANY, ALL, EVERY = 5000, 2000, 7
-# if it makes more than MOST, as tests with a device for each byte do, FEW are refused, spread evenly. If its runs would take
-# more than SECONDS of a processor, as many are refused as fit in that time, or about 100 if fewer fit
+# if it makes more than MOST, as tests with a device for each byte do, at most FEW are refused, spread evenly. If its runs, one
+# after another, would take more than SECONDS, as many are refused as fit in that time, or about 100 if fewer fit
 MOST, FEW, SECONDS = 50_000, 1000, 240
 # how many requests a process refuses in turn, and the time limit of a run in seconds
 SHARE, LIMIT = 40, 60
@@ -66,7 +66,7 @@ DEVICE_FAILS_TOO = {
 # the tests of these crates read reports, so a cache or clap's search for similar words may do without the memory
 READ_REPORTS = {"report_tests", "merge_tests", "command_tests"}
 
-# a test, or the program on a command line; the program also has its whole output
+# a test, or the program on a command line; `whole` is the program's result when nothing is refused, and None for a test
 Subject = collections.namedtuple("Subject", "label command given whole")
 Ran = collections.namedtuple("Ran", "status out err came requests")
 # a subject with nothing refused: its requests, the seconds of a run, and its faults
@@ -199,7 +199,7 @@ def refuse(task):
 
 
 def count_requests(task):
-    """Runs a subject with nothing refused, and again with the request after its last one refused."""
+    """Runs a subject with nothing refused, and again, told to refuse the request after the last one, which it must not make."""
     library, subject = task
     started = time.monotonic()
     ran = run(library, subject, 0)
@@ -232,13 +232,14 @@ def spread(requests, many):
 
 
 def shared_out(library, subject, numbers):
-    """Returns the tasks of a subject."""
+    """Returns the tasks of a subject, each with at most SHARE request numbers."""
     numbers = iter(numbers)
     return [(library, subject, part) for part in iter(lambda: list(itertools.islice(numbers, SHARE)), [])]
 
 
 def sweep(pool, library, subjects):
-    """Refuses the requests of each subject. Returns the row of the table, and the faults or other lines to print."""
+    """Refuses the requests of each subject. Returns the row of the table, the faults, and a line for each subject of which not
+    all requests were refused."""
     started = time.monotonic()
     all_counted = pool.map(count_requests, [(library, subject) for subject in subjects], 1)
     wrong = [line for counted in all_counted for line in counted.wrong]
@@ -266,7 +267,7 @@ def tests_of(crate):
 
 
 def long_report(room):
-    """Writes a sheet, and a report whose text goes to the device in several pieces."""
+    """Writes a sheet, and a report whose text is written to the device in several chunks."""
     uri = "https://made.example/2024"
     facts = {f"{number}": {"value": "Blue " * 600, "dimensions": {"concept": f"m:T{number % 8}", "m:Mill": f"{number}"}}
              for number in range(48)}
@@ -279,7 +280,8 @@ def long_report(room):
 
 
 def write_inputs(room):
-    """Writes inputs that the examples lack: a bundle; refused sheets, reports and events; long reports and schedules."""
+    """Writes inputs that the examples lack: a bundle, lists of names, a schedule, a long report with its sheet, and inputs that
+    are refused."""
     examples = [f"{TOP}/examples/{name}.json" for name in ("sheet", "issuer", "oldharbour", "statfeed")]
     lines = [bytes_of(name).strip(b"\n") for name in examples]
     names = [os.fsencode(name) for name in examples[1:]]
