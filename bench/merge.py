@@ -1,5 +1,5 @@
 #!/usr/bin/env python3
-"""Measures xbrlmerge on reports that it makes itself: bench/merge [FOLDER]
+"""Measures xbrlmerge on generated reports: bench/merge [FOLDER]
 
 There are three workloads, each in two sizes: one report, reports of 50 facts, and eight providers of the same facts. For
 comparison, a peer runs on the same bundle: a short program that reads each line with serde_json and writes it back. The ratio
@@ -62,8 +62,8 @@ class Failure(Exception):
 
 
 def in_child(work, *words):
-    """Runs a function in a child process. The peak memory of later children includes the memory of this process, so it must
-    stay small."""
+    """Runs a function in a child process. The peak memory of later children includes the memory of their parent, so this
+    process must stay small."""
     sys.stdout.flush()
     child = os.fork()
     if child == 0:
@@ -164,7 +164,7 @@ def said_by(line):
 
 
 def check_text(bundle, text):
-    """Checks that the text has each fact of the bundle once."""
+    """Checks that the text has each fact of the bundle once, and no other facts."""
     with open(bundle) as lines, open(text) as merged:
         next(lines)
         wanted = {one for line in lines for one in said_by(line)}
@@ -217,7 +217,8 @@ def instructions(program, bundle):
 
 
 def measure(workload, size, programs, folder):
-    """Returns the size of the bundle, and the seconds, kilobytes and instructions of each program."""
+    """Returns the size of the bundle and, for each program, the least seconds, the peak kilobytes and the instructions. Checks
+    the merged text."""
     stem = os.path.join(folder, f"{workload.replace(' ', '_')}_{size}")
     bundle = f"{stem}.bundle"
     in_child(write_bundle, workload, size, bundle)

@@ -58,7 +58,7 @@ def merging(a_sheet, *reports):
 
 
 def drawn_events(chance, n):
-    """Draws n events. All kinds are equally likely, except a restart, which is one event in fifty."""
+    """Draws n events. The first is a send. Later, a restart is one event in fifty, and all other kinds are equally likely."""
     replica, sent = lambda: chance.randint(1, REPLICAS), 0
     yield f"send {replica()}"
     for _ in range(n - 1):

@@ -1,5 +1,5 @@
 #!/usr/bin/env python3
-"""Checks that no shape of input costs more than its size: bench/shapes [options] [SHAPE ..]
+"""Checks that no shape of input costs much more than its size: bench/shapes [options] [SHAPE ..]
 
 Each shape makes one part of the input long, as a sender of a report, a sheet or a schedule could. The program runs on n such
 parts and on four times as many. The second run may take at most five times the instructions of the first, as `valgrind
@@ -14,7 +14,7 @@ standard output, in Markdown.
     --program FILE      the program, instead of the built one in crates/xbrlmerge
     --keep FOLDER       keeps the files of each shape there
 
-Status 0: each shape is within the bound. 1: one is not. 2: a measurement failed.
+Status 0: each shape is within the bound. 1: some are not. 2: a measurement failed, or a shape or the program does not exist.
 """
 import argparse
 import json
@@ -105,7 +105,7 @@ def measure_all(shapes, given, measure, folder):
 
 
 def chosen(words):
-    """Returns the shapes with these names, or all shapes if there are none. Words in a name may be separated by `_` or
+    """Returns the shapes with these names, or all shapes if no names are given. Words in a name may be separated by `_` or
     spaces."""
     named = {shape.__name__: shape for shape in SHAPES}
     names = [word.replace(" ", "_") for word in words]

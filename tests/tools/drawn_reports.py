@@ -1,4 +1,4 @@
-"""Draws reports: tidy ones, which xbrlmerge reads, and untidy ones, as other tools write them or worse."""
+"""Draws reports: tidy ones, which xbrlmerge accepts, and untidy ones, as other tools write them or worse."""
 import json
 
 SHEET = {

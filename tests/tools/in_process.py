@@ -1,4 +1,4 @@
-"""Runs the tools in this process, where a run takes milliseconds, and measures how their work grows."""
+"""Runs the tools in this process, where a run takes milliseconds, and measures how their time grows."""
 import contextlib
 import io
 import os

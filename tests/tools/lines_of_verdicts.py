@@ -2,7 +2,7 @@
 
     python3 tests/tools/lines_of_verdicts.py MERGED > LINES
 
-It compares every pair. Values must be texts, numbers or null, and names are compared as they are spelled.
+It compares every pair of facts in a row. Values must be texts, numbers or null, and names are compared as they are spelled.
 """
 import fractions
 import itertools

@@ -1,4 +1,4 @@
-"""Tests of tools/contradictions on texts that are made to take long, fill the page, or let the tool fail."""
+"""Tests of tools/contradictions on inputs designed to take long, fill the page, or make the tool fail."""
 import csv
 import itertools
 import json
@@ -34,7 +34,7 @@ def typed(size):
     return {f"e:d{each}": "" for each in range(size)}
 
 
-# facts for a given size, in the order of a merged text; rows alternate between two providers
+# facts for a given size, in the order of a merged text, and whether --near is tested; rows alternate between two providers
 LONG = {
     "a row of numbers": (lambda size: [number(each) for each in range(size)], False),
     "a row of texts": (lambda size: [text(f"t{each:07}") for each in range(size)], False),

@@ -1,4 +1,4 @@
-"""Tests of tools/make_sheet on the toy taxonomy beside them."""
+"""Tests of tools/make_sheet on the taxonomies beside this file, on bad inputs and on sheets."""
 import json
 import os
 import subprocess
@@ -55,7 +55,7 @@ def pack(package, folder):
 
 class ToolTest(in_process.RoomTest):
     def check_refused(self, status, told, *words):
-        """Checks that nothing is written, and that a line gives the reason."""
+        """Checks the status, that no sheet is printed, and that a line gives the reason. Returns the lines."""
         done = run(*words)
         self.assertEqual((done.returncode, done.stdout), (status, b""), done.stderr)
         self.assertIn(told, done.stderr.decode())

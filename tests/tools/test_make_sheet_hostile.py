@@ -1,4 +1,4 @@
-"""Tests of tools/make_sheet, and of labels, on files that are made to take long, leave their folder, or let the tool fail."""
+"""Tests of tools/make_sheet, and of labels, on files designed to take long, leave their folder, or make the tool fail."""
 import json
 import os
 import resource

@@ -189,7 +189,7 @@ class Drawn(ToolTest):
 
 class Numbers(ToolTest):
     def value_of(self, token):
-        """Returns the expected value of a numeric fact, as JSON."""
+        """Returns the value of a numeric fact after normalising, as JSON, and standard error."""
         sheet = self.write("sheet.json", json.dumps(Docs.SHEET))
         fact = '{"value":%s,"dimensions":{"concept":"eg:A"}}' % token
         text = '{"documentInfo":{"namespaces":{"eg":"http://example.org/t"}},"facts":{"f":%s}}' % fact
@@ -225,7 +225,7 @@ class Numbers(ToolTest):
 
 class Periods(ToolTest):
     def period_of(self, period, *options):
-        """Returns the resulting period, and the number of lines about it."""
+        """Returns the period after normalising, and the number of lines about it."""
         fact = '{"value":null,"dimensions":{"period":%s}}' % json.dumps(period)
         _, told, out, _ = self.normalised(self.write("report.json", '{"facts":{"f":%s}}' % fact), *options)
         return self.tree_of(out)["facts"]["f"]["dimensions"]["period"], len(told.splitlines())

@@ -1,4 +1,4 @@
-"""Tests of tools/normalise on reports that are made to take long, fill the list of changes, or let the tool fail."""
+"""Tests of tools/normalise on reports designed to take long, fill the list of changes, or make the tool fail."""
 import json
 import os
 import random

@@ -1,4 +1,4 @@
-"""Tests of tools/process: statuses, lines on standard error, signals."""
+"""Tests of tools/process: statuses, lines on standard error, full or closed devices, signals."""
 import os
 import resource
 import signal

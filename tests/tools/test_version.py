@@ -1,4 +1,4 @@
-"""The program, the Python module, the man page and the changelog have the same version."""
+"""Tests that the program, the Python module and the man page have one version, which fits the changelog."""
 import re
 import unittest
 
