@@ -1,11 +1,12 @@
 #!/usr/bin/env python3
 """Measures xbrlmerge on generated reports: bench/merge [FOLDER]
 
-There are three workloads, each in two sizes: one report, reports of 50 facts, and eight providers of the same facts. For
-comparison, a peer runs on the same bundle: a short program that reads each line with serde_json and writes it back. The ratio
-shows the cost beyond reading and writing JSON. Growth is the exponent: 1 if ten times the facts cost ten times as much. It is
-computed from instructions if valgrind is installed, otherwise from processor time. Each merged text is checked: it must
-contain every fact once. FOLDER keeps the peer, the bundles and the texts.
+There are three workloads, each in two sizes: one report, reports of 50 facts, and eight providers of the same facts. A
+workload is a bundle: a sheet and its reports, one per line. For comparison, a peer runs on the same bundle: a short program
+that reads each line with serde_json and writes it back. The ratio shows the cost beyond reading and writing JSON. Growth is
+the exponent: 1 if ten times the facts cost ten times as much. It is computed from instructions if valgrind is installed,
+otherwise from processor time. Each merged text is checked: it must contain every fact once. FOLDER keeps the peer, the bundles
+and the texts.
 
 The status is 2 if a measurement fails or a merged text is wrong.
 """
@@ -262,7 +263,7 @@ def compare(folder):
 
 def main(words):
     if len(words) > 1:
-        raise Failure("bench/merge [FOLDER]")
+        raise Failure("usage: bench/merge [FOLDER]")
     if words:
         os.makedirs(words[0], exist_ok=True)
         return compare(os.path.realpath(words[0]))

@@ -3,8 +3,8 @@
 
 Each shape makes one part of the input long, as a sender of a report, a sheet or a schedule could. The program runs on n such
 parts and on four times as many. The second run may take at most five times the instructions of the first, as `valgrind
---tool=callgrind` counts them: a cost of n log n passes, and a quadratic cost takes sixteen times. The table is printed on
-standard output, in Markdown.
+--tool=callgrind` counts them. So a cost of n log n passes; a quadratic cost takes sixteen times and fails. The table is printed
+on standard output, in Markdown.
 
     --list              lists the shapes
     --seconds           measures processor seconds instead of instructions, the least of five runs

@@ -27,7 +27,7 @@ from support import built_program, bytes_of
 NOBODY, LIMIT, ENDLESS_LIMIT = 65534, 20, 180
 # the command that returns the size of a pipe; Python has a name for it since 3.10
 PIPE_SIZE = 1032
-# kilobytes: LITTLE of address space is too little for an endless file, and enough for the other files; with less than MUCH of
+# kilobytes: LITTLE of address space is too little for an endless file, and enough for the other files. With less than MUCH of
 # free memory, endless files are read only with LITTLE
 LITTLE, MUCH = 150_000, 6_000_000
 
@@ -66,7 +66,7 @@ FILES = {
     "endless, little memory": (MEMORY, MEMORY, MEMORY),
     "endless": (LENGTH, LENGTH, LENGTH),
 }
-# command lines with the file as the sheet, the events or a report; an `endless` file is slow, so only the first line of each
+# command lines with the file as the sheet, the events or a report. An `endless` file is slow, so only the first line of each
 # list is run with it
 PLACES = {
     "sheet": ("check --sheet strange report", "merge --sheet strange report", "verdicts --sheet strange report",

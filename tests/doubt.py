@@ -71,7 +71,7 @@ def pieces(text):
 
 
 class Specs:
-    """The definitions of the repository, and the places of types and limits in the code."""
+    """The definitions of the repository, and the files that define types and limits."""
 
     def __init__(self):
         self.texts, self.names, self.owners, self.imports, self.types = {}, {}, {}, {}, {}
@@ -118,7 +118,7 @@ class Specs:
 
 
 def of_code(path, name):
-    """Returns a type, a limit, or the contract of a function with its comment."""
+    """Returns a type, a limit, or the contract of a function with its comment, or None."""
     lines = content(path).split("\n")
     head = re.compile(rf"\s*pub (?:struct|enum|const|fn|trait) {name.split('::')[-1]}\b")
     place = next((n for n, it in enumerate(lines) if head.match(it)), None)

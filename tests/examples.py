@@ -14,7 +14,7 @@ is named, examples/embed/main.txt is skipped. It compares
   output follows, the commands must print exactly that; ` ..` at the end of a line matches the rest of the line. If no
   output follows, standard error may contain only refusals and `too loose`. A block that proves (`rt`, ./build, the gate)
   is skipped;
-- the JSON that docs/GUIDE.md shows with the examples;
+- the facts that docs/GUIDE.md shows as JSON with the examples; a sheet that it shows must be accepted;
 - the output of tools/contradictions when it makes the sheet from a taxonomy package and normalises reports in the form
   of other tools, in tests/normalise/vendors;
 - the commands in the man pages and in the program's help, in the same way;

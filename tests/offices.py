@@ -10,7 +10,7 @@ repeated or reordered, and an office may lose everything. A sent text must be ca
 its facts satisfy, as computed from the definition. Some texts are then sent in the earlier form, without a level.
 
 Status 0: all texts are equal. 1: some are not, and the difference is printed with the seed and the schedule; or 200 or more
-schedules leave out one kind of event that is counted, such as a restart. 2: there is no program.
+schedules lack one kind of counted event, such as a restart. 2: there is no program.
 """
 import argparse
 import fractions

@@ -3,10 +3,10 @@
 
     [XBRLMERGE=PROGRAM] [XBRLMERGE_LIBRARY=LIBRARY] [SETS=300] [SEED=1] tests/python [unittest's arguments]
 
-Each call on the examples, and each call except `check` on SETS sets of drawn reports, must return the bytes and lines of the
-program's command, or raise the exception for its status. Four threads merge at once. A wheel is built and, if pip is
-installed, installed and used. If pandas is installed, it reads the records. If pandas or pyarrow is installed, it reads the
-columns. If mypy is installed, it checks the module's types. The test needs ./build and ./build --library.
+It makes each call on the examples, and each call except `check` on SETS sets of drawn reports. A call must return the bytes
+and lines of the program's command, or raise the exception for its status. Four threads merge at once. A wheel is built and,
+if pip is installed, installed and used. If pandas is installed, it reads the records. If pandas or pyarrow is installed, it
+reads the columns. If mypy is installed, it checks the module's types. The test needs ./build and ./build --library.
 
 Status 0: all is as expected. 1: it is not. 2: the program or the library is not built.
 """

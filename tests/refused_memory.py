@@ -9,8 +9,8 @@ A first run of each test counts the requests. A second run, told to refuse the r
 Each later run refuses one request. A test must pass and print that a call was refused (`refused`) or that its own setup was
 (`refused here`); if it prints neither, the request counts as passed over. The program runs with arguments for every command. It
 must print the line `out of memory`, end with status 3 and have written nothing or a first part of its text. It may also end as
-if nothing was refused, since two kinds of requests may be refused without harm: for the key of a cache while a report is read,
-and for clap's search for similar words. For the same reason no request counts as passed over in the tests of crates that read
+if nothing was refused. Two kinds of requests may be refused without harm: for the key of a cache while a report is read, and
+for clap's search for similar words. For the same reason no request counts as passed over in the tests of crates that read
 reports. JOBS runs are parallel, as many as there are processors by default. If a test makes more than 5,000 requests, only
 each 7th is refused from 2,001 on. Fewer are refused if it makes more than 50,000, or if its runs are long. A line reports
 which.
@@ -48,7 +48,7 @@ SHOWN = 20
 CALL, HERE, WHOLE, DEVICE, PASSED, FAILED = "refused calls", "refused here", "whole answers", "device first", "passed over", "failed"
 CLOCK, PROCESSOR = "seconds", "of a processor"
 COLUMNS = ("tests", "requests", "refused in turn", CALL, HERE, WHOLE, DEVICE, PASSED, FAILED, CLOCK, PROCESSOR)
-# in these tests a device fails too, and the run may end with that fault: a buffer that gets no memory first writes the waiting
+# in these tests a device fails too, and the run may end with that fault. A buffer that gets no memory first writes the waiting
 # bytes, or standard error is full and the line about memory is lost
 DEVICE_FAILS_TOO = {
     "merge_tests tests::written::writers::a_writer_may_stop_about_a_chunk",

@@ -75,7 +75,7 @@ INPUTS = (test_contradictions.MERGED, test_contradictions.SHEET, test_contradict
 
 
 class Nearby(test_contradictions.ToolTest):
-    """Texts of the providers A and B. Rows differ in the dimensions of their facts."""
+    """Tests of --near on rows of the providers A and B, which differ in their dimensions."""
 
     URIS = {"n1": "http://a.example", "n2": "https://a.example", "n3": "http://b.example/t"}
     SHEET = {
