@@ -74,7 +74,7 @@ def replaying(replicas, events, *reports):
     return words, {**files, "events.txt": "".join(f"{event}\n" for event in events)}
 
 
-# ---- the shapes; SHAPES has the smaller number of parts for each
+# ---- the shapes; SHAPES has the smaller size for each
 
 def namespaces_of_a_report(n):
     return merging(sheet(), report(numbered([fact()]), {"eg": URI, **prefixes(n)}))

@@ -1,15 +1,15 @@
 #!/usr/bin/env python3
 """Checks that no shape of input costs much more than its size: bench/shapes [options] [SHAPE ..]
 
-Each shape makes one part of the input long, as a sender of a report, a sheet or a schedule could. The program runs on n such
-parts and on four times as many. The second run may take at most five times the instructions of the first, as `valgrind
---tool=callgrind` counts them. So a cost of n log n passes; a quadratic cost takes sixteen times and fails. The table is printed
-on standard output, in Markdown.
+Each shape makes an input long in one way, as a sender of a report, a sheet or a schedule could. Its size n is a number of parts,
+such as facts, or of characters. The program runs at size n and at four times that size. The second run may take at most five
+times the instructions of the first, as `valgrind --tool=callgrind` counts them. So a cost of n log n passes; a quadratic cost
+takes sixteen times and fails. The table is printed on standard output, in Markdown.
 
     --list              lists the shapes
     --seconds           measures processor seconds instead of instructions, the least of five runs
     --memory            measures peak memory instead of instructions
-    --size N            the smaller number of parts, instead of the shape's own
+    --size N            the smaller size, instead of the shape's own
     --bound TIMES       the largest allowed ratio (5)
     --program FILE      the program, instead of the built one in crates/xbrlmerge
     --keep FOLDER       keeps the files of each shape there

@@ -54,7 +54,7 @@ STOPS_INPUT = {"standard input closed": "<&-", "standard input a folder": "<.", 
 
 UNREAD, MEMORY, LENGTH = (3, "file strange: cannot be read\n"), (3, "out of memory\n"), (3, "file strange: too long\n")
 BAD_SHEET, BAD_EVENT, BAD_REPORT = (3, "sheet: 1 NotJson\n"), (3, "event 2: refused\n"), (1, "report 1: 1 NotJson at document\n")
-# for each kind of file: the result if the sheet, the events or a report is such a file
+# for each kind of file: the result if the sheet, the events or a report is a file of this kind
 FILES = {
     "missing": (UNREAD, UNREAD, UNREAD),
     "a folder": (UNREAD, UNREAD, UNREAD),

@@ -2,7 +2,7 @@
 """Prints the time of each part of a gate run. At the top of the repository:
 
     bash .ci/run 2>&1 | tests/gate_times | tee FILE     stamps each line with its second, and prints the table
-    tests/gate_times FILE                               prints the table of such a file again
+    tests/gate_times FILE                               prints the table in FILE again
 
 A part is the proof of a crate, the proof of its tests, its must-fail edits or its runs. The processes are sampled twice a
 second to find when a part begins and ends; 'processor' is their seconds on all processors. Runs are not sampled: the lines of

@@ -229,7 +229,7 @@ class Batch:
         return done.returncode, done.stdout, done.stderr.decode(errors="replace"), told
 
     def written(self, *names, sheet="sheet"):
-        """Returns the merged text of reports. None of them may be refused."""
+        """Returns the merged text of reports. No report may be refused."""
         status, text, lines, told = self.run("merge", "--sheet", sheet, *names)
         expect((status, lines) == (0, ""), told)
         return text

@@ -47,7 +47,7 @@ def expect(holds, told):
 
 
 def number(chance):
-    """Draws a value and its decimals: mostly near one hundred, else with any decimals from -18 to 18."""
+    """Draws a value and its decimals: mostly near one hundred, otherwise with any decimals from -18 to 18."""
     if chance.random() < 0.7:
         return {"value": str(chance.randint(98, 102)), "decimals": chance.randint(-1, 0)}
     places, times = chance.randint(-18, 18), chance.randint(1, 3)

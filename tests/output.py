@@ -129,7 +129,7 @@ class Tests:
             self.leaves(name, OLD)
 
     def over_setuid(self):
-        """Tests an old file with setuid, setgid and sticky: the new one has none of them."""
+        """Tests an old file with the setuid, setgid and sticky bits: the new file must have none of these bits."""
         self.empty(True)
         os.chmod(f"{self.folder}/new", 0o7755)
         ran = self.run([*COMMANDS["check"], "-o", "new"])

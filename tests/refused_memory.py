@@ -369,7 +369,7 @@ def main():
             library = build_library(room)
             subjects = {it: lines_of_program(library, room) if it == PROGRAM else tests_of(it) for it in asked}
         except NotBuilt as missing:
-            print(f"tests/refused_memory: {missing} (`rt all test` and ./build make tests and program)", file=sys.stderr)
+            print(f"tests/refused_memory: {missing} (`rt all test` makes the tests, and ./build makes the program)", file=sys.stderr)
             return 2
         for name, found in subjects.items():
             row, wrong, thinned = sweep(pool, library, found)

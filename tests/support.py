@@ -19,9 +19,9 @@ def bytes_of(path):
 
 
 def built_program(named=None):
-    """Returns the path of a program: the named one, or $XBRLMERGE, or else the built one.
+    """Returns the path of the program: the named one if a name is given, otherwise $XBRLMERGE if set, otherwise the built one.
 
-    If that is no executable file, it prints a line and ends the process with status 2.
+    If that is no executable file, the function prints a line and ends the process with status 2.
     """
     given = named or os.environ.get("XBRLMERGE")
     places = [given] if given else [os.path.join(TOP, place) for place in BUILT]
