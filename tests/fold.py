@@ -188,7 +188,7 @@ def stopped_nodes():
 
 
 def dask_words():
-    """Returns how to run fold_dask.py, and whether Dask runs its nodes; if not, a substitute is written to this folder."""
+    """Returns how to run fold_dask.py, and whether Dask runs its nodes. If not, a substitute is written to the working folder."""
     pythons = (sys.executable, "/usr/bin/python3")  # the system's Python has the packages of the system
     with_dask = next((python for python in pythons if shutil.which(python) and run(python, "-c", "import dask").returncode == 0), None)
     if not with_dask:

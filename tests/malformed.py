@@ -334,7 +334,7 @@ def write(path, content):
 
 
 def keep(case, content):
-    """Keeps the broken bytes and returns their path."""
+    """Writes the broken bytes to a file and returns its path."""
     place = os.path.join(tempfile.gettempdir(), f"malformed-{SEED}-{case}")
     write(place, content)
     return place

@@ -33,7 +33,7 @@ KINDS = {"A0": "numeric", "A1": "numeric", "T0": "text"}
 SHEET = {"namespaces": {"m": URI}, "concepts": {f"m:{name}": kind for name, kind in KINDS.items()}}
 REFUSED = re.compile(r"report (\d+): \d+ \w+ at (document|fact \d+)\n")
 ACCEPTED = re.compile(r"accepted \d+ (none|consistent|all) (canonical|other)\n")
-# the member that declares the level
+# the feature that declares the level, and its namespace
 DECLARED = re.compile(rb'"features":\{"xbrl:allowedDuplicates":"\w+"\},|,?"xbrl":"https://xbrl.org/2021"')
 
 

@@ -1,4 +1,4 @@
-"""Makes fixtures: the lines that `xbrlmerge verdicts` prints for the reports of a merged text.
+"""Makes fixtures: the lines that `xbrlmerge verdicts` prints for a merged text.
 
     python3 tests/tools/lines_of_verdicts.py MERGED > LINES
 

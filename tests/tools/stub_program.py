@@ -1,7 +1,7 @@
 """A program in place of `xbrlmerge`: each command prints the output prepared in the program's folder. It records the names of
 its reports, and keeps a copy of its sheet.
 
-COMMAND.out and COMMAND.err are printed, and COMMAND.status is the status, if they exist. A file COMMAND.waits makes it wait.
+If they exist, COMMAND.out and COMMAND.err are printed, COMMAND.status is the status, and COMMAND.waits makes the command wait.
 For a report named `normalised`, `explain` prints only the faults of the document and of facts in the report.
 """
 import json

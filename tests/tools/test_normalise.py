@@ -1,4 +1,4 @@
-"""Tests of tools/normalise: the reports of tests/normalise, the examples of its docs, drawn reports and bad inputs."""
+"""Tests of tools/normalise: the reports of tests/normalise, the examples of docs/GUIDE.md, drawn reports and bad inputs."""
 import json
 import os
 import random
@@ -172,7 +172,7 @@ class Drawn(ToolTest):
                 self.assertEqual(*(self.numbers_read(self.tree_of(text)) for text in (out, tidy)))
 
     def numbers_read(self, tree):
-        """Returns the facts of a report with numbers as values."""
+        """Returns the facts of a report, with the values of numeric facts as numbers."""
         for fact in tree["facts"].values():
             if fact["value"] and fact["dimensions"]["concept"] in ("eg:A", "eg:B"):
                 fact["value"] = Decimal(fact["value"])
