@@ -76,7 +76,7 @@ fn called(
 }
 
 /// True if a writer with room for this many bytes takes the first bytes of the text. If the room is
-/// too small for the whole text, the call must report their number.
+/// too small for the whole text, the call must report how many bytes were taken.
 fn holds_the_front(
     alloc: Global,
     call: Call<'_, '_>,

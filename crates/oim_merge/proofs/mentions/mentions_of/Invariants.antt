@@ -4,7 +4,7 @@ use Rattle.oim_merge.specs.code.Listing.{lent}
 use Rattle.oim_merge.specs.Sources.{mentions, mentions_from}
 use Rattle.oim_merge.proofs.mentions.mentions_of.Given as goal
 
--- the mentions so far and in the remaining reports are all mentions
+-- appending the mentions in the remaining reports gives the mentions in all reports
 abbrev pub invariant-loop-report : goal.invariant-loop-report
 invariant-loop-report l = record {
   count : l.number ≡ l.report-index;
