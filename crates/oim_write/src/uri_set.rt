@@ -139,7 +139,7 @@ impl UriSet {
         }
     }
 
-    // For most names, the cached index is that of their URI, and no memory is requested.
+    // For most names, the cache has the index of their URI, and no memory is requested.
     fn add(&mut self, alloc: Global, name: &Name) -> Result<(), AllocError>
         ensures { OnOk result (Gains self.old (name.now ∷ []) self.new) }
     {
