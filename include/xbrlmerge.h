@@ -1,4 +1,4 @@
-/* xbrlmerge.h - merges xBRL-JSON reports about one entity into one canonical report, judges their duplicates, and lists
+/* xbrlmerge.h - merges xBRL-JSON reports into one canonical report, judges their duplicates, and lists
    who reported what. Refused reports are returned as numbers. The calls that merge or list write the bytes that the
    program's commands print. docs/LIBRARY.md lists what is proved about the calls, and what is not.
 

@@ -274,7 +274,7 @@ class Batch:
         return status
 
     def of_long(self, chance):
-        """Does the same as `of_report` for a report that was long before it was broken."""
+        """Does the same as `of_report`, but breaks a report that is long enough to be read in pieces."""
         return self.of_report(chance, drawn_long)
 
     def of_sheet(self, chance):

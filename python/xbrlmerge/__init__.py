@@ -1,4 +1,4 @@
-"""Merges xBRL-JSON reports about one entity, judges their duplicates, and lists the sources of each fact.
+"""Merges xBRL-JSON reports, judges their duplicates, and lists the sources of each fact.
 
     import xbrlmerge
 

@@ -1,4 +1,4 @@
--- The state after the rows of a body were listed (own).
+-- The bytes that a listing of rows appends, the refusals that it returns, and its faults (own).
 use Rattle.std.specs.Prelude.{◌≡◌, ◌⊎◌, ℕ, Option, List, [], ◌++◌}
 use Rattle.std.specs.Io.KnownBytes.{Appends}
 use Rattle.oim_report.specs.Sheet.{Sheet}

@@ -1,4 +1,4 @@
--- The state after a merge (own).
+-- The bytes that a merge appends, the refusals that it returns, and its faults (own).
 use Rattle.std.specs.Prelude.{◌≡◌, ◌⊎◌, ◌+◌, ℕ, Option, List, [], Result, Ok, Err}
 use Rattle.std.specs.Io.KnownBytes.{Appends}
 use Rattle.oim_value.specs.declared.level.Level.{Level}

@@ -17,7 +17,7 @@ use Rattle.fact_base.specs.declared.verdict.Verdict.TheVariants.{Complete, Consi
 abbrev pub AreAlike : List Value → Type 0
 AreAlike vs = (v w : Value) → Contains vs v → Contains vs w → v ≢ Nil → w ≢ Nil → kind_order v ≡ kind_order w
 
--- one or more different values in order, alike, and their summary
+-- one or more different values in order, each nil or of one kind, and their summary
 pub record AreSummarised (vs : List Value) (told : Summarised) : Type 0 where
   pub some : vs ≢ []
   pub in_order : IsSet value_cmp vs
