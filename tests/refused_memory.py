@@ -238,8 +238,8 @@ def shared_out(library, subject, numbers):
 
 
 def sweep(pool, library, subjects):
-    """Refuses the requests of each subject. Returns the row of the table, the faults, and a line for each subject if not all its
-    requests were refused."""
+    """Refuses the requests of each subject. Returns the row of the table, the faults, and a line for each subject if not all
+    of its requests were refused."""
     started = time.monotonic()
     all_counted = pool.map(count_requests, [(library, subject) for subject in subjects], 1)
     wrong = [line for counted in all_counted for line in counted.wrong]

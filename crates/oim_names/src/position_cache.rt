@@ -5,9 +5,9 @@ use std::marker::Model;
 
 const CLASSES: usize = 2048;
 
-/// Remembers one index for each class of texts, usually that of the text that was added last. The
-/// index is only a hint: it may be out of range, or the index of another text. So callers compare
-/// the text at the index. Texts of one length with the same last four bytes are in one class.
+/// Remembers one index for each class of texts, usually the index of the text that was added last.
+/// The index is only a hint: it may be out of range, or the index of another text. So callers
+/// compare the text at the index. Texts of one length with the same last four bytes share a class.
 #[derive(Clone, Copy, Debug)]
 pub struct PositionCache {
     places: [u16; CLASSES],
