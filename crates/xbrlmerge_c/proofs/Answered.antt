@@ -1,4 +1,4 @@
--- The meaning of the statuses.
+-- What each status implies about the caller's memory.
 use Rattle.std.proofs.Common.{◌≡◌, ◌≤◌, ◌<◌, ◌⊎◌, inl, inr, ℕ, List, [], length, Result, Ok, Err, refl, sym, ap, ◌∙◌, subst, arith}
 use Rattle.std.specs.Prelude.{IfOk, IfErr}
 use Rattle.oim_names.specs.declared.reason.Reason.{Reason}

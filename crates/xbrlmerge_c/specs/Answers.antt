@@ -13,10 +13,10 @@ StopsBy IsRow IsSheet (SheetFault reason) = IsSheet reason
 StopsBy IsRow IsSheet (OutOfMemory written) = Unit {0}
 StopsBy IsRow IsSheet (Device written) = Unit {0}
 
--- no row is above the level
+-- the condition for a row above the level if a call has no level: it never holds
 abbrev pub NoRow : ℕ → List (ℕ × Refusal) → Type 0
 NoRow number told = ⊥
 
--- no sheet is refused
+-- the condition for a refused sheet if the sheet was read before: it never holds
 abbrev pub NoReason : Reason → Type 0
 NoReason reason = ⊥

@@ -77,7 +77,7 @@ pub extern "C" fn xbrlmerge_check(
     }
 }
 
-/// Out of memory is an error here, and not a refusal.
+/// `check_report` returns out of memory as a refusal; this function returns it as an error.
 fn checked_or_refused(
     alloc: Global,
     sheet: &Sheet,

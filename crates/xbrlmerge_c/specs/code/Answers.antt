@@ -1,4 +1,4 @@
--- The caller's memory after a call (own).
+-- The status of a call and the caller's memory after it (own).
 use Rattle.std.specs.Prelude.{◌≡◌, ◌<◌, ◌⊎◌, ℕ, List, [], length, Result, Ok, Err}
 use Rattle.oim_report.specs.declared.refusal.Refusal.{Refusal}
 use Rattle.oim_merge.specs.declared.fault.Fault.{Fault}
