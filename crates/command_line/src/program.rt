@@ -9,9 +9,9 @@ use std::convert::AsStr;
 use std::io::{Read, Write};
 use std::rt::Files;
 
-// `run` is split into four functions. Each owns few values and borrows the rest, so it has many
-// parameters. One function that owns all values would be slow to prove, because each value may be
-// alive at each exit.
+// The work is split into four functions. Each owns few values and borrows the rest, so some have
+// many parameters. One function that owns all values would be slow to prove, because each value may
+// be alive at each exit.
 
 /// Runs the program with the arguments after its name. Without arguments, it merges the bundle on
 /// standard input. On standard error it prints a line for each refusal (`explain` prints none), or

@@ -1,4 +1,4 @@
--- A row of a body as CSV, one record for each fact (RFC 4180; the columns are own). In bytes, `'` is 39.
+-- A row of a body as CSV, one record for each fact (RFC 4180; own columns). In bytes, `'` is 39.
 use Rattle.std.specs.Prelude.{ℕ, suc, Bool, false, ◌&&◌, ◌||◌, ◌==◌, nat_lt, if◌then◌else◌, List, [], ◌∷◌, ◌++◌, codes, length, Option, Some, None, ℤ}
 use Rattle.std.specs.Fmt.{decimal, signed_decimal}
 use Rattle.std.specs.Option.{unwrap_or}

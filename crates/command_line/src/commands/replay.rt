@@ -137,8 +137,8 @@ fn events_argument<'w>(alloc: Global) -> Arg<'w> {
         .help("The file of the schedule, one event a line")
 }
 
-/// Errors: out of memory, and `Device` with the bytes taken of one text. `write_out` replaces them
-/// with the bytes taken of all texts.
+/// Errors: out of memory, and `Device` with the number of bytes taken of one text. `write_out`
+/// replaces it with the number for all texts.
 fn put_replicas<S: Sink>(
     alloc: Global,
     out: &mut S,

@@ -10,7 +10,6 @@ use std::alloc::{AllocError, Global};
 
 // Tests `read_events` and `replay`. After a refused request for memory, the calls are repeated.
 
-/// A fact that is not in the module `calls`.
 const HUNDRED_ONE: &str = r#""a":{"value":"101","decimals":0,"dimensions":{"concept":"eg:A"}}"#;
 
 /// Three replicas each take a report. Two of them receive texts, and one joins another.
