@@ -69,7 +69,7 @@ fn wanted_memory(
     None
 }
 
-/// True if the base is written as the text; None if memory was refused after a first part of it.
+/// True if the base is written as the text; None if memory was refused before the end of the text.
 fn writes_once(rt: &HostRuntime, base: &Base<'_>, text: &[u8]) -> Option<bool> {
     let mut sink = StdSink::new(Expecting::just(text));
     match write_to(rt.alloc(), base, &mut sink) {

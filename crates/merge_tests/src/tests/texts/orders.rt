@@ -75,7 +75,7 @@ const ROWS: &[Row] = &[
             END,
         ],
     ),
-    // taxonomy-defined members, and then languages, are in order
+    // languages are compared before taxonomy-defined members
     (
         &[
             SHEET,
