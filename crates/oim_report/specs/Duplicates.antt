@@ -1,4 +1,4 @@
--- Which duplicates a list of facts has (XBRL working group note on duplicate facts; OIM Common 1.0, `xbrl:allowedDuplicates`).
+-- Which duplicates a level allows (XBRL working group note on duplicate facts; OIM Common 1.0, `xbrl:allowedDuplicates`).
 use Rattle.std.specs.Prelude.{◌≡◌, ◌↔◌, List, [], ◌∷◌, Bool, true, false, not, ◌&&◌, ◌||◌, bytes_eq, if◌then◌else◌, IsTrue, AllPairs, IsPermutation}
 use Rattle.std.specs.List.{list_all}
 use Rattle.std.specs.Ordering.{is_eq, is_le}

@@ -1,4 +1,4 @@
--- The conditions that facts read under a sheet satisfy (own).
+-- The properties of facts that were read under a sheet (own).
 use Rattle.std.specs.Prelude.{◌≡◌, ◌≢◌, ⊤, ℕ, List, [], All, IsTrue, IsUtf8, Option, Some, None}
 use Rattle.std.specs.FinMap as map
 use Rattle.std.specs.Str.{str_to_ascii_lowercase}

@@ -106,7 +106,7 @@ module _ (sheet : Sheet) (bs : List Binding) (fact : Data) (dimensions : Members
   abbrev pub explicit_text : List ℕ × Data → Option (List ℕ)
   explicit_text m = if is_some_and (same_dimension_kind Explicit) (dimension_kind m.0) then as_text m.1 else None
 
-  -- all names of the fact, with their forms
+  -- all names of the fact, each marked as a name or an entity
   abbrev pub names : List Spelled
   names =
       map a_name (option_to_list (text_at (codes "concept")))
@@ -158,7 +158,7 @@ module _ (tree : Data) where
   abbrev pub base : Option Parts
   base = option_and_then base_url (option_and_then as_text (info (codes "baseURL") tree))
 
-  -- the members whose key is the feature `xbrl:allowedDuplicates`
+  -- the members whose keys name the feature `xbrl:allowedDuplicates`
   abbrev pub declared : List (List ℕ × Data)
   declared = filter (λ m. is_allowed_duplicates (bindings_of tree) m.0) (entries (features_of tree))
 

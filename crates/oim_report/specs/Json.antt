@@ -22,7 +22,7 @@ json bytes = json_text (without_mark bytes)
 
 -- ---- the value at a key
 
--- the values that sheets and reports distinguish; a text is a UTF-8 string, and every string that was read is UTF-8
+-- a value that may be absent; a text is a UTF-8 string, and every string that was read is UTF-8
 
 pub data Given : Type 0 where
   absent : Given

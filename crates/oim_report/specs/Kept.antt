@@ -15,8 +15,8 @@ abbrev pub web_url : Parsed Parts → Option Parts
 web_url (Ok url) = if is_web url then Some url else None
 web_url (Err e) = None
 
--- the text is UTF-8, parses as an http or https URL, and is the text of that URL (URL Standard, sections 4.4 and 4.5). The text
--- of every http or https URL passes, so no code tests this.
+-- the text is UTF-8 and the serialization of the http or https URL that it parses as (URL Standard, sections 4.4 and 4.5). The
+-- serialization of every http or https URL passes, so no code tests this.
 abbrev pub is_web_text : List ℕ → Bool
 is_web_text text = is_utf8 text && option_map_or (λ url. bytes_eq (serialize url) text) (web_url (parse_url None text)) false
 
@@ -26,7 +26,7 @@ web_text None = None
 web_text (Some url) = if is_web_text (serialize url) then Some (serialize url) else None
 
 -- the kept text of a reference: an http or https URL is kept as its text, another URL as it is spelled. A reference that is not
--- a URL is resolved to an http or https URL, or kept as it is spelled if there is no base.
+-- a URL is resolved to an http or https URL, or kept as it is spelled if there is no base URL.
 abbrev pub kept_by : Parsed Parts → Option Parts → List ℕ → Option (List ℕ)
 kept_by (Ok url) base reference = if is_web url then web_text (Some url) else Some reference
 kept_by (Err e) None reference = Some reference
@@ -36,7 +36,7 @@ kept_by (Err e) (Some base) reference = web_text (web_url (parse_url (Some base)
 abbrev pub kept : Option Parts → List ℕ → Option (List ℕ)
 kept base reference = kept_by (parse_url None reference) base reference
 
--- the length of a base, a reference or a kept text is within the limit (own)
+-- the length of a base URL, a reference or a kept text is within the limit (own)
 abbrev pub is_within_limit : List ℕ → Bool
 is_within_limit text = nat_le (length text) MOST_REFERENCE_BYTES
 
@@ -53,11 +53,11 @@ is_text_within_limit text = option_map_or is_within_limit text false
 abbrev pub is_reference_refused : Option Parts → List ℕ → Bool
 is_reference_refused base reference = not (is_within_limit reference && is_text_within_limit (kept base reference))
 
--- a kept text stays the same if it is kept again without a base
+-- a kept text stays the same if it is kept again without a base URL
 abbrev pub KeptIsKept : Type 0
 KeptIsKept = (base : Option Parts) (reference text : List ℕ) → kept base reference ≡ Some text → kept None text ≡ Some text
 
--- the kept text of an accepted reference is accepted without a base
+-- the kept text of an accepted reference is accepted without a base URL
 abbrev pub KeptIsAccepted : Type 0
 KeptIsAccepted =
     (base : Option Parts) (reference text : List ℕ) → is_reference_refused base reference ≡ false → kept base reference ≡ Some text →
@@ -69,7 +69,7 @@ KeptIsUtf8 =
     (base : Option Parts) (reference text : List ℕ) → is_utf8 reference ≡ true → kept base reference ≡ Some text →
     is_utf8 text ≡ true
 
--- a kept reference is UTF-8, is within the limit, and stays the same if it is kept again without a base
+-- a kept reference is UTF-8, is within the limit, and stays the same if it is kept again without a base URL
 pub record IsKeptReference (text : List ℕ) : Type 0 where
   pub kept : kept None text ≡ Some text
   pub short : is_within_limit text ≡ true

@@ -7,7 +7,7 @@ use Rattle.oim_report.specs.Json.{json}
 use Rattle.oim_report.specs.Kept.{is_within_limit}
 use Rattle.oim_report.specs.PlainJson.{IsPlainJson}
 
--- the limit of a base, a reference and a kept text is 65,536 bytes
+-- the limit for each base URL, reference and kept text is 65,536 bytes
 abbrev pub TextsAreWithinLimit : Type 0
 TextsAreWithinLimit = (text : List ℕ) → IsTrue (is_within_limit text) ↔ (length text ≤ 65_536)
 

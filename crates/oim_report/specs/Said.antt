@@ -82,7 +82,7 @@ in_order (n ∷ ns) = with_name n (in_order ns)
 abbrev pub side_of : List Binding → List (List ℕ) → Option (List QName)
 side_of bs ps = option_map in_order (all_named bs ps)
 
--- the unit with these sides, or None if it is `pure` alone (own)
+-- the unit with these numerators and denominators, or None if it is `pure` alone (own)
 abbrev pub unit_with : List QName → List QName → Option Measures
 unit_with (n ∷ []) [] = if is_eq (name_cmp n pure_name) then None else Some (record { numerators = n ∷ []; denominators = [] })
 unit_with ns ds = Some (record { numerators = ns; denominators = ds })

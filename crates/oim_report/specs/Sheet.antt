@@ -1,4 +1,4 @@
--- Concept sheets list the concepts and dimensions that reports may use, with the kinds of their values (own).
+-- A sheet lists the concepts and dimensions that reports may use, each with its kind (own).
 use Rattle.std.specs.Prelude.{◌≡◌, ◌≢◌, ◌⊎◌, ◌↔◌, ℕ, List, [], ◌∷◌, ◌++◌, Bool, true, false, not, ◌||◌, codes, bytes_eq, if◌then◌else◌, Option, Some, None, is_some, option_and_then, Result, Err}
 use Rattle.std.specs.Option.{option_map_or}
 use Rattle.std.specs.List.{list_any}

@@ -96,7 +96,7 @@ spell_same bs k l = is_some_and (λ n. is_some_and (λ o. is_eq (name_cmp n o)) 
 abbrev pub beside_first : List Binding → List (List ℕ × Data) → List ℕ → Shown
 beside_first bs ms k = two (option_map_or (λ m. m.0) (find (λ m. spell_same bs k m.0) ms) k) k
 
--- the first member whose key spells the name of an earlier one; `before` has the earlier names
+-- the first member whose key spells the same name as an earlier key; `before` has the earlier names
 abbrev pub repeated : List Binding → List QName → List (List ℕ × Data) → Option (List ℕ × Data)
 repeated bs before [] = None
 repeated bs before (m ∷ ms) = option_map_or (λ n. if list_any (λ o. is_eq (name_cmp n o)) before then Some m else repeated bs (n ∷ before) ms) (named bs m.0) (repeated bs before ms)
@@ -205,7 +205,7 @@ module _ {K : Type 0} (kind_named : List ℕ → Option K) (same : K → K → B
   abbrev pub with_kind : FinMap name_cmp K → QName × K → FinMap name_cmp K
   with_kind kinds e = if map.contains_key kinds e.0 then kinds else map.insert kinds e.0 e.1
 
-  -- the first entry that gives another kind to the name of an earlier one; `kinds` has the kinds of the earlier names
+  -- the first entry that repeats an earlier name with another kind; `kinds` has the kinds of the earlier names
   abbrev pub other_kind : List Binding → FinMap name_cmp K → List (List ℕ × Data) → Option (List ℕ × Data)
   other_kind bs kinds [] = None
   other_kind bs kinds (m ∷ ms) =

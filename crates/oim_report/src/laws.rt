@@ -160,7 +160,7 @@ pub fn what_is_read_is_utf8()
     ensures { ReadHasUtf8 }
 {}
 
-/// The limit of a base URL, a reference and a kept text is 65,536 bytes. JSON may be nested at most
+/// The limit for each base URL, reference and kept text is 65,536 bytes. JSON may be nested at most
 /// 127 levels deep, which is the limit of `serde_json`.
 pub fn limits_are()
     ensures texts { TextsAreWithinLimit }

@@ -1,7 +1,7 @@
 /// The place of a refusal in a report.
 #[derive(Clone, Copy, Debug, PartialEq, Eq)]
 pub enum Place {
-    /// Not in a single fact. It is also the place of `OutOfMemory`.
+    /// The document, not a single fact. It is also the place of `OutOfMemory`.
     Document,
     /// The fact with this number, counted from 1 in byte order of the identifiers.
     Fact(u64),

@@ -12,7 +12,7 @@ use Rattle.oim_report.specs.declared.fact.glossary.Glossary.{Glossary}
 abbrev pub meaning : {A : Type 0} → Glossary A → List ℕ → Option A
 meaning g t = get_by_text g.meanings t
 
--- h is g, or g with t and its meaning a added
+-- h equals g, or is g with the meaning a of the text t added
 abbrev pub Adds : {A : Type 0} → Glossary A → List ℕ → A → Glossary A → Type 0
 Adds g t a h = ((u : List ℕ) → meaning h u ≡ meaning g u) ⊎ ((u : List ℕ) → meaning h u ≡ update bytes_eq (meaning g) t (Some a) u)
 

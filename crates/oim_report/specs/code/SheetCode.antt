@@ -1,4 +1,4 @@
--- An injective encoding of sheets (own).
+-- Injective encodings of a sheet and of its names while it is read (own).
 use Rattle.std.specs.Prelude.{◌≡◌, ℕ, zero, suc, List, refl}
 use Rattle.std.specs.Coded.{Coded, code_by, coded×, coded_ℕ, coded_list}
 use Rattle.std.specs.FinMap as map

@@ -22,7 +22,7 @@ pub(crate) struct FoundFacts {
 
 impl FoundFacts {
     /// Returns the facts in byte order of their identifiers. If an identifier is repeated, only its
-    /// last fact is kept. It returns `None` if a request for memory is refused.
+    /// last fact is kept. The result is `None` if a request for memory is refused.
     pub(crate) fn in_order(self, alloc: Global) -> Option<Vec<Fact>>
         ensures { IfSome result (λ facts. (sheet : ASheet) (bs : List Binding) (ms : Members) →
             AreFound sheet bs ms self.identifiers.items self.facts.items →

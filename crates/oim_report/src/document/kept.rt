@@ -14,7 +14,7 @@ use url::{ParseError, Url};
 /// is resolved against the base URL, or kept as it is spelled if there is no base URL.
 ///
 /// Errors: `TaxonomyUrl` if the reference or its kept text has more than `MOST_REFERENCE_BYTES`
-/// bytes, or if the reference does not resolve to an http or https URL; `OutOfMemory`.
+/// bytes, or if resolving the reference gives no http or https URL; `OutOfMemory`.
 pub(crate) fn keep(alloc: Global, base: Option<&Base>, reference: &str) -> Result<Text, Reason>
     ensures ok { IfOk result (λ text. kept (option_copied base.entry) reference.now ≡ Some text) }
     ensures accepted { OnOk result (is_reference_refused (option_copied base.entry) reference.now ≡ false) }

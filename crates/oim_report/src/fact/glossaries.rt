@@ -39,7 +39,7 @@ impl<'s> Glossaries<'s> {
         }
     }
 
-    /// Returns whether a cache is full. Then `turn_to` replaces all of them.
+    /// Returns whether any cache is full. If so, `turn_to` replaces all caches.
     pub(crate) fn is_full(&self) -> bool {
         self.concepts.texts.is_full()
             || self.dimensions.texts.is_full()

@@ -23,8 +23,8 @@ impl<'s> KnownTexts<'s> {
         }
     }
 
-    /// Replaces the prefixes by those of the next report. The caches are emptied if the prefixes
-    /// differ, or if a cache is full, because a full cache takes no new texts.
+    /// Prepares for the prefixes of the next report. The caches are emptied if the prefixes differ,
+    /// or if a cache is full, because a full cache takes no new texts.
     pub(crate) fn turn_to(&mut self, alloc: Global, aliases: Aliases)
         ensures aliases { self.new.aliases ≡ aliases }
         ensures known { (sheet : Sheet) → AreGlossaries sheet self.old.aliases self.old.glossaries →

@@ -14,8 +14,8 @@ use oim_names::{Aliases, Reason};
 use serde_json::Value;
 use std::alloc::{AllocError, Global};
 
-// The first four parameters determine which conditions apply. The last two are the place of the
-// faults and their list.
+// The sheet, the prefixes and the object determine which conditions apply. The last two parameters
+// are the place of the faults and their list.
 pub(crate) fn add_fact_faults(
     alloc: Global,
     sheet: &Sheet,
