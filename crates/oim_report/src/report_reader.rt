@@ -14,7 +14,7 @@ use std::marker::Model;
 
 /// Reads reports under one sheet, one after another. Reports often bind the same prefixes, and then
 /// a text means the same in all of them. While the prefixes stay the same, the reader caches the
-/// meanings of texts, so the facts of many reports share their names. Contracts see only the sheet.
+/// meanings of texts, so facts of many reports share names. In contracts, a reader is its sheet.
 #[derive(Drop)]
 pub struct ReportReader<'s> {
     alloc: Global,

@@ -35,8 +35,8 @@ impl<T> Glossary<T> {
 }
 
 impl<T: Drop> Glossary<T> {
-    /// If the cache is full, if the text has more than `MOST_MEANING_BYTES` bytes, or if a request
-    /// for memory is refused, nothing changes.
+    /// Adds a text with its meaning. Nothing changes if the cache is full, the text has more than
+    /// `MOST_MEANING_BYTES` bytes, or a request for memory is refused.
     pub(crate) fn add(&mut self, text: &str, value: T)
         ensures { Adds self.old text.now value self.new }
     {
