@@ -65,7 +65,7 @@ pub(crate) fn level_within(limit: Level, facts: &[Fact], order: &[usize]) -> Res
 }
 
 // Returns what `value` adds to the level of the earlier values with the same dimensions: the level
-// of all these values is the maximum of that level and the result. Only the last earlier value and
+// of all values is the maximum of the earlier level and the result. Only the last earlier value and
 // the common part of the intervals of all earlier ones matter.
 fn level_beside(last: &Value, shared: Option<Interval>, value: &Value) -> Level
     ensures { result ≡ level_beside last.now shared value.now }

@@ -47,7 +47,7 @@ fn cut_at_comma(text: &str, at: usize) -> Option<(&str, &str)>
 }
 
 // Guesses the end of a piece of `size` bytes or more: a comma between a closing brace and a fact. A
-// wrong guess costs only time: the piece cannot be read, so the whole report is read.
+// wrong guess costs only time: if the piece cannot be read, the whole report is read.
 fn guess_end(text: &str, size: usize) -> Option<usize> {
     let bytes = text.as_bytes();
     let mut after_brace = false;
