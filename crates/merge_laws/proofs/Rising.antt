@@ -1,4 +1,4 @@
--- Ascending lists that are built from their start, as `of_rising` requires.
+-- Ascending lists that are built by appending items, for calls of `of_rising`.
 use Rattle.std.proofs.Common.{◌≡◌, List, [], ◌∷◌, ◌++◌}
 use Rattle.std.specs.declared.cmp.Ordering.{Ordering}
 use Rattle.std.specs.declared.cmp.Ordering.TheVariants.{Less}

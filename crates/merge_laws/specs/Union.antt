@@ -10,7 +10,7 @@ module _ {K E : Type 0} (R : K → K → Ordering) (key : E → K) (join : E →
   with_item x [] = x ∷ []
   with_item x (e ∷ es) = match_ordering (R (key x) (key e)) (x ∷ e ∷ es) (join e x ∷ es) (e ∷ with_item x es)
 
-  -- the items of the second list are added to the first, the last item first
+  -- the items of the second list are inserted into the first list, from the last item to the first
   abbrev pub union_of : List E → List E → List E
   union_of es [] = es
   union_of es (f ∷ fs) = with_item f (union_of es fs)
@@ -60,7 +60,7 @@ module _ {K : Type 0} (R : K → K → Ordering) where
   SetWithHasItem = (xs : List K) (x : K) → IsSet R xs → IsSetOfBoth xs (x ∷ []) (set_with R x xs)
 
 module _ {K V : Type 0} (R : K → K → Ordering) (merged : V → V → V) where
-  -- a map has exactly the keys of two maps; if both have a key, its value is the merge of their values
+  -- a map has exactly the keys of two maps; if both maps have a key, its value is the merge of the two values
   pub record IsMapOfBoth (es fs map : List (K × V)) : Type 0 where
     pub rises : IsRising R entry_key map
     pub values : (k : K) → value_at R k map ≡ either_or_both merged (value_at R k es) (value_at R k fs)

@@ -14,9 +14,9 @@ pub fn set_has_both<T: Key>()
     ensures item { SetWithHasItem T.cmp }
 {}
 
-/// The union of two maps has the keys of both. If both have a key, its value is the merge of their
-/// values. `put` adds a key with its value, or merges the value into the one at the key. A look-up
-/// finds a value at a key exactly if the map has this entry.
+/// The union of two maps has the keys of both. If both maps have a key, its value is the merge of
+/// the two values. `put` adds a key with its value, or merges the value into the one at the key. A
+/// look-up finds a value at a key exactly if the map has this entry.
 pub fn map_has_both<K: Key, V: Merge>()
     ensures told { MapTellsEntry K.cmp V.merged }
     ensures union { MapUnionHasBoth K.cmp V.merged }

@@ -31,7 +31,7 @@ month t = number t 5 7
 abbrev pub day : List ℕ → ℕ
 day t = number t 8 10
 
--- the calendar has the date, and its year is 0001 or later
+-- the calendar has the date, and the year is 0001 or later
 unfoldable pub has_date : List ℕ → Bool
 has_date t =
     nat_le 1 (year t) && is_in_range 1 12 (month t) && is_in_range 1 (days_in_month (pos (year t)) (month t)) (day t)
@@ -39,7 +39,7 @@ has_date t =
 unfoldable pub second_of_day : List ℕ → ℕ
 second_of_day t = 3600 * number t 11 13 + 60 * number t 14 16 + number t 17 19
 
--- a clock shows the time, or the time is 24:00:00, the end of the day
+-- the time is from 00:00:00 to 23:59:59, or is 24:00:00, the end of the day
 unfoldable pub has_time : List ℕ → Bool
 has_time t = nat_le (number t 14 16) 59 && nat_le (number t 17 19) 59 && nat_le (second_of_day t) DAY_SECONDS
 
@@ -51,7 +51,7 @@ day_number t = days_from_civil (pos (year t)) (month t) (day t)
 abbrev pub IsMoment : ℤ → Type 0
 IsMoment = IsBetween FIRST_MOMENT LAST_MOMENT
 
--- the second that a date-time denotes: the seconds of whole days plus the seconds since midnight
+-- the second that a date-time denotes: the seconds of the days counted from 1970-01-01, plus the seconds since midnight
 abbrev pub second_at : List ℕ → ℤ
 second_at t = day_number t *ℤ pos DAY_SECONDS +ℤ pos (second_of_day t)
 
@@ -68,7 +68,7 @@ unfoldable pub greatest : (ℕ → Bool) → ℕ → ℕ
 greatest p zero = 0
 greatest p (suc n) = if p (suc n) then suc n else greatest p n
 
--- the year of a day number: the last year up to 9999 that begins on that day or before; the same for the month and the day
+-- the year of a day number: the last year up to 9999 that begins on or before that day; likewise for the month and the day
 unfoldable pub year_of : ℤ → ℕ
 year_of d = greatest (λ y. int_le (days_from_civil (pos y) 1 1) d) 9999
 

@@ -42,7 +42,7 @@ pub record DimensionSet : Type 0 where
   pub language : Option (List ℕ)
   pub members : List (QName × Member)
 
--- a dimension set has each dimension at most once; its unit, if any, satisfies IsUnit, and its moments are in range
+-- a dimension set has each dimension at most once; its unit, if any, satisfies IsUnit, and its period's moments are in range
 pub record IsDimensionSet (d : DimensionSet) : Type 0 where
   pub members : IsTrue (rises d.members)
   pub unit : IfSome d.unit IsUnit

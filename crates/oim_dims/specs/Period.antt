@@ -45,7 +45,7 @@ EndsAfterStart Forever = ⊤
 EndsAfterStart (Instant m) = ⊤
 EndsAfterStart (Duration start end) = start <ℤ end
 
--- the conditions that each period denoted by a text satisfies
+-- the conditions of a period that a text denotes
 pub record IsPeriod (p : Period) : Type 0 where
   pub moments : HasMoments p
   pub forward : EndsAfterStart p

@@ -19,7 +19,7 @@ is_mark c = c == 40 || c == 41 || c == 42 || c == 47
 abbrev pub inner : List ℕ → List ℕ
 inner s = if slice_index s 0 == 40 && slice_index s (length s - 1) == 41 then slice_range s 1 (length s - 1) else s
 
--- the pieces of a side, which `*` separates
+-- the pieces of a side, with `*` between them
 abbrev pub side_pieces : List ℕ → List (List ℕ)
 side_pieces s = slice_split is_star (inner s)
 
@@ -141,7 +141,7 @@ pub record DenotesUnit (bs : List Binding) (t : List ℕ) (m : Measures) : Type 
   pub accepted : unit_refusal bs t ≡ None
   pub alone : (u : Option Measures) → UnitOf bs t u → IfSome u IsUnit → u ≡ Some m
 
--- the text of a unit denotes it if the function spells each of its measures
+-- the text of a unit denotes that unit if the function spells each measure
 abbrev pub UnitsReadBack : Type 0
 UnitsReadBack = (bs : List Binding) (f : QName → List ℕ) (m : Measures) → IsUnit m → SpellsEach bs f m → DenotesUnit bs (unit_text f m) m
 

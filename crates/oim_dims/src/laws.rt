@@ -33,8 +33,8 @@ pub fn languages_are_kept()
     ensures { LanguagesAreKept }
 {}
 
-/// If each measure's text expands to it and contains none of `*`, `/`, `(` and `)`, the unit's text
-/// denotes that unit and no other. Bindings that can write the unit give each measure such a text.
+/// If each measure's text expands to the measure and contains none of `*`, `/`, `(` and `)`, the
+/// unit's text denotes only that unit. Bindings that can write a unit give all measures such texts.
 pub fn units_read_back()
     ensures back { UnitsReadBack }
     ensures spelled { BindingsSpell }

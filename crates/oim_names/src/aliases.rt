@@ -189,9 +189,8 @@ impl Aliases {
         Ok((self.naming_uri(prefix)?, local))
     }
 
-    /// Expands an entity: a prefix bound to the URI of its scheme, a colon and an identifier, which
-    /// may be any non-empty text (xBRL-JSON 1.0, section 3.1.4). The name shares the URI of its
-    /// prefix.
+    /// Expands an entity: a prefix bound to the scheme's URI, a colon and an identifier, which may
+    /// be any non-empty text (xBRL-JSON 1.0, section 3.1.4). The name shares the URI of its prefix.
     ///
     /// Errors: the reason that `entity_refusal` returns; `OutOfMemory`.
     pub fn expand_entity(&self, text: &str) -> Result<Name, Reason>

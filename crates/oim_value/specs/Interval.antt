@@ -4,7 +4,7 @@ use Rattle.std.specs.Int.{int_max, int_min}
 use Rattle.oim_value.specs.declared.interval.Interval.{Interval}
 use Rattle.oim_value.specs.declared.limits.TheConstants.{UNIT_PLACES}
 
--- UNIT_PLACES - 1 - d, which is not negative because decimals are below UNIT_PLACES
+-- UNIT_PLACES - 1 - d, which is not negative because d is below UNIT_PLACES
 abbrev pub half_zeros : ℤ → ℕ
 half_zeros d = unsigned_abs (pos (UNIT_PLACES - 1) -ℤ d)
 

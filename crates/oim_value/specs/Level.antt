@@ -12,7 +12,7 @@ pub record LevelEntry : Type 0 where
   pub place : ℕ
   pub text : List ℕ
 
--- the rank of a level, which is 0 for the strictest, and the text that declares it
+-- the rank of a level (0 for the strictest), and the text that declares the level
 abbrev pub level_entry : Level → LevelEntry
 level_entry Unique = record { place = 0; text = codes "none" }
 level_entry Complete = record { place = 1; text = codes "complete" }

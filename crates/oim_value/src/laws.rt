@@ -152,10 +152,10 @@ pub fn all_meet_iff_ends_meet()
     ensures { AllMeetIffEndsMeet }
 {}
 
-/// Take several different values, each nil or of one kind. They meet each other exactly if all are
-/// numbers and the greatest low end of their intervals is at most the least high end. If the
-/// greatest low end is above the least high end, two numbers do not meet: the first with this high
-/// end and the first with this low end.
+/// Take several different values, all of one kind apart from nil. They meet each other exactly if
+/// all are numbers and the greatest low end of their intervals is at most the least high end. If
+/// the greatest low end is above the least high end, two numbers do not meet: the first with this
+/// high end and the first with this low end.
 pub fn different_meet_between_ends()
     ensures numbers { DifferentMeetAsNumbers }
     ensures between { DifferentMeetBetweenEnds }

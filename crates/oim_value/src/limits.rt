@@ -6,7 +6,7 @@ pub const MOST_DIGITS: usize = 18;
 /// `MOST_DIGITS`, so that no significant digit is lost.
 pub const UNIT_PLACES: u32 = 19;
 
-/// Finite decimals range from `-MOST_DECIMALS` to `MOST_DECIMALS`. So their half widths range from
-/// 5 units to 5 * 10^36 units. Every end of a number's interval is below 1.5 * 10^37 units in size,
-/// which fits an `i128`.
+/// Finite decimals range from `-MOST_DECIMALS` to `MOST_DECIMALS`. So the half widths of their
+/// intervals range from 5 units to 5 * 10^36 units. Every end of a number's interval is below
+/// 1.5 * 10^37 units in size, which fits an `i128`.
 pub const MOST_DECIMALS: i8 = 18;

@@ -49,8 +49,8 @@ impl Key for Value {
     ] };
 }
 
-/// Returns whether two values may be roundings of one value: they are both nil, numbers whose
-/// rounding intervals meet, equal texts, or equal names.
+/// Returns whether two values meet: both are nil, they are numbers whose rounding intervals meet,
+/// or they are equal texts or equal names.
 pub fn value_meets(a: &Value, b: &Value) -> bool
     ensures { IsTrue result ↔ Meets a.now b.now }
 {

@@ -1,4 +1,4 @@
--- Ascending lists are equal if they have the same item at each key (own).
+-- The items at the keys of ascending lists and of their unions (own). Lists with the same item at each key are equal.
 use Rattle.std.specs.Prelude.{◌≡◌, ◌≢◌, true, false, cond, List, [], ◌∷◌, Option, Some, None, is_some, unwrap_or, refl}
 use Rattle.std.proofs.Common.{sym, ap, ◌∙◌}
 use Rattle.std.specs.declared.cmp.Ordering.{Ordering}
@@ -107,7 +107,7 @@ module _ {K E : Type 0} {R : K → K → Ordering} (key : E → K) (o : IsTotalO
     tied_less_apart : (q x y : K) → R x y ≡ Less → is_eq (R q x) ≡ true → is_eq (R q y) ≡ false
     tied_less_apart q x y p t = ap is_eq (o.congr q x y ((Equal-is (R q x)).0 t) ∙ p)
 
-    -- the item at each key after one is added
+    -- the item at each key after an item is inserted
     pub item_at-with : (q : K) (x : E) (es : List E) → IsRising R key es → item_at R key q (with_item R key join x es) ≡ cond (is_eq (R q (key x))) (either_or_both join (item_at R key q es) (Some x)) (item_at R key q es)
     unfolding IsStrictlySortedBy
     item_at-with q x [] h = refl
