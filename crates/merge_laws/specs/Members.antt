@@ -1,4 +1,4 @@
--- Sets, maps and summaries depend only on their members (own).
+-- Sets, maps and summaries depend only on their members, and unions keep properties of all entries (own).
 use Rattle.std.specs.Prelude.{◌≡◌, ◌↔◌, Bool, IsTrue, List, [], ◌∷◌, ◌++◌, Contains}
 use Rattle.std.specs.List.{AllPass}
 use Rattle.std.specs.declared.cmp.Ordering.{Ordering}

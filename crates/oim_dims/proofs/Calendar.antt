@@ -29,7 +29,7 @@ day_range y m d low h =
     let number = days_from_civil-day_count (pos y) m d in
     (omega (arith, signed_arith, before, number, zero_day, day_count-last_of_year (pos 0), days_in_year_bounds (pos 0)), omega (arith, signed_arith, number, day_count_bounds (pos y) m d h))
 
--- a date that jiff makes from three numbers is in the calendar and has their day number
+-- a date that jiff makes from a year, a month and a day is in the calendar, and its day number is computed from these three
 pub date_is : (date : Date) (y m d : ℕ) → IsYmd (to_z w16 y) (to_z w8 m) (to_z w8 d) date → y < 10000 → m < 100 → d < 100 → IsCivilDate (pos y) m d × (epoch_day date ≡ days_from_civil (pos y) m d)
 date_is date y m d h few_y few_m few_d =
     let ey : date.year ≡ pos y = omega (arith, ints, h.0) in
