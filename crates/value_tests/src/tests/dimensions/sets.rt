@@ -12,7 +12,7 @@ pub(super) enum Kind {
     Nil,
 }
 
-// A part of a dimension set other than the concept, spelled as in a report. A member has the name
+// Any part of a dimension set except the concept, spelled as in a report. A member has the name
 // of its dimension and its own kind.
 pub(super) enum Part {
     Entity(&'static str),
