@@ -9,7 +9,7 @@ The first two forms run `xbrlmerge` on the reports. Each form writes these files
 no merged.json:
 
     page.html           the contradictions: texts, names and nil values first, then the largest differences
-    contradictions.csv  their facts as a table
+    contradictions.csv  the facts of the contradictions as a table
     rows.csv            all rows, with how many providers report each ("1 of 3")
     merged.json         the merged report
 
@@ -17,8 +17,8 @@ Providers are named after their files: the provider of issuer.json is "issuer". 
 made several reports, repeat its NAME. A refused report is listed with the first 20 faults that `xbrlmerge explain` finds, and
 the other reports are used. --taxonomy makes the sheet first and writes it as sheet.json; the option may be repeated.
 
---normalise applies the rules of tools/normalise to each report first, with the same options, and lists the changes in
-changes.csv. A report that it cannot normalise is used as it is.
+--normalise applies the rules of tools/normalise to each report first, and lists the changes in changes.csv. It takes the same
+options that lose something, such as --drop-notes. A report that it cannot normalise is used as it is.
 
 --near NEAR.csv writes a table of pairs of rows that differ in one dimension only, perhaps by mistake: the same name or
 identifier in another namespace or scheme, other letter case or white space, dates at most a day apart, another unit or
@@ -162,7 +162,7 @@ def write(inputs: Inputs, options: argparse.Namespace, progress: Progress) -> St
 
 
 def summary(reader: Reader) -> str:
-    """Returns the number of all rows and of those of each kind, as text."""
+    """Returns the number of rows, in all and of each kind, as text."""
     of = reader.counts
     rows = counted(of["inconsistent"] + of["consistent"] + of["complete"], "row")
     return f"{rows}: {counted(of['inconsistent'], 'contradiction')}, {of['consistent']} consistent, {of['complete']} reported once"

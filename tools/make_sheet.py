@@ -19,7 +19,7 @@ the folder of a named file, or in a package. The limits are:
     100,000 files in a package, paths of 1,024 characters, and 100 times its size plus 64 MB when unpacked
     1,000 levels in a document, which must not have a document type
     1,000 different lengths of uriStartString in the catalogs
-    4 MB for schemas without a namespace that are read again, once for each additional namespace that includes them
+    4 MB for schemas without a namespace that are read again, once for each further namespace whose schemas include them
 --megabytes N replaces 64 with N, and 4 with N / 16.
 
 Status 0: done. 1: done, but something is left out. 2: invalid arguments. 3: not done, and standard error says why. Standard

@@ -9,7 +9,8 @@ are shortened to 80 characters. Without options, nothing is lost. Some rules nee
 only if SHEET lists it. If a rule has to leave a value as it is, such as a number with too many digits or, without --zones,
 a moment with a time zone, standard error says where and why. docs/GUIDE.md describes the rules and the list of changes.
 
---drop-unreadable runs the program `xbrlmerge`, which should have the same version, and drops the facts that it refuses.
+--drop-unreadable runs the program `xbrlmerge` and drops the facts that it refuses. The program should have the same version as
+this tool.
 
 Status 0: nothing was lost. 1: something was lost. 2: invalid arguments. 3: not done, and nothing is written.
 """

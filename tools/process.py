@@ -106,7 +106,7 @@ def stop(number: int, _frame: Optional[FrameType]) -> NoReturn:
 
 @contextlib.contextmanager
 def signals_held() -> Iterator[None]:
-    """Blocks the signals in STOPPING until the block ends."""
+    """Delays the signals in STOPPING until the `with` block ends."""
     before = signal.pthread_sigmask(signal.SIG_BLOCK, STOPPING)
     try:
         yield
@@ -115,11 +115,11 @@ def signals_held() -> Iterator[None]:
 
 
 def fill_standard_files() -> None:
-    """Opens the null device in place of each closed standard stream, in the wrong direction, so that each use fails.
+    """Opens the null device in place of each closed standard stream: standard input for writing, the others for reading.
 
-    Otherwise the next opened file would get the number of a closed stream, and lines for that stream would be written to it.
-    Standard output and standard error are buffered, even if PYTHONUNBUFFERED is set: an unbuffered stream may take a part of
-    the bytes and raise no exception.
+    So each use of such a stream fails. Otherwise the next opened file would get the number of a closed stream, and lines for
+    that stream would be written to the file. Standard output and standard error are buffered, even if PYTHONUNBUFFERED is set:
+    an unbuffered stream may take a part of the bytes and raise no exception.
     """
     for number, mode in enumerate((os.O_WRONLY, os.O_RDONLY, os.O_RDONLY)):
         try:

@@ -1,4 +1,4 @@
-"""Writes each file completely or not at all."""
+"""Writes several files, all completely or none at all."""
 from __future__ import annotations
 
 import contextlib

@@ -79,7 +79,7 @@ class Near:
         yield from alike.values()
 
     def compared(self, numbers: list[int]) -> Iterator[tuple[tuple[int, int], Axis]]:
-        """Yields the pairs of a group for the table, each with its dimension. Counts the pairs beyond the limits in `cut`."""
+        """Yields the pairs of a group for the table, each with its dimension. `cut` counts the pairs beyond the limits."""
         count, facts = len(numbers) * (len(numbers) - 1) // 2, 0
         pairs = itertools.chain.from_iterable(zip(numbers, numbers[step:]) for step in range(1, len(numbers)))
         for done, (one, other) in enumerate(pairs):

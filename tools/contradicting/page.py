@@ -170,7 +170,7 @@ class NumberLine(NamedTuple):
 
 
 def number_line(row: Row) -> Optional[NumberLine]:
-    """Returns the line of a row, or None if it has no number. A nil value is not on the line."""
+    """Returns the line of a row, or None if the row has no number. A nil value is not on the line."""
     intervals = [fact.interval() for fact in row.facts.values() if isinstance(fact.value, Decimal)]
     return NumberLine(min(low for low, _ in intervals), max(high for _, high in intervals), row.gap) if intervals else None
 

@@ -157,7 +157,7 @@ class Reader:
 
     def row(self, number: int, facts: dict[str, Tree], line: str) -> Optional[Row]:
         """Returns a row, or None if its line does not match. The row has its facts only if it is a contradiction. A row that
-        `near` wants is added to it.
+        `near` wants is passed to `near`.
         """
         with using(self.text.path):
             is_numeric = [self.kind(tree) == "numeric" for tree in facts.values()][0]

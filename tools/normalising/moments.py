@@ -41,7 +41,7 @@ def with_time(moment: re.Match[str], is_start: bool) -> Optional[str]:
 def in_utc(moment: re.Match[str], _: bool) -> Optional[str]:
     """Returns a moment in UTC without its zone. If the zone is UTC already, midnight keeps its spelling.
 
-    None if the moment has no zone, no time or a fraction, or is invalid.
+    None if the moment has no zone or no time, has a fraction, or is invalid.
     """
     day, time, part, zone = moment.groups(default="")
     if not zone or not time or part:

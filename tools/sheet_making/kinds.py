@@ -15,7 +15,8 @@ XBRLI = "http://www.xbrl.org/2003/instance"
 ENUMERATIONS_1, ENUMERATIONS_2 = "http://xbrl.org/2014/extensible-enumerations", "http://xbrl.org/2020/extensible-enumerations-2.0"
 REGISTRY = "registry"  # replaces each namespace of the data type registry
 HEADS = {Name(XBRLI, "item"): "concepts", Name(XBRLDT, "dimensionItem"): "dimensions"}
-# No other head in a specification leads to a concept. Namespaces at xbrl.org with other paths belong to taxonomies.
+# In the specifications, no other heads lead to concepts or dimensions. Namespaces at xbrl.org that do not match SPECIFICATION
+# belong to taxonomies.
 SPECIFICATION = re.compile(r"https?://(www\.w3\.org/|(www\.)?xbrl\.org/(\d{4}|dtr|lrr)/)")
 REGISTERED = re.compile(r"http://www\.xbrl\.org/dtr/type/(numeric|non-numeric|\d{4}-\d\d-\d\d)")
 # From memory: the item types of XBRL 2.1 (section 5.1.1.3) and of extensible enumerations 1.0 and 2.0, and some of the data
