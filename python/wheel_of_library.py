@@ -1,4 +1,4 @@
-"""Builds the wheel: the module with the shared library of ./build --library. It needs only the standard library."""
+"""Builds the wheel from the module and the shared library that ./build --library makes. No other package is needed."""
 import base64
 import glob
 import hashlib

@@ -7,7 +7,7 @@
     merged.refusals       # the refused reports; each prints as the program's line
 
 A sheet or a report is given as bytes or as the path of a file. Each call has the same results as the program's command of
-the same name; verdict_columns and source_columns have those of verdicts and sources with --format json. Calls run in this
+the same name; verdict_columns and source_columns match verdicts and sources with --format json. Calls run in this
 process, and other threads continue to run. Refused reports are returned, not raised. Exceptions: SheetRefused and TooLoose,
 both subclasses of ValueError; MemoryError; OSError if a file cannot be read; TypeError if `reports` is one file or one
 report's bytes instead of a list; and ValueError if `allow` is not "none", "complete", "consistent" or "all".
@@ -40,7 +40,7 @@ class Refusal:
 
     report: int  #: the number of the report, from 1
     number: int  #: the number of the refusal, as docs/REFUSALS.md lists them
-    name: str  #: its name, such as UnboundPrefix
+    name: str  #: the name of the refusal, such as UnboundPrefix
     fact: Optional[int]  #: the fact's number, from 1 in byte order of identifiers; None for the document
 
     def __str__(self) -> str:
@@ -91,7 +91,7 @@ class Merged:
 
 @dataclasses.dataclass(frozen=True)
 class Row:
-    """A row, which is all facts with the same dimensions, and the verdict on it."""
+    """The verdict on a row, which is all facts with the same dimensions."""
 
     number: int  #: from 1, in the order of the canonical text
     first: str  #: the identifier of its first fact in the canonical text
@@ -214,7 +214,7 @@ def _bytes(given: Given) -> bytes:
         return given
     if isinstance(given, (bytearray, memoryview)):
         return bytes(given)
-    # `open` accepts the number of an open file too
+    # `open` alone would also accept the number of an open file
     with open(os.fspath(given), "rb") as file:
         return file.read()
 

@@ -10,7 +10,7 @@ DONE, REFUSED, TOO_LOOSE, TOO_SHORT, SHEET_REFUSED, NO_MEMORY, BAD_ENDS, BAD_LEV
 NAME = "libxbrlmerge.so"
 # the records for a refusal and for an accepted report in include/xbrlmerge.h
 ROW, CHECKED = struct.Struct("=QQI4x"), struct.Struct("=QII")
-# a text rarely has more bytes than its reports and this number together
+# a result rarely has more bytes than the reports together plus this number
 MORE = 4096
 LONGEST_NAME = 64
 
