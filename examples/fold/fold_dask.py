@@ -46,7 +46,7 @@ def merge_here(sheet, files):
 
 @dask.delayed
 def join_here(sheet, lower):
-    """Merges the results of steps with a call. None of them is refused."""
+    """Merges the results of steps with a call. A complete result is never refused."""
     import xbrlmerge
 
     merged = xbrlmerge.merge(sheet, [text for text, _ in lower])
