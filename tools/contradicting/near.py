@@ -11,7 +11,7 @@ from contradicting.tables import DIMENSIONS, Cell, cell, check_lengths, dimensio
 from names import Name
 
 COLUMNS = ["pair", "differs", "row", "fact", *DIMENSIONS, *"value decimals low high providers label".split()]
-MOST_PAIRS = 1_000  # the most pairs compared for each group of rows that differ only in the same dimension
+MOST_PAIRS = 1_000  # the most pairs compared in a group of `Near`
 MOST_FACTS = 10_000  # the most facts in the pairs found in a group; the last pair may exceed it
 WORD = (1 << 64) - 1
 
@@ -33,7 +33,7 @@ class Near:
 
     The difference may be: an entity, a concept or an explicit member with the same local part in another namespace; letter
     case or white space; dates at most a day apart; another unit or language; a dimension that one of the two lacks.
-    Rows that differ only in the same dimension form a group. In a group, neighbours in the order of the rows are compared
+    Rows that are equal in all dimensions but one form a group. In a group, neighbours in the order of the rows are compared
     first, up to a limit. `cut` counts the pairs that are not compared.
     """
 
@@ -59,9 +59,9 @@ class Near:
         return [(*pair, found[pair]) for pair in sorted(found)]
 
     def groups(self) -> Iterator[list[int]]:
-        """Yields groups of rows that differ only in the same dimension: the numbers of the rows, in order.
+        """Yields groups of rows that are equal in all dimensions but one: the numbers of the rows, in order.
 
-        Dimensions are compared by a sum of hashes, so leaving one out is a subtraction. `difference` checks the result.
+        Dimensions are compared by a sum of hashes, so leaving one out is a subtraction. Hashes may collide, so `difference` checks the result.
         """
         sums = {number: sum(map(hash, items.items())) for number, items in self.items.items()}
         whole = {total & WORD: number for number, total in sums.items()}

@@ -30,7 +30,7 @@ GROWTH, SMALL = 16, 1_000_000  # the names of sets may add GROWTH times the repo
 
 
 class Normaliser:
-    """Applies the rules to reports, by a sheet and options. With --drop-unreadable it drops the facts that the program refuses."""
+    """Applies the rules to reports, with a sheet and options. With --drop-unreadable it drops the facts that the program refuses."""
 
     def __init__(self, sheet: Sheet, options: argparse.Namespace, program: Optional[Program] = None) -> None:
         self.sheet, self.options, self.program = sheet, options, program

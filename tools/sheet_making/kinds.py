@@ -70,7 +70,7 @@ def kinds_of(elements: Mapping[Name, Declaration], types: Mapping[Name, Optional
 
 
 class Judge:
-    """Elements, and the types and heads to which they lead."""
+    """Judges elements by the types and heads to which they lead."""
 
     def __init__(self, elements: Mapping[Name, Declaration], types: Mapping[Name, Optional[Name]]) -> None:
         self.elements = elements

@@ -46,7 +46,7 @@ class Part:
 
 
 class SchemaVisitor(Visitor):
-    """Reads a schema for a namespace. None means its own namespace, which an included schema may lack."""
+    """Reads a schema for the namespace `wanted`. None means the schema's own namespace, which an included schema may lack."""
 
     def __init__(self, wanted: Optional[str]) -> None:
         self.wanted = wanted
