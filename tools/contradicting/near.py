@@ -61,7 +61,8 @@ class Near:
     def groups(self) -> Iterator[list[int]]:
         """Yields groups of rows that are equal in all dimensions but one: the numbers of the rows, in order.
 
-        Dimensions are compared by a sum of hashes, so leaving one out is a subtraction. Hashes may collide, so `difference` checks the result.
+        Dimensions are compared by a sum of hashes, so leaving one out is a subtraction. Hashes may collide, so `difference`
+        checks the result.
         """
         sums = {number: sum(map(hash, items.items())) for number, items in self.items.items()}
         whole = {total & WORD: number for number, total in sums.items()}
