@@ -17,8 +17,8 @@ use std::alloc::{AllocError, Global};
 /// with the name of the file and shows at most 80 characters of a value or key. No line contains
 /// anything that changes a terminal.
 ///
-/// If the file cannot be read as JSON, the only line contains the parser's message. This is so even
-/// if the crate `json` can read the file because it accepts numbers of any size.
+/// If `serde_json` cannot read the file, the only line contains its message. This is so even if the
+/// crate `json`, which accepts numbers of any size, can read the file.
 ///
 /// Errors: out of memory.
 pub fn explain(

@@ -12,7 +12,8 @@ pub(crate) fn kind_of_bytes(bytes: &[u8]) -> Option<&'static str> {
     }
 }
 
-/// Returns the longest UTF-8 text at the start, after byte order marks and white space.
+/// Returns the valid UTF-8 text at the start of a file, without byte order marks and white space
+/// before it.
 fn text_of(bytes: &[u8]) -> &str {
     match bytes.utf8_chunks().next() {
         Some(chunk) => chunk.valid().trim_start_matches('\u{feff}').trim_start(),

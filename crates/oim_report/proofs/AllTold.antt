@@ -1,4 +1,4 @@
--- The faults are the conditions that apply, except those that another condition that applies hides.
+-- The faults are the conditions that apply and are not hidden by another fault.
 use Rattle.std.proofs.Common.{◌≡◌, List, [], ◌∷◌, refl}
 use Rattle.std.specs.List.{filter}
 use Rattle.oim_names.specs.Bindings.{Binding}

@@ -1,4 +1,4 @@
--- Lists of keys and values, after one more is added.
+-- Lists of keys and values after an entry is added.
 use Rattle.std.proofs.Common.{◌≡◌, ◌≢◌, ℕ, zero, suc, ◌<◌, length, get_or, List, [], ◌∷◌, refl, sym, subst, arith}
 use Rattle.std.specs.Prelude.{All, Any}
 use Rattle.std.specs.Ordering.{nat_cmp, match_ordering}

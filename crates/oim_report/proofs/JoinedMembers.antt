@@ -173,7 +173,7 @@ inner_good ms = nobad-append (members_tokens ms) (end_array ∷ []) (nobad-membe
 no_quote : NoQuote (125 ∷ 93 ∷ [])
 no_quote = (λ e. Prim.cc, (λ e. Prim.cc, tt))
 
--- the lexemes of a text give the tokens of the members if no colon follows them
+-- the lexemes of a text give the tokens of the members if no colon follows the text
 pub record Members_of (a : List ℕ) (ms : Members) : Type 0 where
   pub ls : List Lexeme
   pub lexed : (b : List ℕ) → lex between (a ++ b) ≡ ls ++ lex between b

@@ -1,4 +1,4 @@
--- No report or sheet is refused for lack of memory.
+-- The definitions refuse no report or sheet for lack of memory.
 use Rattle.std.proofs.Common.{◌≡◌, ◌≢◌, ℕ, ◌+◌, List, [], ◌∷◌, map, Bool, true, false, cond, Option, Some, None, Result, Ok, Err, refl, sym, ap, ◌∙◌}
 use Rattle.std.specs.Ordering.{is_lt}
 use Rattle.oim_names.specs.Bindings.{Binding}

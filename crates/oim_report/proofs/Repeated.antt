@@ -1,4 +1,4 @@
--- The first member whose key spells the name of an earlier member, while the members are read.
+-- The search for the first member whose key spells the name of an earlier member.
 use Rattle.std.proofs.Common.{◌≡◌, ℕ, List, [], ◌∷◌, Bool, true, false, cond, ◌||◌, refl, sym, ap, ◌∙◌}
 use Rattle.std.specs.Prelude.{Option, Some, None, if◌then◌else◌, is_some}
 use Rattle.std.specs.FinMap as map

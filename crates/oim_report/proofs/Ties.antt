@@ -34,7 +34,7 @@ level_max_is l m = ap (λ o. cond (is_lt o) l m) (levels_agree m l)
       | All ↦ elim [ Unique ↦ refl | Complete ↦ refl | Consistent ↦ refl | All ↦ refl ]
     ]
 
--- the derived order puts a level below another one exactly if it is stricter
+-- the derived order puts one level below another exactly if the first is stricter
 pub lesser_levels_tie : (l m : Level) → partial_lt partial.it l m ≡ is_lt (level_cmp l m)
 lesser_levels_tie = elim [
   | Unique ↦ elim [ Unique ↦ refl | Complete ↦ refl | Consistent ↦ refl | All ↦ refl ]

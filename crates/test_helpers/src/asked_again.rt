@@ -45,8 +45,8 @@ pub fn read<'s>(rt: &HostRuntime, sheet: &'s Sheet, bytes: &[u8]) -> Result<Repo
     }
 }
 
-/// Reads a report. Tests call this function, because each call of `read_report` takes ten seconds
-/// to prove: its contract is long.
+/// Reads a report. Tests call this function because `read_report` has a long contract, so each call
+/// of it is slow to prove.
 pub fn read_once<'s>(alloc: Global, sheet: &'s Sheet, bytes: &[u8]) -> Result<Report<'s>, Refusal> {
     read_report(alloc, sheet, bytes)
 }

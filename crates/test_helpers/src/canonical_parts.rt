@@ -4,8 +4,8 @@
 pub const HEAD: &str =
     r#"{"documentInfo":{"documentType":"https://xbrl.org/2021/xbrl-json","features":{"xbrl:allowedDuplicates":"none"},"namespaces":{"#;
 
-/// The text before the namespaces if some facts have the same dimensions, and all that do are
-/// consistent.
+/// The text before the namespaces if some facts have the same dimensions, but none contradict each
+/// other.
 pub const CONSISTENT_HEAD: &str =
     r#"{"documentInfo":{"documentType":"https://xbrl.org/2021/xbrl-json","features":{"xbrl:allowedDuplicates":"consistent"},"namespaces":{"#;
 
@@ -22,7 +22,7 @@ pub const MIDDLE_ALONE: &str = r#""xbrl":"https://xbrl.org/2021"},"taxonomy":[]}
 /// The text after the facts, in canonical texts and in the reports of tests.
 pub const END: &str = "}}";
 
-/// The binding of the prefix `n1`, which the concept has.
+/// The binding of `n1`, the prefix of the concept.
 pub const ONE_URI: &str = r#""n1":"http://example.org/t""#;
 
 /// The fact 100 with `decimals` 0.

@@ -1,4 +1,4 @@
-// Readers and writers for tests: short, failing, interrupted, endless and counting.
+// Readers and writers for tests. Some fail, some are interrupted, and some never end.
 use crate::expecting::Expecting;
 use std::alloc::{AllocError, Global};
 use std::io::{self, ErrorKind, Read, Write};
@@ -156,7 +156,7 @@ impl<'a> ComparingWriter<'a> {
         }
     }
 
-    /// True if it took exactly the text.
+    /// Returns whether it took exactly the text.
     pub fn is_met(&self) -> bool {
         self.text.is_met()
     }

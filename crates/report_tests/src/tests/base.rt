@@ -11,7 +11,7 @@ use test_helpers::asked_again::{joined, read, tell_refused};
 const FACT: &str =
     r#"{"documentInfo":{"documentType":"https://xbrl.org/2021/xbrl-json","namespaces":{"eg":"http://example.org/t"}},"facts":{"a":{"#;
 
-// The text after the value of a number, of a text and of a name.
+// The text after the value: for a number, a text and a name.
 const OF_A: &str = r#","dimensions":{"concept":"eg:A"}}}}"#;
 
 const OF_T: &str = r#","dimensions":{"concept":"eg:T"}}}}"#;

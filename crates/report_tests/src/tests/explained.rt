@@ -4,7 +4,7 @@ use std::alloc::AllocError;
 use std::test::Fail;
 use test_helpers::asked_again::{joined, read_sheet, tell_refused};
 
-// Tests the sentences about faults. If memory is refused, the call is repeated once.
+// Tests the sentences about faults. If memory is refused, a call is repeated once.
 
 const SHEET: &str =
     r#"{"namespaces":{"eg":"http://example.org/t"},"concepts":{"eg:A":"numeric","eg:T":"text","eg:Q":"name"},"dimensions":{"eg:Reg":"explicit","eg:Sku":"typed"}}"#;
@@ -47,7 +47,7 @@ const DOCUMENTS: [Table<'static>; 2] = [
                 "\"concept\";\"value\"\n",
                 "r: 1 NotJson: the file cannot be read as JSON of at most 127 levels: invalid JSON at line 1 column 10; the file looks like CSV: convert it to xBRL-JSON with another program\n",
             ),
-            // prose, parts of JSON and JSON after a comment are not CSV
+            // prose, parts of JSON and JSON after a comment are not taken for CSV
             (
                 "//a,b\n{}",
                 "r: 1 NotJson: the file cannot be read as JSON of at most 127 levels: invalid JSON at line 1 column 1\n",
@@ -111,8 +111,7 @@ const DOCUMENTS: [Table<'static>; 2] = [
                 r#","namespaces":{"xbrl":"https://xbrl.org/2021"},"features":{"xbrl:allowedDuplicates":"some"}}}"#,
                 "r: 8 Feature: \"features\" must have \"allowedDuplicates\" once, with \"none\", \"complete\", \"consistent\" or \"all\"; it has \"xbrl:allowedDuplicates\": \"some\"\n",
             ),
-            // of several members, the refused one is shown; if two contradict each other, both are
-            // shown
+            // of several references, the refused one is shown; of two declared levels, both are
             (
                 r#","baseURL":"http://example.org/","taxonomy":["a.xsd","mailto:x","//["]}}"#,
                 "r: 7 TaxonomyUrl: the reference \"//[\" of \"taxonomy\" is not a string, is longer than 65,536 bytes as written or as a URL, or is not an http or https URL when resolved against \"baseURL\"\n",

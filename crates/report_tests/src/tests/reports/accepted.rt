@@ -147,7 +147,7 @@ const KEPT: &[Table] = &[
         ],
         end: NO_FACTS,
     },
-    // facts are listed by identifier, and ordered by dimensions and value
+    // facts are listed by identifier; their order sorts them by dimensions, then by value
     Table {
         start: FACTS,
         rows: &[(

@@ -57,7 +57,7 @@ fn a_document_is_a_whole_json_text(rt: HostRuntime) -> Result<(), Fail> {
 }
 
 const MEMBERS: [Table; 4] = [
-    // the kinds of a document's parts
+    // each part of a document has its JSON type
     Table {
         start: "",
         rows: &[

@@ -49,7 +49,7 @@ const LIMITS: [Long; 5] = [
         end: r#""},"facts":{}}"#,
         counts: &[(65_523, Read), (65_524, InDocument(6))],
     },
-    // the limit of a reference also applies to the URL after resolving it against the base URL
+    // the limit of a reference also applies to the URL that the reference resolves to
     Long {
         start: r#"{"documentInfo":{"documentType":"https://xbrl.org/2021/xbrl-json","baseURL":"http://x.org/r","taxonomy":[""#,
         piece: "a",

@@ -91,7 +91,7 @@ const BLUE: &str =
     r#"{"value":"Blue","dimensions":{"concept":"eg:T","entity":"x:529900:A1","period":"2020-01-01T00:00:00/2020-12-31T24:00:00","language":"en-GB","eg:Reg":"eg:North","eg:Sku":"a b"}}"#;
 
 const READ: [(&str, Said); 7] = [
-    // core dimensions are read; members are read by the kind of their dimension
+    // core dimensions are read; a member is read as the kind of its dimension requires
     (BLUE, Said::Blue),
     // a typed member may be nil
     (

@@ -58,7 +58,7 @@ const SHEETS: [(Option<Reason>, &[&str]); 9] = [
     (
         Some(Reason::SheetKind),
         &[
-            // concepts and dimensions have different kinds, and each entry has one of them
+            // concepts have one of three kinds, and dimensions one of two others
             r#"{"namespaces":{"eg":"u:t"},"concepts":{"eg:A":"typed"}}"#,
             r#"{"namespaces":{"eg":"u:t"},"concepts":{"eg:A":"Numeric"}}"#,
             r#"{"namespaces":{"eg":"u:t"},"concepts":{"eg:A":1}}"#,

@@ -6,7 +6,7 @@ use Rattle.oim_report.specs.code.Glossaries.{AreGlossaries}
 use Rattle.oim_report.proofs.PiecesInTurn.{IsUpTo}
 use Rattle.oim_report.proofs.pieces.facts_in_pieces.read_facts_in_pieces.Given as goal
 
--- the rest of the text is UTF-8, the facts before it were found, and the caches are correct
+-- the rest of the text is UTF-8, the facts before the rest were found, and the caches are correct
 abbrev pub invariant-loop : goal.invariant-loop
 invariant-loop l = shadow (Utf8 l.left) × (objects : Members) × IsUpTo l.text l.left objects × AreFound l.sheet l.aliases objects l.identifiers.items l.facts.items
     × AreGlossaries l.sheet l.aliases l.glossaries
