@@ -96,7 +96,7 @@ good_lexemes after_value (colon ∷ ls) h = absurd (false≢true h.0)
 good_lexemes after_comma (colon ∷ ls) h = absurd (false≢true h.0)
 good_lexemes after_key (colon ∷ ls) h = good_lexemes fresh ls h
 
--- ---- members, without the closing bracket
+-- ---- members, without the closing brace
 
 abbrev pub body : Members → List Token
 body j.no_members = []

@@ -1,4 +1,4 @@
--- The facts that a level allows, pair by pair.
+-- A level allows a list of facts exactly if it allows each pair of them.
 use Rattle.std.proofs.Common.{◌≡◌, zero, suc, Bool, true, false, cond, not, ◌&&◌, ◌||◌, List, [], ◌∷◌, ◌++◌, get_or, refl, sym, ap, subst, ◌∙◌, arith, All, AllPairs, IsPermutation, IsTrue, Decides}
 use Rattle.std.specs.List.{list_all}
 use Rattle.std.specs.Cmp.{Equal-is, both_ways, tied_back}

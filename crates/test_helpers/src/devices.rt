@@ -21,7 +21,7 @@ pub enum Then {
 pub enum Step {
     /// All of it.
     All,
-    /// Half of it, and at least one byte.
+    /// Half of it, but at least one byte.
     Half,
     /// At most this many bytes.
     Few(usize),

@@ -89,7 +89,7 @@ const LEVELS: &[Table] = &[
         ],
         end: "}}",
     },
-    // a repeated text is read in the same way
+    // a repeated text is read as it was the first time
     Table {
         start: FACTS,
         rows: &[(

@@ -36,7 +36,7 @@ fn entity_of<'r>(report: &'r Report<'_>) -> Option<&'r Name> {
     report.facts().first()?.dimensions.entity()
 }
 
-// Returns whether the entity of the report's fact has the URI that the report binds.
+// Reads a report that binds `x` to the URI, and returns whether the entity of its fact has the URI.
 fn has_own_entity(rt: &HostRuntime, reader: &mut ReportReader<'_>, uri: &str) -> bool {
     let Ok(text) = joined(rt, &[START, uri, REST]) else {
         return false;
