@@ -85,7 +85,7 @@ impl<'a> Finding<'a> {
     }
 }
 
-/// Appends a part, with texts and values as JSON. Long ones are cut.
+/// Appends a part, with its texts and values as JSON, each cut if it is long.
 fn push_part(alloc: Global, line: &mut String, part: Part<'_>) -> Result<(), AllocError> {
     match part {
         Part::Key(text) | Part::Name(text) | Part::Entity(text) => push_text(alloc, line, text),

@@ -3,7 +3,7 @@
 //!
 //! Sentences may change between versions, but numbers, names and their order do not. A sentence
 //! shows at most 80 characters of a key or value. Characters of a text are counted before escaping,
-//! so no escape is cut in two. Lines of text cut identifiers too: every line of a fact repeats its
+//! so none of its escapes is cut. Lines of text cut identifiers too: every line of a fact repeats its
 //! identifier, so these lines could take gigabytes. The JSON object of a refusal has it whole.
 #![tactic(auto)]
 
