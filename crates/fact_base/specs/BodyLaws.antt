@@ -1,4 +1,4 @@
--- The facts and references of bodies (own).
+-- Laws of bodies and unions: their contents, and independence of order and repetition (own).
 use Rattle.std.specs.Prelude.{◌≡◌, ◌↔◌, ◌⊎◌, ℕ, List, ◌++◌, Contains}
 use Rattle.std.specs.List.{Any}
 use Rattle.merge_laws.specs.Members.{SameMembers}

@@ -1,4 +1,4 @@
--- Facts and references that are added one after another (own).
+-- The body of unsorted facts and references (own).
 use Rattle.std.specs.Prelude.{ℕ, List}
 use Rattle.oim_dims.specs.FactOrder.{fact_cmp}
 use Rattle.oim_dims.specs.declared.fact.Fact.{Fact}

@@ -1,4 +1,4 @@
--- The level of duplicates of a body's facts (OIM Common 1.0, `xbrl:allowedDuplicates`).
+-- A law about the level of duplicates (OIM Common 1.0, `xbrl:allowedDuplicates`).
 use Rattle.std.specs.Prelude.{◌≢◌, List}
 use Rattle.merge_laws.specs.Sorted.{IsSet}
 use Rattle.oim_dims.specs.FactOrder.{fact_cmp}

@@ -53,8 +53,8 @@ abbrev pub begin_with_numbers : List Value → Bool
 begin_with_numbers (v ∷ w ∷ vs) = has_interval v && has_interval w
 begin_with_numbers other = false
 
--- the indices shown for several values. If the first two are numbers, these are the first number with the least high end and the
--- first with the greatest low end. Otherwise they are 0 and 1
+-- the indices shown for several values. If the first two values are numbers, these are the indices of the first number with the
+-- least high end and of the first with the greatest low end. Otherwise they are 0 and 1
 abbrev pub IsPairOf : Bool → List Value → ℕ → ℕ → Type 0
 IsPairOf true vs i j = (ends : Interval) → AreEnds ends (intervals_of vs) → (i ≡ place_of_least_high ends vs) × (j ≡ place_of_greatest_low ends vs)
 IsPairOf false vs i j = (i ≡ 0) × (j ≡ 1)

@@ -168,7 +168,7 @@ fn same_at(one: &Entries, other: &Entries, place: usize) -> bool
     }
 }
 
-/// Of each dimension set, only the number of values and their summary are read.
+/// Reads the number of values and the summary of every dimension set, but not the values.
 pub(crate) fn level_of(entries: &Entries) -> Level
     requires rise { IsRising dimensions_cmp entry_key entries.now }
     requires summed { All (λ e. AreSummarised e.1.0 e.1.1) entries.now }

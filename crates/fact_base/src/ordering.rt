@@ -26,8 +26,8 @@ pub(crate) fn in_order(mut facts: Vec<Fact>, order: Vec<usize>) -> Result<Vec<Fa
     Ok(facts)
 }
 
-// Returns where the fact that belongs at index `i` is now. If its first index is below `i`, it was
-// swapped to the index noted there.
+// Returns where the fact that belongs at index `i` is now. If its original index is below `i`, the
+// fact was swapped away, and `places` has its next index there.
 fn place_now(places: &[usize], i: usize) -> usize
     requires here { i < length places.now }
     requires within { All (λ place. place < length places.now) places.now }

@@ -165,7 +165,7 @@ not_empty : (u : List ℕ) → u ≢ [] → bytes_eq u [] ≡ false
 not_empty [] h = absurd (h refl)
 not_empty (c ∷ cs) h = refl
 
--- the binding after those of the names' URIs: `xbrl`, if a level is declared
+-- the binding after the bindings of the names' URIs: `xbrl`, if a level is declared
 abbrev last_bindings : Option Level → List Binding
 last_bindings None = []
 last_bindings (Some l) = (record { prefix = codes "xbrl"; uri = reserved_uri }) ∷ []

@@ -100,16 +100,16 @@ pub fn lines_tell_verdicts()
 {}
 
 /// An accepted report has one mention for each fact object, with the fact that the object reports.
-/// `source_lines` has one line for each mention and no other line. Each fact of the merged reports
-/// has a line.
+/// `source_lines` writes one line for each mention and no other line. Each fact of the merged
+/// reports has a line.
 pub fn sources_are_whole()
     ensures objects { EachObjectIsMentioned }
     ensures told { EachMentionIsTold }
     ensures said { EachFactIsSaid }
 {}
 
-/// If the reports are reordered, the lines of `source_lines` differ only in the report numbers and
-/// in their order.
+/// If the reports are reordered, `source_lines` writes the same lines, except that the report
+/// numbers and the order of the lines may differ.
 pub fn sources_ignore_order()
     ensures { SourcesIgnoreOrder }
 {}

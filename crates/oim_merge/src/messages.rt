@@ -94,7 +94,7 @@ impl<'s> Messages<'s> {
         }
     }
 
-    /// The index of an equal text, or the index in `order` at which a new text must be inserted.
+    /// The index in `texts` of an equal text, or the index in `order` at which to insert a new one.
     fn find(&self, text: &Encoded) -> Result<usize, usize>
         ensures { MatchResult result
             (IsTextAt self.now.texts.items text.now)

@@ -11,7 +11,7 @@ pub enum ReplayFault {
     #[error("out of memory")]
     OutOfMemory,
     /// The line with this number, from 1, is the first that is not an event. If all lines are
-    /// events, it is the first that names something that does not exist.
+    /// events, this line is the first that names something that does not exist.
     #[error("line {0} is refused")]
     BadEvent(u64),
 }

@@ -91,8 +91,8 @@ impl Spelling for PrefixTable {
     }
 }
 
-// Caches the indices of the URIs, up to 65,535. If several of these URIs share a class, only the
-// last is cached.
+// Caches the indices of the URIs, except indices above 65,535. If several URIs share a class, only
+// the last cached index remains.
 fn places_of(uris: &[Text]) -> PositionCache {
     let mut cache = PositionCache::new();
     for (place, uri) in uris.iter().enumerate() {

@@ -9,7 +9,7 @@ pub struct SinkError;
 /// Takes bytes and counts its failures.
 pub trait Sink {
     /// The bytes that it holds, if contracts can see them. They see the bytes of a list in memory,
-    /// but not those of a file.
+    /// but not the bytes of a file.
     ghost told: { Self → Option (List ℕ) };
 
     /// The number of failures so far.

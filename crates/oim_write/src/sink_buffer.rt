@@ -44,7 +44,7 @@ impl SinkBuffer {
 
     /// Appends bytes. Once a chunk is full, all waiting bytes are written to the sink.
     ///
-    /// Errors: `Device` if the sink failed; `OutOfMemory` once the waiting bytes are written.
+    /// Errors: `Device` if the sink failed; `OutOfMemory`, after the waiting bytes are written.
     pub fn push<S: Sink>(&mut self, sink: &mut S, bytes: &[u8]) -> Result<(), WriteFault>
         requires { S.failures sink.old < 2 ^ 64 - 1 }
         ensures ok { OnOk result

@@ -13,11 +13,11 @@ use Rattle.oim_value.specs.declared.value.Value.TheVariants.{Nil}
 use Rattle.fact_base.specs.declared.verdict.Verdict.{Verdict}
 use Rattle.fact_base.specs.declared.verdict.Verdict.TheVariants.{Complete, Consistent, Inconsistent}
 
--- every two values that are not nil are of one kind
+-- all values that are not nil are of one kind
 abbrev pub AreAlike : List Value → Type 0
 AreAlike vs = (v w : Value) → Contains vs v → Contains vs w → v ≢ Nil → w ≢ Nil → kind_order v ≡ kind_order w
 
--- one or more different values in order, each nil or of one kind, and their summary
+-- one or more different values in order, and their summary; all values that are not nil are of one kind
 pub record AreSummarised (vs : List Value) (told : Summarised) : Type 0 where
   pub some : vs ≢ []
   pub in_order : IsSet value_cmp vs
