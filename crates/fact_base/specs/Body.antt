@@ -18,7 +18,7 @@ pub record Body : Type 0 where
   pub facts : List Fact
   pub references : List (List ℕ)
 
--- the facts of all documents in sequence; the same for references
+-- the facts of all documents in sequence; the next definition lists their references
 abbrev pub all_facts : List Document → List Fact
 all_facts docs = flat_map (λ d. d.facts) docs
 

@@ -18,7 +18,7 @@ module _ (header : List ℕ) (written : RowText) where
     pub are : AreRowsOf written b rows
     pub appended : Appends old new (header ++ rows)
 
-  -- a first part of the header and the rows was appended, and `count` is the number of its bytes
+  -- a first part of the header and the rows was appended; `count` counts the appended bytes, and saturates
   pub record AppendsFrontOfRows (b : Body) (old new : Option (List ℕ)) (count : ℕ) : Type 0 where
     pub rows : List ℕ
     pub are : AreRowsOf written b rows

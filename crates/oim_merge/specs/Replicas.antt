@@ -39,7 +39,7 @@ abbrev pub with_accepted : Result Document Refusal → ℕ → Numbers → Numbe
 with_accepted (Ok d) r numbers = both numbers (r ∷ [])
 with_accepted (Err refusal) r numbers = numbers
 
--- replicas that keep and send the set of accepted reports that reached them, by number
+-- replicas that keep and send the numbers of the accepted reports that reached them
 abbrev pub reached : Sheet → List (List ℕ) → Machine Numbers Numbers
 reached sheet reports = record {
   fresh = [];
@@ -64,7 +64,7 @@ with_outcome (Err refusal) base = base
 abbrev pub joined_with : Contents → Contents → Contents
 joined_with base other = record { sheet = base.sheet; body = union base.body other.body }
 
--- the writer of a sent text: the present form, or the earlier form without a level
+-- which version wrote a sent text: the present one, or an earlier one that declares no level
 pub data Writer : Type 0 where
   present : Writer
   earlier : Writer

@@ -25,7 +25,7 @@ pub record Writes (level : Level) (b : Body) (refusals : List (ℕ × Refusal)) 
   pub refusals_are : told ≡ refusals
   pub appended : Appends old new (canonical b)
 
--- the body stays within the level, a first part of its text was appended, and `written` is the number of its bytes
+-- the body stays within the level, and a first part of its text was appended; `written` counts the appended bytes, and saturates
 pub record StopsWithin (level : Level) (b : Body) (old new : Option (List ℕ)) (written : ℕ) : Type 0 where
   pub within : StaysWithin level b
   pub front : AppendsFront old new (canonical b) written

@@ -76,7 +76,7 @@ sources = sources_by source_line
 
 -- ---- laws
 
--- the fact of the body has a line
+-- the fact has a mention
 pub record IsSaid (sheet : Sheet) (reports : List (List ℕ)) (f : Fact) : Type 0 where
   pub mention : Mention
   pub there : Contains (mentions_by_fact sheet reports) mention
@@ -85,7 +85,7 @@ pub record IsSaid (sheet : Sheet) (reports : List (List ℕ)) (f : Fact) : Type 
 abbrev pub EachFactIsSaid : Type 0
 EachFactIsSaid = (sheet : Sheet) (reports : List (List ℕ)) (f : Fact) → Contains (merged sheet reports).facts f → IsSaid sheet reports f
 
--- each fact object of an accepted report has one line, and there are no other lines
+-- grouping the mentions by fact keeps each mention once and adds none
 abbrev pub EachMentionIsTold : Type 0
 EachMentionIsTold = (sheet : Sheet) (reports : List (List ℕ)) → IsPermutation (mentions sheet reports) (mentions_by_fact sheet reports)
 

@@ -8,7 +8,7 @@ use oim_write::Encoded;
 use std::alloc::{AllocError, Global};
 
 /// The fewest and the most bytes by which the buffer grows at once; it grows by less only to end at
-/// its greatest size. The growth increases with the bytes read, so a small file needs little memory.
+/// its greatest size. The growth increases with the bytes read, so small files need little memory.
 const FEWEST: usize = 1 << 12;
 
 const MOST: usize = 1 << 16;

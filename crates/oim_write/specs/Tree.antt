@@ -48,7 +48,7 @@ features_member None others = others
 features_member (Some level) others =
     member (codes "features") (object (member (codes "xbrl:allowedDuplicates") (string (level_entry level).text) no_members)) others
 
--- the prefix `xbrl` of that feature; no member if no level is declared
+-- the member that binds the prefix `xbrl`; no member if no level is declared
 abbrev pub xbrl_member : Option Level → Members
 xbrl_member None = no_members
 xbrl_member (Some level) = member (codes "xbrl") (string reserved_uri) no_members

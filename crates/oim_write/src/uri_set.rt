@@ -15,9 +15,9 @@ use std::alloc::{AllocError, Global};
 use std::marker::Model;
 
 /// The URIs of names. Contracts see them distinct and in byte order. In memory, a sorted part is
-/// followed by later URIs in order of arrival, which may repeat. A URI that is neither cached nor in
-/// the sorted part is appended. If half the earlier length, rounded down, exceeds the sorted part,
-/// the list is then sorted and loses its repeats.
+/// followed by later URIs in order of arrival, which may repeat. A URI is appended if it is neither
+/// cached nor in the sorted part. If half the earlier length, rounded down, then exceeds the sorted
+/// part, the list is sorted and loses its repeats.
 #[derive(Drop)]
 pub(crate) struct UriSet {
     uris: Vec<Text>,
