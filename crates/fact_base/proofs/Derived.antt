@@ -1,4 +1,4 @@
--- The orders and merges of the code's types are the defined ones.
+-- The orders and merges of the code's types equal the orders and merges in the specifications.
 use Rattle.std.proofs.Common.{◌≡◌, List, Result, Ok, Err, sym, subst}
 use Rattle.std.specs.Prelude.{OnOk}
 use Rattle.merge_laws.specs.Ends.{both_summaries}

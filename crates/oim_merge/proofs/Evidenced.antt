@@ -1,4 +1,4 @@
--- The evidence for each dimension set of a body that fits a sheet.
+-- Evidence exists and is unique for each dimension set of a body that fits a sheet.
 use Rattle.std.proofs.Common.{◌≡◌, ◌≢◌, ℕ, zero, suc, ◌<◌, ◌≤◌, Bool, true, false, List, [], ◌∷◌, length, Option, Some, None, ◌++◌, inl, inr, refl, sym, ap, subst, ◌∙◌, arith}
 use mathlib.Core.Bool.{true≢false}
 use Rattle.std.specs.Prelude.{Contains, codes, is_some, slice_get, ℤ, ◌≤ℤ◌, if◌then◌else◌}

@@ -1,4 +1,4 @@
--- A base depends only on its documents, and its text is read as the same body.
+-- A base depends only on the set of its documents, and its text is read as its body.
 use Rattle.std.proofs.Common.{◌≡◌, inl, ⊎_elim, [], ◌∷◌, ◌++◌, append-nil, Result, Ok, Err, refl, sym, ap, subst, ◌∙◌}
 use Rattle.std.specs.Prelude.{Contains}
 use Rattle.merge_laws.specs.Members.{SameMembers}

@@ -1,4 +1,4 @@
--- One event changes a list of bases.
+-- How one event changes a list of bases.
 use Rattle.std.proofs.Common.{◌≡◌, ◌≢◌, ℕ, zero, suc, ◌-◌, ◌<◌, ◌≤◌, ◌||◌, false, inl, ⊎_elim, List, [], ◌++◌, length, get_or, set, Some, sym, ap, ◌∙◌, arith}
 use mathlib.Core.Bool.{true≢false}
 use Rattle.std.proofs.Math.Seq.{set-set}

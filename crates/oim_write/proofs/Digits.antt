@@ -1,4 +1,4 @@
--- `digits_up_to` does not depend on a bound that is at least n, and padded digits are written one by one.
+-- Widths and padded numbers, one digit at a time. All bounds of at least n give the same width.
 use Rattle.std.proofs.Common.{◌≡◌, ℕ, zero, suc, ◌+◌, ◌-◌, ◌%◌, ◌^◌, [], ◌∷◌, ◌++◌, ◌/◌, ◌<◌, ◌≤◌, false, cond, nat_lt, refl, sym, ap, ◌∙◌, arith}
 use Rattle.std.proofs.Math.Nat.{pow-suc, pow-zero}
 use Rattle.std.proofs.lemmas.Bool.{cond-true, cond-false, cases_Bool, lt-ltb}

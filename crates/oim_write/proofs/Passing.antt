@@ -60,7 +60,7 @@ AppendsFront-broken {text = text} new broken = record {
   count = broken.count ∙ ap (λ (p : Pending). saturated (p.written + length broken.front)) new ∙ ap saturated (zero-add (length broken.front));
 }
 
--- a fault in the flush after the text
+-- a fault while flushing after the text was pushed
 pub AppendsFront-flushed : {a b : Option (List ℕ)} {p q : Pending} {text : List ℕ} (c : Option (List ℕ)) (r : Result (Unit {0}) WriteFault) → p ≡ nothing_yet → Passes a b p q text
     → IfErr r (λ fault. Breaks b c q [] (written_of fault)) → IfErr r (λ fault. AppendsFront a c text (written_of fault))
 AppendsFront-flushed c (Ok x) new passed broken = tt
@@ -93,7 +93,7 @@ Breaks-first a b p n put = record {
   count = ap (λ k. saturated (p.written + k)) (sym (length-take-le n p.bytes put.1));
 }
 
--- a fault in the waiting bytes is a fault in the text that was just pushed
+-- a fault while flushing the bytes that end with a text is a fault while pushing this text
 pub Breaks-pushed : (a b : Option (List ℕ)) (p : Pending) (text : List ℕ) (r : Result (Unit {0}) WriteFault)
     → IfErr r (λ fault. Breaks a b (record { written = p.written; bytes = p.bytes ++ text }) [] (written_of fault))
     → IfErr r (λ fault. Breaks a b p text (written_of fault))
