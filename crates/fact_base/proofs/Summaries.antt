@@ -1,4 +1,4 @@
--- The summary of different values. All values that are not nil are of one kind.
+-- The summary of different values of one kind, with or without nil.
 use Rattle.std.proofs.Common.{◌≡◌, ◌≢◌, ℕ, zero, suc, ◌≤◌, length, Bool, true, false, cond, ◌||◌, ◌&&◌, List, [], ◌∷◌, Option, Some, None, refl, sym, ap, subst, ◌∙◌, ⊎_elim, inl, inr, arith}
 use mathlib.Core.Bool.{true≢false}
 use Rattle.std.specs.Prelude.{◌↔◌, ◌⊎◌, IsTrue, Contains, is_some, int_lt, ℤ, ◌≤ℤ◌, ◌<ℤ◌, IfSome}
