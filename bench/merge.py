@@ -177,7 +177,7 @@ def check_text(bundle, text):
 def build(crate):
     """Proves and builds a program, and returns its path."""
     made = subprocess.run(["rt", "run"], cwd=crate, stdin=subprocess.DEVNULL, stdout=subprocess.PIPE, stderr=subprocess.STDOUT)
-    # this also runs the program on empty input, and its status is ignored
+    # this also runs the program on empty input; the status of that run is ignored
     if b"rt: running" not in made.stdout:
         raise Failure(f"{crate} is not built:\n{made.stdout.decode(errors='replace')}")
     return os.path.join(crate, "out", os.path.basename(crate))

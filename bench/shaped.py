@@ -129,7 +129,7 @@ def measures_of_a_unit(n):
 
 
 def measures_beside_a_long_uri(n):
-    """A unit with n measures, whose namespace URI has about 5,000 bytes."""
+    """A unit with n measures of one namespace. Its URI has about 5,000 bytes."""
     names = {"eg": URI, "u": f"{URI}/{'u' * 5_000}"}
     return merging(sheet(), report(numbered([numeric("1", unit="*".join(f"u:m{n - place:07}" for place in range(n)))]), names))
 
@@ -154,7 +154,8 @@ def names_of_a_long_uri_in_a_sheet(n):
 
 
 def names_and_bytes_of_a_uri_in_a_sheet(n):
-    """n names with a URI of about 20 n bytes. If each name cost a comparison of URIs, 4 n would take sixteen times as much."""
+    """n names with a URI of about 20 n bytes. If each name cost a comparison of URIs, four times the size would
+    cost sixteen times as much."""
     return merging(long_uri(n, 20 * n)[0], report({}))
 
 
@@ -336,7 +337,7 @@ def sends_without_a_change(n):
 
 
 def joins_of_what_is_there(n):
-    """n joins with a replica that has half of the first one's 1,000 facts."""
+    """n joins: a replica of 1,000 facts takes the base of one that has half of them."""
     halves = [report(numbered(numeric(str(place), period=period(place)) for place in range(0, FACTS, step))) for step in (1, 2)]
     return replaying(2, ["take 1 1", "take 2 2", *["join 1 2"] * n], *halves)
 

@@ -1,10 +1,10 @@
 #!/usr/bin/env python3
 """Checks that no shape of input costs much more than its size: bench/shapes [options] [SHAPE ..]
 
-Each shape makes an input long in one way, as a sender of a report, a sheet or a schedule could. Its size n is a number of parts,
-such as facts, or of characters. The program runs at size n and at four times that size. The second run may take at most five
-times the instructions of the first, as `valgrind --tool=callgrind` counts them. So a cost of n log n passes; a quadratic cost
-takes sixteen times and fails. The table is printed on standard output, in Markdown.
+Each shape makes an input long in one way, as a sender of a report, a sheet or a schedule could. Its size n is a number of
+parts (such as facts) or of characters. The program runs at size n and at four times that size. The second run may take at
+most five times the instructions of the first, as `valgrind --tool=callgrind` counts them. So a cost of n log n passes if n is
+at least 256; a quadratic cost takes sixteen times and fails. The table is printed on standard output, in Markdown.
 
     --list              lists the shapes
     --seconds           measures processor seconds instead of instructions, the least of five runs

@@ -1,9 +1,10 @@
-/* Calls the library for C, for tests/c_abi: c_abi merge LEVEL SHEET REPORT ..; c_abi verdicts|verdicts-json|sources|sources-json
-   SHEET REPORT ..; c_abi check SHEET REPORT; c_abi edges SHEET. It prints the text and the lines of refused reports as the
-   program does, and returns the status of the call. Calls with buffers are also made with buffers that are too short. Each
-   call is also made with each request for memory refused in turn. Standard error ends with the number of refused requests
-   that made the call fail, in a line that begins with `requests`. `edges` makes calls with unusual arguments instead, prints
-   nothing and returns 0. Status 90 with a line means that a call does not do what the header promises. */
+/* Calls the library for C, for tests/c_abi: c_abi merge LEVEL SHEET REPORT ..; c_abi
+   verdicts|verdicts-json|sources|sources-json SHEET REPORT ..; c_abi check SHEET REPORT; c_abi edges SHEET. It prints the
+   text and the lines of refused reports as the program does, and returns the status of the call. Calls with buffers are
+   also made with buffers that are too short. With the static library, each request for memory of each call is also refused
+   in turn. Standard error ends with the number of refused requests that made the call fail, in a line that begins with
+   `requests`. `edges` makes calls with unusual arguments instead, prints nothing and returns 0. Status 90 with a line means
+   that a call does not do what the header promises. */
 #include <stdio.h>
 #include <stdlib.h>
 #include <string.h>

@@ -5,9 +5,9 @@
 
 It checks libxbrlmerge.so and libxbrlmerge.a, which ./build --library wrote to lib/. Both must export the calls of
 include/xbrlmerge.h and no other names. The types in the header must agree with crates/xbrlmerge_c. Then the script builds
-tests/c_abi.c with each library and makes each call on the examples. The texts, lines and statuses must equal the program's. It
-also passes buffers that are too short, bad ends, an unknown level and lengths of 0. With the static library, each request for
-memory is refused in turn. The header is compiled as C and, if g++ is installed, as C++.
+tests/c_abi.c with each library and makes each call on the examples. The texts, lines and statuses must equal the program's.
+It also passes buffers that are too short, wrong ends of reports, an unknown level and lengths of 0. With the static library,
+each request for memory is refused in turn. The header is compiled as C and, if g++ is installed, as C++.
 
 Status 0: all is as expected. 1: it is not; each difference is printed. 2: the library or the program is not built, or gcc is
 not installed.

@@ -27,8 +27,8 @@ from support import built_program, bytes_of
 NOBODY, LIMIT, ENDLESS_LIMIT = 65534, 20, 180
 # the command that returns the size of a pipe; Python has a name for it since 3.10
 PIPE_SIZE = 1032
-# kilobytes: LITTLE of address space is too little for an endless file, and enough for the other files. With less than MUCH of
-# free memory, endless files are read only with LITTLE
+# kilobytes: in LITTLE of address space, an endless file exhausts memory and the other files do not. If less than MUCH of memory
+# is free, endless files are read only in LITTLE
 LITTLE, MUCH = 150_000, 6_000_000
 
 GOOD, REFUSED, NOTHING_TAKEN = (0, ""), (1, "report 2: 1 NotJson at document\n"), (3, "device: 0 bytes written\n")

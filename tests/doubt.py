@@ -5,8 +5,8 @@
 
 An entry, `- [FILE](../crates/..): `name`, ..`, lists contracts, types, limits and lines of code (`src/`), or definitions
 (`specs/`). A row `| [`word`](../crates/..) | [`law`](../crates/..) |` names a word, which is a definition that needs no
-reading, and laws that state enough about it. FORMAT may use all that DOUBT lists, and may list words of DOUBT as entries. The
-status is 1 if
+reading, and laws that state enough about it. FORMAT may use every name that DOUBT lists, and may list words of DOUBT as
+entries. The status is 1 if
 
 - a name is not in its file, or is listed twice;
 - a listed definition or contract uses a definition of this repository that is neither listed, nor a word, nor in the table;

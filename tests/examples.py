@@ -15,8 +15,8 @@ is named, examples/embed/main.txt is skipped. It compares
   output follows, standard error may contain only refusals and `too loose`. A block that proves (`rt`, ./build, the gate)
   is skipped;
 - the facts that docs/GUIDE.md shows as JSON with the examples; a sheet that it shows must be accepted;
-- the output of tools/contradictions when it makes the sheet from a taxonomy package and normalises reports in the form
-  of other tools, in tests/normalise/vendors;
+- the sheet and the merged text of tools/contradictions with those expected in tests/normalise/vendors. The tool makes the
+  sheet from a taxonomy package, and normalises the reports of other tools in that folder;
 - the commands in the man pages and in the program's help, in the same way;
 - each example in docs/REFUSALS.md with the line that refuses it.
 
@@ -188,7 +188,7 @@ def run_lines(shell, lines, room):
 
 
 def is_as_shown(shown, printed):
-    """Returns whether lines match the shown lines, some of which are cut."""
+    """Returns whether lines match the shown lines. A shown line that ends with ` ..` is cut there."""
     return len(shown) == len(printed) and all(
         there.startswith(line[: -len(CUT)]) if line.endswith(CUT) else there == line for line, there in zip(shown, printed)
     )

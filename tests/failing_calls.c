@@ -1,7 +1,7 @@
 /* This library, loaded by LD_PRELOAD, replaces the calls of the C library (glibc) that write a file. Three environment
    variables control it. The call with the number FAIL, counted from 1, fails as on a full device; at the call with the number
-   KILL the process is killed. Writes to the standard streams are not counted, and of the calls of open, only those with O_EXCL
-   are counted. The name of each counted call is written to the file CALLS_TOLD. */
+   KILL the process is killed. Writes to the standard streams and calls of open without O_EXCL are not counted. The name of each
+   counted call is written to the file CALLS_TOLD. */
 #define _GNU_SOURCE
 #include <dlfcn.h>
 #include <errno.h>

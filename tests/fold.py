@@ -4,8 +4,9 @@
     [XBRLMERGE=PROGRAM] [REPORTS=200] [JOBS=2] [SEED=1] tests/fold
 
 It draws reports that overlap, agree, contradict each other, or are refused. The results of examples/fold/Makefile and
-examples/fold/fold_dask.py must equal the bytes of one run, each with three numbers of branches or of files a node. The script
-also checks how many branches a late report rebuilds, and nodes that fail or are stopped. If Dask is not installed, a module of
+examples/fold/fold_dask.py must equal the bytes of one run. The former runs with three numbers of branches, the latter with
+three numbers of files a node. The script also checks how many branches a late report rebuilds, and nodes that fail or are
+stopped. If Dask is not installed, a module of
 two functions runs the nodes in turn. Nodes that call the library are skipped if there is no lib/libxbrlmerge.so, which
 ./build --library makes.
 
@@ -44,7 +45,7 @@ def sheet():
 
 
 def fact(chance, prefix):
-    """Draws a fact. There are few dimension sets and few values, so facts of different reports meet."""
+    """Draws a fact. There are few dimension sets and few values, so different reports have facts with the same dimensions."""
     concept = chance.choice(sorted(KINDS))
     dimensions = {"concept": f"{prefix}:{concept}", "entity": f"e:{chance.choice('PQ')}"}
     dimensions["period"] = f"{chance.randint(2020, 2024)}-12-31T24:00:00"
@@ -169,7 +170,8 @@ def odd_names():
 
 
 def stopped_nodes():
-    """Checks that a stopped node stops its program and leaves no files, and that no file name contains its process number."""
+    """Checks that a stopped node stops its program and leaves no files, and that no file name contains the node's process
+    number."""
     write("slow", "#!/bin/sh\nls -A >names\necho $$ >number.part\nmv number.part number\nexec sleep 60\n")
     os.chmod("slow", 0o755)
     for kind in (signal.SIGTERM, signal.SIGHUP, signal.SIGINT):
@@ -201,8 +203,8 @@ def dask_words():
 
 
 def on_dask(words, width, wanted):
-    """Compares folds on Dask with one run: one whose nodes are processes and, if the library is built, one whose nodes are
-    calls."""
+    """Compares folds on Dask with one run of the program. The nodes of the first fold are processes. If the library is
+    built, those of a second fold are calls."""
     done = run(*words, "sheet.json", "dask.json", str(width), *paths())
     compare(f"Dask, {width} files a node", done, "dask.json", wanted)
     if LIBRARY:

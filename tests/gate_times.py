@@ -1,13 +1,13 @@
 #!/usr/bin/env python3
 """Prints the time of each part of a gate run. At the top of the repository:
 
-    bash .ci/run 2>&1 | tests/gate_times | tee FILE     stamps each line with its second, and prints the table
+    bash .ci/run 2>&1 | tests/gate_times | tee FILE     prints each line after its time in seconds, then the table
     tests/gate_times FILE                               prints the table in FILE again
 
 A part is the proof of a crate, the proof of its tests, its must-fail edits or its runs. The processes are sampled twice a
-second to find when a part begins and ends; 'processor' is their seconds on all processors. Runs are not sampled: the lines of
-the gate give their times, and 'processor' is 0. The status is 0 if the last line `N passed, M failed` counts no failure,
-otherwise 1. With FILE the status is 0, or 2 if FILE has no table.
+second to find when a part begins and ends; 'processor' is the part's seconds, summed over all processors. Runs are not
+sampled: their times are taken from the lines of the gate, and 'processor' is 0. The status is 0 if the last line
+`N passed, M failed` counts no failure, otherwise 1. With FILE the status is 0, or 2 if FILE has no table.
 """
 import os
 import re
@@ -33,7 +33,7 @@ def contents(path):
 
 
 def processes():
-    """Returns the parent of each process, and its processor seconds with its ended children."""
+    """Returns the parent of each process, and its processor seconds, with those of its ended children."""
     found = {}
     for pid in filter(str.isdigit, os.listdir("/proc")):
         fields = contents(f"/proc/{pid}/stat").rpartition(b")")[2].split()

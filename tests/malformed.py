@@ -5,12 +5,12 @@
 
 PROGRAM is $XBRLMERGE or the built one by default. Each run must end within 10 seconds, not by a signal, with a status and
 lines that its input allows. A report is read in full and, with spaces after it, in pieces; both results must be equal. A
-refused report beside two good ones must not change their text. An accepted report is merged; the text must be accepted and
+refused report must not change the merged text of two good ones. An accepted report is merged; the text must be accepted and
 merge to the same bytes. JOBS processes run in parallel, as many as there are processors by default. CASE runs only the case
 with this number.
 
-Status 0: all is as expected. 1: it is not; the seed and the case are printed, and the broken bytes are written to a file; or
-5,000 or more cases lack a usual result. 2: there is no program.
+Status 0: all is as expected. 1: it is not; the seed and the case are printed, and the broken bytes are written to a file; or a
+usual result is missing in a run of 5,000 cases or more. 2: there is no program.
 """
 import argparse
 import collections
@@ -352,7 +352,7 @@ def play(task):
 
 
 def is_tame(counts):
-    """Returns whether 5,000 or more cases lack a usual result."""
+    """Returns whether a usual result is missing in a run of 5,000 cases or more."""
     ends = [f"{kind} {status}" for kind, statuses in (("report", "01"), ("long", "01"), ("sheet", "013"), ("events", "03"), ("bundle", "013"))
             for status in statuses]
     return CASE < 0 and CASES >= 5000 and not all(counts[it] for it in ends)

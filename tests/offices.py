@@ -9,8 +9,8 @@ PROGRAM is $XBRLMERGE or the built one by default. Three offices, each with its 
 repeated or reordered, and an office may lose everything. A sent text must be canonical and declare the strictest level that
 its facts satisfy, as computed from the definition. Some texts are then sent in the earlier form, without a level.
 
-Status 0: all texts are equal. 1: some are not, and the difference is printed with the seed and the schedule; or 200 or more
-schedules lack one kind of counted event, such as a restart. 2: there is no program.
+Status 0: all texts are equal. 1: some are not, and the difference is printed with the seed and the schedule; or a run of
+200 schedules or more had no event of some counted kind, such as a restart. 2: there is no program.
 """
 import argparse
 import fractions
@@ -57,7 +57,7 @@ def number(chance):
 
 
 def fact(chance, prefix):
-    """Draws a fact. There are few dimension sets and few values, so facts of different reports meet."""
+    """Draws a fact. There are few dimension sets and few values, so different reports have facts with the same dimensions."""
     concept = chance.choice(sorted(KINDS))
     dimensions = {"concept": f"{prefix}:{concept}"}
     if chance.random() < 0.5:
@@ -85,7 +85,7 @@ def level_of(texts):
     for text in texts:
         for made in json.loads(text)["facts"].values():
             concept = made["dimensions"]["concept"].partition(":")[2]
-            # the two periods that are drawn are the same moment
+            # the only two periods that are drawn spell the same moment
             row = rows.setdefault((concept, "period" in made["dimensions"]), set())
             is_number = KINDS[concept] == "numeric"
             row.add((fractions.Fraction(made["value"]), made["decimals"]) if is_number else made["value"])

@@ -6,14 +6,14 @@
 The tests of a crate are crates/NAME/out/NAME_tests, which `rt test` makes. The program is ./xbrlmerge, or
 crates/xbrlmerge/out/xbrlmerge if that does not exist. Without arguments it tests all crates that have tests, and the program.
 A first run of each test counts the requests. A second run, told to refuse the request after the last one, must refuse none.
-Each later run refuses one request. A test must pass and print that a call was refused (`refused`) or that its own setup was
-(`refused here`); if it prints neither, the request counts as passed over. The program runs with arguments for every command. It
-must print the line `out of memory`, end with status 3 and have written nothing or a first part of its text. It may also end as
-if nothing was refused. Two kinds of requests may be refused without harm: for the key of a cache while a report is read, and
-for clap's search for similar words. For the same reason no request counts as passed over in the tests of crates that read
-reports. JOBS runs are parallel, as many as there are processors by default. If a test makes more than 5,000 requests, only
-each 7th is refused from 2,001 on. Fewer are refused if it makes more than 50,000, or if its runs are long. A line reports
-which.
+Each later run refuses one request. A test must pass and print that a call got no memory (`refused`) or that its own setup got none
+(`refused here`); if it prints neither, the request counts as passed over. The program runs with arguments for every command.
+It must print the line `out of memory`, end with status 3 and have written nothing or a first part of its text. It may also
+end as if nothing was refused. Two kinds of requests may be refused without harm: those for the key of a cache while a report
+is read, and those for clap's search for similar words. For the same reason no request counts as passed over in the tests of
+crates that read reports. JOBS runs are parallel, as many as there are processors by default. If a test makes more than 5,000
+requests, only each 7th is refused from request 2,001 on. Fewer are refused if it makes more than 50,000, or if its runs are
+long. If some are left out, a line reports which were refused.
 
 Status 0: nothing failed and nothing was passed over. 1: something failed or was passed over. 2: a name is unknown, there is no
 cc, or tests or the program are not built or are older than the sources.
@@ -37,8 +37,8 @@ PROGRAM = "program"
 JOBS = int(os.environ.get("JOBS", len(os.sched_getaffinity(0))))
 # if a test makes more than MANY requests, the first ALL are refused, and then each EVERY-th
 MANY, ALL, EVERY = 5000, 2000, 7
-# if it makes more than MOST, as tests with a device for each byte do, at most FEW are refused, spread evenly. If its runs, one
-# after another, would take more than SECONDS, as many are refused as fit in that time, or about 100 if fewer fit
+# if it makes more than MOST, as tests that let a device fail at each byte do, at most FEW are refused, spread evenly. If its
+# runs, one after another, would take more than SECONDS, as many are refused as fit in that time, or about 100 if fewer fit
 MOST, FEW, SECONDS = 50_000, 1000, 240
 # how many requests a process refuses in turn, and the time limit of a run in seconds
 SHARE, LIMIT = 40, 60
@@ -48,8 +48,8 @@ SHOWN = 20
 CALL, HERE, WHOLE, DEVICE, PASSED, FAILED = "refused calls", "refused here", "whole answers", "device first", "passed over", "failed"
 CLOCK, PROCESSOR = "seconds", "of a processor"
 COLUMNS = ("tests", "requests", "refused in turn", CALL, HERE, WHOLE, DEVICE, PASSED, FAILED, CLOCK, PROCESSOR)
-# in these tests a device fails too, and the run may end with that fault. A buffer that gets no memory first writes the waiting
-# bytes, or standard error is full and the line about memory is lost
+# in these tests a device fails too, and the run may end with that fault. Either a buffer without memory first writes its
+# waiting bytes to the device, or standard error is full and the line about memory is lost
 DEVICE_FAILS_TOO = {
     "merge_tests tests::written::writers::a_writer_may_stop_about_a_chunk",
     "merge_tests tests::sources::sources_are_written_up_to_a_place",
@@ -295,7 +295,7 @@ def write_inputs(room):
     long_report(room)
 
 
-# command lines: @ begins a file of the examples, % a file that is made, and < the standard input
+# command lines: @ stands before a file of the examples, % before a file that the script makes, and < before the standard input
 LINES = """
  < %bundle
  < %bad_sheet
@@ -335,7 +335,7 @@ report
 
 
 def lines_of_program(library, room):
-    """Returns the program on command lines of every command, each with its result when nothing is refused."""
+    """Returns a subject for each line of LINES, with the program's result when nothing is refused."""
     program = newest([f"{TOP}/{it}" for it in BUILT], crate_names())
     write_inputs(room)
     subjects = []

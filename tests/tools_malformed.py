@@ -11,8 +11,8 @@ must be complete, and normalise must leave its own output unchanged. With status
 process; one case in 20 also runs as a process, with the same result. JOBS processes run in parallel, as many as there are
 processors by default. CASE runs only the case with this number.
 
-Status 0: all is as expected. 1: it is not; the seed and the case are printed, and the files are kept; or 5,000 or more cases
-lack a usual result.
+Status 0: all is as expected. 1: it is not; the seed and the case are printed, and the files are kept; or a usual result is
+missing in a run of 5,000 cases or more.
 """
 import argparse
 import collections
@@ -308,7 +308,7 @@ def of_report(room, chance):
 
 
 def of_text(room, chance):
-    """Runs contradictions on a merged text, a sheet and lines, one of which is broken."""
+    """Runs contradictions on a merged text, a sheet and lines; one of these files is broken."""
     text, verdicts, sources = drawn_text(chance)
     files = {"merged": text, "sheet": json.dumps(SHEET).encode(), "verdicts": verdicts, "sources": sources}
     name = chance.choice(sorted(files) + ["merged"])
@@ -342,7 +342,7 @@ def run_on_text(room, chance, files, words):
 
 
 def whole_table(name):
-    """Returns the lines of a table, all of which must have the same number of cells."""
+    """Returns the lines of a table, which must all have the same number of cells."""
     text = open_bytes(name).decode("utf-8-sig")
     lines = [*csv.reader(io.StringIO(text, newline=""))]
     expect(text.endswith("\r\n") and len({len(line) for line in lines}) == 1, f"the table {name} is not whole")
@@ -376,7 +376,7 @@ def limit_memory():
 
 
 def is_tame(counts):
-    """Returns whether 5,000 or more cases lack a usual result."""
+    """Returns whether a usual result is missing in a run of 5,000 cases or more."""
     return CASE < 0 and CASES >= 5000 and not all(counts[f"{tool} {status}"] for tool in TOOLS for status in (0, 1, 3))
 
 

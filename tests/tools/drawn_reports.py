@@ -110,7 +110,7 @@ def roughened(chance, text):
 
 
 def rough_number(chance, value):
-    """Sometimes gives a number in the fixtures an exponent."""
+    """Sometimes adds an exponent to a value that ends with a digit. In the fixtures, only numbers do."""
     return f"{value}E0" if value[-1].isdigit() and chance.random() < 0.4 else value
 
 

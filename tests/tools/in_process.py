@@ -18,7 +18,7 @@ from support import content  # noqa: E402
 
 
 class RoomTest(unittest.TestCase):
-    """Tests with a new folder, `room`, for each one."""
+    """Tests that each have a new folder, `room`."""
 
     def setUp(self):
         room = tempfile.TemporaryDirectory()
@@ -36,7 +36,7 @@ class RoomTest(unittest.TestCase):
 
 
 def heeding(number):
-    """Returns a `preexec_fn` for a tool that ends at this signal, even if the tests run where it is ignored, as under nohup."""
+    """Returns a `preexec_fn` with which a tool heeds this signal, even if the tests run where it is ignored, as under nohup."""
     return lambda: signal.signal(number, signal.SIG_DFL)
 
 

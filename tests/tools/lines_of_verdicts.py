@@ -31,7 +31,7 @@ def meet(one, other):
 
 
 def plain(number):
-    """Returns the decimal text of a number whose denominator has no prime factors but 2 and 5."""
+    """Returns the decimal text of a number whose denominator has no prime factors except 2 and 5."""
     places = next(n for n in itertools.count() if (number * 10**n).denominator == 1)
     digits = str(abs(number * 10**places)).rjust(places + 1, "0")
     text = digits[: len(digits) - places] + ("." + digits[len(digits) - places :] if places else "")

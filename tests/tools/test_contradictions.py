@@ -1,4 +1,4 @@
-"""Tests of tools/contradictions on small texts and on the merged text in norlake/. Its lines of verdicts were made by hand."""
+"""Tests of tools/contradictions on small texts and on the merged text in norlake/, whose lines of verdicts were made by hand."""
 import base64
 import csv
 import hashlib
@@ -21,7 +21,8 @@ VOID = ("meta", "line", "rect", "circle")
 
 
 class Seen(html.parser.HTMLParser):
-    """The tags of a page, the shown texts, and the titles of abbreviations. An event handler or an outside reference fails."""
+    """The tags of a page, the shown texts, and the titles of abbreviations. An event handler or an outside reference fails the
+    test."""
 
     def __init__(self, page):
         super().__init__()

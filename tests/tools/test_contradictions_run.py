@@ -50,7 +50,7 @@ class Stubbed(ToolTest):
             self.prints(command, text)
 
     def refuses(self, refusals, *faults):
-        """Makes each command refuse the reports, and `explain` print faults. Each has a sentence and further members."""
+        """Makes each command refuse the reports, and `explain` print faults. Each fault has a sentence and further members."""
         for command in ("merge", "verdicts", "sources"):
             self.prints(command, err=refusals, status=1)
         usual = {"number": 1, "name": "NotJson", "identifier": None, "part": None}

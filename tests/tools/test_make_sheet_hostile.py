@@ -1,4 +1,4 @@
-"""Tests of tools/make_sheet, and of labels, on files designed to take long, leave their folder, or make the tool fail."""
+"""Tests of tools/make_sheet, and of reading labels, on files designed to take long, name files outside, or make the tool fail."""
 import json
 import os
 import resource
@@ -33,8 +33,8 @@ ARC = '<link:labelArc xlink:from="{}" xlink:to="{}"/>'
 
 
 def each(form, size, *more):
-    """Returns the form once for each number below the size. It is filled with the number and the next one, as `more` spells
-    them."""
+    """Returns the form once for each number below the size, filled with the texts of `more`. These can contain the number and
+    the next one."""
     return "".join(form.format(*(spelled.format(number, number + 1) for spelled in more)) for number in range(size))
 
 

@@ -21,7 +21,7 @@ REPORTS = os.path.join(in_process.TESTS, "normalise")
 
 
 def part_at(tree, pointer):
-    """Returns the object that contains the target of a pointer, and its key there."""
+    """Returns the object that contains the target of a pointer, and the target's key in it."""
     *path, key = (step.replace("~1", "/").replace("~0", "~") for step in pointer.split("/")[1:])
     for step in path:
         tree = tree[step]

@@ -15,7 +15,7 @@ TEXT = "The group has {} mills in {} regions, of which some were sold in the yea
 
 
 def dimensions_of(chance, rank):
-    """Returns the dimensions of a row; each rank has different ones."""
+    """Returns the dimensions of a row. Rows of different ranks have different dimensions."""
     concept = "Text" if rank % 50 == 0 else f"Concept{chance.randrange(400):03}OfTheConsolidatedStatements"
     made = {"concept": f"n3:{concept}", "entity": f"n1:7437{rank:016}", "period": f"20{chance.randrange(10, 24)}-01-01T00:00:00"}
     if concept == "Text":
