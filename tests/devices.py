@@ -145,7 +145,7 @@ def compare_wholes(room):
 
 
 def compare_outputs(room):
-    """Makes standard output, standard error, and both fail."""
+    """Makes standard output fail, then standard error, then both."""
     for words, (ends, stopped) in WORDS.items():
         whole = room.whole[words]
         for case, redirection in STOPS_OUTPUT.items():

@@ -3,12 +3,11 @@
 
     [XBRLMERGE=PROGRAM] [REPORTS=200] [JOBS=2] [SEED=1] tests/fold
 
-It draws reports that overlap, agree, contradict each other, or are refused. The results of examples/fold/Makefile and
-examples/fold/fold_dask.py must equal the bytes of one run. The former runs with three numbers of branches, the latter with
-three numbers of files a node. The script also checks how many branches a late report rebuilds, and nodes that fail or are
-stopped. If Dask is not installed, a module of
-two functions runs the nodes in turn. Nodes that call the library are skipped if there is no lib/libxbrlmerge.so, which
-./build --library makes.
+A node of a fold merges one group. The script draws reports that overlap, agree, contradict each other, or are refused. The
+results of examples/fold/Makefile and examples/fold/fold_dask.py must equal the bytes of one run. The former runs with three
+numbers of branches, the latter with three numbers of files a node. The script also checks how many branches a late report
+rebuilds, and nodes that fail or are stopped. If Dask is not installed, a module of two functions runs the nodes in turn.
+Nodes that call the library are skipped if there is no lib/libxbrlmerge.so, which ./build --library makes.
 
 Status 0: all is as expected. 1: it is not; each fault is printed. 2: the program is not built.
 """

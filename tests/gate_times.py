@@ -55,7 +55,7 @@ def writers(pipe):
 
 
 def part_of(pid):
-    """Returns the crate and the part of a check, which is a process of the prover, and None for other processes."""
+    """Returns the crate and the part that a process of the prover checks, or None for other processes."""
     words = contents(f"/proc/{pid}/cmdline").decode(errors="replace").split("\0")
     if os.path.basename(words[0]) != "rattle" or "--crate-name" not in words:
         return None

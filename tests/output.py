@@ -83,7 +83,7 @@ class Tests:
         self.is_(f"{what}: {left} remains", len(left) <= others)
 
     def each_call(self, name, old):
-        """Runs a command without faults, with each of its calls failing in turn, and killed at each call."""
+        """Runs a command without faults, then with each of its calls failing in turn, then killed at each call."""
         words = COMMANDS[name]
         self.empty(False)
         text = self.run(words).stdout

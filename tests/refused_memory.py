@@ -6,14 +6,14 @@
 The tests of a crate are crates/NAME/out/NAME_tests, which `rt test` makes. The program is ./xbrlmerge, or
 crates/xbrlmerge/out/xbrlmerge if that does not exist. Without arguments it tests all crates that have tests, and the program.
 A first run of each test counts the requests. A second run, told to refuse the request after the last one, must refuse none.
-Each later run refuses one request. A test must pass and print that a call got no memory (`refused`) or that its own setup got none
-(`refused here`); if it prints neither, the request counts as passed over. The program runs with arguments for every command.
-It must print the line `out of memory`, end with status 3 and have written nothing or a first part of its text. It may also
-end as if nothing was refused. Two kinds of requests may be refused without harm: those for the key of a cache while a report
-is read, and those for clap's search for similar words. For the same reason no request counts as passed over in the tests of
-crates that read reports. JOBS runs are parallel, as many as there are processors by default. If a test makes more than 5,000
-requests, only each 7th is refused from request 2,001 on. Fewer are refused if it makes more than 50,000, or if its runs are
-long. If some are left out, a line reports which were refused.
+Each later run refuses one request. A test must pass and print that a call got no memory (`refused`) or that its own setup got
+none (`refused here`); if it prints neither, the request counts as passed over. The program runs with arguments for every
+command. It must print the line `out of memory`, end with status 3 and have written nothing or a first part of its text. It
+may also end as if nothing was refused. Two kinds of requests may be refused without harm: those for the key of a cache while
+a report is read, and those for clap's search for similar words. For the same reason no request counts as passed over in the
+tests of crates that read reports. JOBS runs are parallel, as many as there are processors by default. If a test makes more
+than 5,000 requests, only each 7th is refused from request 2,001 on. Fewer are refused if it makes more than 50,000, or if its
+runs are long. If some are left out, a line reports which were refused.
 
 Status 0: nothing failed and nothing was passed over. 1: something failed or was passed over. 2: a name is unknown, there is no
 cc, or tests or the program are not built or are older than the sources.

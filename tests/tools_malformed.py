@@ -68,7 +68,7 @@ LINKBASE = """<link:linkbase xmlns:link="http://www.xbrl.org/2003/linkbase" xmln
 LABEL = """<link:loc xlink:type="locator" xlink:href="core.xsd#m_{name}" xlink:label="{name}"/>
     <link:label xlink:type="resource" xlink:label="{name}_l" xml:lang="en">Label of &amp; {name}</link:label>
     <link:labelArc xlink:type="arc" xlink:from="{name}" xlink:to="{name}_l"/>"""
-# replacements for an attribute, a tag or a piece of text
+# replacements for an attribute's value, a name or a piece of text
 XML_PIECES = (b"", b"<", b">", b"/>", b"&lt;", b"&x;", b"<!DOCTYPE a>", b"<!--", b"]]>", b"<![CDATA[", b"xs:", b"m:", b"q:A", b"\x00",
               b"\xff", b"\xef\xbb\xbf", b"../", b"/etc/passwd", b"file:///dev/zero", b"http://made.example/xbrl/", b"#", b"%00",
               b"xbrli:item", b"xbrli:QNameItemType", b"xs:anyType", NAMESPACE.encode(), b"https://xbrl.org/2021", b"true")

@@ -3,8 +3,9 @@
 
     tests/words [PROGRAM]
 
-The man page must also show the same forms of lines. PROGRAM is $XBRLMERGE or the built one by default. Status 0: they have the
-same words. 1: they do not; each word is printed with the place where it is missing or should not be. 2: there is no program.
+The man page must also show the same forms of lines as the help. PROGRAM is $XBRLMERGE or the built one by default. Status 0:
+they have the same words. 1: they do not; each word is printed with the place where it is missing or should not be. 2: there
+is no program.
 """
 import os
 import re

@@ -36,7 +36,7 @@ class RoomTest(unittest.TestCase):
 
 
 def heeding(number):
-    """Returns a `preexec_fn` with which a tool heeds this signal, even if the tests run where it is ignored, as under nohup."""
+    """Returns a `preexec_fn` that lets this signal end a tool, even if the tests run where it is ignored, as under nohup."""
     return lambda: signal.signal(number, signal.SIG_DFL)
 
 
