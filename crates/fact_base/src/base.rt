@@ -151,9 +151,9 @@ impl<'s> Base<'s> {
         ensures err { OnErr result (self.new ≡ self.old) }
     {
         let references = with_all(self.alloc, &self.references, other.taxonomy())?;
-        // Values of a shared dimension set are copied into the other base, so that a refused
-        // request leaves this base unchanged. Absorbing many bases one by one therefore takes
-        // quadratic time if each adds values to the same dimension set.
+        // This base's values of a shared dimension set are copied into the other base, so that a
+        // refused request leaves this base unchanged. Absorbing many bases one by one therefore
+        // takes quadratic time if each adds values to the same dimension set.
         self.entries.absorb(other.entries)?;
         replace(&mut self.references, references);
         Ok(())

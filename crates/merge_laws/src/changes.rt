@@ -40,7 +40,7 @@ pub(crate) fn changes_by<K: Key, V: Merge>(
     Ok(changes)
 }
 
-/// Does the same as `changes_by`, but consumes the other entries, so no entry is copied.
+/// Does the same as `changes_by`, but consumes the other entries, so that none of them is copied.
 pub(crate) fn changes_of<K: Key, V: Merge>(
     alloc: Global,
     entries: &[(K, V)],
