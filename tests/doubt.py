@@ -310,7 +310,8 @@ def tested_on(page):
 
 
 def table_rows(page):
-    """Yields the rows that the code requires. Sections, and reasons without a definition, are taken from the page."""
+    """Yields the rows that the code requires. The page supplies the sections, and the cell 'Tested on' of each reason that no
+    definition tests."""
     there = {it[1]: it[3:] for it in CONDITION.findall(page.text)}
     comments = {name: text for text, name in re.findall(r"((?: *///.*\n)+) +(\w+),", content(REASONS[0]))}
     for name, number in re.findall(r"^entry_of (\w+) = record \{ number = (\d+);", content(REASONS[1]), re.MULTILINE):

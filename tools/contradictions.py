@@ -17,8 +17,8 @@ Providers are named after their files: the provider of issuer.json is "issuer". 
 made several reports, repeat its NAME. A refused report is listed with the first 20 faults that `xbrlmerge explain` finds, and
 the other reports are used. --taxonomy makes the sheet first and writes it as sheet.json; the option may be repeated.
 
---normalise applies the rules of tools/normalise to each report first, and lists the changes in changes.csv. It takes the same
-options that lose something, such as --drop-notes. A report that it cannot normalise is used as it is.
+--normalise applies the rules of tools/normalise to each report first, and lists the changes in changes.csv. With it, you can
+use that tool's options that lose something, such as --drop-notes. A report that cannot be normalised is used as it is.
 
 --near NEAR.csv writes a table of pairs of rows that differ in one dimension only, perhaps by mistake: the same name or
 identifier in another namespace or scheme, other letter case or white space, dates at most a day apart, another unit or

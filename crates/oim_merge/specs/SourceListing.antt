@@ -10,7 +10,7 @@ use Rattle.oim_merge.specs.declared.fault.Fault.{Fault}
 use Rattle.oim_merge.specs.declared.fault.Fault.TheVariants.{OutOfMemory, Device, TooLoose, Sheet as SheetFault}
 
 module _ (header : List ℕ) (written : SourceText) (sheet : Sheet) (reports : List (List ℕ)) where
-  -- the header and the sources were appended, and the refusals of the other reports were returned
+  -- the header and the sources in the accepted reports were appended, and the refusals of the others were returned
   pub record AppendsSources (old new : Option (List ℕ)) (told : List (ℕ × Refusal)) : Type 0 where
     pub refusals_are : told ≡ refused sheet reports
     pub appended : Appends old new (header ++ sources_by written sheet reports)

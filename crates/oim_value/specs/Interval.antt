@@ -17,7 +17,7 @@ half_width None = 0
 abbrev pub interval : ℤ → Option ℤ → Interval
 interval units decimals = record { low = units -ℤ pos (half_width decimals); high = units +ℤ pos (half_width decimals) }
 
--- a number of units lies in an interval, which includes both ends
+-- the number `units` lies in an interval, which includes both ends
 pub record IsWithin (units : ℤ) (i : Interval) : Type 0 where
   pub above : i.low ≤ℤ units
   pub below : units ≤ℤ i.high

@@ -37,7 +37,7 @@ fn take_text(rt: &HostRuntime, base: &mut Base<'_>, text: &[u8]) -> bool {
     }
 }
 
-// Takes a report whose text has three parts. Only the second part differs between reports.
+// Takes a report whose text is given in three parts.
 fn add(rt: &HostRuntime, base: &mut Base<'_>, start: &str, text: &str, end: &str) -> bool {
     match joined(rt, &[start, text, end]) {
         Ok(report) => take_text(rt, base, &report),

@@ -41,7 +41,7 @@ const REFERENCE: &str =
 /// The text from the namespace of `xbrl` up to the references.
 const NO_URI: &str = r#""xbrl":"https://xbrl.org/2021"},"taxonomy":["#;
 
-/// The text after `documentInfo` if there are no facts.
+/// The text from the end of `documentInfo`, if there are no facts.
 const NO_FACTS: &str = r#"},"facts":{}}"#;
 
 const ROWS: &[Row] = &[
