@@ -13,7 +13,7 @@ from drawn_reports import OPTIONS as ALL
 from support import content
 from test_normalise import TOOL, ToolTest, normalise
 
-SPACES = "\u00a0\u2003\u3000\x85\x1f"  # Unicode white space that is not white space in the format
+SPACES = "\u00a0\u2003\u3000\x85\x1f"  # white space for Python, but not in the format
 SHEET = {
     "namespaces": {"eg": "http://example.org/t", "long": "http://example.org/" + "u" * 5_000},
     "concepts": {"eg:A": "numeric", "eg:Q": "name", "eg:S": "text", "eg:T": "text"},

@@ -3,7 +3,7 @@
 pub enum RowFormat {
     /// One JSON object per line.
     Json,
-    /// A header, and one record for each fact of a row or for each source (RFC 4180).
+    /// A header, then one record per fact for verdicts, or per fact object for sources (RFC 4180).
     Csv,
     /// CSV for a spreadsheet: a `'` is put before a text that would be read as a formula.
     SpreadsheetCsv,
