@@ -1,10 +1,10 @@
 use fact_base::Base;
 use oim_names::Aliases;
-use oim_report::Sheet;
+use oim_report::{Sheet, read_report};
 use oim_write::{StdSink, WriteFault, prefixes, write_to};
 use std::alloc::{AllocError, Global};
 use std::test::Fail;
-use test_helpers::asked_again::{SHEET, holds, read_once, tell_refused};
+use test_helpers::asked_again::{SHEET, holds, tell_refused};
 use test_helpers::devices::{Step, TestWriter, Then};
 
 // After a refused request for memory, the call is repeated.
@@ -33,7 +33,7 @@ pub(crate) fn base_of<'s>(
     sheet: &'s Sheet,
     report: &str,
 ) -> Result<Base<'s>, AllocError> {
-    let Ok(report) = read_once(alloc, sheet, report.as_bytes()) else {
+    let Ok(report) = read_report(alloc, sheet, report.as_bytes()) else {
         return Err(AllocError);
     };
     let mut base = Base::new(alloc, sheet);
