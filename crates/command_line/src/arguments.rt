@@ -1,12 +1,10 @@
 use clap::{Arg, ArgAction, Command};
 use std::alloc::{AllocError, Global};
 
-// Arguments of several commands.
+// Arguments that several commands have.
 
-/// The option for the sheet.
 pub(crate) const SHEET: &str = "sheet";
 
-/// The name of the report arguments.
 pub(crate) const REPORT: &str = "REPORT";
 
 /// The option for a file of report names.
@@ -18,7 +16,6 @@ pub(crate) const NULL: &str = "null";
 /// The option that suppresses the progress line.
 pub(crate) const QUIET: &str = "quiet";
 
-/// The option for the output file.
 pub(crate) const OUTPUT: &str = "output";
 
 pub(crate) fn output_argument<'w>(alloc: Global) -> Arg<'w> {
@@ -42,13 +39,12 @@ pub(crate) fn command<'w>(
         .arg(sheet_argument(alloc))
 }
 
-/// Returns the required option for the sheet.
 fn sheet_argument<'w>(alloc: Global) -> Arg<'w> {
     Arg::new(alloc, SHEET)
         .long(SHEET)
         .value_name("SHEET")
         .required(true)
-        .help("The sheet: a file that lists the concepts and dimensions of the reports")
+        .help("The sheet: a file that lists the concepts and dimensions that reports may use")
 }
 
 /// Adds the arguments for any number of reports, for the output file and for the progress line.
@@ -78,7 +74,7 @@ fn null_argument<'w>(alloc: Global) -> Result<Arg<'w>, AllocError> {
         .short('0')
         .long(NULL)
         .action(ArgAction::SetTrue)
-        .help("Names in FILE end with NUL instead of a line end")
+        .help("Names in the file of --reports-from end with NUL, not with a line end")
         .requires_arg(LIST)
 }
 
@@ -89,14 +85,12 @@ fn quiet_argument<'w>(alloc: Global) -> Arg<'w> {
         .help("Do not show progress on a terminal")
 }
 
-/// Returns the argument that takes any number of reports.
 fn reports_argument<'w>(alloc: Global) -> Arg<'w> {
     Arg::new(alloc, REPORT)
         .num_args(0..)
-        .help("The report files, in this order")
+        .help("The report files, counted from 1 in this order")
 }
 
-/// Returns the required argument for one report.
 pub(crate) fn report_argument<'w>(alloc: Global) -> Arg<'w> {
     Arg::new(alloc, REPORT)
         .required(true)

@@ -1,4 +1,4 @@
-//! The commands. Each file contains the arguments, the help and the code of one command.
+//! The commands, one in each file of the folder `commands`.
 
 ghost use Rattle.std.specs.Prelude.{◌-◌, ◌^◌, ◌<◌};
 
@@ -20,7 +20,7 @@ use std::alloc::Global;
 use std::io::Write;
 use std::rt::Files;
 
-/// Runs the request and writes its text to `out`.
+/// Runs the request. After an error, `out` may have a part of the text of the request.
 pub(crate) fn execute<'n, F: Files, E: Write, S: Sink>(
     request: &Request<'n>,
     inputs: &mut Inputs<'n, F, E>,

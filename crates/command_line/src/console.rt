@@ -11,7 +11,8 @@ const TOO_LOOSE: u8 = 2;
 
 const FAILED: u8 = 3;
 
-// Terminal codes: `BACK` moves to the start of the line, and `CLEARED` also erases the line.
+// Terminal codes: `BACK` moves the cursor to the start of the line, and `CLEARED` also erases the
+// line.
 
 const BACK: &str = "\r";
 
@@ -23,7 +24,6 @@ const CLEARED: &str = "\r\x1b[K";
 pub(crate) struct Console<E> {
     err: E,
     is_terminal: bool,
-    /// The progress line is suppressed.
     pub is_quiet: bool,
     is_shown: bool,
     read: usize,
@@ -47,14 +47,13 @@ impl<E: Write> Console<E> {
         print_awaited(&mut self.err);
     }
 
-    /// Counts a report and its bytes.
     pub(crate) fn add(&mut self, bytes: usize) {
         self.read = self.read.saturating_add(1);
         self.bytes = self.bytes.saturating_add(bytes as u64);
     }
 
-    /// Prints the progress line over the previous one. It prints nothing if the line is suppressed
-    /// or standard error is not a terminal.
+    /// Prints the progress line over the previous one, unless the line is suppressed or standard
+    /// error is not a terminal. `all` is the number of all reports.
     pub(crate) fn show(&mut self, all: usize) {
         if self.is_terminal && !self.is_quiet {
             let (read, megabytes) = (self.read, self.bytes / 1_000_000);
@@ -63,7 +62,6 @@ impl<E: Write> Console<E> {
         }
     }
 
-    /// Erases the progress line if one is shown.
     pub(crate) fn clear(&mut self) {
         if self.is_shown {
             let _ = write!(self.err, "{CLEARED}");

@@ -7,7 +7,7 @@ use std::alloc::{AllocError, AllocFailed};
 /// The result of a command that ran to its end.
 #[derive(Drop)]
 pub(crate) enum Success {
-    /// The refused reports.
+    /// The refused reports, or the refused takes of `replay`. Help and the version have none.
     Refusals(Refusals),
     /// The number of faults; a line was written for each.
     Faults(u64),
@@ -18,8 +18,8 @@ pub(crate) enum Success {
 pub(crate) enum Error<'n> {
     /// The arguments are not valid. The error has clap's message.
     Usage(clap::Error),
-    /// The file with this name cannot be read. The name `-` is standard input. The text is the
-    /// cause, if it is known.
+    /// The file with this name cannot be read, or is a list of names that is not UTF-8. Standard
+    /// input has the name `-`. The text is the cause, if it is known.
     Unread(&'n str, Option<&'static str>),
     /// The file with this name has more than `MOST_BYTES` bytes.
     TooLong(&'n str),
@@ -31,7 +31,7 @@ pub(crate) enum Error<'n> {
     Event(u64),
     /// The sheet is refused. `explain` adds a line that describes the fault.
     Sheet(Reason, Option<String>),
-    /// The row with this number is above the allowed level, and these reports were refused.
+    /// The row with this number is the first above the allowed level. These reports were refused.
     TooLoose(u64, Refusals),
     /// The output failed after this many bytes.
     Device(u64),

@@ -20,7 +20,6 @@ pub(crate) fn format_argument<'w>(alloc: Global) -> Arg<'w> {
         .help("The output format")
 }
 
-/// Returns the format given by the arguments.
 pub(crate) fn format_of(found: &ArgMatches<'_>) -> Format {
     match found.get_str(FORMAT) {
         Some(JSON) => Format::Json,

@@ -47,7 +47,7 @@ impl<'n, F: Files, E: Write> Inputs<'n, F, E> {
         Ok(report)
     }
 
-    /// Returns the bytes of all reports, in order. It stops at the first that cannot be read.
+    /// Returns the bytes of all reports, in order. Stops at the first report that cannot be read.
     pub(crate) fn read_reports(&mut self) -> Result<Vec<Encoded>, Error<'n>> {
         let names = self.names;
         let mut all = Vec::new(self.alloc);
@@ -58,8 +58,8 @@ impl<'n, F: Files, E: Write> Inputs<'n, F, E> {
         Ok(all)
     }
 
-    /// Reads and adds all reports, in order. It stops at the first that cannot be read. The bytes of
-    /// a report are dropped once it is added.
+    /// Reads and adds all reports, in order. Stops at the first report that cannot be read. The
+    /// bytes of a report are dropped once the report is added.
     pub(crate) fn consolidate<'s>(
         &mut self,
         sheet: &'s Sheet,

@@ -1,4 +1,4 @@
-//! The command line of `oim_merge`: arguments, files, printed lines and exit statuses. The
+//! The command line of `xbrlmerge`: arguments, files, printed lines and exit statuses. The
 //! libraries do the merging.
 #![tactic(auto)]
 

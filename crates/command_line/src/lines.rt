@@ -43,8 +43,8 @@ fn print_refusal<E: Write>(err: &mut E, report: u64, refusal: &Refusal) {
     };
 }
 
-/// Prints why the program stopped, after the refused reports if a row is above the allowed level.
-/// On a terminal, it also prints why a file was not read, if that is known.
+/// Prints why the program stopped. If a row is above the allowed level, the refused reports are
+/// printed first. On a terminal, the cause of `Unread` is also printed if the cause is known.
 pub(crate) fn print_error<E: Write>(err: &mut E, is_terminal: bool, error: &Error<'_>) {
     let _ = match error {
         Error::Usage(error) => write!(err, "{error}"),

@@ -13,9 +13,9 @@ use std::rt::Files;
 /// setuid and setgid are not among them.
 const KEPT_BITS: u32 = 0o777;
 
-/// Writes the text of the request to standard output. It flushes if the command ran to its end or a
-/// row was above the allowed level. If standard output fails, the fault contains the number of
-/// bytes that it took in this run.
+/// Runs the request and writes its text to standard output. Flushes if the command ran to its end
+/// or a row was above the allowed level. If standard output fails, the fault contains the number of
+/// bytes that standard output took in this run.
 pub(crate) fn write_out<'n, F: Files, E: Write, O: Write + Drop>(
     request: &Request<'n>,
     inputs: &mut Inputs<'n, F, E>,
@@ -41,7 +41,7 @@ fn flush<'n, O: Write + Drop>(
     }
 }
 
-/// Writes the text of the request to the file with this name, completely or not at all.
+/// Runs the request and writes its text to the file with this name, completely or not at all.
 pub(crate) fn write_file<'n, F: Files, E: Write>(
     request: &Request<'n>,
     inputs: &mut Inputs<'n, F, E>,
@@ -78,11 +78,11 @@ fn settle<'n, F: Files>(
 
 type Named<F> = (String, F);
 
-/// Creates a file that will replace the file with this name. It is in the same folder. If the name
-/// belongs to a file, the new one gets its mode bits within `KEPT_BITS`.
+/// Creates a file in the same folder, to replace the file with this name. If there is an old file,
+/// the new one gets the old mode bits within `KEPT_BITS`.
 ///
-/// Errors: `Unwritten` if the new file cannot be created or its mode cannot be set, or if the name
-/// is invalid or belongs to anything but a regular file, such as a symbolic link; out of memory.
+/// Errors: `Unwritten` if `old_mode` returns it, or if the new file cannot be created or its mode
+/// cannot be set; out of memory.
 fn new_beside<'w, F: Files>(
     alloc: Global,
     files: &F,
@@ -118,8 +118,8 @@ fn remove<F: Files>(files: &F, name: &str) {
 
 /// Returns the bits of the file's mode within `KEPT_BITS`; None if no file has this name.
 ///
-/// Errors: `Unwritten` if the name is invalid, cannot be looked up, or belongs to anything but a
-/// regular file.
+/// Errors: `Unwritten` if the name is empty, cannot be looked up, or belongs to a symbolic link or
+/// anything else that is not a regular file.
 fn old_mode<'w, F: Files>(files: &F, name: &'w str) -> Result<Option<Permissions>, Error<'w>> {
     match fs::symlink_metadata(files, name) {
         Ok(old) if old.is_file() => {
@@ -131,8 +131,10 @@ fn old_mode<'w, F: Files>(files: &F, name: &'w str) -> Result<Option<Permissions
     }
 }
 
-/// Creates a file whose name has the first free number; None if it cannot be created. Files with
-/// lower numbers belong to running programs, or to programs that a signal ended.
+/// Creates a file whose name has the first free number; None if the file cannot be created. Files
+/// with lower numbers belong to programs that still run, or that were interrupted.
+///
+/// Errors: out of memory.
 fn first_new<F: Files>(
     alloc: Global,
     files: &F,

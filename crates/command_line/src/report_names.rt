@@ -36,11 +36,11 @@ impl<'w> ReportNames<'w> {
         Ok(ReportNames { words, list, end })
     }
 
-    /// Returns the names of all reports, given the bytes of the file of names. Empty names are
-    /// skipped.
+    /// Returns the names of all reports, given the bytes of the file of names. Empty names in the
+    /// file are skipped.
     ///
-    /// Errors: `Unread` if the names are not UTF-8; `NoNames` if there is such a file and no report
-    /// is named; out of memory.
+    /// Errors: `Unread` if the file is not UTF-8; `NoNames` if there is a file of names, but no
+    /// report is named; out of memory.
     pub(crate) fn names<'n>(
         &'n self,
         alloc: Global,

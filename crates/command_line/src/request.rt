@@ -16,7 +16,7 @@ pub(crate) struct Args<'w> {
     pub reports: ReportNames<'w>,
     /// The name of the output file; None for standard output.
     pub output: Option<&'w str>,
-    /// The progress line is suppressed.
+    /// True if the progress line is suppressed.
     pub is_quiet: bool,
 }
 
@@ -55,7 +55,7 @@ pub(crate) enum Request<'w> {
     Under(&'w str, Subcommand<'w>),
 }
 
-/// A command that runs only if the sheet is accepted, with its own arguments.
+/// A command with its own arguments. It runs only if the sheet is accepted.
 #[derive(Clone, Copy)]
 pub(crate) enum Subcommand<'w> {
     Merge(Level),

@@ -19,7 +19,7 @@ const SPREADSHEET: &str = "spreadsheet";
 
 static FORMATS: [&str; 3] = ["lines", "json", "csv"];
 
-/// Adds the options for the format of rows to a command.
+/// Adds `--format` and `--spreadsheet` to a command.
 pub(crate) fn with_format<'w>(
     alloc: Global,
     command: Command<'w>,

@@ -20,8 +20,8 @@ const VERSION: &str = "0.3.0-dev";
 const ABOUT: &str = "Merges xBRL-JSON reports, and finds where they contradict each other";
 
 const MORE: &str =
-    "Without a command, it merges the bundle on standard input: the first line is a sheet, and each
-other line that is not empty is a report.
+    "Without a command, xbrlmerge merges the bundle on standard input: the first line is a sheet, and
+each other line that is not empty is a report.
 
 Example:
   cat examples/sheet.json examples/issuer.json examples/statfeed.json | xbrlmerge
@@ -45,7 +45,7 @@ const COMMANDS: [&str; 6] = [
 
 /// Parses the arguments after the program's name.
 ///
-/// Errors: `Usage` if they are not valid, and out of memory.
+/// Errors: `Usage` if the arguments are not valid, and out of memory.
 pub(crate) fn read_words<W: AsStr>(alloc: Global, words: &[W]) -> Result<Args<'_>, Error<'_>> {
     if words.is_empty() {
         return Ok(alone(alloc, Request::Bundle));
@@ -62,8 +62,8 @@ pub(crate) fn read_words<W: AsStr>(alloc: Global, words: &[W]) -> Result<Args<'_
     }
 }
 
-/// Returns the error for the escaped arguments, since clap prints arguments unescaped. If these are
-/// valid, it returns `raw`.
+/// Returns the error for the escaped arguments, since clap prints arguments unescaped. If the
+/// escaped arguments are valid, `raw` is returned.
 fn error_shown<W: AsStr>(
     alloc: Global,
     words: &[W],
@@ -157,7 +157,7 @@ fn program<'w>(alloc: Global) -> Result<Command<'w>, AllocError> {
     Ok(program)
 }
 
-/// Returns the arguments of the command with this name.
+/// `name` must be in `COMMANDS`.
 fn words_of<'w>(alloc: Global, name: &str) -> Result<Command<'w>, AllocError> {
     match name {
         merge::NAME => merge::words(alloc),

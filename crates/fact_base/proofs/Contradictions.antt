@@ -1,4 +1,4 @@
--- Values of a numeric dimension set that do not meet contradict one another.
+-- If two values of a numeric dimension set do not meet, they contradict each other.
 use Rattle.std.proofs.Common.{◌≡◌, Bool, true, false, cond, List, [], ◌∷◌, Some, refl, sym, ap, subst, ◌∙◌, ⊎_elim}
 use Rattle.std.specs.Prelude.{◌↔◌, Contains}
 use Rattle.std.specs.Cmp.{Equal-is}

@@ -75,7 +75,7 @@ put_behind (e ∷ es) f below =
     ap (λ ds. e ∷ ds) (put_behind es f below.1)
     ∙ sym (ap (λ r. match_ordering r (entry_of f ∷ e ∷ es) (merged_entries summed_of_both e (entry_of f) ∷ es) (e ∷ with_fact f es)) (turned e.0 f.dimensions below.0))
 
--- ---- a fact with the dimensions of the last entry is added to it
+-- ---- a fact with the dimensions of the last entry is added to that entry
 
 pub put_last : (es : List Entry) (f : Fact) (n : ℕ) (x : Entry) (kept : Summed) → IsRising dimensions_cmp entry_key es → suc n ≡ length es → x ≡ get_or es n x → x.0 ≡ f.dimensions → kept ≡ with_value f.value x.1 → set es n (x.0, kept) ≡ with_fact f es
 unfolding IsStrictlySortedBy

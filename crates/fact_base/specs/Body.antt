@@ -29,6 +29,5 @@ all_references docs = flat_map (λ d. d.references) docs
 abbrev pub body : List Document → Body
 body docs = record { facts = set_of fact_cmp (all_facts docs); references = set_of text_cmp (all_references docs) }
 
--- the union of two bodies
 abbrev pub union : Body → Body → Body
 union a b = record { facts = set_of fact_cmp (a.facts ++ b.facts); references = set_of text_cmp (a.references ++ b.references) }

@@ -35,6 +35,6 @@ UnionHasBoth = (a b : Body) → HasBoth a b (union a b)
 abbrev pub BodyIgnoresOrder : Type 0
 BodyIgnoresOrder = (ds es : List Document) → SameMembers ds es → body ds ≡ body es
 
--- the body of two lists of documents together is the union of their bodies
+-- the body of two concatenated lists of documents is the union of the bodies of the lists
 abbrev pub BodyOfBoth : Type 0
 BodyOfBoth = (ds es : List Document) → body (ds ++ es) ≡ union (body ds) (body es)

@@ -1,8 +1,8 @@
--- A base as contracts see it (own).
+-- Bases and gatherings as contracts see them (own).
 use Rattle.oim_report.specs.Sheet.{Sheet}
 use Rattle.fact_base.specs.Body.{Body}
 
--- the sheet that the base borrows, and its body
+-- the borrowed sheet, and the body
 pub record Contents : Type 0 where
   pub sheet : Sheet
   pub body : Body

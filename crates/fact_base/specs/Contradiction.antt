@@ -18,7 +18,7 @@ use Rattle.fact_base.specs.declared.verdict.Verdict.TheVariants.{Inconsistent}
 abbrev pub IsNumeric : Sheet → DimensionSet → Type 0
 IsNumeric sheet s = map.get sheet.concepts s.concept ≡ Some Numeric
 
--- both are numbers whose intervals share no point, or only one of them is nil
+-- both are numbers whose intervals share no point, or exactly one is nil
 abbrev pub Contradict : Value → Value → Type 0
 Contradict (Number m d) (Number n e) = ¬ ((units : ℤ) × IsCommonPoint (interval m d) (interval n e) units)
 Contradict Nil Nil = ⊥

@@ -1,4 +1,4 @@
--- The conditions that facts and references read under a sheet satisfy (own).
+-- The conditions that facts and references satisfy if they were read under a sheet (own).
 use Rattle.std.specs.Prelude.{◌≡◌, ℕ, List, Ok}
 use Rattle.std.specs.List.{All}
 use Rattle.oim_report.specs.Document.{Document}
@@ -23,6 +23,6 @@ IsAccepted sheet d = (bytes : List ℕ) × (outcome sheet bytes ≡ Ok d)
 abbrev pub AcceptedFits : Type 0
 AcceptedFits = (sheet : Sheet) (docs : List Document) → All (IsAccepted sheet) docs → Fits sheet (body docs)
 
--- the union of two bodies that fit a sheet fits it
+-- if two bodies fit a sheet, so does their union
 abbrev pub UnionFits : Type 0
 UnionFits = (sheet : Sheet) (a b : Body) → Fits sheet a → Fits sheet b → Fits sheet (union a b)

@@ -41,14 +41,14 @@ InconsistentIsApart =
 
 -- ---- evidence
 
--- there are several values, every two meet, and the interval, which is not empty, contains exactly the numbers in all their intervals
+-- there are several values, and every two meet; the interval is not empty, and contains exactly the numbers in all intervals of the values
 pub record IsCommonOf (vs : List Value) (common : Interval) : Type 0 where
   pub several : 2 ≤ length vs
   pub each : EachTwoValuesMeet vs
   pub points : HasPoints common
   pub within : (units : ℤ) → IsWithin units common ↔ All (IsWithin units) (intervals_of vs)
 
--- the first two values are numbers
+-- the first two values are numbers; then no value of the row is nil, because nil is the least value
 abbrev pub begin_with_numbers : List Value → Bool
 begin_with_numbers (v ∷ w ∷ vs) = has_interval v && has_interval w
 begin_with_numbers other = false

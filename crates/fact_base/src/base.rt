@@ -79,7 +79,7 @@ impl<'s> Base<'s> {
         }
     }
 
-    /// Returns the sheet of the reports. Each fact fits it, facts and references ascend, and
+    /// Returns the sheet of the reports. Each fact fits the sheet, facts and references ascend, and
     /// resolving a reference again without a base URL changes nothing.
     pub fn sheet(&self) -> &'s Sheet
         ensures sheet { result.now ≡ self.now.sheet }
@@ -88,7 +88,8 @@ impl<'s> Base<'s> {
         self.sheet
     }
 
-    /// Returns whether the sheet equals the base's sheet. Reports read under it can then be taken.
+    /// Returns whether the sheet equals the base's sheet. If so, reports that were read under the
+    /// sheet can be added.
     pub fn same_sheet(&self, sheet: &Sheet) -> bool
         ensures { IsTrue result ↔ (self.now.sheet ≡ sheet.now) }
     {
@@ -151,8 +152,8 @@ impl<'s> Base<'s> {
         ensures err { OnErr result (self.new ≡ self.old) }
     {
         let references = with_all(self.alloc, &self.references, other.taxonomy())?;
-        // This base's values of a shared dimension set are copied into the other base, so that a
-        // refused request leaves this base unchanged. Absorbing many bases one by one therefore
+        // This base's values of a shared dimension set are copied into the other base, so that this
+        // base does not change if memory is refused. Absorbing many bases one by one therefore
         // takes quadratic time if each adds values to the same dimension set.
         self.entries.absorb(other.entries)?;
         replace(&mut self.references, references);
@@ -169,14 +170,14 @@ impl<'s> Base<'s> {
         }
     }
 
-    /// Returns the number of dimension sets.
+    /// Returns the number of rows. There is one for each dimension set.
     pub fn row_count(&self) -> u64
         ensures { result ≡ length (rows_of self.now.body.facts) }
     {
         self.entries.len() as u64
     }
 
-    /// Returns the number of facts.
+    /// Returns the number of distinct facts.
     pub fn fact_count(&self) -> u128
         ensures { result ≡ length self.now.body.facts }
     {

@@ -88,8 +88,8 @@ fn push(alloc: Global, entries: &mut Vec<Entry>, fact: &Fact) -> Result<(), Allo
     Ok(())
 }
 
-// Adds the value to the last entry and returns true. Without an entry, or if the last has other
-// dimensions, returns false.
+// If the last entry has the fact's dimensions, adds the value to it and returns true. Otherwise, or
+// without entries, returns false.
 fn joins_last(alloc: Global, entries: &mut Vec<Entry>, fact: &Fact) -> Result<bool, AllocError>
     requires rise { IsRising dimensions_cmp entry_key entries.old.items }
     requires below { NoneAbove fact.now.dimensions entries.old.items }

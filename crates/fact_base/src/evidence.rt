@@ -5,7 +5,7 @@ use oim_value::Interval;
 pub enum Evidence {
     /// There is only one distinct fact.
     Alike,
-    /// The common part of the rounding intervals of several values.
+    /// The common part of the rounding intervals of several values. Every two of these values meet.
     Common(Interval),
     /// The indices, from 0, of two values that do not meet.
     Apart(usize, usize),

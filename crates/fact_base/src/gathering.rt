@@ -20,8 +20,8 @@ use std::marker::Model;
 /// The base absorbs a report that has at least half as many facts and references as the base,
 /// rounded down. If providers report the same figures, each fact then costs one look-up. Absorbing
 /// a smaller report would walk the whole base, so its facts and references are appended to two
-/// lists instead. Before that, a list is sorted and loses its repeats if half its length, rounded
-/// down, exceeds its length after its last sort.
+/// lists instead. Before that, each list is sorted without repeats if half its length, rounded
+/// down, exceeds the length after the last sort.
 ///
 /// References count like facts. Otherwise the base would absorb each report of the same facts with
 /// new references, and copy all references each time.
@@ -72,7 +72,7 @@ impl<'s> Gathering<'s> {
         }
     }
 
-    /// Returns the sheet of the reports. Each fact fits it, facts and references ascend, and
+    /// Returns the sheet of the reports. Each fact fits the sheet, facts and references ascend, and
     /// resolving a reference again without a base URL changes nothing.
     pub fn sheet(&self) -> &'s Sheet
         ensures sheet { result.now ≡ self.now.sheet }
@@ -81,7 +81,7 @@ impl<'s> Gathering<'s> {
         self.base.sheet()
     }
 
-    /// Adds a report that was read under an equal sheet, and consumes it.
+    /// Adds and consumes a report that was read under an equal sheet.
     ///
     /// Errors: out of memory; the gathering is then unchanged, and the report is lost.
     pub fn add(&mut self, report: Report<'_>) -> Result<(), AllocError>

@@ -23,7 +23,7 @@ pub(crate) fn verdict_of(values: &[Value], summary: &Summary) -> Verdict
     }
 }
 
-/// Returns the evidence for the verdict. It walks the values only to find two that do not meet.
+/// Returns the evidence for the verdict. Walks the values only to find two that do not meet.
 pub(crate) fn evidence_of(values: &[Value], summary: &Summary) -> Evidence
     requires { AreSummarised values.now summary.now }
     ensures { IsEvidence values.now result }

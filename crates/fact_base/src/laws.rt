@@ -11,7 +11,7 @@ pub fn body_has_what_documents_have()
     ensures { BodyHasWhatDocumentsHave }
 {}
 
-/// A union has exactly the facts and references of both bodies, distinct and in order.
+/// A union has exactly the facts and references of the two bodies, distinct and in order.
 pub fn union_has_both()
     ensures { UnionHasBoth }
 {}
@@ -21,7 +21,7 @@ pub fn body_ignores_order()
     ensures { BodyIgnoresOrder }
 {}
 
-/// The body of two lists of documents together is the union of their bodies.
+/// The body of two concatenated lists of documents is the union of the bodies of the lists.
 pub fn body_of_both()
     ensures { BodyOfBoth }
 {}
@@ -50,8 +50,8 @@ pub fn inconsistent_is_apart()
 {}
 
 /// In a body that fits a sheet, the verdict on a numeric dimension set is `Inconsistent` exactly if
-/// two of its values contradict each other. Two numbers do so if their intervals share no point;
-/// nil contradicts each number.
+/// two of its values contradict each other. Two numbers contradict each other if their intervals
+/// share no point; nil contradicts each number.
 pub fn numeric_inconsistent_is_apart()
     ensures { NumericInconsistentIsApart }
 {}

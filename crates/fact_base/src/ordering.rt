@@ -9,8 +9,8 @@ use oim_dims::Fact;
 use oim_names::Key;
 use std::alloc::AllocError;
 
-/// Swaps move the facts to their places without a copy. The sort afterwards finds them in order, so
-/// it compares each fact only with the next one.
+/// Swaps put the facts in order without copying them. The sort afterwards guarantees the order.
+/// Since the facts are already sorted, it only compares each fact with the next one.
 pub(crate) fn in_order(mut facts: Vec<Fact>, order: Vec<usize>) -> Result<Vec<Fact>, AllocError>
     requires { IsOrderOf facts.items order.items }
     ensures moved { IfOk result (λ sorted. IsPermutation facts.items sorted.items) }
@@ -26,8 +26,8 @@ pub(crate) fn in_order(mut facts: Vec<Fact>, order: Vec<usize>) -> Result<Vec<Fa
     Ok(facts)
 }
 
-// Returns where the fact that belongs at index `i` is now. If its original index is below `i`, the
-// fact was swapped away, and `places` has its next index there.
+// Returns the current index of the fact that belongs at index `i`. Its original index is
+// `places[i]`. A fact at an index `j` below `i` was swapped to the index `places[j]`.
 fn place_now(places: &[usize], i: usize) -> usize
     requires here { i < length places.now }
     requires within { All (λ place. place < length places.now) places.now }

@@ -8,7 +8,7 @@ use oim_names::{Copied, Text};
 use std::alloc::{AllocError, Global};
 
 /// Returns None if the references include all others, which saves a copy. Otherwise returns the
-/// union of both. The others may be in any order.
+/// union of the references and the others. The others may be in any order.
 pub(crate) fn with_all(
     alloc: Global,
     references: &SortedSet<Text>,

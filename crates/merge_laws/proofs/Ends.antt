@@ -12,7 +12,7 @@ use Rattle.oim_value.proofs.Ends.{ends_of_one, ends_of_more}
 use Rattle.merge_laws.specs.Ends.{summary_of_all, SummaryTellsAll}
 use Rattle.merge_laws.specs.Union.{either_or_both}
 
--- the recorded ends are the ends of the intervals; no ends are recorded if there is no interval
+-- the recorded ends are the ends of the intervals; if no ends are recorded, there is no interval
 abbrev Kept : Option Interval → List Interval → Type 0
 Kept None is = is ≡ []
 Kept (Some e) is = AreEnds e is

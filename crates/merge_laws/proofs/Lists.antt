@@ -1,4 +1,4 @@
--- Lists split before their last item, and parts of ascending lists.
+-- Lists that are split before their last item, and parts of ascending lists.
 use Rattle.std.proofs.Common.{◌≡◌, ℕ, zero, suc, ◌+◌, ◌<◌, ◌≤◌, get_or, List, [], ◌∷◌, ◌++◌, append-nil, take, length, Option, Some, None, refl, sym, ap, subst, ◌∙◌, arith}
 use Rattle.std.specs.Prelude.{reverse}
 use Rattle.std.specs.Option.{option_or}
@@ -58,7 +58,6 @@ or_none None = refl
 or_none (Some x) = refl
 
 module _ {K E : Type 0} {R : K → K → Ordering} (key : E → K) (o : IsTotalOrder R) where
-  -- the keys of all items are below a key
   abbrev pub AllBelow : K → List E → Type 0
   AllBelow k = AllByRecursion (λ e. R (key e) k ≡ Less)
 

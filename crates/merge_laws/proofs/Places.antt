@@ -43,7 +43,7 @@ module _ {K E : Type 0} {R : K → K → Ordering} (key : E → K) (o : IsTotalO
       let place = first_place es k i d (omega (arith, lt)) (λ j below. sym (alike_right o _ k _ p) ∙ rising_at es h j i d below lt) (λ _. ap is_lt p) in
       sym (λ n. cond (has_tied es k i d lt p n) (Ok (place n)) (Err (place n)))
 
-  -- the search returns the index between the items below the key and those above it
+  -- if no item has the key, the search returns the index between the items below the key and the items above it
   pub found_gap : (es : List E) (k : K) (i : ℕ) → i ≤ length es → ((j : ℕ) (d : E) → j < i → R (key (get_or es j d)) k ≡ Less) → ((j : ℕ) (d : E) → i ≤ j → j < length es → R (key (get_or es j d)) k ≡ Greater) → Err i ≡ found_at R key k es
   found_gap [] k i le below above = ap Err (omega (arith, le))
   found_gap (e ∷ es) k i le below above =
@@ -98,7 +98,7 @@ module _ {K E : Type 0} {R : K → K → Ordering} (key : E → K) (o : IsTotalO
     | false ↦ λ t. let count : place_of R key k (e ∷ es) ≡ 0 = ap (λ b. cond (not (not b)) (1 + place_of R key k es) 0) t in absurd (omega (arith, lt, count))
   ] refl)
 
-  -- all items of es before the index at which an item of fs belongs are below the next item of fs
+  -- all items of es that are below an item of fs are below the next item of fs
   pub passed_next : (es fs : List E) (i : ℕ) (x d : E) → IsRising R key fs → i + 1 < length fs → x ≡ get_or fs i x → (j : ℕ) (e : E) → j < place_of R key (key x) es → R (key (get_or es j e)) (key (get_or fs (i + 1) d)) ≡ Less
   passed_next es fs i x d h within is j e lt =
       o.trans _ _ _ (before_place (key x) es j e lt)

@@ -11,7 +11,7 @@ use Rattle.merge_laws.specs.code.UnionLaws.{all_with}
 use Rattle.merge_laws.proofs.Edits.{replaced, tells_ok}
 
 module _ {K V : Type 0} {R : K → K → Ordering} (o : IsTotalOrder R) (P : V → Type 0) (merged : V → V → V) where
-  -- `put` merges the value into the one at the key
+  -- if the map has the key, `put` merges the new value into the value at the key
   pub put_there : (es : List (K × V)) (k : K) (v m : V) (i : ℕ) (x : K × V) → IsRising R entry_key es → Ok i ≡ found_at R entry_key k es → x ≡ get_or es i x → m ≡ merged x.1 v → set es i (x.0, m) ≡ map_with R merged k v es
   put_there es k v m i x h at read made =
       let told = tells_ok (has_key R entry_key k es) (place_of R entry_key k es) i at in

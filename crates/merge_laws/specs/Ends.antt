@@ -13,17 +13,14 @@ pub record Summarised : Type 0 where
   pub nil : Bool
   pub ends : Option Interval
 
--- the summary of one value
 abbrev pub summary_of : Value → Summarised
 summary_of Nil = record { nil = true; ends = None }
 summary_of (Number units decimals) = record { nil = false; ends = Some (interval units decimals) }
 summary_of other = record { nil = false; ends = None }
 
--- the merge of two summaries
 abbrev pub both_summaries : Summarised → Summarised → Summarised
 both_summaries a b = record { nil = a.nil || b.nil; ends = either_or_both common_part a.ends b.ends }
 
--- the summary of several values
 abbrev pub summary_of_all : List Value → Summarised
 summary_of_all [] = record { nil = false; ends = None }
 summary_of_all (v ∷ vs) = both_summaries (summary_of v) (summary_of_all vs)

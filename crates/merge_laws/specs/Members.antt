@@ -1,4 +1,4 @@
--- Sets, maps and summaries depend only on their members, and unions keep properties of all entries (own).
+-- Laws about the members of sets, maps and summaries, and about tests of all entries (own).
 use Rattle.std.specs.Prelude.{◌≡◌, ◌↔◌, Bool, IsTrue, List, [], ◌∷◌, ◌++◌, Contains}
 use Rattle.std.specs.List.{AllPass}
 use Rattle.std.specs.declared.cmp.Ordering.{Ordering}
@@ -8,7 +8,7 @@ use Rattle.merge_laws.specs.Ends.{summary_of, both_summaries, summary_of_all}
 use Rattle.merge_laws.specs.Sorted.{IsRising, IsSet, entry_key, value_at}
 use Rattle.merge_laws.specs.Union.{map_with, map_union, set_union}
 
--- two lists have the same members
+-- order and repetition do not matter
 abbrev pub SameMembers : {A : Type 0} → List A → List A → Type 0
 SameMembers {A} xs ys = (x : A) → Contains xs x ↔ Contains ys x
 
@@ -25,15 +25,14 @@ module _ {K V : Type 0} (R : K → K → Ordering) (merged : V → V → V) wher
   abbrev pub MergesKeep : (K × V → Bool) → Type 0
   MergesKeep test = (k : K) (v w : V) → IsTrue (test (k, v)) → IsTrue (test (k, w)) → IsTrue (test (k, merged v w))
 
-  -- all entries of a union pass a test that merging keeps, if all entries of both maps do
+  -- if all entries of two maps pass a test that merging keeps, all entries of their union pass it
   abbrev pub MapUnionKeeps : Type 0
   MapUnionKeeps = (test : K × V → Bool) → MergesKeep test → (es fs : List (K × V)) → AllPass test es → AllPass test fs → AllPass test (map_union R merged es fs)
 
-  -- all entries of a map after `put` pass a test that merging keeps, if its entries and the new one do
+  -- if all entries of a map and a new entry pass a test that merging keeps, all entries after `put` pass it
   abbrev pub MapWithKeeps : Type 0
   MapWithKeeps = (test : K × V → Bool) → MergesKeep test → (es : List (K × V)) (k : K) (v : V) → AllPass test es → IsTrue (test (k, v)) → AllPass test (map_with R merged k v es)
 
--- the summary of a list with one value is the summary of that value
 abbrev pub SummaryOfOne : Type 0
 SummaryOfOne = (v : Value) → summary_of_all (v ∷ []) ≡ summary_of v
 

@@ -11,11 +11,10 @@ module _ {K E : Type 0} (R : K → K → Ordering) (key : E → K) where
   abbrev pub IsRising : List E → Type 0
   IsRising = IsStrictlySortedBy (λ e f. R (key e) (key f))
 
-  -- the item with a key, if there is one
+  -- the first item whose key compares as equal to k, or None
   abbrev pub item_at : K → List E → Option E
   item_at k es = find (λ e. is_eq (R k (key e))) es
 
-  -- there is an item with the key
   abbrev pub has_key : K → List E → Bool
   has_key k es = is_some (item_at k es)
 
@@ -23,19 +22,17 @@ module _ {K E : Type 0} (R : K → K → Ordering) (key : E → K) where
 abbrev pub itself : {K : Type 0} → K → K
 itself k = k
 
--- the key of a map's entry
 abbrev pub entry_key : {K V : Type 0} → K × V → K
 entry_key e = e.0
 
--- a set is an ascending list
+-- a set is a strictly ascending list
 abbrev pub IsSet : {K : Type 0} → (K → K → Ordering) → List K → Type 0
 IsSet R ks = IsRising R itself ks
 
--- a map has ascending keys, and P holds for each value
+-- the keys of a map ascend strictly, and P holds for each value
 pub record IsMap {K V : Type 0} (R : K → K → Ordering) (P : V → Type 0) (es : List (K × V)) : Type 0 where
   pub rises : IsRising R entry_key es
   pub values : AllByRecursion (λ e. P e.1) es
 
--- the value at a key of a map, if there is one
 abbrev pub value_at : {K V : Type 0} → (K → K → Ordering) → K → List (K × V) → Option V
 value_at R k es = option_map (λ e. e.1) (item_at R entry_key k es)

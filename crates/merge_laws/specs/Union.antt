@@ -29,14 +29,14 @@ older x y = x
 abbrev pub merged_entries : {K V : Type 0} → (V → V → V) → K × V → K × V → K × V
 merged_entries merged e f = (e.0, merged e.1 f.1)
 
--- a set with an item inserted
+-- an item that the set has already is not inserted again
 abbrev pub set_with : {K : Type 0} → (K → K → Ordering) → K → List K → List K
 set_with R = with_item R itself older
 
 abbrev pub set_union : {K : Type 0} → (K → K → Ordering) → List K → List K → List K
 set_union R = union_of R itself older
 
--- a map after a value is put at a key
+-- if the map has the key already, the two values are merged
 abbrev pub map_with : {K V : Type 0} → (K → K → Ordering) → (V → V → V) → K → V → List (K × V) → List (K × V)
 map_with R merged k v = with_item R entry_key (merged_entries merged) (k, v)
 
@@ -60,7 +60,7 @@ module _ {K : Type 0} (R : K → K → Ordering) where
   SetWithHasItem = (xs : List K) (x : K) → IsSet R xs → IsSetOfBoth xs (x ∷ []) (set_with R x xs)
 
 module _ {K V : Type 0} (R : K → K → Ordering) (merged : V → V → V) where
-  -- a map has exactly the keys of two maps; if both maps have a key, its value is the merge of the two values
+  -- a map has exactly the keys of two maps; the two values at a shared key are merged, and other values do not change
   pub record IsMapOfBoth (es fs map : List (K × V)) : Type 0 where
     pub rises : IsRising R entry_key map
     pub values : (k : K) → value_at R k map ≡ either_or_both merged (value_at R k es) (value_at R k fs)

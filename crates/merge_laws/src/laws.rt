@@ -6,8 +6,8 @@ ghost use Rattle.oim_value.specs.Ends.{AllMeetIffEndsMeet};
 use crate::merge::Merge;
 use oim_names::Key;
 
-/// The union of two sets has exactly the items of both. Inserting an item adds exactly that item. A
-/// look-up finds an item exactly if the set contains it.
+/// The union of two sets has an item exactly if one of the sets has it. Inserting an item adds
+/// exactly that item. A look-up finds an item exactly if the set contains it.
 pub fn set_has_both<T: Key>()
     ensures told { SetTellsItem T.cmp }
     ensures union { SetUnionHasBoth T.cmp }
@@ -15,8 +15,8 @@ pub fn set_has_both<T: Key>()
 {}
 
 /// The union of two maps has the keys of both. If both maps have a key, its value is the merge of
-/// the two values. `put` adds a key with its value, or merges the value into the one at the key. A
-/// look-up finds a value at a key exactly if the map has this entry.
+/// the two values. Otherwise, the value does not change. `put` is a union with a map of one entry.
+/// A look-up finds a value at a key exactly if the map has this entry.
 pub fn map_has_both<K: Key, V: Merge>()
     ensures told { MapTellsEntry K.cmp V.merged }
     ensures union { MapUnionHasBoth K.cmp V.merged }
@@ -29,7 +29,7 @@ pub fn all_meet_iff_ends_meet()
     ensures { AllMeetIffEndsMeet }
 {}
 
-/// A summary records whether a value is nil, whether a value is a number, and the greatest low end
+/// A summary records whether any value is nil, whether any is a number, and the greatest low end
 /// and the least high end of the numbers' intervals.
 pub fn summary_tells_all()
     ensures { SummaryTellsAll }
@@ -45,15 +45,15 @@ pub fn map_is_its_values<K: Key, V: Merge>()
     ensures { MapIsItsValues K.cmp V }
 {}
 
-/// Take a test of key and value that the merge of two values passes if both values pass it. If all
-/// entries of two maps pass the test, so do all entries of their union. The same holds after `put`
-/// if the new entry passes it too.
+/// Take a test of entries. Assume that if two values at one key pass the test, their merge passes
+/// it. If all entries of two maps pass the test, all entries of their union pass it. If all entries
+/// of a map and a new entry pass the test, all entries after `put` pass it.
 pub fn map_keeps_what_merging_keeps<K: Key, V: Merge>()
     ensures union { MapUnionKeeps K.cmp V.merged }
     ensures put { MapWithKeeps K.cmp V.merged }
 {}
 
-/// The summary of two concatenated lists is the merge of their summaries. So is the summary of the
+/// The summary of two concatenated lists is the merge of their summaries. The same holds for the
 /// union of two sets. A summary does not depend on the order or repetition of values.
 pub fn summary_is_of_members()
     ensures one { SummaryOfOne }

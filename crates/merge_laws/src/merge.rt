@@ -9,7 +9,7 @@ pub trait Merge: Copied {
     /// The property that every value of the type has.
     ghost is_known: { Self → Type 0 };
 
-    /// The merge of two values.
+    /// The value that results if the second value is merged into the first.
     ghost merged: { Self → Self → Self };
 
     /// Merges another value into this one.
@@ -19,11 +19,11 @@ pub trait Merge: Copied {
         ensures ok { OnOk result (self.new ≡ merged self.old other.now) }
         ensures err { OnErr result (self.new ≡ self.old) };
 
-    /// Does nothing. Its contract states the property that every value of the type has.
+    /// Does nothing. The contract states the property that every value of the type has.
     fn known(&self)
         ensures { is_known self.now };
 
-    /// The merge of two values has the property too.
+    /// If two values have the property `is_known`, so has their merge.
     ghost closed: { (x y : Self) → is_known x → is_known y → is_known (merged x y) };
 
     /// Merging three values gives the same result in either grouping.

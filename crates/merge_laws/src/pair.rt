@@ -20,8 +20,8 @@ impl<A: Merge, B: Merge> Merge for (A, B) {
 
     ghost idempotent = { λ p f. λ i. (A.idempotent p.0 f.0 i, B.idempotent p.1 f.1 i) };
 
-    // The second part is merged into a copy, so that nothing changes if memory for the first is
-    // refused.
+    // The second part is merged into a copy, so that nothing changes if memory for the first part
+    // is refused.
     fn merge(&mut self, alloc: Global, other: &Self) -> Result<(), AllocError> {
         let mut second = self.1.copied(alloc)?;
         second.merge(alloc, &other.1)?;

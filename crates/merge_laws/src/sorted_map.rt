@@ -38,7 +38,7 @@ impl<K: Key, V: Merge> SortedMap<K, V> {
         }
     }
 
-    /// Returns a map of entries that are already in the order of their keys, each key once.
+    /// Returns the map of the entries, which must be in the order of their keys, each key once.
     pub fn of_rising(entries: Vec<(K, V)>) -> Self
         requires { IsRising K.cmp entry_key entries.items }
         ensures { result ≡ entries.items }
@@ -47,7 +47,7 @@ impl<K: Key, V: Merge> SortedMap<K, V> {
         SortedMap { entries }
     }
 
-    /// Merges the value into the one at the key, or adds copies of both if the key is new.
+    /// Merges `value` into the value at `key`. If the key is new, adds copies of `key` and `value`.
     ///
     /// Errors: out of memory; the map is then unchanged.
     pub fn put(&mut self, key: &K, value: &V) -> Result<(), AllocError>
@@ -83,7 +83,7 @@ impl<K: Key, V: Merge> SortedMap<K, V> {
         moved.make(&mut self.entries)
     }
 
-    /// Returns the value at a key, or None.
+    /// Returns the value at a key, or None. Among n keys, this takes about log n comparisons.
     pub fn get(&self, key: &K) -> Option<&V>
         ensures { option_copied result ≡ value_at K.cmp key.now self.now }
     {
@@ -104,7 +104,7 @@ impl<K: Key, V: Merge> SortedMap<K, V> {
         }
     }
 
-    /// Returns the number of keys. Its contract also states that the keys ascend and that each
+    /// Returns the number of keys. The contract also states that the keys ascend and that each
     /// value has the property `is_known`.
     pub fn len(&self) -> usize
         ensures count { result ≡ length self.now }
@@ -122,7 +122,7 @@ impl<K: Key, V: Merge> Copied for SortedMap<K, V> {
     }
 }
 
-// Does nothing. Its contract states that each value has the property `is_known`.
+// Does nothing. The contract states that each value has the property `is_known`.
 fn know_values<K, V: Merge>(entries: &[(K, V)])
     ensures { AllByRecursion (λ e. V.is_known e.1) entries.now }
 {

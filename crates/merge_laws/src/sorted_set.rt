@@ -37,7 +37,7 @@ impl<T: Key> SortedSet<T> {
         }
     }
 
-    /// Returns the set of one item. It does not allocate.
+    /// Returns the set of one item. The call does not allocate.
     pub fn of_one(alloc: Global, item: T) -> Self
         ensures { result ≡ item ∷ [] }
     {
@@ -46,7 +46,7 @@ impl<T: Key> SortedSet<T> {
         }
     }
 
-    /// Returns the set of items that are already in order, each once.
+    /// Returns the set of the items, which must be in order, each once.
     pub fn of_rising(items: Vec<T>) -> Self
         requires { IsSet T.cmp items.items }
         ensures { result ≡ items.items }
@@ -56,7 +56,7 @@ impl<T: Key> SortedSet<T> {
         }
     }
 
-    /// Inserts a copy of the item if it is new, and returns whether it is new.
+    /// Inserts a copy of the item if the item is new, and returns whether it is new.
     ///
     /// Errors: out of memory; the set is then unchanged.
     pub fn insert(&mut self, item: &T) -> Result<bool, AllocError>
@@ -75,7 +75,7 @@ impl<T: Key> SortedSet<T> {
     }
 
     /// Merges the other set into this one, as `merge` does, but consumes the other set. New items
-    /// are moved.
+    /// are moved, not copied.
     ///
     /// Errors: out of memory; the set is then unchanged, and the other set is lost.
     pub fn absorb(&mut self, other: Self) -> Result<(), AllocError>

@@ -9,9 +9,9 @@ use oim_value::{Interval, Value, common, interval_of};
 use std::alloc::{AllocError, Global};
 use std::marker::Model;
 
-/// A summary of several values. It records whether any is nil and, if some are numbers, the
-/// greatest low end and the least high end of their rounding intervals. The ends decide whether
-/// every two of the numbers meet. Texts and names are not recorded.
+/// A summary of one or more values. It records whether any value is nil and, if some are numbers,
+/// the greatest low end and the least high end of the numbers' rounding intervals. The ends decide
+/// whether every two of the numbers meet. Texts and names are not recorded.
 #[derive(Clone, Copy, Debug, PartialEq, Eq)]
 pub struct Summary {
     nil: bool,
@@ -29,7 +29,7 @@ impl Model for Summary {
 }
 
 impl Summary {
-    /// Returns the summary of one value.
+    /// Returns the summary of one value. `merge` joins the summaries of several values.
     pub fn of(value: &Value) -> Self
         ensures { result ≡ summary_of value.now }
     {

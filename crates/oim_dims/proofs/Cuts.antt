@@ -36,7 +36,7 @@ drop_past : (xs ys : List ℕ) (c : ℕ) → drop (length xs + 1) (xs ++ c ∷ y
 drop_past [] ys c = refl
 drop_past (x ∷ xs) ys c = let next : suc (length xs) + 1 ≡ suc (length xs + 1) = omega arith in rw next (drop_past xs ys c)
 
--- a text that consists of two parts with a separator between them
+-- the first separator of the text t lies between the parts xs and ys
 pub record IsCut (p : ℕ → Bool) (t xs ys : List ℕ) : Type 0 where
   pub some : list_any p t ≡ true
   pub before : before_first p t ≡ xs

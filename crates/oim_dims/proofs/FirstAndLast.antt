@@ -13,7 +13,7 @@ use Rattle.oim_dims.proofs.Calendar.{first_day}
 first_number : days_from_civil (pos 1) 1 1 ≡ neg_ℤ (pos 719_162)
 first_number = omega (arith, signed_arith, days_from_civil-day_count (pos 1) 1 1, first_day)
 
--- the moment of a date-time is computed from its day number
+-- the moment of a date-time is computed from its day number and its time
 of_day : (t : List ℕ) (d : ℤ) → has_picture t ≡ true → has_date t ≡ true → has_time t ≡ true → day_number t ≡ d → let z = d *ℤ pos DAY_SECONDS +ℤ pos (second_of_day t) in moment_of t ≡ (if int_le z LAST_MOMENT then Some z else None)
 of_day t d picture date time day = rw (picture, date, time, day) refl
 

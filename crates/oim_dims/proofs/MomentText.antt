@@ -1,4 +1,4 @@
--- The text of a moment denotes it.
+-- The text of a moment denotes that moment.
 use Rattle.std.proofs.Common.{◌≡◌, ℕ, ◌+◌, ◌*◌, ◌/◌, ◌%◌, ◌<◌, true, List, ◌∷◌, ◌++◌, refl, arith, ℤ, pos, negsuc, neg_ℤ, ◌+ℤ◌, ◌*ℤ◌}
 use Rattle.std.specs.Prelude.{false, Some, unsigned_abs, nat_le, ◌&&◌}
 use Rattle.std.specs.Int.{int_div_euclid, int_rem_euclid}
@@ -54,7 +54,7 @@ day_bound : (z : ℤ) → IsMoment z → IsBetween (neg_ℤ (pos 719_162)) (pos 
 day_bound (pos a) h = (omega (arith, signed_arith, h.0), omega (arith, signed_arith, h.1))
 day_bound (negsuc a) h = (omega (arith, signed_arith, h.0), omega (arith, signed_arith, h.1))
 
--- the parts of a moment
+-- z is the time h:n:s on the date y-m-d
 record AreParts (z : ℤ) (y m d h n s : ℕ) : Type 0 where
   date : IsDateOf (int_div_euclid z (pos DAY_SECONDS)) y m d
   year_bound : y < 10000

@@ -1,4 +1,4 @@
--- A text that denotes a unit is not refused, and it denotes only one unit.
+-- A text that denotes a unit is not refused, and it denotes only one unit that satisfies `IsUnit`.
 use Rattle.std.proofs.Common.{◌≡◌, ◌≢◌, ◌⊎◌, inl, inr, ℕ, suc, true, false, List, [], ◌∷◌, refl, subst, sym, ap, ◌∙◌, arith}
 use Rattle.std.specs.Prelude.{Some, None, All}
 use Rattle.std.specs.List.{AllZip, list_any}

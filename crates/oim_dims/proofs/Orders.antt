@@ -50,7 +50,7 @@ dimensions_agree x y = λ i.
 pub facts_agree : (x y : Fact) → derived_fact.it x y ≡ fact_cmp x y
 facts_agree x y = λ i. ordering_then (dimensions_agree x.dimensions y.dimensions i) (values_agree x.value y.value i)
 
--- the orders of dimension sets and of facts are total, and only equal ones compare as equal
+-- the orders of dimension sets and of facts are total; only equal sets and equal facts compare as equal
 pub dimensions_cmp_total : IsTotalOrder dimensions_cmp
 dimensions_cmp_total = subst IsTotalOrder (λ i x y. dimensions_agree x y i) dimensions_total
 

@@ -1,4 +1,4 @@
--- The prefix that is found for a URI is bound to it.
+-- The prefix that is found for a URI is bound to that URI.
 use Rattle.std.proofs.Common.{◌≡◌, ◌≢◌, ℕ, suc, Bool, true, false, cond, List, [], ◌∷◌, refl, sym, ap, ◌∙◌, arith}
 use Rattle.std.specs.Prelude.{Some, All, AllPairs}
 use Rattle.std.specs.Option.{option_map}

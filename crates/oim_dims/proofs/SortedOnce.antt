@@ -1,4 +1,4 @@
--- Two sorted lists with the same items are equal.
+-- Two sorted lists that contain each item equally often are equal.
 use Rattle.std.proofs.Common.{◌≡◌, ℕ, suc, ◌+◌, Bool, true, false, cond, List, [], ◌∷◌, refl, sym, ap, ◌∙◌, arith}
 use Rattle.std.specs.Prelude.{All}
 use Rattle.std.specs.List.{sum_by, count_by}

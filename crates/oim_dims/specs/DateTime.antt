@@ -59,7 +59,6 @@ second_at t = day_number t *ℤ pos DAY_SECONDS +ℤ pos (second_of_day t)
 abbrev pub is_date_time : List ℕ → Bool
 is_date_time t = has_picture t && has_date t && has_time t && int_le (second_at t) LAST_MOMENT
 
--- the moment that a text denotes if it is a date-time
 abbrev pub moment_of : List ℕ → Option ℤ
 moment_of t = if is_date_time t then Some (second_at t) else None
 

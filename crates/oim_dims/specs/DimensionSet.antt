@@ -19,21 +19,19 @@ abbrev pub rises : List (QName × Member) → Bool
 rises [] = true
 rises (e ∷ es) = is_below e.0 es && rises es
 
--- a member has the name
 abbrev pub has_name : QName → List (QName × Member) → Bool
 has_name n es = list_any (λ e. is_eq (name_cmp n e.0)) es
 
--- a name is repeated
 abbrev pub repeats : List (QName × Member) → Bool
 repeats [] = false
 repeats (e ∷ es) = has_name e.0 es || repeats es
 
--- the members with one more, in the order of names
+-- inserts a member in the order of names, after members with the same name
 abbrev pub with_member : QName → Member → List (QName × Member) → List (QName × Member)
 with_member n m [] = (n, m) ∷ []
 with_member n m (e ∷ es) = if is_lt (name_cmp n e.0) then (n, m) ∷ e ∷ es else e ∷ with_member n m es
 
--- a dimension set: its core dimensions, and its taxonomy-defined dimensions in the order of names
+-- the core dimensions, and the taxonomy-defined dimensions with their members
 pub record DimensionSet : Type 0 where
   pub concept : QName
   pub entity : Option QName
@@ -52,7 +50,7 @@ pub record IsDimensionSet (d : DimensionSet) : Type 0 where
 abbrev pub NamesAreThere : Type 0
 NamesAreThere = (n : QName) (es : List (QName × Member)) → IsTrue (has_name n es) ↔ ((m : Member) × Contains es (n, m))
 
--- the new list is in the order of names, has one more member, and keeps all others
+-- the new list is in the order of names, and has exactly the old members and e
 pub record IsOneMore (old new : List (QName × Member)) (e : QName × Member) : Type 0 where
   pub rises : IsTrue (rises new)
   pub members : (f : QName × Member) → Contains new f ↔ (Contains old f ⊎ (f ≡ e))

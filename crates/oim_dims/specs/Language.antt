@@ -16,7 +16,7 @@ is_group g = is_in_range 1 8 (length g) && list_all is_ascii_alphanumeric g
 abbrev pub is_language : List ℕ → Bool
 is_language t = list_all is_group (slice_split is_hyphen t) && list_all is_ascii_alphabetic (before_first is_hyphen t)
 
--- the text in lower case is a language, and reading it changes nothing
+-- the text in lower case is a language, and a second conversion changes nothing
 pub record IsKeptInLowerCase (t : List ℕ) : Type 0 where
   pub language : IsTrue (is_language (str_to_ascii_lowercase t))
   pub same : str_to_ascii_lowercase (str_to_ascii_lowercase t) ≡ str_to_ascii_lowercase t

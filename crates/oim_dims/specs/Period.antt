@@ -39,7 +39,6 @@ HasMoments Forever = ⊤
 HasMoments (Instant m) = IsMoment m
 HasMoments (Duration start end) = IsMoment start × IsMoment end
 
--- a duration ends after its start
 abbrev pub EndsAfterStart : Period → Type 0
 EndsAfterStart Forever = ⊤
 EndsAfterStart (Instant m) = ⊤
@@ -50,7 +49,7 @@ pub record IsPeriod (p : Period) : Type 0 where
   pub moments : HasMoments p
   pub forward : EndsAfterStart p
 
--- the text of an instant, or of a duration that ends after its start, denotes that period
+-- if the moments are in range, the text of an instant, or of a duration that ends after its start, denotes that period
 abbrev pub PeriodsReadBack : Type 0
 PeriodsReadBack = (p : Period) → IsPeriod p → IfSome (period_text p) (λ t. period_of t ≡ Ok p)
 

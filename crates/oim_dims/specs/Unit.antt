@@ -19,7 +19,6 @@ is_mark c = c == 40 || c == 41 || c == 42 || c == 47
 abbrev pub inner : List ℕ → List ℕ
 inner s = if slice_index s 0 == 40 && slice_index s (length s - 1) == 41 then slice_range s 1 (length s - 1) else s
 
--- the pieces of a side, with `*` between them
 abbrev pub side_pieces : List ℕ → List (List ℕ)
 side_pieces s = slice_split is_star (inner s)
 
@@ -30,11 +29,9 @@ numerator_pieces t = side_pieces (before_first is_slash t)
 unfoldable pub denominator_pieces : List ℕ → List (List ℕ)
 denominator_pieces t = if list_any is_slash t then side_pieces (after_first is_slash t) else []
 
--- each piece of both sides passes a test
 abbrev pub each_piece : (List ℕ → Bool) → List ℕ → Bool
 each_piece p t = list_all p (numerator_pieces t) && list_all p (denominator_pieces t)
 
--- some piece of either side passes a test
 abbrev pub some_piece : (List ℕ → Bool) → List ℕ → Bool
 some_piece p t = list_any p (numerator_pieces t) || list_any p (denominator_pieces t)
 
@@ -47,7 +44,7 @@ is_piece p = not (length p == 0) && not (list_any is_mark p)
 abbrev pub is_unit_text : List ℕ → Bool
 is_unit_text t = each_piece is_piece t
 
--- the measures of a unit; each list is a multiset, whose order does not matter
+-- the measures of a unit: two multisets, each represented by a list
 pub record Measures : Type 0 where
   pub numerators : List QName
   pub denominators : List QName
@@ -75,8 +72,8 @@ abbrev pub UnitOf : List Binding → List ℕ → Option Measures → Type 0
 UnitOf bs t None = HasMeasures bs t pure_alone
 UnitOf bs t (Some m) = HasMeasures bs t m × (m ≢ pure_alone)
 
--- why a text is refused as a unit: the form of the unit is tested first, then for all pieces the form of a name, the prefix and
--- the namespace
+-- why a text is refused as a unit: the form of the unit is tested first, then the form of all pieces as names, then their prefixes,
+-- then their namespaces
 abbrev pub unit_refusal : List Binding → List ℕ → Option Reason
 unit_refusal bs t =
     if not (is_unit_text t) then Some UnitForm else (
@@ -84,7 +81,7 @@ unit_refusal bs t =
     if some_piece (lacks_binding is_name bs) t then Some UnboundPrefix else (
     if some_piece (lies_in_reserved is_name bs) t then Some ReservedNamespace else None)))
 
--- the conditions that a name satisfies to be a measure
+-- a name that can be a measure: a reserved character in its local part would end the piece
 pub record IsMeasure (n : QName) : Type 0 where
   pub filled : n.uri ≢ []
   pub allowed : n.uri ≢ reserved_uri
@@ -115,7 +112,7 @@ measure_text bs n = unwrap_or (prefix_of bs n.uri) [] ++ 58 ∷ n.local_part
 abbrev pub product_text : (QName → List ℕ) → List QName → List ℕ
 product_text f ns = join_with_byte 42 (map f ns)
 
--- a side of a quotient, in parentheses if it has several measures
+-- a side of a quotient, in parentheses unless it has exactly one measure
 abbrev pub side_text : (QName → List ℕ) → List QName → List ℕ
 side_text f ns = if length ns == 1 then product_text f ns else 40 ∷ product_text f ns ++ 41 ∷ []
 
@@ -130,12 +127,11 @@ pub record Spells (bs : List Binding) (t : List ℕ) (n : QName) : Type 0 where
   pub piece : IsTrue (is_piece t)
   pub expands : Expands bs t n
 
--- a function spells each measure of a unit
 pub record SpellsEach (bs : List Binding) (f : QName → List ℕ) (m : Measures) : Type 0 where
   pub numerators : All (λ n. Spells bs (f n) n) m.numerators
   pub denominators : All (λ n. Spells bs (f n) n) m.denominators
 
--- a text denotes this unit, is not refused, and denotes no other unit
+-- a text denotes this unit, is not refused, and denotes no other unit that satisfies `IsUnit`
 pub record DenotesUnit (bs : List Binding) (t : List ℕ) (m : Measures) : Type 0 where
   pub unit : UnitOf bs t (Some m)
   pub accepted : unit_refusal bs t ≡ None
@@ -157,6 +153,6 @@ UnitsAreNotRefused = (bs : List Binding) (t : List ℕ) (u : Option Measures) �
 abbrev pub OthersAreRefused : Type 0
 OthersAreRefused = (bs : List Binding) (t : List ℕ) → unit_refusal bs t ≡ None → (u : Option Measures) × UnitOf bs t u
 
--- a text denotes at most one unit
+-- a text denotes at most one unit that satisfies `IsUnit`
 abbrev pub TextsDenoteOneUnit : Type 0
 TextsDenoteOneUnit = (bs : List Binding) (t : List ℕ) (u v : Option Measures) → UnitOf bs t u → UnitOf bs t v → IfSome u IsUnit → IfSome v IsUnit → u ≡ v

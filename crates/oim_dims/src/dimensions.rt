@@ -56,7 +56,7 @@ impl Dimensions {
         }
     }
 
-    /// Does nothing. Its contract states the conditions that each dimension set satisfies.
+    /// Does nothing. The contract states the conditions that each dimension set satisfies.
     pub fn known(&self)
         ensures { IsDimensionSet self.now }
     {
@@ -95,7 +95,7 @@ impl Dimensions {
         self.unit.as_ref()
     }
 
-    /// Returns the language of a text as it was set, or None.
+    /// Returns the language that was set, or None.
     pub fn language(&self) -> Option<&Text>
         ensures { option_copied result ≡ self.now.language }
     {
@@ -110,14 +110,14 @@ impl Dimensions {
         self.members.as_slice()
     }
 
-    /// Sets the entity.
+    /// Sets or replaces the entity.
     pub fn set_entity(&mut self, entity: Name)
         ensures { self.new ≡ record self.old { entity = Some entity } }
     {
         self.entity = Some(entity);
     }
 
-    /// Sets the period.
+    /// Sets the period. `Forever` is the same as no period.
     pub fn set_period(&mut self, period: Period)
         ensures { self.new ≡ record self.old { period = period } }
     {
@@ -131,7 +131,7 @@ impl Dimensions {
         self.unit = unit;
     }
 
-    /// Sets the language.
+    /// Sets the language to this text. `read_language` returns languages in lower case.
     pub fn set_language(&mut self, language: Text)
         ensures { self.new ≡ record self.old { language = Some language } }
     {
@@ -156,7 +156,7 @@ impl Dimensions {
         }
     }
 
-    /// Replaces the taxonomy-defined dimensions and their members. The new ones may be in any
+    /// Replaces the taxonomy-defined dimensions and their members. The new dimensions may be in any
     /// order. An error changes nothing. The call does not allocate.
     ///
     /// Errors: `DimensionValue` exactly if a dimension is repeated.

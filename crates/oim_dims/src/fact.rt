@@ -10,7 +10,7 @@ use std::alloc::{AllocError, Global};
 pub struct Fact {
     /// The concept, entity, period, unit, language and other dimensions.
     pub dimensions: Dimensions,
-    /// The value that the fact reports.
+    /// The value, with its decimals if it is a number.
     pub value: Value,
 }
 

@@ -25,7 +25,7 @@ pub fn read_language(alloc: Global, text: &str) -> Result<Text, Reason>
     Ok(Text::new(alloc, lower.as_str())?)
 }
 
-/// Returns whether a text has the form of a language. It does not allocate.
+/// Returns whether a text has the form of a language. The call does not allocate.
 pub fn is_language(text: &str) -> bool
     ensures { result ≡ is_language text.now }
 {

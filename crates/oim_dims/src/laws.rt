@@ -34,7 +34,8 @@ pub fn languages_are_kept()
 {}
 
 /// If each measure's text expands to the measure and contains none of `*`, `/`, `(` and `)`, the
-/// unit's text denotes only that unit. Bindings that can write a unit give all measures such texts.
+/// unit's text denotes only that unit. If bindings can write a unit, the texts of its measures
+/// satisfy both conditions.
 pub fn units_read_back()
     ensures back { UnitsReadBack }
     ensures spelled { BindingsSpell }

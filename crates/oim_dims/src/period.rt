@@ -21,7 +21,7 @@ pub enum Period {
 }
 
 impl Period {
-    /// Does nothing. Its contract states that the moments are in range.
+    /// Does nothing. The contract states that the moments are in range.
     pub fn known(&self)
         ensures { HasMoments self.now }
     {
@@ -38,9 +38,10 @@ impl Period {
 }
 
 /// Reads a period: one date-time, or two with `/` between them. Two equal date-times denote an
-/// instant. It does not allocate.
+/// instant. The call does not allocate.
 ///
-/// Errors: `PeriodForm` if the text has another form; `PeriodOrder` if the end is before the start.
+/// Errors: `PeriodForm` if the text has another form, or a date-time does not exist; `PeriodOrder`
+/// if the end is before the start.
 pub fn read_period(_alloc: Global, text: &str) -> Result<Period, Reason>
     ensures { result ≡ period_of text.now }
 {

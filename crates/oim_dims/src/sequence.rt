@@ -6,7 +6,7 @@ use std::alloc::{AllocError, Global};
 use std::cmp::Ordering;
 use std::marker::Model;
 
-/// A list whose contracts see only its items, and not its capacity.
+/// A list. Contracts see its items, but not its capacity.
 #[derive(Debug, Drop)]
 pub struct Sequence<T: Key> {
     items: Vec<T>,
@@ -28,7 +28,7 @@ impl<T: Key> Sequence<T> {
         Sequence { items }
     }
 
-    /// Returns the items as a slice.
+    /// Returns the items in their order.
     pub fn as_slice(&self) -> &[T]
         ensures { result.now ≡ self.now }
     {

@@ -9,9 +9,9 @@ use std::alloc::{AllocError, Global};
 use std::marker::Model;
 
 /// The unit of a number (OIM Common 1.0, the core dimension unit): numerators, which are
-/// multiplied, and denominators, by which the product is divided. Both lists are in the order of
-/// names and may contain repeats. There is at least one numerator, no local part contains `*`, `/`,
-/// `(` or `)`, and `pure` alone is not a unit.
+/// multiplied, and denominators, which divide the product. Both lists are in the order of names and
+/// may contain repeats. There is at least one numerator, no local part contains `*`, `/`, `(` or
+/// `)`, and `pure` alone is not a unit.
 #[derive(Debug, Drop, PartialEq, Eq, PartialOrd, Ord)]
 pub struct Unit {
     numerators: Sequence<Name>,
@@ -46,21 +46,21 @@ impl Unit {
         }
     }
 
-    /// Does nothing. Its contract states the conditions that each unit satisfies.
+    /// Does nothing. The contract states the conditions that each unit satisfies.
     pub fn known(&self)
         ensures { IsUnit self.now }
     {
         let _numerators = &self.numerators;
     }
 
-    /// Returns the measures of the numerator, sorted.
+    /// Returns the measures of the numerator in the order of names. There is at least one.
     pub fn numerators(&self) -> &[Name]
         ensures { result.now ≡ self.now.numerators }
     {
         self.numerators.as_slice()
     }
 
-    /// Returns the measures of the denominator, sorted.
+    /// Returns the measures of the denominator in the order of names. There may be none.
     pub fn denominators(&self) -> &[Name]
         ensures { result.now ≡ self.now.denominators }
     {

@@ -28,9 +28,9 @@ fn inner(side: &str) -> &str
     }
 }
 
-/// Returns why a text is refused as a unit under these aliases, or None. It tests the form of the
-/// unit first (`UnitForm`). Then it tests all measures, first for `NameForm`, then for
-/// `UnboundPrefix`, then for `ReservedNamespace`. It does not allocate.
+/// Returns why a text is refused as a unit under these aliases, or None. The form of the unit is
+/// tested first (`UnitForm`). Then all measures are tested for `NameForm`, then all for
+/// `UnboundPrefix`, then all for `ReservedNamespace`. The call does not allocate.
 pub fn unit_refusal(aliases: &Aliases, text: &str) -> Option<Reason>
     ensures { result ≡ unit_refusal aliases.now text.now }
 {
@@ -49,7 +49,7 @@ pub fn unit_refusal(aliases: &Aliases, text: &str) -> Option<Reason>
     None
 }
 
-/// Returns whether a text has the form of a unit.
+/// Returns whether a text has the form of a unit. The names in it are not tested.
 pub fn is_unit_text(text: &str) -> bool
     ensures { result ≡ is_unit_text text.now }
 {

@@ -13,11 +13,11 @@ use oim_names::{Aliases, Name, Reason};
 use std::alloc::Global;
 
 /// Reads a unit: measures with `*` between them, then optionally `/` and the measures of the
-/// denominator. Each side may be in parentheses (xBRL-JSON 1.0). The result is `None` for `pure`
-/// alone, which is not a unit.
+/// denominator (xBRL-JSON 1.0). Parentheses around a side are optional (own). The result is `None`
+/// for `pure` alone, which is not a unit.
 ///
-/// Errors: `UnitForm` exactly if the text does not have this form; otherwise the first of
-/// `NameForm`, `UnboundPrefix` and `ReservedNamespace` that applies to a measure; `OutOfMemory`.
+/// Errors: `UnitForm` if the text does not have this form; otherwise the first of `NameForm`,
+/// `UnboundPrefix` and `ReservedNamespace` that applies to a measure; `OutOfMemory`.
 pub fn read_unit(alloc: Global, aliases: &Aliases, text: &str) -> Result<Option<Unit>, Reason>
     ensures unit { IfOk result (UnitOf aliases.now text.now) }
     ensures sorted { IfOk result (λ unit. IfSome unit IsUnit) }

@@ -7,8 +7,8 @@ use crate::unit_check::has_mark;
 use oim_names::{Aliases, Name, Text};
 use std::alloc::{AllocError, Global};
 
-/// Returns the text of a unit under these aliases, each side in the order of names (xBRL-JSON 1.0).
-/// Reading the text returns the unit. `can_write_unit` tests the precondition.
+/// Returns the text of a unit (xBRL-JSON 1.0) under these aliases. The measures of each side are in
+/// the order of names. Reading the text returns the unit. `can_write_unit` tests the precondition.
 ///
 /// Errors: out of memory.
 pub fn write_unit(alloc: Global, aliases: &Aliases, unit: &Unit) -> Result<Text, AllocError>
@@ -23,8 +23,8 @@ pub fn write_unit(alloc: Global, aliases: &Aliases, unit: &Unit) -> Result<Text,
     Text::new(alloc, text.as_str())
 }
 
-/// Returns whether the URI of every measure has a prefix, and the first prefix of each URI contains
-/// none of `*`, `/`, `(` and `)`.
+/// Returns whether each measure's URI has a prefix, and the first prefix that was bound to that URI
+/// contains none of `*`, `/`, `(` and `)`.
 pub fn can_write_unit(aliases: &Aliases, unit: &Unit) -> bool
     ensures { result ≡ can_write aliases.now unit.now }
 {

@@ -2,7 +2,7 @@ use std::fmt;
 
 const MOST_CHARACTERS: usize = 80;
 
-/// A text that is safe to print on a terminal. Control characters, common invisible characters, and
+/// A text to print safely on a terminal. Control characters, common invisible characters, and
 /// characters that end the line or change its direction are written as JSON escapes. Otherwise a
 /// name with an invisible character would look correct, and a file name could imitate a line.
 #[derive(Clone, Copy)]

@@ -12,13 +12,15 @@ use serde_json::{Error, Value};
 use std::alloc::{AllocError, Global};
 
 /// Returns one line for each fault of a report that is read under a sheet, in the order of
-/// `tree_faults`. One line follows for each key that is repeated in an object whose members are
-/// read; only the last member with that key is read (RFC 8259, section 4). A line of text begins
-/// with the name of the file and shows at most 80 characters of a value or key. No line contains
-/// anything that changes a terminal.
+/// `tree_faults`. One line follows for each key that is repeated in the root, in `documentInfo`,
+/// `namespaces`, `features` or `facts`, in a fact, or in its `dimensions`. Only the last member
+/// with that key is read (RFC 8259, section 4). A line of text begins with the name of the file and
+/// shows at most 80 characters of a value or key. All lines are safe to print on a terminal
+/// (`Escaped`).
 ///
-/// If `serde_json` cannot read the file, the only line contains its message. This is so even if the
-/// crate `json`, which accepts numbers of any size, can read the file.
+/// If `serde_json` cannot read the file, the only line contains the parser's message. Repeated keys
+/// are then not listed, even if the crate `json`, which accepts numbers of any size, can read the
+/// file.
 ///
 /// Errors: out of memory.
 pub fn explain(
@@ -42,8 +44,8 @@ pub fn explain(
     Ok(lines.explained)
 }
 
-// Returns whether a report is accepted, and so has no faults. This is much faster than the search
-// for faults, and needs less memory.
+// Returns whether a report is accepted, and so has no faults. Reading a report is faster than the
+// search for faults, and needs less memory.
 fn is_accepted(alloc: Global, sheet: &Sheet, bytes: &[u8]) -> Result<bool, AllocError> {
     match read_report(alloc, sheet, bytes) {
         Ok(_report) => Ok(true),

@@ -8,8 +8,9 @@ use oim_report::{after_mark, sheet_part};
 use serde_json::Value;
 use std::alloc::{AllocError, Global};
 
-/// Returns a line with the reason to refuse a sheet and the part at fault. The parser's message and
-/// a guess at the file's kind follow, if any. An accepted sheet is reported to have no fault (own).
+/// Returns a line that names the file and states why the sheet is refused, with the part at fault.
+/// The parser's message and a guess at the file's kind follow, if there are any. For an accepted
+/// sheet, the line states that the sheet has no fault (own).
 ///
 /// Errors: out of memory.
 pub fn explain_sheet(alloc: Global, name: &str, bytes: &[u8]) -> Result<String, AllocError> {
@@ -34,8 +35,9 @@ fn sentence_of_sheet(alloc: Global, tree: &Value) -> Result<String, AllocError> 
     finding.sentence(alloc)
 }
 
-/// Returns one line for each key that is repeated in an object of a sheet. Only the last member
-/// with that key is read (own). A file that is not JSON has no such lines.
+/// Returns one line for each key that is repeated in the root of a sheet, or in its `namespaces`,
+/// `concepts` or `dimensions`. Only the last member with that key is read (own). For a file that is
+/// not JSON, no line is returned.
 ///
 /// Errors: out of memory.
 pub fn explain_repeated(

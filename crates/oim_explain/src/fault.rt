@@ -37,8 +37,7 @@ impl Fault<'_, '_> {
         write!(text, "{}\n", self.sentence)
     }
 
-    /// Appends the fault as a JSON object on one line. Characters that a terminal does not show
-    /// are escaped.
+    /// Appends the fault as a JSON object on one line, which `Escaped` makes safe to print.
     pub(crate) fn push_object(
         &self,
         alloc: Global,
@@ -85,8 +84,8 @@ fn put_text(writer: &mut Writer, key: &str, text: Option<&str>) -> Result<(), Al
     }
 }
 
-/// Writes the part at fault in full: a text, a value, an object with one member or an array of two
-/// texts. For other parts, such as a missing member, null is written.
+/// Writes the part at fault without cutting texts or values: a text, a value, an object with one
+/// member or an array of two texts. For other parts, such as a missing member, null is written.
 fn put_part(alloc: Global, writer: &mut Writer, part: Part<'_>) -> Result<(), AllocError> {
     match part {
         Part::Key(text) | Part::KeyIn(text, _) | Part::Name(text) | Part::Entity(text) => {

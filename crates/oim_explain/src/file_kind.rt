@@ -12,8 +12,8 @@ pub(crate) fn kind_of_bytes(bytes: &[u8]) -> Option<&'static str> {
     }
 }
 
-/// Returns the valid UTF-8 text at the start of a file, without byte order marks and white space
-/// before it.
+/// Returns the valid UTF-8 text at the start of a file, without leading byte order marks and white
+/// space.
 fn text_of(bytes: &[u8]) -> &str {
     match bytes.utf8_chunks().next() {
         Some(chunk) => chunk.valid().trim_start_matches('\u{feff}').trim_start(),
@@ -47,7 +47,7 @@ fn is_row(line: &str) -> bool {
         && !line.contains("; ")
 }
 
-/// Guesses the kind of a JSON file that is not a report.
+/// Guesses the kind of a JSON file that was passed as a report but looks like another file.
 pub(crate) fn kind_of_tree(tree: &Value) -> Option<&'static str> {
     if is_csv(tree) {
         Some("the metadata of an xBRL-CSV report: convert it to xBRL-JSON with another program")
@@ -64,7 +64,7 @@ fn is_csv(tree: &Value) -> bool {
     kind.ends_with("/xbrl-csv") || tree.get("tableTemplates").is_some()
 }
 
-/// Guesses the kind of a file that was given as a sheet but is not one.
+/// Guesses the kind of a JSON file that was passed as a sheet but looks like another file.
 pub(crate) fn kind_of_sheet(tree: &Value) -> Option<&'static str> {
     if is_csv(tree) {
         Some("the metadata of an xBRL-CSV report, not a concept sheet")

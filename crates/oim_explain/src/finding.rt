@@ -18,15 +18,15 @@ pub(crate) struct Finding<'a> {
     pub subject: Subject<'a>,
     pub reason: Reason,
     pub part: Part<'a>,
-    /// The message of the parser, if it refused the file.
+    /// The message of the parser, if the parser refused the file.
     pub message: Option<&'a str>,
-    /// The kind of file, if it could be guessed.
+    /// The guessed kind of the file, if there is a guess.
     pub kind: Option<&'static str>,
 }
 
 impl<'a> Finding<'a> {
-    /// Returns a finding. A floating-point number as value or decimals is not shown, because it may
-    /// be printed in another spelling than in the file.
+    /// A floating-point number in `value` or `decimals` is not shown, because it might be printed
+    /// in another spelling than the file's.
     pub(crate) fn new(subject: Subject<'a>, reason: Reason, part: Option<Part<'a>>) -> Finding<'a> {
         let part = match part {
             Some(Part::Value(value)) if value.is_f64() && reason >= Reason::ValueForm =>
@@ -85,7 +85,7 @@ impl<'a> Finding<'a> {
     }
 }
 
-/// Appends a part, with its texts and values as JSON, each cut if it is long.
+/// Appends a part. Its texts and values are written as JSON, and long ones are cut.
 fn push_part(alloc: Global, line: &mut String, part: Part<'_>) -> Result<(), AllocError> {
     match part {
         Part::Key(text) | Part::Name(text) | Part::Entity(text) => push_text(alloc, line, text),

@@ -1,10 +1,11 @@
 //! Explains the faults of a report, or the refusal of a sheet, in sentences that show the text at
 //! fault. `oim_report` finds the faults; this crate finds only repeated members.
 //!
-//! Sentences may change between versions, but numbers, names and their order do not. A sentence
-//! shows at most 80 characters of a key or value. Characters of a text are counted before escaping,
-//! so none of its escapes is cut. Lines of text cut identifiers too: every line of a fact repeats its
-//! identifier, so these lines could take gigabytes. The JSON object of a refusal has it whole.
+//! Sentences may change between versions, but the numbers and names of refusals and their order do
+//! not. A sentence shows at most 80 characters of a key or value. Characters of a text are counted
+//! before escaping, so none of its escapes is cut. Lines of text cut identifiers too, because every
+//! line of a fact repeats its identifier, and an identifier may be long. The JSON object of a
+//! refusal contains the whole identifier.
 #![tactic(auto)]
 
 mod escaped;

@@ -17,13 +17,13 @@ pub enum Format {
 pub struct Input<'n> {
     /// The number of the report, from 1; None for a sheet.
     pub report: Option<u64>,
-    /// The name of the file.
+    /// The name that is printed with each fault.
     pub name: &'n str,
-    /// How its faults are printed.
     pub format: Format,
 }
 
-/// The printed faults of a file, each with its line end, and their count (own).
+/// The lines for the faults and repeated keys of a file, each with its line end, and the number of
+/// lines (own).
 #[derive(Drop)]
 pub struct Explained {
     pub text: String,
@@ -62,8 +62,8 @@ impl<'n> Lines<'n> {
         })
     }
 
-    /// Adds a line for a repeated member. The identifier of its fact is only in the sentence, which
-    /// cuts long identifiers. Otherwise each line for such a member would repeat a long identifier.
+    /// Adds a line for a repeated member. If the member is in a fact, only the sentence contains
+    /// the fact's identifier, because the sentence cuts long identifiers.
     pub(crate) fn push_repeated(&mut self, key: &str, sentence: &str) -> Result<(), AllocError> {
         self.put(&Fault {
             place: None,

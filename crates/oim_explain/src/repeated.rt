@@ -11,8 +11,8 @@ pub(crate) enum Role {
     Sheet,
 }
 
-/// Adds a line for each repeated key of the objects that are read. If the file is not JSON, no line
-/// is added.
+/// Adds a line for each key that is repeated in an object that `push_report` or `push_sheet`
+/// visits. If the file is not JSON, no line is added.
 pub(crate) fn push_repeated(
     lines: &mut Lines<'_>,
     role: Role,

@@ -12,7 +12,7 @@ use Rattle.fact_base.specs.Verdict.{verdict}
 use Rattle.oim_write.specs.Bytes.{canonical}
 use Rattle.oim_merge.specs.Replicas.{EqualSetsWriteTheSame, Numbers, ReplicasSayAsAfresh, Writer, base_named, documents_named, reached, wire}
 use Rattle.oim_merge.specs.Schedule.{numbered, world_after}
-use Rattle.oim_merge.specs.declared.event.Event.{Event}
+use Rattle.oim_merge.specs.declared.schedules.event.Event.{Event}
 use Rattle.oim_merge.proofs.Agreement.{agree}
 
 numbered_map : {A B : Type 0} (f : A → B) (xs : List A) (i : ℕ) → numbered (map f xs) i ≡ option_map f (numbered xs i)

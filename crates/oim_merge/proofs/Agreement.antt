@@ -13,8 +13,8 @@ use Rattle.oim_merge.specs.History.{IsReadAsBody}
 use Rattle.oim_merge.specs.Reports.{document_in}
 use Rattle.oim_merge.specs.Replicas.{Agree, Numbers, ReplicasStay, WireAgrees, Writer, base_named, both, documents_named, earlier, joined_with, present, reached, report, text_by, text_chosen, wire, with_accepted, with_outcome}
 use Rattle.oim_merge.specs.Schedule.{Machine, World, happens, keeps, kept_by, numbered, receives, run, start, world_after}
-use Rattle.oim_merge.specs.declared.event.Event.{Event}
-use Rattle.oim_merge.specs.declared.event.Event.TheVariants.{Take, Join, Send, Receive, Restart}
+use Rattle.oim_merge.specs.declared.schedules.event.Event.{Event}
+use Rattle.oim_merge.specs.declared.schedules.event.Event.TheVariants.{Take, Join, Send, Receive, Restart}
 use Rattle.oim_merge.proofs.Histories.{earlier_texts_give_bodies, texts_give_bodies}
 use Rattle.oim_merge.proofs.NamedReports.{base_both, reports_fit}
 use Rattle.oim_merge.proofs.Zips.{AtBoth, zip_numbered, zip_push}

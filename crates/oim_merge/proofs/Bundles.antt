@@ -18,7 +18,7 @@ behind_sheet bytes old new (Device written) h = h
 behind_sheet bytes old new (TooLoose row told) h = h
 behind_sheet bytes old new (SheetFault reason) h = absurd h.stops
 
--- the sheet was read from the first line, and the other lines were added
+-- the sheet was read from the first line, and the other lines that are not empty were added
 pub record HasRead (bytes : List ℕ) (sheet : Sheet) (a : Added) : Type 0 where
   pub line : List ℕ
   pub rest : List ℕ

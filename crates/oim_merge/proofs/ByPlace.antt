@@ -1,4 +1,4 @@
--- If the places of mentions never fall, grouping them by place does not change their order.
+-- If the indices of mentions never decrease, grouping the mentions by index does not change their order.
 use Rattle.std.proofs.Common.{◌≡◌, ℕ, zero, suc, ◌+◌, ◌<◌, ◌≤◌, List, [], ◌∷◌, ◌++◌, length, get_or, Bool, true, false, not, ◌&&◌, ⊎_elim, refl, sym, ap, ◌∙◌, arith}
 use Rattle.std.specs.Prelude.{filter, nat_lt}
 use Rattle.std.specs.List.{AllByRecursion}
@@ -11,9 +11,8 @@ use Rattle.std.proofs.lemmas.Bool.{cases_Bool}
 use Rattle.std.proofs.lemmas.Bool.Decides.{nat_tests}
 use Rattle.std.proofs.lemmas.Cmp.{nat_cmp_total}
 use Rattle.std.proofs.lemmas.Map.Lookups.{exact_unsigned}
-use Rattle.oim_merge.specs.declared.placed_mention.PlacedMention.{PlacedMention}
+use Rattle.oim_merge.specs.declared.sources.placed_mention.PlacedMention.{PlacedMention}
 
--- true if the mention has this place
 abbrev pub has_place : ℕ → PlacedMention → Bool
 has_place k m = is_eq (nat_cmp k m.place)
 
@@ -39,9 +38,9 @@ not_here k p e le = ⊎_elim (λ (lt : nat_lt k p ≡ true). grind (arith, nat_t
     let same : k ≡ p = grind (arith, nat_tests) in
     let is : is_eq (nat_cmp k p) ≡ true = is_place k p same in absurd (cc)) (cases_Bool (nat_lt k p))
 
--- ---- places that never fall
+-- ---- indices that never decrease
 
--- the places begin at k or later and never fall
+-- the indices are at least k and never decrease
 abbrev pub RiseFrom : ℕ → List PlacedMention → Type 0
 RiseFrom k [] = Unit {0}
 RiseFrom k (m ∷ ms) = (k ≤ m.place) × RiseFrom m.place ms
@@ -55,9 +54,9 @@ rise_lower : (k n : ℕ) (ms : List PlacedMention) → k ≤ n → RiseFrom n ms
 rise_lower k n [] le h = tt
 rise_lower k n (m ∷ ms) le h = (omega (arith, le, h.0), h.1)
 
--- ---- groups by place
+-- ---- groups by index
 
--- the mentions with one of the n places from k on, grouped by place
+-- the mentions whose indices are among the n numbers from k on, grouped by index
 abbrev pub groups : ℕ → ℕ → List PlacedMention → List PlacedMention
 groups k zero ms = []
 groups k (suc n) ms = filter (has_place k) ms ++ groups (suc k) n ms

@@ -5,7 +5,7 @@ use Rattle.std.proofs.lemmas.Bool.{cases_lt, ne_eqb}
 use Rattle.std.proofs.lemmas.List.{append_assoc}
 use Rattle.std.proofs.lemmas.List.Splits.{length-slice_split, slice_split_first}
 use Rattle.std.proofs.lemmas.Slice.Zip.{AllZip-long}
-use Rattle.oim_merge.specs.declared.event.Event.{Event}
+use Rattle.oim_merge.specs.declared.schedules.event.Event.{Event}
 use Rattle.oim_merge.specs.Bundle.{is_line_end, line_pieces}
 use Rattle.oim_merge.specs.EventLines.{IsBadLine, IsEventLine, IsFirstBadLine, lines_of, without_empty_last}
 use Rattle.oim_merge.proofs.LinePieces.{at_end, no_line_end, whole}

@@ -6,14 +6,14 @@ use Rattle.std.specs.Io.{ReadsAtMost}
 use Rattle.std.specs.Io.KnownBytes.{Consumes}
 use Rattle.std.proofs.KnownBytes.{Consumes-trans}
 
--- the new bytes follow the filled ones
+-- the bytes after the filled ones are the bytes that the read consumed
 pub Consumes-behind : {E : Type 0} (a b : Option (List ℕ)) (r : Result ℕ E) (front part rest : List ℕ) (at : ℕ) → length front ≡ at → ReadsAtMost r part
     → IfOk r (λ n. Consumes a b (take n part)) → IfOk r (λ n. Consumes a b (take n (drop at (front ++ (part ++ rest)))))
 Consumes-behind a b (Ok n) front part rest at long fits read =
     subst (Consumes a b) (sym (ap (take n) (drop_at front (part ++ rest) at long) ∙ take-append-le n part rest fits.0)) read
 Consumes-behind a b (Err e) front part rest at long fits read = tt
 
--- two reads in sequence consume the bytes of both
+-- if one read consumed i bytes and the next read n, both together consumed the first i + n bytes of the buffer
 pub Consumes-more : (a b c : Option (List ℕ)) (xs ys : List ℕ) (i n : ℕ) → take i ys ≡ take i xs
     → Consumes a b (take i xs) → Consumes b c (take n (drop i ys)) → Consumes a c (take (i + n) ys)
 Consumes-more a b c xs ys i n front before read =

@@ -14,10 +14,10 @@ use Rattle.fact_base.specs.Contents.{Contents}
 use Rattle.oim_write.specs.Bytes.{canonical}
 use Rattle.oim_merge.specs.code.Held.{AreWithin, IsCurrent, IsTextAt, Stay}
 use Rattle.oim_merge.specs.Replay.{texts_at}
-use Rattle.oim_merge.specs.code.Kept.{AreKept, IsReadingOf, read_as, with_read}
+use Rattle.oim_merge.specs.code.Readings.{AreReadings, IsReadingOf, read_as, with_read}
 use Rattle.oim_merge.specs.Replicas.{with_outcome}
 use Rattle.oim_merge.specs.Schedule.{numbered}
-use Rattle.oim_merge.proofs.Schedules.{slice_there}
+use Rattle.oim_merge.proofs.ScheduleSteps.{slice_there}
 use Rattle.oim_merge.proofs.Zips.{zip_at, zip_both, zip_long, zip_push, zip_same, zip_set, zip_weaker}
 
 -- ---- cached readings
@@ -34,17 +34,17 @@ pub sheet_is : (sheet : Sheet) (said : Result Document Refusal) → IfOk (read_a
 sheet_is sheet (Ok d) = refl
 sheet_is sheet (Err refusal) = tt
 
-module _ (sheet : Sheet) (texts : List (List ℕ)) (kept : List (Option (Result Contents Refusal))) (each : AreKept sheet texts kept) (place : ℕ) (there : place < length texts) where
+module _ (sheet : Sheet) (texts : List (List ℕ)) (kept : List (Option (Result Contents Refusal))) (each : AreReadings sheet texts kept) (place : ℕ) (there : place < length texts) where
   pub kept_there : place < length kept
   kept_there = let long = zip_long (IsReadingOf sheet) texts kept each in omega (arith, there, long)
 
   pub kept_is : (found : Option (Result Contents Refusal)) (read : Result Contents Refusal) → get_or kept place found ≡ Some read → read ≡ read_as sheet (outcome sheet (get_or texts place []))
   kept_is found read is = subst (IsReadingOf sheet (get_or texts place [])) is (zip_at (IsReadingOf sheet) texts kept each place [] found there)
 
-pub kept_long : (sheet : Sheet) (texts : List (List ℕ)) (kept more : List (Option (Result Contents Refusal))) → AreKept sheet texts kept → AreKept sheet texts more → length more ≡ length kept
+pub kept_long : (sheet : Sheet) (texts : List (List ℕ)) (kept more : List (Option (Result Contents Refusal))) → AreReadings sheet texts kept → AreReadings sheet texts more → length more ≡ length kept
 kept_long sheet texts kept more before after = zip_long (IsReadingOf sheet) texts more after ∙ sym (zip_long (IsReadingOf sheet) texts kept before)
 
-pub none_is_kept : (sheet : Sheet) (texts : List (List ℕ)) → AreKept sheet texts (replicate (length texts) None)
+pub none_is_kept : (sheet : Sheet) (texts : List (List ℕ)) → AreReadings sheet texts (replicate (length texts) None)
 none_is_kept sheet texts = zip_same (IsReadingOf sheet) texts None (λ text. tt)
 
 -- ---- sent texts
@@ -102,7 +102,7 @@ pub none_is_current : (texts : List (List ℕ)) (n : ℕ) (base : Contents) → 
 none_is_current texts zero base = tt
 none_is_current texts (suc n) base = (tt, none_is_current texts n base)
 
-pub kept_new : (sheet : Sheet) (texts : List (List ℕ)) (kept : List (Option (Result Contents Refusal))) (text : List ℕ) → AreKept sheet texts kept → AreKept sheet (texts ++ text ∷ []) (kept ++ None ∷ [])
+pub kept_new : (sheet : Sheet) (texts : List (List ℕ)) (kept : List (Option (Result Contents Refusal))) (text : List ℕ) → AreReadings sheet texts kept → AreReadings sheet (texts ++ text ∷ []) (kept ++ None ∷ [])
 kept_new sheet texts kept text each = zip_push (IsReadingOf sheet) texts kept text None each tt
 
 -- the sent text with a number, looked up through its index

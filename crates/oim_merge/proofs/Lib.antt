@@ -19,7 +19,7 @@ pub mod Rising
 pub mod NamedReports
 pub mod Agreement
 pub mod Afresh
-pub mod Schedules
+pub mod ScheduleSteps
 pub mod Steps
 pub mod KeptTexts
 pub mod Replays

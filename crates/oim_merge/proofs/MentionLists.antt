@@ -7,7 +7,7 @@ use Rattle.oim_report.specs.Outcome.{outcome}
 use Rattle.oim_report.specs.Sheet.{Sheet}
 use Rattle.oim_merge.specs.Mentions.{all_placed, place, placed}
 use Rattle.oim_merge.specs.Sources.{mentions_from, mentions_in, mentions_of}
-use Rattle.oim_merge.specs.declared.placed_mention.PlacedMention.{PlacedMention}
+use Rattle.oim_merge.specs.declared.sources.placed_mention.PlacedMention.{PlacedMention}
 
 -- one loop step adds the mentions in the next report
 pub mentions_more : (facts : List Fact) (n : ℕ) (sheet : Sheet) (report : List ℕ) (rest reports : List (List ℕ)) (i : ℕ) (before after : List PlacedMention) {whole : List PlacedMention}

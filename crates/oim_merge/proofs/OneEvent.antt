@@ -1,6 +1,6 @@
 -- A line spells at most one event.
 use Rattle.std.proofs.Common.{ℕ, List, drop, get_or, sym, ap, ◌∙◌, arith}
-use Rattle.oim_merge.specs.declared.event.Event.TheVariants.{Take, Join, Send, Receive, Restart}
+use Rattle.oim_merge.specs.declared.schedules.event.Event.TheVariants.{Take, Join, Send, Receive, Restart}
 use Rattle.oim_merge.specs.EventLines.{LinesSayOneEvent}
 use Rattle.oim_merge.proofs.EventPairs.{same_number, same_numbers}
 

@@ -10,7 +10,7 @@ use Rattle.oim_dims.proofs.Orders.{fact_cmp_total}
 use Rattle.oim_write.proofs.Ranks.{count_at, parted}
 use Rattle.oim_merge.specs.Mentions.{place}
 use Rattle.oim_merge.specs.code.Listing.{lent}
-use Rattle.oim_merge.specs.declared.fact_list.LentFact.{LentFact}
+use Rattle.oim_merge.specs.declared.sources.fact_list.LentFact.{LentFact}
 
 module _ (f : Fact) where
   abbrev pub comes_before : LentFact → Bool

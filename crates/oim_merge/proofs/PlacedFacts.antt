@@ -1,4 +1,4 @@
--- Grouping mentions by the places of their facts groups them by fact.
+-- Grouping mentions by the indices of their facts groups the mentions by fact.
 use Rattle.std.proofs.Common.{◌≡◌, ℕ, suc, ◌+◌, ◌<◌, List, [], ◌∷◌, ◌++◌, length, get_or, Bool, true, false, cond, refl, sym, ap, ◌∙◌, arith, append_assoc}
 use Rattle.std.specs.Prelude.{filter, Contains}
 use Rattle.std.specs.List.{All, AllByRecursion}
@@ -15,7 +15,7 @@ use Rattle.oim_dims.proofs.Orders.{fact_cmp_exact, fact_cmp_total}
 use Rattle.oim_write.proofs.Ranks.{rank_at}
 use Rattle.oim_merge.specs.Mentions.{all_placed, place, placed}
 use Rattle.oim_merge.specs.Sources.{Mention, by_fact, is_of}
-use Rattle.oim_merge.specs.declared.placed_mention.PlacedMention.{PlacedMention}
+use Rattle.oim_merge.specs.declared.sources.placed_mention.PlacedMention.{PlacedMention}
 use Rattle.oim_merge.proofs.ByPlace.{grouped, groups, has_place, is_equal, is_place, place_is, rise_from, same_groups, same_here}
 
 -- each mentioned fact is in the list

@@ -11,7 +11,7 @@ exchanged us vs ws =
     subst (λ l. IsPermutation l (vs ++ (us ++ ws))) (append_assoc us vs ws) (subst (IsPermutation ((us ++ vs) ++ ws)) (append_assoc vs us ws) both)
 
 module _ {A B : Type 0} (f : A → List B) where
-  -- swap the first element with a later one
+  -- swapping the first element with a later one permutes the concatenation
   put_first : (x d : A) (xs : List A) (j : ℕ) → j < length xs → IsPermutation (f x ++ flat_map f xs) (f (get_or xs j d) ++ flat_map f (set xs j x))
   put_first x d [] j h = absurd (omega (arith, h))
   put_first x d (z ∷ zs) zero h = exchanged (f x) (f z) (flat_map f zs)

@@ -8,9 +8,9 @@ use Rattle.fact_base.proofs.Members.{each_by_there, from_map, to_the_end}
 use Rattle.oim_merge.specs.Replay.{IsReplayOf, Replay, refused_by, refused_takes, world_of}
 use Rattle.oim_merge.specs.Replicas.{base_named, reached, wire}
 use Rattle.oim_merge.specs.Schedule.{IsBadAt, IsFirstBad, World, happens, names_none, sent_by, start, world_after}
-use Rattle.oim_merge.specs.declared.event.Event.{Event}
+use Rattle.oim_merge.specs.declared.schedules.event.Event.{Event}
 use Rattle.oim_merge.proofs.Agreement.{agree, count}
-use Rattle.oim_merge.proofs.Schedules.{first_bad, flat_map_next, good_next, none_bad, run_next, sent_run}
+use Rattle.oim_merge.proofs.ScheduleSteps.{first_bad, flat_map_next, good_next, none_bad, run_next, sent_run}
 
 -- the first k events were run, and none of them is bad
 pub record HasRun (sheet : Sheet) (n : ℕ) (reports : List (List ℕ)) (events : List Event) (k : ℕ) (bases : List Contents) (sent : List (List ℕ)) (told : List (ℕ × Refusal)) : Type 0 where

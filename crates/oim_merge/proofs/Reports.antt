@@ -46,7 +46,7 @@ added_then sheet reports (bytes ∷ others) =
 pub steps_are_list : StepsAreList
 steps_are_list sheet reports = added_then sheet [] reports
 
--- the added reports and the remaining reports are all reports
+-- the added reports, followed by the remaining ones, are all reports
 pub record HasAdded (sheet : Sheet) (a : Added) (left all : List (List ℕ)) : Type 0 where
   pub done : List (List ℕ)
   pub is : a ≡ added sheet done

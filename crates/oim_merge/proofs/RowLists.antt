@@ -73,7 +73,7 @@ lines_are_one = rows_are_one line_text
 
 -- ---- identifiers of facts
 
--- the identifier of a fact in a dimension set follows from the facts before it
+-- the identifier of a fact follows from its index in the dimension set, the number of facts before the set, and the number of all facts
 module _ (facts : List Fact) (rises : IsSet fact_cmp facts) (before : List Fact) (r : Row) (behind : List Fact) (split : facts ≡ before ++ (row_facts r ++ behind)) where
   any_fact : Fact
   any_fact = record { dimensions = r.0; value = Nil }
@@ -112,7 +112,7 @@ module _ (b : Body) (rises : IsSet fact_cmp b.facts) (done rest : List Row) (r :
       filled [] some = absurd (some refl)
       filled (v ∷ vs) some = omega arith
 
-  -- the row is part of all facts, so the count of facts does not overflow
+  -- the facts up to the end of the row are among all facts, so their count does not overflow
   pub row_within : length (rows_facts done) + length r.1 ≤ length b.facts
   row_within =
       let long : length (row_facts r) ≡ length r.1 = length-map r.1 (λ v. record { dimensions = r.0; value = v }) in

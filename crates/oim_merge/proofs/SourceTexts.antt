@@ -15,7 +15,7 @@ use Rattle.oim_merge.specs.Reports.{merged}
 use Rattle.oim_merge.specs.Run.{fault_of}
 use Rattle.oim_merge.specs.SourceListing.{AppendingStops}
 use Rattle.oim_merge.specs.Sources.{Mention, SourceText, mention_text, mentions_by_fact, sources_by}
-use Rattle.oim_merge.specs.declared.placed_mention.PlacedMention.{PlacedMention}
+use Rattle.oim_merge.specs.declared.sources.placed_mention.PlacedMention.{PlacedMention}
 
 add_one : (n : ℕ) → n + 1 ≡ suc n
 add_one n = omega arith
@@ -30,7 +30,7 @@ module _ (written : SourceText) where
       ∙ flat_map-map (placed_text written (length facts)) (placed facts) ms
       ∙ (λ i. flat_map (λ m. same_text facts m i) ms)
 
-  -- the texts of the mentions in a base of these reports
+  -- the texts of all mentions in these reports, by fact, are the texts of the sources
   pub merged_sources : (sheet : Sheet) (reports : List (List ℕ)) (base : Contents) (count : ℕ) (ms : List PlacedMention) → base ≡ record { sheet = sheet; body = merged sheet reports } → count ≡ length base.body.facts →
       ms ≡ all_placed base.body.facts (mentions_by_fact base.sheet reports) → flat_map (placed_text written count) ms ≡ sources_by written sheet reports
   merged_sources sheet reports base count ms is count_is placed_are =
@@ -38,7 +38,7 @@ module _ (written : SourceText) where
       ∙ sources_are base.body.facts (mentions_by_fact base.sheet reports) count count_is
       ∙ (λ i. flat_map (mention_text written (is i).body.facts) (mentions_by_fact (is i).sheet reports))
 
--- a fault in the texts is a fault of the listing
+-- if a first part of the header and the texts was appended before a fault, `AppendingStops` holds for that fault
 pub stops_at : (header : List ℕ) (written : SourceText) (sheet : Sheet) (reports : List (List ℕ)) {old new : Option (List ℕ)} (fault : WriteFault) →
     AppendsFront old new (header ++ sources_by written sheet reports) (written_of fault) → AppendingStops header written sheet reports old new (fault_of fault)
 stops_at header written sheet reports (OutOfMemory n) front = front

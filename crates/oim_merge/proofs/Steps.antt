@@ -19,9 +19,9 @@ use Rattle.oim_merge.specs.Bases.{base_of}
 use Rattle.oim_merge.specs.Replay.{world_of}
 use Rattle.oim_merge.specs.Replicas.{joined_with, wire, with_outcome}
 use Rattle.oim_merge.specs.Schedule.{happens, is_outside, names_none, numbered, receives}
-use Rattle.oim_merge.specs.declared.event.Event.{Event}
-use Rattle.oim_merge.specs.declared.event.Event.TheVariants.{Receive, Send}
-use Rattle.oim_merge.proofs.Schedules.{slice_there}
+use Rattle.oim_merge.specs.declared.schedules.event.Event.{Event}
+use Rattle.oim_merge.specs.declared.schedules.event.Event.TheVariants.{Receive, Send}
+use Rattle.oim_merge.proofs.ScheduleSteps.{slice_there}
 
 -- ---- joins
 

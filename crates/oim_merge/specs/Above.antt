@@ -26,7 +26,6 @@ abbrev pub some_above : Level → Option Verdict → Bool
 some_above level None = false
 some_above level (Some v) = is_above level v
 
--- true if the duplicates in the row are above the level
 abbrev pub row_is_above : Level → Row → Bool
 row_is_above level r = some_above level (verdict_of r.1)
 

@@ -13,11 +13,10 @@ pub record Added : Type 0 where
   pub refusals : List (ℕ × Refusal)
   pub reports : ℕ
 
--- the state before the first report
 abbrev pub begun : Sheet → Added
 begun sheet = record { sheet = sheet; body = body []; refusals = []; reports = 0 }
 
--- the state after one more report
+-- a refused report adds its refusal and no facts
 abbrev pub with_report : Added → List ℕ → Added
 with_report a bytes = record {
   sheet = a.sheet;
@@ -26,12 +25,11 @@ with_report a bytes = record {
   reports = a.reports + 1;
 }
 
--- the state after several more reports
 abbrev pub with_reports : Added → List (List ℕ) → Added
 with_reports a [] = a
 with_reports a (bytes ∷ reports) = with_reports (with_report a bytes) reports
 
--- the result of adding a list of reports
+-- the state after a list of reports, computed from the whole list
 abbrev pub added : Sheet → List (List ℕ) → Added
 added sheet reports = record { sheet = sheet; body = merged sheet reports; refusals = refused sheet reports; reports = length reports }
 

@@ -5,6 +5,5 @@ use Rattle.oim_report.specs.Sheet.{Sheet}
 use Rattle.fact_base.specs.Body.{body}
 use Rattle.fact_base.specs.Contents.{Contents}
 
--- the base that took these documents
 abbrev pub base_of : Sheet → List Document → Contents
 base_of sheet docs = record { sheet = sheet; body = body docs }

@@ -16,7 +16,6 @@ line_pieces bytes = slice_split is_line_end bytes
 abbrev pub sheet_piece : List ℕ → List ℕ
 sheet_piece bytes = before_first is_line_end bytes
 
--- the pieces that are not empty
 abbrev pub filled_pieces : List ℕ → List (List ℕ)
 filled_pieces bytes = filter is_filled (line_pieces bytes)
 

@@ -1,4 +1,4 @@
--- The result for an accepted report (own).
+-- The result of checking an accepted report (own).
 use Rattle.std.specs.Prelude.{◌≡◌, ◌↔◌, ℕ, List, [], ◌∷◌, length, IsTrue, Ok}
 use Rattle.oim_report.specs.Document.{Document}
 use Rattle.oim_report.specs.Duplicates.{level_of}
@@ -12,8 +12,8 @@ use Rattle.oim_merge.specs.declared.checked.Checked.{Checked}
 abbrev pub IsCanonicalOf : Document → List ℕ → Type 0
 IsCanonicalOf d bytes = bytes ≡ canonical (body (d ∷ []))
 
--- the report is accepted as a document. The result is the number of its facts, including repeated ones, their level of
--- duplicates, and whether the bytes are canonical
+-- the report is accepted as a document. The result contains the number of its facts, repeats included, the level that the
+-- facts satisfy, and whether the bytes are canonical
 pub record IsChecked (sheet : Sheet) (bytes : List ℕ) (checked : Checked) : Type 0 where
   pub document : Document
   pub read : outcome sheet bytes ≡ Ok document

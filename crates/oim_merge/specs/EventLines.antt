@@ -3,10 +3,10 @@ use Rattle.std.specs.Prelude.{◌≡◌, ℕ, ◌+◌, ◌^◌, ◌<◌, ◌≤�
 use Rattle.std.specs.Fmt.{decimal}
 use Rattle.std.specs.List.{AllZip}
 use Rattle.oim_merge.specs.Bundle.{line_pieces}
-use Rattle.oim_merge.specs.declared.event.Event.{Event}
-use Rattle.oim_merge.specs.declared.event.Event.TheVariants.{Take, Join, Send, Receive, Restart}
-use Rattle.oim_merge.specs.declared.replay_fault.ReplayFault.{ReplayFault}
-use Rattle.oim_merge.specs.declared.replay_fault.ReplayFault.TheVariants.{OutOfMemory, BadEvent}
+use Rattle.oim_merge.specs.declared.schedules.event.Event.{Event}
+use Rattle.oim_merge.specs.declared.schedules.event.Event.TheVariants.{Take, Join, Send, Receive, Restart}
+use Rattle.oim_merge.specs.declared.schedules.replay_fault.ReplayFault.{ReplayFault}
+use Rattle.oim_merge.specs.declared.schedules.replay_fault.ReplayFault.TheVariants.{OutOfMemory, BadEvent}
 
 -- a number that a line can spell
 abbrev pub IsNumber : ℕ → Type 0
@@ -19,7 +19,6 @@ word_and_one word n = word ++ 32 ∷ decimal n
 abbrev pub word_and_two : List ℕ → ℕ → ℕ → List ℕ
 word_and_two word m n = word ++ 32 ∷ (decimal m ++ 32 ∷ decimal n)
 
--- the line spells the event
 abbrev pub IsEventLine : List ℕ → Event → Type 0
 IsEventLine line (Take i r) = (line ≡ word_and_two (codes "take") i r) × (IsNumber i × IsNumber r)
 IsEventLine line (Join i j) = (line ≡ word_and_two (codes "join") i j) × (IsNumber i × IsNumber j)
@@ -51,7 +50,7 @@ lines_of bytes = without_empty_last (line_pieces bytes)
 abbrev pub SaysEvents : List ℕ → List Event → Type 0
 SaysEvents bytes events = AllZip IsEventLine (lines_of bytes) events
 
--- the line with this number, from 1, spells no event, and each earlier line spells one
+-- the line with this number, from 1, spells no event, and each earlier line spells an event
 pub record IsFirstBadLine (bytes : List ℕ) (number : ℕ) : Type 0 where
   pub before : List (List ℕ)
   pub line : List ℕ

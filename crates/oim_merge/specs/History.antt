@@ -34,20 +34,20 @@ documents_of (joined h k) = documents_of h ++ documents_of k
 abbrev pub HistoriesGiveBodies : Type 0
 HistoriesGiveBodies = (h : History) → body_of h ≡ body (documents_of h)
 
--- bases that the same documents reached write the same bytes, whatever the order, grouping and repetition
+-- if the same documents reached two bases, both write the same bytes, whatever the order, grouping and repetition
 abbrev pub HistoriesAreForgotten : Type 0
 HistoriesAreForgotten = (h k : History) → SameMembers (documents_of h) (documents_of k) → canonical (body_of h) ≡ canonical (body_of k)
 
--- bases that the same documents reached have the same verdicts
+-- if the same documents reached two bases, both have the same verdicts
 abbrev pub VerdictsAreForgotten : Type 0
 VerdictsAreForgotten =
     (h k : History) (s : DimensionSet) → SameMembers (documents_of h) (documents_of k) → verdict (body_of h).facts s ≡ verdict (body_of k).facts s
 
--- bases that the same documents reached have the same level
+-- if the same documents reached two bases, both have the same level
 abbrev pub LevelsAreForgotten : Type 0
 LevelsAreForgotten = (h k : History) → SameMembers (documents_of h) (documents_of k) → level_of (body_of h).facts ≡ level_of (body_of k).facts
 
--- bases that the same documents reached have the same references
+-- if the same documents reached two bases, both have the same references
 abbrev pub ReferencesAreForgotten : Type 0
 ReferencesAreForgotten = (h k : History) → SameMembers (documents_of h) (documents_of k) → (body_of h).references ≡ (body_of k).references
 
@@ -63,11 +63,11 @@ pub record IsReadAsBody (sheet : Sheet) (bytes : List ℕ) (b : Body) : Type 0 w
 abbrev pub TextsGiveBodies : Type 0
 TextsGiveBodies = (sheet : Sheet) (b : Body) → Fits sheet b → IsReadAsBody sheet (canonical b) b
 
--- the text in the earlier form is also read as that body
+-- if a body fits a sheet, the text of the body in the earlier form is also read as that body
 abbrev pub EarlierTextsGiveBodies : Type 0
 EarlierTextsGiveBodies = (sheet : Sheet) (b : Body) → Fits sheet b → IsReadAsBody sheet (earlier b) b
 
--- merging a merged text with itself and with any of its documents gives the same text
+-- merging a merged text with itself and with any of the documents that it was merged from gives the same text
 abbrev pub MergedTextsMerge : Type 0
 MergedTextsMerge =
     (sheet : Sheet) (docs some : List Document) (merged : Document) → All (IsAccepted sheet) docs → ((d : Document) → Contains some d → Contains docs d) →

@@ -5,9 +5,9 @@ use Rattle.fact_base.specs.Shown.{shown}
 use Rattle.fact_base.specs.declared.evidence.Evidence.{Evidence}
 use Rattle.oim_merge.specs.Lines.{RowText}
 use Rattle.oim_merge.specs.Named.{HasPlaces, named}
-use Rattle.oim_merge.specs.declared.judged_row.JudgedRow.{JudgedRow}
+use Rattle.oim_merge.specs.declared.verdicts.judged_row.JudgedRow.{JudgedRow}
 
--- the row has values, its facts are among all facts, and the indices in its evidence are within the row
+-- the row has values; the number of facts up to the end of the row is at most the number of all facts; the indices in the evidence are in range
 pub record IsJudged (j : JudgedRow) : Type 0 where
   pub some : 0 < length j.row.values.now
   pub room : j.identifiers.before + length j.row.values.now ≤ j.identifiers.count
@@ -17,7 +17,6 @@ pub record IsJudged (j : JudgedRow) : Type 0 where
 abbrev pub names_of : JudgedRow → ℕ → List ℕ
 names_of j = named j.identifiers.before j.identifiers.count
 
--- the text of a judged row in a format
 abbrev pub judged_text : RowText → JudgedRow → List ℕ
 judged_text written j = written (names_of j) j.number (shown j.row) j.evidence
 

@@ -1,5 +1,5 @@
--- The verdict lines, one for each dimension set, in order (own; the words are from the XBRL working group note on duplicate facts). In
--- bytes, a space is 32, a line end 10.
+-- The verdict lines, one for each dimension set, in order (own; the words for verdicts are from the XBRL working group note on duplicate
+-- facts). In bytes, a space is 32, and a line end is 10.
 use Rattle.std.specs.Prelude.{◌≡◌, ◌⊎◌, ℕ, suc, ◌-◌, List, [], ◌∷◌, ◌++◌, map, length, get_or, codes, Contains, Some}
 use Rattle.std.specs.Fmt.{decimal}
 use Rattle.oim_value.specs.Plain.{plain}
@@ -65,7 +65,6 @@ AreLines = AreRowsOf line_text
 abbrev pub LinesAreOne : Type 0
 LinesAreOne = (sheet : Sheet) (b : Body) → Fits sheet b → HasOneText (AreLines b)
 
--- the verdict that evidence shows
 abbrev pub verdict_shown : Evidence → Verdict
 verdict_shown Alike = Complete
 verdict_shown (Common c) = Consistent
@@ -77,7 +76,6 @@ LinesTellVerdicts =
     (sheet : Sheet) (b : Body) → Fits sheet b → (r : Row) → Contains (rows_of b.facts) r →
     (number : ℕ) (line : List ℕ) (is : IsRow line_text b.facts number r line) → verdict b.facts r.0 ≡ Some (verdict_shown is.evidence)
 
--- the word for a verdict
 abbrev pub verdict_word : Verdict → List ℕ
 verdict_word Complete = codes "complete"
 verdict_word Consistent = codes "consistent"
@@ -87,6 +85,6 @@ verdict_word Inconsistent = codes "inconsistent"
 abbrev pub BeginsWithWord : List ℕ → List ℕ → Type 0
 BeginsWithWord word text = (text ≡ word) ⊎ ((more : List ℕ) × (text ≡ word ++ 32 ∷ more))
 
--- the evidence in a line begins with the word for its verdict
+-- the text of evidence begins with the word for the verdict that the evidence shows
 abbrev pub WordsShowVerdicts : Type 0
 WordsShowVerdicts = (name : ℕ → List ℕ) (e : Evidence) → BeginsWithWord (verdict_word (verdict_shown e)) (evidence_text name e)

@@ -1,4 +1,4 @@
--- The bytes that a listing of rows appends, the refusals that it returns, and its faults (own).
+-- Calls that list rows: the appended bytes, the returned refusals, and the faults (own).
 use Rattle.std.specs.Prelude.{◌≡◌, ◌⊎◌, ℕ, Option, List, [], ◌++◌}
 use Rattle.std.specs.Io.KnownBytes.{Appends}
 use Rattle.oim_report.specs.Sheet.{Sheet}
@@ -18,7 +18,7 @@ module _ (header : List ℕ) (written : RowText) where
     pub are : AreRowsOf written b rows
     pub appended : Appends old new (header ++ rows)
 
-  -- a first part of the header and the rows was appended; `count` counts the appended bytes, and saturates
+  -- a first part of the header and the rows was appended; `count` is the number of these bytes, and saturates
   pub record AppendsFrontOfRows (b : Body) (old new : Option (List ℕ)) (count : ℕ) : Type 0 where
     pub rows : List ℕ
     pub are : AreRowsOf written b rows

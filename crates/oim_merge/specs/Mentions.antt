@@ -1,16 +1,16 @@
--- Mentions with the places of their facts (own).
+-- Mentions, each with the index of its fact (own).
 use Rattle.std.specs.Prelude.{ℕ, List, map, count_by}
 use Rattle.std.specs.Ordering.{is_lt}
 use Rattle.oim_dims.specs.FactOrder.{fact_cmp}
 use Rattle.oim_dims.specs.declared.fact.Fact.{Fact}
 use Rattle.oim_merge.specs.Sources.{Mention}
-use Rattle.oim_merge.specs.declared.placed_mention.PlacedMention.{PlacedMention}
+use Rattle.oim_merge.specs.declared.sources.placed_mention.PlacedMention.{PlacedMention}
 
 -- the number of these facts that are less than a fact
 abbrev pub place : List Fact → Fact → ℕ
 place facts f = count_by (λ g. is_lt (fact_cmp g f)) facts
 
--- a mention with the place of its fact among these facts
+-- a mention, with the number of these facts that are less than its fact
 abbrev pub placed : List Fact → Mention → PlacedMention
 placed facts m = record { place = place facts m.fact; report = m.report; identifier = m.identifier }
 

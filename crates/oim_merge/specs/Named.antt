@@ -8,7 +8,7 @@ use Rattle.oim_write.specs.Rank.{padded, width}
 abbrev pub named : ℕ → ℕ → ℕ → List ℕ
 named before count place = 102 ∷ padded (width count) (before + place + 1)
 
--- the indices in the evidence are less than this count
+-- the indices in the evidence are less than n
 abbrev pub HasPlaces : ℕ → Evidence → Type 0
 HasPlaces n Alike = ⊤
 HasPlaces n (Common c) = ⊤

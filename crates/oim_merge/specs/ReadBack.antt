@@ -21,7 +21,7 @@ use Rattle.oim_write.specs.Tree.{tree_declaring}
 abbrev pub document_at : Level → Body → Document
 document_at level b = record { facts = b.facts; references = b.references; level = level }
 
--- the text of a body that fits a sheet is read as the document with the level of its facts
+-- the text of a body that fits a sheet is read as the body's document, with the level of the facts
 abbrev pub CanonicalReadsBack : Type 0
 CanonicalReadsBack = (sheet : Sheet) (b : Body) → Fits sheet b → outcome sheet (canonical b) ≡ Ok (document_at (level_of b.facts) b)
 
@@ -35,12 +35,12 @@ EarlierReadsBack = (sheet : Sheet) (b : Body) → Fits sheet b → outcome sheet
 abbrev pub declaring : Level → Body → List ℕ
 declaring level b = compact_text (tree_declaring (Some level) b)
 
--- if the declared level is stricter than the level of the facts, the outcome is a refusal; otherwise it is the document
+-- if the declared level is stricter than the level of the facts, the outcome is the refusal `DisallowedDuplicates`; otherwise it is the document
 pub record IsHeldTo (declared found : Level) (d : Document) (said : Result Document Refusal) : Type 0 where
   pub refused : (said ≡ Err (at AtDocument DisallowedDuplicates)) ↔ IsTrue (is_lt (level_cmp declared found))
   pub read : (said ≡ Ok d) ↔ IsTrue (is_le (level_cmp found declared))
 
--- a text is refused if and only if its declared level is stricter than the level of its facts
+-- the text of a body that fits a sheet is refused if and only if the text declares a level stricter than the level of the facts
 abbrev pub LeastLevelIsDeclared : Type 0
 LeastLevelIsDeclared =
     (sheet : Sheet) (b : Body) (level : Level) → Fits sheet b →
@@ -48,7 +48,7 @@ LeastLevelIsDeclared =
 
 -- ---- canonical texts
 
--- the text of a body is the canonical text of the document that is read from it
+-- the text of a body that fits a sheet is the canonical text of the document that is read from it
 abbrev pub MergedTextsAreCanonical : Type 0
 MergedTextsAreCanonical = (sheet : Sheet) (b : Body) (d : Document) → Fits sheet b → outcome sheet (canonical b) ≡ Ok d → canonical b ≡ canonical (body (d ∷ []))
 

@@ -8,10 +8,10 @@ use Rattle.fact_base.specs.Contents.{Contents}
 use Rattle.oim_merge.specs.Replicas.{base_named, reached, report, wire}
 use Rattle.oim_merge.specs.Reports.{refusal_in}
 use Rattle.oim_merge.specs.Schedule.{IsFirstBad, NoneIsBad, World, world_after}
-use Rattle.oim_merge.specs.declared.event.Event.{Event}
-use Rattle.oim_merge.specs.declared.event.Event.TheVariants.{Take}
-use Rattle.oim_merge.specs.declared.replay_fault.ReplayFault.{ReplayFault}
-use Rattle.oim_merge.specs.declared.replay_fault.ReplayFault.TheVariants.{OutOfMemory, BadEvent}
+use Rattle.oim_merge.specs.declared.schedules.event.Event.{Event}
+use Rattle.oim_merge.specs.declared.schedules.event.Event.TheVariants.{Take}
+use Rattle.oim_merge.specs.declared.schedules.replay_fault.ReplayFault.{ReplayFault}
+use Rattle.oim_merge.specs.declared.schedules.replay_fault.ReplayFault.TheVariants.{OutOfMemory, BadEvent}
 
 -- the replicas, the texts that they sent, and the refused takes
 pub record Replay : Type 0 where
@@ -21,11 +21,11 @@ pub record Replay : Type 0 where
 abbrev pub world_of : List Contents → List (List ℕ) → World Contents (List ℕ)
 world_of bases sent = record { replicas = bases; sent = sent }
 
--- the texts at these indices
+-- an index beyond the end gives an empty text
 abbrev pub texts_at : List (List ℕ) → List ℕ → List (List ℕ)
 texts_at texts places = map (λ place. slice_index_or texts place []) places
 
--- the refusal of the report that an event takes
+-- the refusal of the report that an event takes, if the report is refused
 abbrev pub refused_by : Sheet → List (List ℕ) → Event → List (ℕ × Refusal)
 refused_by sheet reports (Take i r) = refusal_in r (outcome sheet (report reports r))
 refused_by sheet reports event = []

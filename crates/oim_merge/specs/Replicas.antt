@@ -1,4 +1,4 @@
--- Replicas that keep bases and exchange texts, and the reports that reached each of them (own).
+-- Replicas that keep bases and exchange texts, and the reports that reached each replica (own).
 use Rattle.std.specs.Prelude.{◌≡◌, ℕ, ◌-◌, List, [], ◌∷◌, ◌++◌, map, length, Some, Result, Ok, Err}
 use Rattle.std.specs.List.{AllZip, slice_index_or}
 use Rattle.std.specs.Ordering.{nat_cmp}
@@ -18,9 +18,9 @@ use Rattle.oim_merge.specs.Bases.{base_of}
 use Rattle.oim_merge.specs.History.{IsReadAsBody}
 use Rattle.oim_merge.specs.Reports.{accepted}
 use Rattle.oim_merge.specs.Schedule.{Machine, NoneIsBad, World, numbered, world_after}
-use Rattle.oim_merge.specs.declared.event.Event.{Event}
+use Rattle.oim_merge.specs.declared.schedules.event.Event.{Event}
 
--- the bytes of the report with this number
+-- reports have numbers from 1
 abbrev pub report : List (List ℕ) → ℕ → List ℕ
 report reports r = slice_index_or reports (r - 1) []
 
@@ -34,7 +34,7 @@ Numbers = List ℕ
 abbrev pub both : Numbers → Numbers → Numbers
 both a b = set_of nat_cmp (a ++ b)
 
--- the set with the number added, if its report is accepted
+-- the set, with the number added if the report with that number is accepted
 abbrev pub with_accepted : Result Document Refusal → ℕ → Numbers → Numbers
 with_accepted (Ok d) r numbers = both numbers (r ∷ [])
 with_accepted (Err refusal) r numbers = numbers
@@ -60,11 +60,10 @@ abbrev pub with_outcome : Result Document Refusal → Contents → Contents
 with_outcome (Ok d) base = record { sheet = base.sheet; body = union base.body (body (d ∷ [])) }
 with_outcome (Err refusal) base = base
 
--- a base joins another
 abbrev pub joined_with : Contents → Contents → Contents
 joined_with base other = record { sheet = base.sheet; body = union base.body other.body }
 
--- which version wrote a sent text: the present one, or an earlier one that declares no level
+-- which version wrote a sent text: the present one, or an earlier one whose texts declare no level
 pub data Writer : Type 0 where
   present : Writer
   earlier : Writer
@@ -89,7 +88,7 @@ wire sheet writers reports = record {
 
 -- ---- agreement
 
--- the base of the documents in a set
+-- the base that took the documents of the reports in a set
 abbrev pub base_named : Sheet → List (List ℕ) → Numbers → Contents
 base_named sheet reports numbers = base_of sheet (documents_named sheet reports numbers)
 
@@ -127,7 +126,7 @@ ReplicasSayAsAfresh =
     numbered (world_after (wire sheet writers reports) n events).replicas i ≡ Some base →
     SaysAsAfresh (documents_named sheet reports numbers) base
 
--- replicas that the same reports reached write the same bytes
+-- after every schedule without a bad event, two replicas write the same bytes if the same accepted reports reached both
 abbrev pub EqualSetsWriteTheSame : Type 0
 EqualSetsWriteTheSame =
     (sheet : Sheet) (writers : List Writer) (reports : List (List ℕ)) (n : ℕ) (events : List Event) → NoneIsBad n (length reports) events →

@@ -24,7 +24,7 @@ abbrev pub refusal_in : ℕ → Result Document Refusal → List (ℕ × Refusal
 refusal_in n (Ok d) = []
 refusal_in n (Err r) = (n, r) ∷ []
 
--- the refused reports in order; the first report has the number n
+-- the refusals in the order of the reports; the first report has the number n
 abbrev pub refused_from : ℕ → Sheet → List (List ℕ) → List (ℕ × Refusal)
 refused_from n sheet [] = []
 refused_from n sheet (bytes ∷ reports) = refusal_in n (outcome sheet bytes) ++ refused_from (suc n) sheet reports

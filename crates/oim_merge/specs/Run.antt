@@ -49,7 +49,7 @@ Stops level b refusals old new (SheetFault reason) = ⊥
 
 -- ---- reports
 
--- the text of the accepted reports was appended, and the refusals of the others were returned
+-- the accepted reports stay within the level, their text was appended, and the refusals of the others were returned
 abbrev pub Consolidates : Sheet → List (List ℕ) → Level → Option (List ℕ) → Option (List ℕ) → List (ℕ × Refusal) → Type 0
 Consolidates sheet reports level = Writes level (merged sheet reports) (refused sheet reports)
 
@@ -83,7 +83,7 @@ abbrev pub fault_of : WriteFault → Fault
 fault_of (WriteOutOfMemory n) = OutOfMemory n
 fault_of (WriteDevice n) = Device n
 
--- the failures of a sink that had failed n times: one more if and only if the device failed
+-- the failures of a sink that had failed n times: n + 1 if the device failed, otherwise n
 abbrev pub failures_after_run : {T : Type 0} → Result T Fault → ℕ → ℕ
 failures_after_run (Ok x) n = n
 failures_after_run (Err (Device w)) n = n + 1

@@ -1,8 +1,8 @@
 -- Schedules of events, for any kind of replica (own). Replicas, reports and sent messages have numbers from 1.
 use Rattle.std.specs.Prelude.{◌≡◌, ℕ, zero, suc, ◌+◌, ◌-◌, ◌<◌, Bool, true, false, ◌||◌, Option, Some, None, List, [], ◌∷◌, ◌++◌, length, filter, take, nat_lt, ◌==◌, slice_get, slice_set, replicate}
 use Rattle.std.specs.List.{slice_index_or}
-use Rattle.oim_merge.specs.declared.event.Event.{Event}
-use Rattle.oim_merge.specs.declared.event.Event.TheVariants.{Take, Join, Send, Receive, Restart}
+use Rattle.oim_merge.specs.declared.schedules.event.Event.{Event}
+use Rattle.oim_merge.specs.declared.schedules.event.Event.TheVariants.{Take, Join, Send, Receive, Restart}
 
 -- the element with this number, from 1
 abbrev pub numbered : {A : Type 0} → List A → ℕ → Option A
@@ -40,7 +40,7 @@ pub record IsBadAt (replicas reports : ℕ) (events : List Event) (place : ℕ) 
 abbrev pub NoneIsBad : ℕ → ℕ → List Event → Type 0
 NoneIsBad replicas reports events = (place : ℕ) → ¬ (IsBadAt replicas reports events place)
 
--- the event in this line, from 1, is the first bad one
+-- the event in this line, from 1, is the first bad event
 pub record IsFirstBad (replicas reports : ℕ) (events : List Event) (line : ℕ) : Type 0 where
   pub place : ℕ
   pub line_is : line ≡ place + 1
@@ -49,7 +49,7 @@ pub record IsFirstBad (replicas reports : ℕ) (events : List Event) (line : ℕ
 
 -- ---- a machine that runs schedules
 
--- S is the type of a replica's state, and M the type of its messages
+-- S is the type of a replica's state, and M is the type of its messages
 pub record Machine (S M : Type 0) : Type 0 where
   -- the state of a new or restarted replica
   pub fresh : S

@@ -8,13 +8,13 @@ use Rattle.oim_merge.specs.declared.read_fault.ReadFault.TheVariants.{OutOfMemor
 abbrev pub Gives : Option (List ℕ) → Option (List ℕ) → (List ℕ → Type 0) → Type 0
 Gives old new P = (given : List ℕ) × Consumes old new given × P given
 
--- the bytes before a fault: `Device` contains their number, `TooLong` means more than the limit, and `OutOfMemory` means any number
+-- the bytes before a fault: `Device` contains their number; for `TooLong`, they exceed the limit; for `OutOfMemory`, there is no condition
 abbrev pub GivesBefore : Option (List ℕ) → Option (List ℕ) → ℕ → ReadFault → Type 0
 GivesBefore old new limit OutOfMemory = Unit {0}
 GivesBefore old new limit (Device n) = Gives old new (λ given. length given ≡ n)
 GivesBefore old new limit TooLong = Gives old new (λ given. limit < length given)
 
--- the failures of a source that had failed n times: one more if and only if the device failed
+-- the failures of a source that had failed n times: n + 1 if the device failed, otherwise n
 abbrev pub failures_after_read : {T : Type 0} → Result T ReadFault → ℕ → ℕ
 failures_after_read (Ok x) n = n
 failures_after_read (Err OutOfMemory) n = n

@@ -1,4 +1,4 @@
--- The bytes that a listing of sources appends, the refusals that it returns, and its faults (own).
+-- Calls that list sources: the appended bytes, the returned refusals, and the faults (own).
 use Rattle.std.specs.Prelude.{◌≡◌, ℕ, Option, List, [], ◌++◌}
 use Rattle.std.specs.Io.KnownBytes.{Appends}
 use Rattle.oim_report.specs.Sheet.{Sheet}
@@ -15,7 +15,7 @@ module _ (header : List ℕ) (written : SourceText) (sheet : Sheet) (reports : L
     pub refusals_are : told ≡ refused sheet reports
     pub appended : Appends old new (header ++ sources_by written sheet reports)
 
-  -- a fault: a first part of the header and the sources was appended; the fault counts the appended bytes, and its count saturates
+  -- a fault: a first part of the header and the sources was appended; the fault contains the number of these bytes, which saturates
   abbrev pub AppendingStops : Option (List ℕ) → Option (List ℕ) → Fault → Type 0
   AppendingStops old new (OutOfMemory count) = AppendsFront old new (header ++ sources_by written sheet reports) count
   AppendingStops old new (Device count) = AppendsFront old new (header ++ sources_by written sheet reports) count

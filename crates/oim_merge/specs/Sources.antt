@@ -1,4 +1,4 @@
--- The sources of each fact: the fact objects in accepted reports that report it (own). In bytes, a space is 32, a line end 10.
+-- The sources of a fact: the objects in accepted reports that report the fact (own). In bytes, a space is 32, and a line end is 10.
 use Rattle.std.specs.Prelude.{◌≡◌, ℕ, suc, ◌-◌, Bool, Option, Some, None, List, [], ◌∷◌, ◌++◌, map, get_or, filter, flat_map, Contains, Result, Ok, Err}
 use Rattle.std.specs.Fmt.{decimal}
 use Rattle.std.specs.List.{AllZip}
@@ -37,7 +37,7 @@ mentions_of n None said = []
 mentions_of n (Some is) (Ok d) = mentions_in n is d.facts
 mentions_of n (Some is) (Err r) = []
 
--- the mentions in reports, numbered from n
+-- the mentions in reports; the first report has the number n
 abbrev pub mentions_from : ℕ → Sheet → List (List ℕ) → List Mention
 mentions_from n sheet [] = []
 mentions_from n sheet (bytes ∷ reports) = mentions_of n (identifiers bytes) (outcome sheet bytes) ++ mentions_from (suc n) sheet reports
@@ -45,11 +45,10 @@ mentions_from n sheet (bytes ∷ reports) = mentions_of n (identifiers bytes) (o
 abbrev pub mentions : Sheet → List (List ℕ) → List Mention
 mentions sheet reports = mentions_from 1 sheet reports
 
--- true if the mention is of this fact
 abbrev pub is_of : Fact → Mention → Bool
 is_of f m = is_eq (fact_cmp m.fact f)
 
--- the mentions grouped by fact
+-- the mentions in the order of the facts; the mentions of one fact keep their order
 abbrev pub by_fact : List Fact → List Mention → List Mention
 by_fact facts ms = flat_map (λ f. filter (is_of f) ms) facts
 

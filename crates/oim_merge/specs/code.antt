@@ -1,6 +1,6 @@
--- Definitions that only private code cites: event lines, cached readings, stored texts, buffered rows, and a law about verdict lines. No public contract uses them.
+-- Definitions that no public contract uses: parts of event lines, cached readings, stored texts, buffered rows, and a law about verdict lines.
 pub mod EventParts
 pub mod Held
-pub mod Kept
+pub mod Readings
 pub mod Listing
 pub mod SameLine

@@ -3,10 +3,10 @@ ghost use Rattle.oim_merge.specs.Added.{added};
 ghost use Rattle.oim_merge.specs.Bundle.{filled_pieces};
 ghost use Rattle.oim_merge.specs.Run.{BundleStops, ConsolidatesBundle, failures_after_run};
 
+use crate::consolidation::Consolidation;
 use crate::fault::Fault;
-use crate::line_cut::cut_line;
-use crate::merging::Consolidation;
 use crate::refusals::Refusals;
+use crate::schedules::line_cut::cut_line;
 use oim_names::Reason;
 use oim_report::Sheet;
 use oim_value::Level;

@@ -13,19 +13,19 @@ use oim_value::Level;
 use oim_write::text;
 use std::alloc::{AllocError, Global};
 
-/// The result for an accepted report.
+/// The result of checking an accepted report.
 #[derive(Clone, Copy, Debug, PartialEq, Eq)]
 pub struct Checked {
-    /// The number of its facts. Repeated facts count each time.
+    /// The number of facts in the report. A repeated fact counts each time.
     pub facts: u64,
-    /// The strictest level of duplicates that its facts satisfy.
+    /// The strictest level of duplicates that the facts satisfy.
     pub level: Level,
-    /// True if its bytes are the canonical text of its facts and references.
+    /// True if the report's bytes are the canonical text of its facts and references.
     pub canonical: bool,
 }
 
-/// Reads a report under a sheet, counts its facts, finds their level, and compares its bytes with
-/// its canonical text (xBRL-JSON 1.0; levels: OIM Common 1.0; the canonical text is own). The
+/// Reads a report under a sheet. Returns the number of its facts, their level, and whether the
+/// bytes are canonical (xBRL-JSON 1.0; levels: OIM Common 1.0; the canonical text is our own). The
 /// report and its canonical text may be in memory at the same time.
 ///
 /// Errors: the report's first refusal, with its place; `OutOfMemory`, at the document.

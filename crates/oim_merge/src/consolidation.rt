@@ -1,19 +1,27 @@
-ghost use Rattle.std.specs.Prelude.{◌≡◌, ◌-◌, ◌^◌, ◌<◌, IfOk, IfErr, MatchOption};
-ghost use Rattle.oim_merge.specs.Above.{IsFirstAbove, StaysWithin, is_above};
+ghost use Rattle.std.specs.Prelude.{◌≡◌, [], ◌+◌, ◌-◌, ◌^◌, ◌<◌, IfOk, IfErr, OnOk, OnErr};
+ghost use Rattle.oim_merge.specs.Added.{added, begun, with_report};
+ghost use Rattle.oim_merge.specs.Lines.{line_text};
+ghost use Rattle.oim_merge.specs.Listing.{ListStops, Lists};
 ghost use Rattle.oim_merge.specs.Run.{Consolidates, ConsolidationStops, Stops, Writes, failures_after_run};
 
+use crate::allowed_level::write_within;
 use crate::fault::Fault;
-use crate::merging::Consolidation;
+use crate::merged::Merged;
+use crate::reading::read;
 use crate::refusals::Refusals;
-use fact_base::{Base, Verdict};
-use oim_report::Sheet;
+use crate::verdicts::verdict_line::VerdictLines;
+use crate::verdicts::verdict_listing::write_verdicts;
+use fact_base::Gathering;
+use oim_report::{ReportReader, Sheet};
 use oim_value::Level;
-use oim_write::{Encoded, Sink, write_to};
-use std::alloc::Global;
+use oim_write::{Encoded, Sink};
+use std::alloc::{AllocError, Global};
+use std::marker::Model;
+use std::mem;
 
 /// Merges reports under a sheet. Writes the canonical text of the accepted reports to the sink
-/// (xBRL-JSON 1.0; the choice of prefixes and identifiers is own). Returns the refusals with the
-/// numbers of their reports, from 1.
+/// (xBRL-JSON 1.0; the choice of prefixes and identifiers is our own). Returns the refusals with
+/// the numbers of their reports, from 1.
 ///
 /// Errors: `TooLoose` if a dimension set has duplicates above `allow`, with nothing written;
 /// `Device` if the sink failed; `OutOfMemory`.
@@ -35,54 +43,168 @@ pub fn consolidate<S: Sink>(
     consolidation.finish(allow, out)
 }
 
-pub(crate) fn write_within<S: Sink>(
+/// Merges reports one at a time. A consolidation stores the facts and references of the accepted
+/// reports, the refusals, the number of all reports, the prefixes of one report, and a limited
+/// number of short texts of reports. It borrows the sheet under which it reads reports.
+#[derive(Drop)]
+pub struct Consolidation<'s> {
     alloc: Global,
-    base: &Base<'_>,
+    reader: ReportReader<'s>,
+    gathered: Gathering<'s>,
     refusals: Refusals,
-    allow: Level,
-    out: &mut S,
-) -> Result<Refusals, Fault>
-    requires { S.failures out.old < 2 ^ 64 - 1 }
-    ensures ok { IfOk result (Writes allow base.now.body refusals (S.told out.old) (S.told out.new)) }
-    ensures err { IfErr result (Stops allow base.now.body refusals (S.told out.old) (S.told out.new)) }
-    ensures failures { S.failures out.new ≡ failures_after_run result (S.failures out.old) }
-{
-    if let Some(row) = first_above(base, allow) {
-        return Err(Fault::TooLoose {
-            row,
-            refused: refusals,
-        });
-    }
-    match write_to(alloc, base, out) {
-        Ok(()) => Ok(refusals),
-        Err(fault) => Err(Fault::from(fault)),
-    }
+    reports: u64,
 }
 
-fn first_above(base: &Base<'_>, allow: Level) -> Option<u64>
-    ensures { MatchOption result (StaysWithin allow base.now.body) (IsFirstAbove allow base.now.body) }
-{
-    if allow == Level::All {
-        return None;
-    }
-    // the count of rows fits in a `u64`, so `number` does not overflow
-    let _most = base.row_count();
-    let mut number = 0;
-    for row in base.rows() {
-        number += 1;
-        if is_above(allow, row.verdict()) {
-            return Some(number);
+impl<'s> Model for Consolidation<'s> {
+    ghost use Rattle.std.specs.Prelude.{◌≡◌};
+    ghost use Rattle.std.specs.Coded.{codes};
+    ghost use Rattle.oim_report.specs.code.SheetCode.{sheet_code};
+    ghost use Rattle.oim_merge.specs.Added.{Added};
+
+    ghost Value = { Added };
+
+    ghost coded = { Prim.hlevel (codes, sheet_code) };
+
+    ghost view = { λ c. record { sheet = c.gathered.sheet; body = c.gathered.body; refusals = c.refusals; reports = c.reports } };
+
+    ghost invariant = { λ c. c.reader ≡ c.gathered.sheet };
+}
+
+impl<'s> Consolidation<'s> {
+    /// Starts a merge without reports. Reports are read under the sheet. Later calls request memory
+    /// from `alloc`.
+    pub fn new(alloc: Global, sheet: &'s Sheet) -> Consolidation<'s>
+        ensures { result ≡ begun sheet.now }
+    {
+        Consolidation {
+            alloc,
+            reader: ReportReader::new(alloc, sheet),
+            gathered: Gathering::new(alloc, sheet),
+            refusals: Refusals::new(alloc),
+            reports: 0,
         }
     }
-    None
-}
 
-fn is_above(allow: Level, verdict: Verdict) -> bool
-    ensures { result ≡ is_above allow verdict }
-{
-    match allow {
-        Level::All => false,
-        Level::Consistent => verdict == Verdict::Inconsistent,
-        Level::Complete | Level::Unique => verdict != Verdict::Complete,
+    pub(crate) fn of(
+        alloc: Global,
+        sheet: &'s Sheet,
+        reports: &[Encoded],
+    ) -> Result<Consolidation<'s>, AllocError>
+        ensures { IfOk result (λ consolidation. consolidation ≡ added sheet.now reports.now) }
+    {
+        let mut consolidation = Consolidation::new(alloc, sheet);
+        for report in reports {
+            consolidation.add(report.as_bytes())?;
+        }
+        Ok(consolidation)
+    }
+
+    /// Reads one more report under the sheet and adds its facts and references, or stores its
+    /// refusal with the number of the report, from 1.
+    ///
+    /// Errors: out of memory; then nothing changes, and the report can be added again.
+    pub fn add(&mut self, bytes: &[u8]) -> Result<(), AllocError>
+        requires { self.old.reports + 1 < 2 ^ 64 }
+        ensures ok { OnOk result (self.new ≡ with_report self.old bytes.now) }
+        ensures err { OnErr result (self.new ≡ self.old) }
+    {
+        // The contract of `sheet` states that the facts so far fit the sheet.
+        let _sheet = self.gathered.sheet();
+        let number = self.reports + 1;
+        match read(&mut self.reader, bytes)? {
+            Ok(report) => self.gathered.add(report)?,
+            Err(refusal) => self.refusals.push(number, refusal)?,
+        }
+        self.reports = number;
+        Ok(())
+    }
+
+    /// Writes the canonical text of the accepted reports to the sink, as `consolidate` does, and
+    /// returns the refusals.
+    ///
+    /// Errors: `TooLoose` if a dimension set has duplicates above `allow`, with nothing written;
+    /// `Device` if the sink failed; `OutOfMemory`.
+    pub fn finish<S: Sink>(self, allow: Level, out: &mut S) -> Result<Refusals, Fault>
+        requires { S.failures out.old < 2 ^ 64 - 1 }
+        ensures ok { IfOk result (Writes allow self.entry.body self.entry.refusals (S.told out.old) (S.told out.new)) }
+        ensures err { IfErr result (Stops allow self.entry.body self.entry.refusals (S.told out.old) (S.told out.new)) }
+        ensures failures { S.failures out.new ≡ failures_after_run result (S.failures out.old) }
+    {
+        let alloc = self.alloc;
+        let Ok(Merged { base, refusals }) = self.into_merged() else {
+            return Err(Fault::OutOfMemory(0));
+        };
+        write_within(alloc, &base, refusals, allow, out)
+    }
+
+    /// Does the same as `finish`, but does not free the facts. This saves time if the program exits
+    /// afterwards.
+    ///
+    /// Errors: the same as `finish`.
+    pub fn finish_last<S: Sink>(self, allow: Level, out: &mut S) -> Result<Refusals, Fault>
+        requires { S.failures out.old < 2 ^ 64 - 1 }
+        ensures ok { IfOk result (Writes allow self.entry.body self.entry.refusals (S.told out.old) (S.told out.new)) }
+        ensures err { IfErr result (Stops allow self.entry.body self.entry.refusals (S.told out.old) (S.told out.new)) }
+        ensures failures { S.failures out.new ≡ failures_after_run result (S.failures out.old) }
+    {
+        let alloc = self.alloc;
+        let Ok(Merged { base, refusals }) = self.into_merged() else {
+            return Err(Fault::OutOfMemory(0));
+        };
+        let written = write_within(alloc, &base, refusals, allow, out);
+        mem::forget(base);
+        written
+    }
+
+    /// Appends one line for each dimension set of the accepted reports to the sink, as
+    /// `verdict_lines` does, and returns the refusals.
+    ///
+    /// Errors: `Device` if the sink failed; `OutOfMemory`.
+    pub fn finish_lines<S: Sink>(self, out: &mut S) -> Result<Refusals, Fault>
+        requires { S.failures out.old < 2 ^ 64 - 1 }
+        ensures ok { IfOk result (Lists [] line_text self.entry.body self.entry.refusals (S.told out.old) (S.told out.new)) }
+        ensures err { IfErr result (ListStops [] line_text self.entry.body (S.told out.old) (S.told out.new)) }
+        ensures failures { S.failures out.new ≡ failures_after_run result (S.failures out.old) }
+    {
+        let alloc = self.alloc;
+        let Ok(Merged { base, refusals }) = self.into_merged() else {
+            return Err(Fault::OutOfMemory(0));
+        };
+        write_verdicts(alloc, &base, refusals, &VerdictLines, out)
+    }
+
+    /// Does the same as `finish_lines`, but does not free the facts (see `finish_last`).
+    ///
+    /// Errors: the same as `finish_lines`.
+    pub fn finish_lines_last<S: Sink>(self, out: &mut S) -> Result<Refusals, Fault>
+        requires { S.failures out.old < 2 ^ 64 - 1 }
+        ensures ok { IfOk result (Lists [] line_text self.entry.body self.entry.refusals (S.told out.old) (S.told out.new)) }
+        ensures err { IfErr result (ListStops [] line_text self.entry.body (S.told out.old) (S.told out.new)) }
+        ensures failures { S.failures out.new ≡ failures_after_run result (S.failures out.old) }
+    {
+        let alloc = self.alloc;
+        let Ok(Merged { base, refusals }) = self.into_merged() else {
+            return Err(Fault::OutOfMemory(0));
+        };
+        let written = write_verdicts(alloc, &base, refusals, &VerdictLines, out);
+        mem::forget(base);
+        written
+    }
+
+    /// Returns the base of the accepted reports, and the refusals.
+    ///
+    /// Errors: out of memory.
+    pub fn into_merged(self) -> Result<Merged<'s>, AllocError>
+        ensures base { IfOk result
+            (λ merged. merged.base ≡ record { sheet = self.entry.sheet; body = self.entry.body }) }
+        ensures refusals { IfOk result (λ merged. merged.refusals ≡ self.entry.refusals) }
+    {
+        let Consolidation {
+            gathered,
+            refusals,
+            ..
+        } = self;
+        let base = gathered.into_base()?;
+        Ok(Merged { base, refusals })
     }
 }

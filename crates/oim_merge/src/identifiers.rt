@@ -18,7 +18,7 @@ pub struct Identifiers {
 }
 
 impl Identifiers {
-    /// The identifier of the fact at an index, from 0.
+    /// The identifier of the row's fact at this index, from 0.
     ///
     /// Errors: out of memory.
     pub fn at(&self, index: usize) -> Result<Text, AllocError>

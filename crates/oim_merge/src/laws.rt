@@ -29,25 +29,26 @@ pub fn canonical_reads_back()
     ensures { CanonicalReadsBack }
 {}
 
-/// The text in the earlier form of a body that fits a sheet is read as the same facts and
-/// references. It declares no level, so all duplicates are allowed.
+/// The earlier form of the text of a body that fits a sheet is read as the same facts and
+/// references. The earlier form declares no level, so all duplicates are allowed.
 pub fn earlier_reads_back()
     ensures { EarlierReadsBack }
 {}
 
-/// A text declares the strictest level that its facts satisfy. With a stricter level the text would
-/// be refused; with a looser level it would be accepted.
+/// The text of a body that fits a sheet declares the strictest level that the facts satisfy. If the
+/// text declared a stricter level, it would be refused; with a looser level, it would be accepted.
 pub fn least_level_is_declared()
     ensures { LeastLevelIsDeclared }
 {}
 
-/// A body stays within a level if and only if its text declares that level or a stricter one.
+/// A body that fits a sheet stays within a level if and only if its text declares that level or a
+/// stricter one.
 pub fn allowed_is_declared()
     ensures { AllowedIsDeclared }
 {}
 
-/// A new base that takes the report read from a body's text has that body. The text may have the
-/// present form or the earlier one.
+/// The text of a body that fits a sheet is accepted, and a new base that takes the report has that
+/// body. The text may be in the canonical form or in the earlier form.
 pub fn texts_give_bodies()
     ensures present { TextsGiveBodies }
     ensures earlier { EarlierTextsGiveBodies }
@@ -61,7 +62,8 @@ pub fn bases_read_back(base: &Base<'_>)
     let _sheet = base.sheet();
 }
 
-/// The text of a body is the canonical text of the document that is read from it.
+/// The text of a body that fits a sheet is the canonical text of the document that is read from
+/// the text.
 pub fn merged_texts_are_canonical()
     ensures { MergedTextsAreCanonical }
 {}
@@ -72,8 +74,8 @@ pub fn earlier_is_not_canonical()
 {}
 
 /// A base has the body of the documents that reached it, directly or through bases that it joined.
-/// So bases that the same accepted reports reached have the same bytes, verdicts, level and
-/// references, whatever the order, grouping and repetition.
+/// So two bases have the same bytes, verdicts, level and references if the same documents reached
+/// both, whatever the order, grouping and repetition.
 pub fn histories_are_forgotten()
     ensures body { HistoriesGiveBodies }
     ensures bytes { HistoriesAreForgotten }
@@ -82,7 +84,8 @@ pub fn histories_are_forgotten()
     ensures references { ReferencesAreForgotten }
 {}
 
-/// Merging a merged text with itself and with any of its reports gives the same text.
+/// Merging a merged text with itself and with any of the reports that it was merged from gives the
+/// same text.
 pub fn merged_texts_merge()
     ensures { MergedTextsMerge }
 {}
@@ -92,8 +95,8 @@ pub fn lines_are_one()
     ensures { LinesAreOne }
 {}
 
-/// The evidence in a line shows the verdict on its dimension set and begins with the word for that
-/// verdict.
+/// The evidence in a line shows the verdict on the line's dimension set. The text of the evidence
+/// begins with the word for that verdict.
 pub fn lines_tell_verdicts()
     ensures verdict { LinesTellVerdicts }
     ensures word { WordsShowVerdicts }
@@ -114,20 +117,22 @@ pub fn sources_ignore_order()
     ensures { SourcesIgnoreOrder }
 {}
 
-/// After every schedule without a bad event, a replica has the base of the documents that reached
-/// it, and each sent text is accepted, whichever version wrote it. No replica is added or lost.
+/// After every schedule without a bad event, each replica has the base of the documents that
+/// reached it. Each sent text is accepted, whichever version wrote the text. No replica is added or
+/// lost.
 pub fn wire_agrees()
     ensures agrees { WireAgrees }
     ensures stay { ReplicasStay }
 {}
 
-/// After every schedule without a bad event, a replica has the text, verdicts, values and level of
-/// a new merge of the reports that reached it.
+/// After every schedule without a bad event, each replica has the text, verdicts, values and level
+/// of a new merge of the reports that reached it.
 pub fn replicas_say_as_afresh()
     ensures { ReplicasSayAsAfresh }
 {}
 
-/// Two replicas that the same reports reached write the same bytes.
+/// After every schedule without a bad event, two replicas write the same bytes if the same accepted
+/// reports reached both.
 pub fn equal_sets_write_the_same()
     ensures { EqualSetsWriteTheSame }
 {}

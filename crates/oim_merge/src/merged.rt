@@ -2,7 +2,7 @@ ghost use Rattle.std.specs.Prelude.{◌≡◌, IfOk};
 ghost use Rattle.oim_merge.specs.Bases.{base_of};
 ghost use Rattle.oim_merge.specs.Reports.{accepted, refused};
 
-use crate::merging::Consolidation;
+use crate::consolidation::Consolidation;
 use crate::refusals::Refusals;
 use fact_base::Base;
 use oim_report::Sheet;

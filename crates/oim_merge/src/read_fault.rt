@@ -3,7 +3,7 @@ use thiserror::Error;
 /// Why a source was not read to its end.
 #[derive(Clone, Copy, Debug, PartialEq, Eq, Error)]
 pub enum ReadFault {
-    /// Memory was refused.
+    /// Memory was refused. The bytes that were read are lost.
     #[error("out of memory")]
     OutOfMemory,
     /// The source failed after this many bytes.

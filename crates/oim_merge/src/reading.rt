@@ -3,7 +3,7 @@ ghost use Rattle.oim_report.specs.Identifiers.{identifiers};
 ghost use Rattle.oim_report.specs.Outcome.{outcome};
 
 use oim_names::{Reason, Text};
-use oim_report::{Refusal, Report, ReportReader, Sheet, read_identified};
+use oim_report::{Refusal, Report, ReportReader, Sheet};
 use std::alloc::{AllocError, Global};
 
 /// Reads a report, or returns its refusal.
@@ -41,19 +41,19 @@ pub(crate) fn read_alone<'s>(
     read(&mut reader, bytes)
 }
 
-/// Reads a report under the sheet with the identifiers of its facts, or returns its refusal.
+/// Reads a report with the identifiers of its facts, or returns its refusal.
 ///
 /// Errors: out of memory, which is not a refusal here.
 pub(crate) fn read_with_identifiers<'s>(
-    alloc: Global,
-    sheet: &'s Sheet,
+    reader: &mut ReportReader<'s>,
     bytes: &[u8],
 ) -> Result<Result<(Report<'s>, Vec<Text>), Refusal>, AllocError>
-    ensures { IfOk result (λ read. MatchResult read
-        (λ told. (outcome sheet.now bytes.now ≡ Ok told.0.document) × (identifiers bytes.now ≡ Some told.1.items))
-        (λ refusal. outcome sheet.now bytes.now ≡ Err refusal)) }
+    ensures same { reader.new ≡ reader.old }
+    ensures read { IfOk result (λ read. MatchResult read
+        (λ told. (outcome reader.old bytes.now ≡ Ok told.0.document) × (identifiers bytes.now ≡ Some told.1.items))
+        (λ refusal. outcome reader.old bytes.now ≡ Err refusal)) }
 {
-    match read_identified(alloc, sheet, bytes) {
+    match reader.read_identified(bytes) {
         Ok(read) => Ok(Ok(read)),
         Err(why) if why.reason == Reason::OutOfMemory => Err(AllocError),
         Err(refusal) => Ok(Err(refusal)),

@@ -21,7 +21,7 @@ impl Model for Refusals {
 }
 
 impl Refusals {
-    /// An empty list. It takes no memory.
+    /// Returns an empty list. This requests no memory.
     pub fn new(alloc: Global) -> Refusals
         ensures { result ≡ [] }
     {
@@ -41,7 +41,7 @@ impl Refusals {
         Ok(())
     }
 
-    /// The report numbers and their refusals.
+    /// The refusals, each after the number of its report.
     pub fn as_slice(&self) -> &[(u64, Refusal)]
         ensures { result.now ≡ self.now }
     {

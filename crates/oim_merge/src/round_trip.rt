@@ -6,7 +6,7 @@ use oim_write::text;
 use std::alloc::{AllocError, Global};
 
 /// Makes the canonical text of a base, reads it under the base's sheet, takes the report into a new
-/// base, and returns the new base. It equals the given base (own).
+/// base, and returns the new base. The two bases are equal (own).
 ///
 /// Errors: out of memory.
 pub fn read_back<'s>(alloc: Global, base: &Base<'s>) -> Result<Base<'s>, AllocError>

@@ -2,7 +2,7 @@ ghost use Rattle.std.specs.Prelude.{◌≡◌, ℕ, ◌+◌, ◌-◌, ◌^◌, �
 ghost use Rattle.std.specs.Io.{ReadsAtMost};
 ghost use Rattle.std.specs.Io.KnownBytes.{ReadConsumes};
 
-/// A source failed.
+/// The error of a source that failed. The failed call gave no bytes.
 #[derive(Clone, Copy, Debug, PartialEq, Eq)]
 pub struct SourceError;
 
@@ -14,9 +14,9 @@ pub trait Source {
     /// The number of failures so far.
     ghost failures: { Self → ℕ };
 
-    /// Writes its next bytes to the start of the buffer and returns their number. The number is 0
-    /// only at the end, or if the buffer is empty. On an error it gives no bytes and counts one
-    /// more failure.
+    /// Writes the next bytes to the start of the buffer and returns their number. The number is 0
+    /// only at the end, or if the buffer is empty. On an error, the source gives no bytes and
+    /// counts one more failure.
     fn get(&mut self, buffer: &mut [u8]) -> Result<usize, SourceError>
         requires { failures self.old < 2 ^ 64 - 1 }
         ensures bytes { ReadConsumes (told self.old) (told self.new) result buffer.new }

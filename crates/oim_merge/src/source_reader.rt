@@ -7,14 +7,15 @@ use crate::source::{Source, SourceError};
 use oim_write::Encoded;
 use std::alloc::{AllocError, Global};
 
-/// The fewest and the most bytes by which the buffer grows at once; it grows by less only to end at
-/// its greatest size. The growth increases with the bytes read, so small files need little memory.
+/// The buffer grows by at least `FEWEST` and at most `MOST` bytes at once. Only its last growth may
+/// be less, so that its size stays within the limit plus one byte. The growth increases with the
+/// bytes read, so small files need little memory.
 const FEWEST: usize = 1 << 12;
 
 const MOST: usize = 1 << 16;
 
-/// Reads a source of at most `limit` bytes to its end and releases unused memory. It asks the source
-/// at most `limit` + 1 times, since each answer but the last has at least one byte.
+/// Reads a source of at most `limit` bytes to its end and releases unused memory. This takes at
+/// most `limit` + 1 reads, since each read but the last returns at least one byte.
 ///
 /// Errors: `TooLong` if the source has more than `limit` bytes; `Device` if it failed;
 /// `OutOfMemory`.

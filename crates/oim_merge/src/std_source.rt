@@ -22,7 +22,7 @@ impl<R: Read> StdSource<R> {
         }
     }
 
-    /// The reader.
+    /// Returns the reader and drops the number of failures.
     pub fn into_inner(self) -> R
         ensures { result ≡ self.reader }
     {

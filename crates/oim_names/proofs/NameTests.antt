@@ -1,4 +1,4 @@
--- A name is refused for a reason exactly if the test for that reason holds.
+-- A name or an entity is refused for a reason exactly if the test for that reason holds.
 use Rattle.std.proofs.Common.{◌≡◌, ℕ, List, Bool, true, false, not, ◌&&◌, refl}
 use Rattle.std.specs.Prelude.{Option, Some, None, is_none, if◌then◌else◌}
 use Rattle.std.specs.Option.{option_eq, option_map_or}
@@ -10,7 +10,7 @@ use Rattle.oim_names.specs.contracts.reason.ReasonPartialEq.TheImpl.{eq-value as
 use Rattle.oim_names.specs.declared.reason.Reason.{Reason}
 use Rattle.oim_names.specs.declared.reason.Reason.TheVariants.{NameForm, UnboundPrefix, ReservedNamespace}
 
--- whether a name is refused for this reason, given whether it has the form, and the URI that its prefix is bound to, if any
+-- whether a text is refused for this reason; `form`: the text has the form; `uri`: the URI that its prefix is bound to, if any
 abbrev refuses_so : Reason → Bool → Option (List ℕ) → Bool
 refuses_so NameForm form uri = not form
 refuses_so UnboundPrefix form uri = form && is_none uri

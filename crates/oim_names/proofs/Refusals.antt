@@ -1,4 +1,4 @@
--- A text is refused exactly if it does not expand to a name, and for the reason whose test holds.
+-- A text is refused exactly if it does not expand to a name. The refusal is the reason whose test holds.
 use Rattle.std.proofs.Common.{◌≡◌, ◌≢◌, ◌↔◌, ℕ, List, Bool, true, false, refl, sym, ◌∙◌, ap}
 use Rattle.std.specs.Prelude.{Option, Some, None, is_none, IsTrue, not, ◌&&◌, if◌then◌else◌}
 use Rattle.std.specs.Option.{option_map_or}

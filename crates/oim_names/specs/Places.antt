@@ -2,7 +2,7 @@
 use Rattle.std.specs.Prelude.{ℕ, List, length, ◌+◌, ◌-◌, ◌*◌, ◌%◌}
 use Rattle.std.specs.List.{slice_index_or}
 
--- the byte at a distance from a text's end; the first byte if the text is shorter than the distance, and 0 if the text is empty
+-- the byte at a distance of at least 1 from a text's end; the first byte if the text is shorter, and 0 if the text is empty
 abbrev pub byte_from_end : List ℕ → ℕ → ℕ
 byte_from_end t back = slice_index_or t (length t - back) 0
 
@@ -10,6 +10,6 @@ byte_from_end t back = slice_index_or t (length t - back) 0
 unfoldable pub text_class : List ℕ → ℕ
 text_class t = (length t % 2048 + 31 * (byte_from_end t 1 + 31 * (byte_from_end t 2 + 31 * (byte_from_end t 3 + 31 * byte_from_end t 4)))) % 2048
 
--- the index that is stored for a text's class
+-- the index stored for a text's class, or 0 if `places` is too short
 abbrev pub place_in : List ℕ → List ℕ → ℕ
 place_in places t = slice_index_or places (text_class t) 0

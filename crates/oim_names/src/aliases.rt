@@ -19,8 +19,8 @@ use std::marker::Model;
 const RESERVED: &str = "https://xbrl.org/2021";
 
 /// Prefixes and the URIs that they are bound to. Contracts see the bindings in the order in which
-/// they were added. Adding n bindings takes about n log n steps, and finding the URI of a prefix
-/// among them takes at most about log n steps.
+/// they were added. Adding n bindings takes about n log n steps. Finding the URI of a prefix among
+/// n bindings takes about log n steps, or fewer if the cache has the prefix's index.
 #[derive(Debug, Drop)]
 pub struct Aliases {
     bindings: Vec<Binding>,
@@ -59,7 +59,7 @@ impl Aliases {
         self.bindings.as_slice() == other.bindings.as_slice()
     }
 
-    /// Binds the prefix to the URI. Binding it to the same URI again, or an error, changes nothing.
+    /// Binds the prefix to the URI. A repeated binding or an error changes nothing.
     ///
     /// Errors: `Namespace` if the prefix is empty or contains white space or a colon, if the URI is
     /// empty, or if the prefix is bound to another URI (XML Namespaces 1.0, section 3; the last
@@ -121,7 +121,7 @@ impl Aliases {
         }
     }
 
-    /// Does nothing. Its contract states that each prefix is well-formed and bound once, and that
+    /// Does nothing. The contract states that each prefix is well-formed and bound once, and that
     /// no URI is empty.
     pub fn known(&self)
         ensures { AreBindings self.now }
@@ -155,7 +155,7 @@ impl Aliases {
         Ok(named(*self.bindings.allocator(), uri, local)?)
     }
 
-    /// Returns the URI and the local part of a prefixed name. It does not allocate.
+    /// Returns the URI and the local part of a prefixed name. The call does not allocate.
     ///
     /// Errors: the reason that `name_refusal` returns.
     pub fn resolve<'a>(&'a self, text: &'a str) -> Result<(&'a str, &'a str), Reason>
@@ -168,8 +168,8 @@ impl Aliases {
         Ok((uri.as_str(), local))
     }
 
-    /// Returns why `expand` refuses the text under these bindings, or None. It tests in this order:
-    /// `NameForm`, `UnboundPrefix`, `ReservedNamespace`. It does not allocate.
+    /// Returns why `expand` refuses the text under these bindings, or None. The order of the tests
+    /// is `NameForm`, `UnboundPrefix`, `ReservedNamespace`. The call does not allocate.
     pub fn name_refusal(&self, text: &str) -> Option<Reason>
         ensures { result ≡ name_refusal self.now text.now }
     {
@@ -205,21 +205,8 @@ impl Aliases {
         Ok(named(*self.bindings.allocator(), uri, identifier)?)
     }
 
-    /// Returns the scheme's URI and the identifier of an entity. It does not allocate.
-    ///
-    /// Errors: the reason that `entity_refusal` returns.
-    pub fn resolve_entity<'a>(&'a self, text: &'a str) -> Result<(&'a str, &'a str), Reason>
-        ensures ok { IfOk result (λ parts. ExpandsEntity self.now text.now
-            (record { uri = parts.0.now; local_part = parts.1.now })) }
-        ensures uri { IfOk result (λ parts. parts.0.now ≢ []) }
-        ensures refused { result_err result ≡ entity_refusal self.now text.now }
-    {
-        let (uri, identifier) = self.entity_parts(text)?;
-        Ok((uri.as_str(), identifier))
-    }
-
-    /// Returns why `expand_entity` refuses the text under these bindings, or None. It tests in this
-    /// order: `NameForm`, `UnboundPrefix`, `ReservedNamespace`. It does not allocate.
+    /// Returns why `expand_entity` refuses the text under these bindings, or None. The order of the
+    /// tests is `NameForm`, `UnboundPrefix`, `ReservedNamespace`. The call does not allocate.
     pub fn entity_refusal(&self, text: &str) -> Option<Reason>
         ensures { result ≡ entity_refusal self.now text.now }
     {

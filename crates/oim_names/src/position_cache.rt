@@ -5,9 +5,10 @@ use std::marker::Model;
 
 const CLASSES: usize = 2048;
 
-/// Remembers one index for each class of texts, usually the index of the text that was added last.
-/// The index is only a hint: it may be out of range, or the index of another text. So callers
-/// compare the text at the index. Texts of one length with the same last four bytes share a class.
+/// A cache with one index for each class of texts: usually the index at which a text of the class
+/// was last added. The index is only a hint: it may be out of range or belong to another text. So
+/// callers compare the text at the index. Texts of equal length with the same last four bytes share
+/// a class.
 #[derive(Clone, Copy, Debug)]
 pub struct PositionCache {
     places: [u16; CLASSES],
@@ -31,14 +32,14 @@ impl PositionCache {
         }
     }
 
-    /// Returns the index that is remembered for the class of the text.
+    /// Returns the index that is stored for the class of the text.
     pub fn place(&self, text: &str) -> usize
         ensures { result ≡ place_in self.now text.now }
     {
         usize::from(self.places[class_of(text)])
     }
 
-    /// Remembers that the text was added at the index. An index above 65,535 is not remembered.
+    /// Stores the index for the class of the text. An index above 65,535 is not stored.
     pub fn set(&mut self, text: &str, place: usize)
         ensures { place ≤ 65535 → place_in self.new text.now ≡ place }
     {

@@ -24,14 +24,14 @@ impl Model for Text {
 }
 
 impl Text {
-    /// Returns a text with these bytes.
+    /// Copies a string slice into a new text.
     pub fn new(alloc: Global, text: &str) -> Result<Text, AllocError>
         ensures { IfOk result (λ made. made ≡ text.now) }
     {
         Text::from_string(alloc, String::from_str(alloc, text)?)
     }
 
-    /// Returns a text that takes over the bytes of a string without a copy.
+    /// Returns a text that takes over a string. The bytes are not copied.
     pub fn from_string(alloc: Global, text: String) -> Result<Text, AllocError>
         ensures { IfOk result (λ made. made ≡ string_bytes text) }
     {
@@ -41,7 +41,7 @@ impl Text {
         Ok(Text { text })
     }
 
-    /// Returns the text as a string slice.
+    /// Returns the text as a string slice. The contract also states that the bytes are UTF-8.
     pub fn as_str(&self) -> &str
         ensures bytes { result.now ≡ self.now }
         ensures utf8 { IsUtf8 self.now }

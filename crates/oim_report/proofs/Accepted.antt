@@ -1,4 +1,4 @@
--- If a fact object is accepted, each of its parts denotes a part of the fact.
+-- If a fact object is accepted, its parts denote the fact.
 use Rattle.std.proofs.Common.{◌≡◌, List, Option, Some, None, Ok, refl, ap, ◌∙◌}
 use Rattle.std.specs.Prelude.{option_and_then}
 use Rattle.std.specs.Option.{option_map}

@@ -1,4 +1,4 @@
--- The faults are the conditions that apply and are not hidden by another fault.
+-- `told` lists the conditions that apply to a fact object, and the shown conditions of a document.
 use Rattle.std.proofs.Common.{◌≡◌, List, [], ◌∷◌, refl}
 use Rattle.std.specs.List.{filter}
 use Rattle.oim_names.specs.Bindings.{Binding}

@@ -1,4 +1,4 @@
--- A fact object is refused for the least condition that applies.
+-- A fact object is refused for the lowest-numbered condition that applies.
 use Rattle.std.proofs.Common.{◌≡◌, List, Result, Ok, Err, refl, sym, ap, ◌∙◌}
 use Rattle.std.specs.Prelude.{◌↔◌, Option, Some, None, option_and_then}
 use Rattle.std.specs.Result.{result_err}

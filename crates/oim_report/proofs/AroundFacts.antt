@@ -1,4 +1,4 @@
--- The text of a document: the members before `facts`, the pieces of `facts`, and the members after it.
+-- A document's text denotes the members before `facts`, `facts` with the members of its pieces, and the members after `facts`.
 use Rattle.std.proofs.Common.{◌≡◌, ℕ, ◌≤◌, Bool, true, false, ◌||◌, ◌==◌, inl, inr, ◌⊎◌, List, [], ◌∷◌, ◌++◌, Some, option_map, option_and_then, refl, sym, ap, ◌∙◌, subst, arith, append_assoc, append-nil}
 use Rattle.std.specs.Prelude.{codes}
 use Rattle.std.proofs.lemmas.Bool.{eqb-true}
@@ -147,7 +147,7 @@ pub record Gives (text : List ℕ) (n : ℕ) (found : d.Members) : Type 0 where
   pub gives : of_members ms d.no_members ≡ Some found
   pub shallow : members_depth ms ≤ n
 
--- a piece is read inside an array and an object, so it is nested at most 125 levels deep
+-- a piece is read inside an array and an object, so its members are nested at most 125 levels deep
 pub piece_gives : (a : List ℕ) (found : d.Members) → IsPiece a found → Gives a 125 found
 piece_gives a found p =
     let r = piece_as a found p in

@@ -1,4 +1,4 @@
--- The entries of `namespaces`, bound one after another. Since their keys ascend, each binds a free prefix.
+-- The entries of `namespaces` are bound one after another. Since their keys ascend, no prefix is bound twice.
 use Rattle.std.proofs.Common.{◌≡◌, ℕ, List, [], ◌∷◌, ◌++◌, Bool, true, false, cond, not, ◌||◌, Option, Some, None, string_bytes, string_cmp, String, Global, Less, nat_cmp, is_eq, bytes_eq, append_assoc, append-nil, refl, sym, ap, ◌∙◌}
 use Rattle.std.specs.Option.{option_map, option_map_or, unwrap_or}
 use Rattle.std.specs.List.{find, AllByRecursion}

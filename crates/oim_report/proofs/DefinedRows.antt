@@ -73,7 +73,7 @@ pub read_name : {E : Type 0} (bs : List Binding) (t : List ℕ) (read : Result Q
 read_name bs t read e refused (Ok o) h = h.0 ∙ as_read bs t read e refused h.1
 read_name bs t read e refused (Err x) h = h
 
--- ---- the first name of a fact that is refused
+-- ---- the first refused name of a fact
 
 same_names : (p : Bool) (each : List ℕ × Data → List Spelled) (m : List ℕ × Data) (ms : List (List ℕ × Data)) (ns : List Spelled) → ns ≡ flat_map each ms → ((if p then each m else []) ++ ns) ≡ flat_map each (cond p (m ∷ ms) ms)
 same_names true each m ms ns is = ap (λ l. each m ++ l) is

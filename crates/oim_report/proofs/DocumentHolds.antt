@@ -1,4 +1,4 @@
--- A document is refused for the least condition that applies.
+-- A test of a document's conditions in two groups finds the lowest-numbered condition that applies.
 use Rattle.std.proofs.Common.{◌≡◌, ℕ, suc, List, [], ◌∷◌, length, map, Bool, true, false, not, ◌||◌, ◌&&◌, cond, refl, sym, ap, ◌∙◌, arith}
 use Rattle.std.specs.Prelude.{Option, Some, None, bytes_eq, codes, if◌then◌else◌, is_none, is_some, nat_lt, option_and_then, option_map}
 use Rattle.std.specs.Option.{option_map_or}

@@ -1,4 +1,4 @@
--- The first of several conditions that applies.
+-- The first condition that applies.
 use Rattle.std.proofs.Common.{◌≡◌, List, [], ◌∷◌, Bool, true, false, refl}
 use Rattle.std.specs.Prelude.{Option, Some, None, if◌then◌else◌}
 use Rattle.oim_names.specs.declared.reason.Reason.{Reason}

@@ -136,7 +136,7 @@ dimensions_clean ms = record {
   defined = defined_clean ms;
 }
 
--- the value and the dimensions of a fact object are UTF-8
+-- the value and the dimensions of a fact object, except the period, are UTF-8 if they are texts
 pub record AreClean (p : FactParts) : Type 0 where
   pub value : IsClean p.value
   pub dimensions : (ds : DimensionParts) → p.dimensions ≡ Some ds → AreCleanDimensions ds
@@ -153,7 +153,7 @@ parts_clean ms = record {
 pub are_clean : (d : Data) (p : FactParts) → fact_parts d ≡ Some p → AreClean p
 are_clean d p e = let ms = map_some parts_of (as_object d) p e in subst AreClean ms.2 (parts_clean ms.0)
 
--- ---- each part that the object denotes fits the sheet
+-- ---- each part of the denoted fact fits the sheet
 
 text_clean : (g : Given) (t : List ℕ) → IsClean g → text_of g ≡ Some t → IsUtf8 t
 text_clean g t clean e = clean t (text_is g t e)

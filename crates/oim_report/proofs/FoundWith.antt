@@ -1,4 +1,5 @@
--- Reading a part of a document returns the value that the definition has, or refuses the part if there is none.
+-- Unless memory runs out, reading a part of a document returns the part's defined value, or refuses the part if no value is
+-- defined.
 use Rattle.std.proofs.Common.{◌≡◌, ◌≢◌, ◌⊎◌, inl, inr, List, [], ◌∷◌, Bool, true, false, not, ◌&&◌, ◌==◌, length, subst, arith, Result, Ok, Err, refl, sym, ap}
 use Rattle.std.specs.Prelude.{Option, Some, None, if◌then◌else◌, is_none, is_some, IfOk, IfErr}
 use Rattle.std.proofs.lemmas.Bool.Decides.{nat_tests}

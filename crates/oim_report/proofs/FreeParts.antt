@@ -173,7 +173,7 @@ period_said nil free = let no : true ≡ false = free.is_text in absurd (cc)
 period_said (whole n) free = let no : true ≡ false = free.is_text in absurd (cc)
 period_said other free = let no : true ≡ false = free.is_text in absurd (cc)
 
--- a part that only numeric concepts may have is present for a concept of another kind
+-- the part is present, although the concept is not numeric
 abbrev pub is_misplaced : ConceptKind → Given → Bool
 is_misplaced kind g = not (is_absent g) && (same_concept_kind Text kind || same_concept_kind Name kind)
 

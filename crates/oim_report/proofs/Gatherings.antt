@@ -1,4 +1,4 @@
--- The names of a sheet while the group of the current namespace is kept outside the map.
+-- The names of a sheet, while the group of the current namespace is outside the map.
 use Rattle.std.proofs.Common.{◌≡◌, ◌≢◌, ℕ, List, [], ◌∷◌, ◌++◌, true, false, cond, Option, Some, None, String, string_bytes, refl, sym, ap, subst, ◌∙◌}
 use Rattle.std.specs.Prelude.{IfSome, OnOk, Result, Ok, Err, is_some, option_map, bytes_eq}
 use Rattle.std.specs.Borrow.{Bor}

@@ -1,4 +1,4 @@
--- The members of taxonomy-defined dimensions are collected and sorted once.
+-- The members of taxonomy-defined dimensions are all collected before they are sorted.
 use Rattle.std.proofs.Common.{◌≡◌, ◌⊎◌, inl, inr, ⊎_elim, ℕ, zero, suc, ◌≤◌, ◌<◌, ◌+◌, length, drop, get_or, append-nil, List, [], ◌∷◌, ◌++◌, false, ◌||◌, Some, None, refl, sym, ap, subst, ◌∙◌, arith}
 use Rattle.std.specs.Prelude.{Contains, IsTrue, IsPermutation, if◌then◌else◌}
 use Rattle.std.specs.Borrow.{Bor}
@@ -12,7 +12,7 @@ use Rattle.oim_dims.specs.DimensionSet.{has_name, repeats, rises, with_member}
 use Rattle.oim_dims.specs.declared.member.Member.{Member}
 use Rattle.oim_dims.proofs.Places.{old_or_new, old_is_kept, new_is_there}
 use Rattle.oim_report.specs.declared.dimension_kind.DimensionKind.{DimensionKind}
-use Rattle.oim_report.specs.declared.fact.given.Given.{Given as Lent}
+use Rattle.oim_report.specs.declared.fact.json_member.JsonMember.{JsonMember}
 use Rattle.oim_report.specs.Names.{comes_again, named}
 use Rattle.oim_report.specs.Said.{dimension_kind, dimension_names, members_with, said_member, said_members}
 use Rattle.oim_report.specs.code.SeenParts.{seen_defined}
@@ -66,7 +66,7 @@ none_left [] (suc i) past = refl
 none_left (x ∷ xs) zero past = absurd (omega (arith, past))
 none_left (x ∷ xs) (suc i) past = none_left xs i (omega (arith, past))
 
-module _ (sheet : Sheet) (bs : List Binding) (xs : List (Bor (List ℕ) × Lent)) (found : List Item) where
+module _ (sheet : Sheet) (bs : List Binding) (xs : List (Bor (List ℕ) × JsonMember)) (found : List Item) where
   -- the state of the loop before index i
   pub record AreFound (i : ℕ) : Type 0 where
     pub names : names_of found ++ dimension_names bs (seen_defined (drop i xs)) ≡ dimension_names bs (seen_defined xs)
@@ -84,7 +84,7 @@ module _ (sheet : Sheet) (bs : List Binding) (xs : List (Bor (List ℕ) × Lent)
       (λ x c. Contains-permutation found sorted x moved (⊎_elim (λ old. absurd (none_in x old)) (λ one. one) (old_or_one found [] x c)))
       (λ x c. each_is_there found [] x (Contains-permutation sorted found x (IsPermutation-sym found sorted moved) c)))
 
-pub found_more : (sheet : Sheet) (bs : List Binding) (xs : List (Bor (List ℕ) × Lent)) (found new : List Item) (i : ℕ) (x : Bor (List ℕ) × Lent) (within : i < length xs) (kind : DimensionKind) (n : QName) (m : Member) → let d = seen_item (get_or xs i x) in
+pub found_more : (sheet : Sheet) (bs : List Binding) (xs : List (Bor (List ℕ) × JsonMember)) (found new : List Item) (i : ℕ) (x : Bor (List ℕ) × JsonMember) (within : i < length xs) (kind : DimensionKind) (n : QName) (m : Member) → let d = seen_item (get_or xs i x) in
     dimension_kind sheet bs d.0 ≡ Some kind → named bs d.0 ≡ Some n → said_member bs (Some kind) d.1 ≡ Some m → new ≡ found ++ (n, m) ∷ [] → AreFound sheet bs xs found i → AreFound sheet bs xs new (i + 1)
 found_more sheet bs xs found new i x within kind n m known names said pushed are =
     let d = seen_item (get_or xs i x) in

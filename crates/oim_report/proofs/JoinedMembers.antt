@@ -1,4 +1,5 @@
--- If each of two texts is read as members, the two joined by a comma are read as the members of both.
+-- Suppose that a comma joins two texts of members, each with at least one member, and that the first text ends with a closing
+-- brace. Then the joined text is read as the members of both texts.
 use Rattle.std.proofs.Common.{◌≡◌, ℕ, suc, ◌-◌, ◌≤◌, Bool, true, false, List, [], ◌∷◌, ◌++◌, Some, inl, inr, ◌⊎◌, refl, sym, ap, ◌∙◌, subst, arith, append_assoc, append-nil}
 use Rattle.std.proofs.lemmas.List.{append_cancel_right}
 use Rattle.std.proofs.lemmas.Bool.{false≢true}

@@ -1,4 +1,4 @@
--- The text of an http or https URL is read as that URL, so keeping a kept text again does not change it.
+-- The text of an http or https URL parses as that URL. A kept text stays the same if it is kept again without a base URL.
 use Rattle.std.proofs.Common.{◌≡◌, ℕ, ◌||◌, ◌⊎◌, inl, inr, ⊎_elim, Bool, true, false, not, List, codes, bytes_eq, Option, Some, None, Ok, Err, refl, sym, ap, ◌∙◌, subst}
 use Rattle.std.specs.Option.{option_map_or}
 use Rattle.std.specs.Str.{is_utf8, IsUtf8}
@@ -45,7 +45,7 @@ web_text-valid url valid utf8 web =
     ap (λ o. option_map_or (λ u. bytes_eq (serialize u) (serialize url)) o false) reads ∙ same_bytes (serialize url) in
     cond-true _ _ _ (and_from _ _ (is_utf8-from_IsUtf8 (serialize url) utf8) same)
 
--- parsing succeeded, with an http or https URL that has this text
+-- parsing returned an http or https URL with this text
 abbrev has_text : List ℕ → Parsed Parts → Bool
 has_text text r = option_map_or (λ url. bytes_eq (serialize url) text) (web_url r) false
 

@@ -1,4 +1,4 @@
--- The references of a report are kept texts.
+-- The references of an accepted report are kept texts.
 use Rattle.std.proofs.Common.{◌≡◌, ℕ, List, [], ◌∷◌, Bool, true, false, cond, Option, Some, None, refl, sym, ap, subst, ◌∙◌, arith}
 use Rattle.std.proofs.lemmas.List.Elements.{All-cons}
 use Rattle.std.specs.Prelude.{ℤ, All, option_and_then}

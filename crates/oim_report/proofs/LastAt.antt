@@ -18,7 +18,7 @@ use Rattle.oim_report.specs.PlainJson.{IsBefore}
 use Rattle.oim_report.proofs.PutMembers.{Ascends}
 use mathlib.Core.Bool.{false≢true}
 
--- the value at a key after these members are read, given the value that was found before
+-- the value at a key once these members are read; the second argument is the value found in earlier members
 abbrev pub last_at : List ℕ → Option Data → Members → Option Data
 last_at name found no_members = found
 last_at name found (member key d ms) = last_at name (if bytes_eq name key then Some d else found) ms

@@ -63,7 +63,7 @@ pub mod ListedKinds
 pub mod AcceptedWhereFree
 pub mod RefusedWhereHeld
 pub mod PlainFact
-pub mod GlossaryAdds
+pub mod TextCacheAdds
 pub mod KeyedFacts
 pub mod FoundWith
 pub mod ComesAgain

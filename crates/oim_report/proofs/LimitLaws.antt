@@ -1,4 +1,4 @@
--- A value that was read is nested within the limit.
+-- A value that was read is not nested deeper than the limit.
 use Rattle.std.proofs.Common.{◌≡◌, Bool, true, false, cond, Option, Some, None}
 use Rattle.std.specs.Str.{is_utf8}
 use Rattle.serde_json.specs.Data.{Data}

@@ -1,4 +1,4 @@
--- The map of concepts or dimensions has exactly the names and kinds that the sheet's member lists.
+-- The maps of an accepted sheet have exactly the names and kinds in the sheet's members `concepts` and `dimensions`.
 use Rattle.std.proofs.Common.{◌≡◌, ◌⊎◌, inl, inr, ℕ, List, [], ◌∷◌, ◌++◌, Bool, true, false, cond, not, Option, Some, None, Ok, refl, sym, ap, subst, ◌∙◌}
 use Rattle.std.specs.Prelude.{◌↔◌}
 use Rattle.std.specs.Option.{option_map_or}
@@ -25,7 +25,7 @@ use Rattle.oim_report.proofs.RisingNames.{name_total}
 use Rattle.oim_report.proofs.SheetEntries.{tied}
 
 module _ {K : Type 0} (kind_named : List ℕ → Option K) (same : K → K → Bool) (same_is : (k l : K) → same k l ≡ true → k ≡ l) (bs : List Binding) where
-  -- ---- the member lists each entry of the map
+  -- ---- each entry of the map is in the member
 
   by_tie : (b : Bool) (n m : QName) (j k : K) (rest : Option K) → eq_by_cmp name_cmp n m ≡ b → cond b (Some j) rest ≡ Some k → ((Some m ≡ Some n) × (Some j ≡ Some k)) ⊎ (rest ≡ Some k)
   by_tie true n m j k rest t e = inl (ap Some (sym (tied true n m t refl)), e)
@@ -46,7 +46,7 @@ module _ {K : Type 0} (kind_named : List ℕ → Option K) (same : K → K → B
     | inr there ↦ later key d ms n k (is_said ms n k there)
   ]
 
-  -- ---- the map has each entry that the member lists
+  -- ---- each entry of the member is in the map
 
   past_entry : (test : QName × K → Bool) (o : Option QName) (p : Option K) (es : List (QName × K)) → list_any test (entry kind_named same o p ++ es) ≡ false → list_any test es ≡ false
   past_entry test (Some m) (Some j) es e = (or_parts (test (m, j)) (list_any test es) e).1

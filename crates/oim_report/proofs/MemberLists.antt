@@ -8,8 +8,8 @@ use Rattle.oim_names.specs.Bindings.{Binding}
 use Rattle.oim_dims.specs.DimensionSet.{with_member}
 use Rattle.oim_dims.specs.declared.member.Member.{Member}
 use Rattle.oim_report.specs.declared.dimension_kind.DimensionKind.{DimensionKind}
-use Rattle.oim_report.specs.declared.fact.given.Given.{Given as Lent}
-use Rattle.oim_report.specs.code.Given.{seen}
+use Rattle.oim_report.specs.declared.fact.json_member.JsonMember.{JsonMember}
+use Rattle.oim_report.specs.code.JsonMember.{seen}
 use Rattle.oim_report.specs.Json.{Given}
 use Rattle.oim_report.specs.Names.{named}
 use Rattle.oim_report.specs.Said.{dimension_kind, dimension_names, members_with, said_member}
@@ -19,10 +19,10 @@ use Rattle.oim_report.specs.Sheet.{Sheet}
 abbrev pub names_of : List (QName × Member) → List QName
 names_of es = map (λ e. e.0) es
 
-abbrev pub seen_item : Bor (List ℕ) × Lent → List ℕ × Given
+abbrev pub seen_item : Bor (List ℕ) × JsonMember → List ℕ × Given
 seen_item x = (x.0.now, seen x.1)
 
-pub next_defined : (xs : List (Bor (List ℕ) × Lent)) (i : ℕ) (x : Bor (List ℕ) × Lent) → i < length xs → seen_defined (drop i xs) ≡ seen_item (get_or xs i x) ∷ seen_defined (drop (i + 1) xs)
+pub next_defined : (xs : List (Bor (List ℕ) × JsonMember)) (i : ℕ) (x : Bor (List ℕ) × JsonMember) → i < length xs → seen_defined (drop i xs) ≡ seen_item (get_or xs i x) ∷ seen_defined (drop (i + 1) xs)
 next_defined xs i x within = rw (add-one, drop-cons xs i x) refl
 
 pub members_more : (sheet : Sheet) (bs : List Binding) (d : List ℕ × Given) (ds : List (List ℕ × Given)) (kind : DimensionKind) (es : List (QName × Member)) (n : QName) (m : Member) → dimension_kind sheet bs d.0 ≡ Some kind → named bs d.0 ≡ Some n → said_member bs (Some kind) d.1 ≡ Some m → members_with sheet bs es (d ∷ ds) ≡ members_with sheet bs (with_member n m es) ds

@@ -156,7 +156,7 @@ pub rising_found : (ms : j.Members) (old found : Members) → of_members ms old 
 rising_found j.no_members old found e h = let same : old ≡ found = Prim.cc in subst IsRising same h
 rising_found (j.member k v ms) old found e h = let t = then_some _ (of_json v) found e in rising_found ms (put k t.0 old) found t.2 (rising_put k t.0 old h)
 
--- ---- the members of a text, added to others
+-- ---- the members of a text, added to other members
 
 of_members_onto : (ms : j.Members) (old found onto : Members) → IsRising old → of_members ms old ≡ Some found → of_members ms (put_all old onto) ≡ Some (put_all found onto)
 of_members_onto j.no_members old found onto h e = let same : old ≡ found = Prim.cc in ap (λ l. Some (put_all l onto)) same

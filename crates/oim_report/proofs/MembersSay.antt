@@ -1,4 +1,4 @@
--- `said_members` returns exactly the members that the keys denote. These members fit the sheet.
+-- If `said_members` returns a list, it contains exactly the members that the keys denote, and these members fit the sheet.
 use Rattle.std.proofs.Common.{◌≡◌, ◌≢◌, ◌⊎◌, inl, inr, ⊎_elim, ℕ, zero, suc, ◌<◌, length, get_or, List, [], ◌∷◌, Bool, true, false, Option, Some, None, refl, sym, ap, subst, ◌∙◌, arith}
 use Rattle.std.specs.Prelude.{All, Contains, IsTrue, if◌then◌else◌, option_and_then}
 use Rattle.std.specs.List.{list_any}

@@ -1,4 +1,5 @@
--- Several names are refused if one of them is refused. The reason is the first of three that applies to some name.
+-- A list of names is refused if one of the names is refused. Of the three reasons, the first that applies to some name is
+-- returned.
 use Rattle.std.proofs.Common.{◌≡◌, List, [], ◌∷◌, ◌++◌, Bool, true, false, not, ◌||◌, ◌&&◌, refl, sym, ◌∙◌}
 use Rattle.std.specs.Prelude.{Option, Some, None, if◌then◌else◌}
 use Rattle.std.proofs.lemmas.Bool.{or_parts}
@@ -9,7 +10,7 @@ use Rattle.oim_names.specs.declared.reason.Reason.{Reason}
 use Rattle.oim_names.specs.declared.reason.Reason.TheVariants.{NameForm, UnboundPrefix, ReservedNamespace}
 use Rattle.oim_report.specs.Names.{names_refusal, refuses_some}
 
--- the first of three reasons that applies to some name
+-- of the three reasons, the first that applies to some name
 abbrev pub by_any : Bool → Bool → Bool → Option Reason
 by_any form prefix namespace =
     if form then Some NameForm else (if prefix then Some UnboundPrefix else (if namespace then Some ReservedNamespace else None))
@@ -36,7 +37,7 @@ free_one true true r h k l = absurd (cc)
 free_one true false true h k l = absurd (cc)
 free_one true false false h k l = refl
 
--- none of several names is refused
+-- no name of the list is refused
 pub record AreFree (bs : List Binding) (ns : List Spelled) : Type 0 where
   pub form : refuses_some NameForm bs ns ≡ false
   pub prefix : refuses_some UnboundPrefix bs ns ≡ false

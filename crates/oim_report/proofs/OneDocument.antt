@@ -1,4 +1,4 @@
--- A report denotes at most one document, part by part.
+-- Under one sheet, a report denotes at most one document.
 use Rattle.std.proofs.Common.{◌≡◌, ℕ, ℤ, List, [], ◌∷◌, Option, Some, None, Result, Ok, refl, sym, ap, subst, ◌∙◌}
 use Rattle.std.specs.Prelude.{IsTrue, IfSome}
 use Rattle.std.specs.List.{AllZip}

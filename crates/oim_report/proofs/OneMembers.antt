@@ -1,4 +1,4 @@
--- Keys denote at most one list of members that is sorted by name.
+-- The taxonomy-defined dimensions of a fact denote at most one list of members that is sorted by name.
 use Rattle.std.proofs.Common.{◌≡◌, ⊎_elim, ℕ, List, [], ◌∷◌, true, Option, Some, refl, sym, ap, subst, ◌∙◌}
 use Rattle.std.specs.Prelude.{Any, Contains, IsTrue}
 use Rattle.std.specs.Ordering.{is_lt}

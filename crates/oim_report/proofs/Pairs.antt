@@ -84,7 +84,7 @@ permuted l fs gs p h =
 pub allows_each-IsPermutation : (l : Level) (fs gs : List Fact) → IsPermutation fs gs → allows_each l fs ≡ allows_each l gs
 allows_each-IsPermutation l fs gs p = both_ways _ _ (permuted l fs gs p) (permuted l gs fs (IsPermutation-sym fs gs p))
 
--- ---- the strictest level of three tests
+-- ---- the strictest level, by the results of three tests
 
 abbrev pub strictest : Bool → Bool → Bool → Level
 strictest u c s = cond u Unique (cond c Complete (cond s Consistent AllLevel))
@@ -127,7 +127,7 @@ all_are_allowed fs = allowed_each AllLevel fs (λ i j d under within. let f : Fa
     or_true true = refl
     or_true false = refl
 
--- whether a level passes, given the results of the three tests
+-- whether a level allows the facts, by the results of the three tests
 abbrev pub test_at : Level → Bool → Bool → Bool → Bool
 test_at Unique u c s = u
 test_at Complete u c s = c

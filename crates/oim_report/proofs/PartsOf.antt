@@ -10,8 +10,8 @@ use Rattle.serde_json.specs.Find.{as_object}
 use Rattle.serde_json.specs.View.{view, members_view}
 use Rattle.serde_json.specs.declared.value.Value.{Value}
 use Rattle.serde_json.proofs.Views.{Entry}
-use Rattle.oim_report.specs.declared.fact.given.Given.{Given as Lent}
-use Rattle.oim_report.specs.code.Given.{seen}
+use Rattle.oim_report.specs.declared.fact.json_member.JsonMember.{JsonMember}
+use Rattle.oim_report.specs.code.JsonMember.{seen}
 use Rattle.oim_report.specs.Json.{Given, given, given_of, any_member, has_colon, has_member, is_unknown, is_no_object}
 use Rattle.oim_report.specs.Parts.{DimensionParts, FactParts, core_keys, fact_keys, defined_in, dimension_parts, parts_of}
 use Rattle.oim_report.specs.code.SeenParts.{seen_defined}
@@ -41,7 +41,7 @@ dimensions_found c e p u l n ds unknown = record {
   unknown = unknown;
 }
 
--- the parts after these members are read, given the parts that were found before
+-- the parts once these members are read; the other arguments are the parts found in earlier members
 abbrev pub dimensions_after : (c e p u l n : Option Data) → List (List ℕ × Given) → Bool → Members → DimensionParts
 dimensions_after c e p u l n ds unknown ms = record {
   concept = given_of (last_at (codes "concept") c ms);
@@ -54,7 +54,7 @@ dimensions_after c e p u l n ds unknown ms = record {
   unknown = any_member (is_unknown core_keys) ms || unknown;
 }
 
-pub dimensions_colon : (c e p u l n : Option Data) (done : List (Bor (List ℕ) × Lent)) (unknown : Bool) (x : Bor (List ℕ) × Lent) (key : List ℕ) (d : Data) (ms : Members) → x.0.now ≡ key → seen x.1 ≡ given d → has_colon key ≡ true → IsUtf8 key
+pub dimensions_colon : (c e p u l n : Option Data) (done : List (Bor (List ℕ) × JsonMember)) (unknown : Bool) (x : Bor (List ℕ) × JsonMember) (key : List ℕ) (d : Data) (ms : Members) → x.0.now ≡ key → seen x.1 ≡ given d → has_colon key ≡ true → IsUtf8 key
     → dimensions_after c e p u l n (seen_defined (done ++ x ∷ [])) unknown ms ≡ dimensions_after c e p u l n (seen_defined done) unknown (member key d ms)
 dimensions_colon c e p u l n done unknown x key d ms name is colon utf8 = λ i. record {
   concept = given_of (last_other (codes "concept") c key d ms (colon_other (codes "concept") key refl colon) i);

@@ -22,8 +22,8 @@ use Rattle.oim_report.proofs.Pairs.{allows_each-push, passes_is}
 use Rattle.oim_report.proofs.Places.{facts_at, facts_at-cons, facts_at-drop, level_at_order, places_within, rises_from_first}
 use Rattle.oim_report.proofs.Runs.{RisesFrom, walk, walk-nil, walk_from_first}
 
--- the loop has read `first` and `before`; it has yet to read the facts at the indices of `rest` from i on. Whatever facts follow,
--- it returns the same from this state as from the start
+-- The loop has read `first` and `before`, and has yet to read the facts at the indices of `rest` from i on. For every list of
+-- further facts, it returns the same level from this state as from the start.
 pub record Passed (facts : List Fact) (order rest : List ℕ) (i : ℕ) (last : Fact) (shared : Option Interval) (level : Level) : Type 0 where
   pub first : Fact
   pub before : List Fact
@@ -103,7 +103,7 @@ left_false : (a b : Bool) → a ≡ false → (a && b) ≡ false
 left_false false b h = refl
 left_false true b h = absurd (false≢true (sym h))
 
--- if a level does not allow f beside each of the facts at some indices, `are_apart` holds for one of these indices and f's index
+-- if a level forbids f beside one of the facts at some indices, `are_apart` holds for one of these indices and f's index
 pub one_apart : (l : Level) (facts : List Fact) (place : ℕ) (f : Fact) → slice_get facts place ≡ Some f → (places : List ℕ) → All (λ p. p < length facts) places → list_all (λ g. allows l g f) (facts_at facts places) ≡ false → list_any (λ one. are_apart l facts one place) places ≡ true
 one_apart l facts place f here [] within h = absurd (false≢true (sym h))
 one_apart l facts place f here (p ∷ ps) within h =
@@ -120,7 +120,7 @@ one_apart l facts place f here (p ∷ ps) within h =
     either true b x y is later h = ap (λ z. z || y) is ∙ later h
     either false b x y is later h = ap (λ z. z || y) is
 
--- the limit does not allow some fact beside the fact at which the level exceeds the limit
+-- the limit forbids one of the facts beside the fact at which the level exceeds the limit
 pub passed_above : (facts : List Fact) (order rest : List ℕ) (i : ℕ) (limit : Level) (last f : Fact) (shared later : Option Interval) (level found : Level) → IsOrderOf facts order → i < length rest → get_or rest i 0 < length facts → f ≡ get_or facts (get_or rest i 0) f
     → is_lt (level_cmp limit level) ≡ false → is_lt (level_cmp limit found) ≡ true → (passed : Passed facts order rest i last shared level) → ((fs : List Fact) → walk last shared level (f ∷ fs) ≡ walk f later found fs)
     → list_any (λ one. are_apart limit facts one (get_or rest i 0)) order ≡ true

@@ -1,4 +1,4 @@
--- How `serde_json` reads the text of an array of one object, and the members that it returns.
+-- How `serde_json` reads the text of an array that contains one object.
 use Rattle.std.proofs.Common.{◌≡◌, ℕ, List, [], ◌∷◌, Option, Some, None, option_map, option_and_then, refl, ap, ◌∙◌}
 use Rattle.json.specs.Token.{Token}
 use Rattle.json.specs.Lex.{tokens}

@@ -67,7 +67,7 @@ alone_same a found p =
     let both : Some (put_all found no_members) ≡ Some found = sym (found_onto r.ms found no_members r.gives) ∙ r.gives in
     Prim.cc
 
--- the text before the rest was read as these members, in the order of the text
+-- the text before `left` was read as these members, in the order of the text
 abbrev pub IsUpTo : List ℕ → List ℕ → Members → Type 0
 IsUpTo text left no_members = left ≡ text
 IsUpTo text left (member k d ms) = (done : List ℕ) × (text ≡ done ++ 44 ∷ left) × IsPiece done (put_all (member k d ms) no_members)

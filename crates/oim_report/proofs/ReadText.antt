@@ -1,4 +1,4 @@
--- The text of a plain value is read as that value.
+-- The compact text of a plain value is read as that value, if the value is at most `max_depth` levels deep.
 use Rattle.std.proofs.Common.{◌≡◌, ℕ, suc, ◌≤◌, pos, negsuc, List, [], Some, option_map, option_and_then, Less, Greater, refl, sym, ap, ◌∙◌, append-nil}
 use Rattle.std.specs.Prelude.{⊤}
 use Rattle.std.specs.Ordering.{nat_cmp, ordering_reverse}

@@ -1,4 +1,4 @@
--- Reading a part returns the part that the object denotes.
+-- The number or the unit that is read from a text is the one that the text denotes.
 use Rattle.std.proofs.Common.{◌≡◌, ℕ, ℤ, List, Bool, true, false, not, ◌&&◌, cond, Result, Ok, Err, refl, sym, ap, ◌∙◌}
 use Rattle.std.specs.Prelude.{Option, Some, None, IfOk, IfSome, if◌then◌else◌}
 use Rattle.oim_names.specs.Bindings.{Binding}

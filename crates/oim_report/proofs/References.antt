@@ -1,4 +1,4 @@
--- The references of a taxonomy, kept one after another.
+-- The taxonomy references of a report, kept one after another.
 use Rattle.std.proofs.Common.{◌≡◌, ℕ, suc, ◌<◌, ◌≤◌, length, drop, get_or, List, [], ◌∷◌, ◌++◌, Option, Some, None, append-nil, append_assoc, refl, sym, ap, ◌∙◌}
 use Rattle.std.specs.Prelude.{option_and_then}
 use Rattle.std.specs.Option.{option_map}
@@ -10,7 +10,7 @@ use Rattle.serde_json.specs.declared.value.Value.{Value}
 use Rattle.url.specs.Parts.{Parts}
 use Rattle.oim_report.specs.Info.{said_reference, said_references}
 
--- the kept references after these items, given the references that were kept before
+-- the references of the second argument and the kept references of these items, or None if one is refused
 abbrev pub kept_after : Option Parts → List (List ℕ) → Items → Option (List (List ℕ))
 kept_after base done no_items = Some done
 kept_after base done (item d ds) = option_and_then (λ t. kept_after base (done ++ t ∷ []) ds) (said_reference base d)

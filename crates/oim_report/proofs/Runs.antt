@@ -56,8 +56,8 @@ up_then_less {K} {R} o x y z up less = up_cases (R x y) up (λ e. o.trans x y z 
 
 -- ---- the loop, step by step
 
--- the level that the loop returns after the remaining facts of a sorted list; its state is the last fact, the common part of the
--- intervals with the same dimensions, and the level so far
+-- the level that the loop returns after the remaining facts of a sorted list; the loop's state is the last fact, the common
+-- part of the intervals of all facts so far with the last fact's dimensions, and the level so far
 unfoldable pub walk : Fact → Option Interval → Level → List Fact → Level
 walk last shared level [] = level
 walk last shared level (f ∷ fs) =
@@ -80,8 +80,8 @@ walk-other last f shared level fs h =
 
 -- ---- properties of the facts so far
 
--- no fact so far has greater dimensions than the last fact; a later fact with the same dimensions meets all facts with these
--- dimensions exactly if it meets their common part
+-- no fact so far has greater dimensions than the last fact; a later fact with the same dimensions and a greater value is
+-- consistent with all facts so far exactly if its interval meets `shared`
 pub record Knows (before : List Fact) (last : Fact) (shared : Option Interval) : Type 0 where
   pub below : list_all (λ f. not (is_gt (dims f last))) (before ++ last ∷ []) ≡ true
   pub sharing : (h : Fact) → dims last h ≡ Equal → value_cmp last.value h.value ≡ Less → list_all (λ f. allows Consistent f h) (before ++ last ∷ []) ≡ both_meet shared (interval_at h.value)
@@ -235,7 +235,7 @@ level_duplicate before last f shared known same up =
 
 -- ---- the whole loop
 
--- no fact is below the one before it
+-- no fact is below the fact before it
 abbrev pub RisesFrom : Fact → List Fact → Type 0
 RisesFrom last [] = Unit {0}
 RisesFrom last (f ∷ fs) = (is_gt (fact_cmp last f) ≡ false) × RisesFrom f fs

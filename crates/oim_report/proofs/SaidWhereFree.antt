@@ -1,4 +1,4 @@
--- A fact object denotes a fact exactly if no condition applies to it.
+-- A fact object has a valid form and denotes a fact exactly if no condition applies to it.
 use Rattle.std.proofs.Common.{◌≡◌, ℕ, List, [], ◌++◌, map, Bool, true, false, not, ◌||◌, ◌&&◌, Ok, refl, sym, ap, subst, ◌∙◌}
 use Rattle.std.specs.Prelude.{Option, Some, None, codes, if◌then◌else◌, is_none, is_some, option_and_then, option_map}
 use Rattle.std.specs.Option.{option_map_or, option_to_list}
@@ -137,7 +137,7 @@ module _ (sheet : Sheet) (bs : List Binding) (fms ms : Members) where
   abbrev applies : Reason → Bool
   applies = holds_with sheet bs fact ms
 
-  -- the names of each part
+  -- the names in each part
   abbrev of_concept : List Spelled
   of_concept = map a_name (option_to_list (option_and_then as_text (at (codes "concept"))))
 

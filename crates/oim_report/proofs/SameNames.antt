@@ -1,4 +1,4 @@
--- Two listings are equal if each has the names of the other with the same kinds.
+-- Two maps from names to kinds are equal if each contains the entries of the other.
 use Rattle.std.proofs.Common.{◌≡◌, ℕ, List, [], ◌∷◌, ◌++◌, true, false, cond, Option, Some, None, String, string_bytes, refl, sym, ap, subst, ◌∙◌}
 use Rattle.std.specs.Prelude.{option_map}
 use Rattle.std.specs.List.{AllByRecursion}

@@ -1,4 +1,4 @@
--- A sheet is refused for the least condition that applies.
+-- A sheet is refused for the lowest-numbered condition that applies.
 use Rattle.std.proofs.Common.{◌≡◌, inl, inr, ℕ, List, [], ◌∷◌, ◌++◌, Bool, true, false, ◌||◌, Err, refl, sym, ap, ◌∙◌}
 use Rattle.std.specs.Prelude.{Option, Some, None, codes, if◌then◌else◌}
 use Rattle.std.specs.List.{find}
@@ -16,7 +16,7 @@ use Rattle.oim_report.proofs.EachRefusal.{first_holding, first_refusal, or_refus
 use Rattle.oim_report.proofs.LeastOf.{least_is}
 use Rattle.oim_report.proofs.NameRefusals.{by_any}
 
--- the first condition that applies, in the order in which the code tests them
+-- the first condition that applies, in the order in which the code tests the conditions
 abbrev pub sheet_refusal : Data → Option Reason
 sheet_refusal tree = first_refusal (
     find (sheet_holds tree) (MemberForm ∷ UnknownMember ∷ [])

@@ -1,4 +1,4 @@
--- The strings of a text in UTF-8 are UTF-8: the bytes between two quotes, with escapes replaced.
+-- If a text is UTF-8, so is each of its strings: the bytes between two quotes, with escapes replaced.
 use Rattle.std.proofs.Common.{◌≡◌, ℕ, ◌<◌, List, [], ◌∷◌, ◌++◌, Bool, true, false, cond, ◌&&◌, ◌==◌, nat_lt, Option, Some, None, option_and_then, refl, sym, subst, arith}
 use Rattle.std.specs.Prelude.{IsUtf8, ⊤}
 use Rattle.std.specs.Char.{IsScalar, digit_value, is_digit, encode_utf8}
@@ -43,7 +43,7 @@ hex_ascii x h = grind (arith, nat_tests, h)
 hex_small : (x : ℕ) → is_digit x 16 ≡ true → digit_value x < 16
 hex_small x h = ltb-true (digit_value x) 16 h
 
--- four hex digits spell a number of 16 bits
+-- four hex digits, and a number of 16 bits
 record Spelled (a b c d u : ℕ) : Type 0 where
   a_is : is_digit a 16 ≡ true
   b_is : is_digit b 16 ≡ true

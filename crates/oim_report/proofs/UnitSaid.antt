@@ -1,4 +1,4 @@
--- If a text denotes a unit, `unit_of` returns it.
+-- If a text denotes a unit, `unit_of` returns this unit.
 use Rattle.std.proofs.Common.{◌≡◌, ◌≢◌, ℕ, zero, suc, ◌+◌, List, [], ◌∷◌, true, false, refl, ap, ◌∙◌, arith}
 use Rattle.std.specs.Prelude.{Option, Some, None, IfSome, option_map}
 use Rattle.std.specs.List.{AllZip}

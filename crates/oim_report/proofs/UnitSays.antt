@@ -1,4 +1,4 @@
--- If `unit_of` returns a unit, the text denotes it.
+-- If `unit_of` returns a unit, the text denotes this unit.
 use Rattle.std.proofs.Common.{◌≡◌, ◌≢◌, ℕ, List, [], ◌∷◌, Bool, true, false, cond, Option, Some, None, refl, sym, ap, subst, ◌∙◌}
 use Rattle.std.specs.Prelude.{option_map, option_and_then}
 use Rattle.std.specs.List.{AllZip}

@@ -16,7 +16,7 @@ use Rattle.oim_report.specs.Sheet.{Sheet}
 abbrev pub are_apart : Level → List Fact → ℕ → ℕ → Bool
 are_apart level facts i j = option_map_or (λ f. option_map_or (λ g. not (allows level f g)) (slice_get facts j) false) (slice_get facts i) false
 
--- the report denotes these facts and this level, which does not allow the facts at two indices
+-- the report denotes facts and a level that does not allow the facts at the indices i and j together
 pub record AreFactsApart (sheet : Sheet) (tree : Data) (i j : ℕ) : Type 0 where
   pub facts : List Fact
   pub level : Level

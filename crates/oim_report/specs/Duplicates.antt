@@ -25,18 +25,17 @@ values_meet x y = false
 abbrev pub are_duplicates : Fact → Fact → Bool
 are_duplicates f g = is_eq (dimensions_cmp f.dimensions g.dimensions)
 
--- a level allows the values of two duplicates
+-- whether a level allows two facts with the same dimensions and these values
 abbrev pub allows_values : Level → Value → Value → Bool
 allows_values Unique v w = false
 allows_values Complete v w = is_eq (value_cmp v w)
 allows_values Consistent v w = values_meet v w
 allows_values All v w = true
 
--- a level allows two facts
+-- every level allows two facts with different dimensions
 abbrev pub allows : Level → Fact → Fact → Bool
 allows l f g = not (are_duplicates f g) || allows_values l f.value g.value
 
--- a level allows each pair of facts in a list
 abbrev pub allows_each : Level → List Fact → Bool
 allows_each l [] = true
 allows_each l (f ∷ fs) = list_all (allows l f) fs && allows_each l fs

@@ -26,7 +26,7 @@ use Rattle.oim_report.specs.Json.{Given, absent, nil, text, whole, other}
 use Rattle.oim_report.specs.Parts.{DimensionParts, FactParts}
 use Rattle.oim_report.specs.Sheet.{Sheet}
 
--- a text is given, and the relation holds for it
+-- the value is a text, and the relation holds for the text
 abbrev pub GivesText : Given → (List ℕ → Type 0) → Type 0
 GivesText (text t) Says = Says t
 GivesText absent Says = ⊥
@@ -34,7 +34,7 @@ GivesText nil Says = ⊥
 GivesText (whole n) Says = ⊥
 GivesText other Says = ⊥
 
--- a text is given and the relation holds for it, or nothing is given and IfAbsent holds
+-- the value is a text for which the relation holds, or the value is absent and IfAbsent holds
 abbrev pub GivesTextOr : Type 0 → Given → (List ℕ → Type 0) → Type 0
 GivesTextOr IfAbsent absent Says = IfAbsent
 GivesTextOr IfAbsent (text t) Says = Says t
@@ -52,7 +52,7 @@ SaysPeriod g said = GivesTextOr (said ≡ Forever) g (λ t. period_of t ≡ Ok s
 abbrev pub SaysUnit : List Binding → Given → Option Measures → Type 0
 SaysUnit bs g said = GivesTextOr (said ≡ None) g (λ t. UnitOf bs t said)
 
--- a language is kept in lower case (own)
+-- a language is converted to lower case (own)
 abbrev pub SaysLanguage : Given → Option (List ℕ) → Type 0
 SaysLanguage g said = GivesTextOr (said ≡ None) g (λ t. IsTrue (is_language t) × (said ≡ Some (str_to_ascii_lowercase t)))
 
@@ -79,7 +79,7 @@ pub record SaysMembers (sheet : Sheet) (bs : List Binding) (defined : List (List
 
 -- ---- the value
 
--- the decimals of a number; without them it is exact (the range is own)
+-- the decimals of a number; a number without decimals is exact (the range is own)
 abbrev pub SaysDecimals : Given → Option ℤ → Type 0
 SaysDecimals absent places = places ≡ None
 SaysDecimals (whole n) places = IsTrue (is_finite_decimals n) × (places ≡ Some n)
@@ -87,7 +87,7 @@ SaysDecimals nil places = ⊥
 SaysDecimals (text t) places = ⊥
 SaysDecimals other places = ⊥
 
--- a text denotes this number, in units of 10^-19 (the limit of digits is own)
+-- a text denotes this number, in units of 10^-19 (the limit on digits is own)
 pub record SaysNumber (t : List ℕ) (units : ℤ) : Type 0 where
   pub denoted : Denotes t units
   pub short : IsTrue (is_short t)
@@ -112,7 +112,7 @@ pub record SaysDimensions (sheet : Sheet) (bs : List Binding) (ds : DimensionPar
   pub members : SaysMembers sheet bs ds.defined said.members
   pub set : IsDimensionSet said
 
--- a fact object with these parts denotes the fact under these bindings
+-- a fact object with these parts denotes the fact under this sheet and these bindings
 pub record SaysFact (sheet : Sheet) (bs : List Binding) (p : FactParts) (said : Fact) : Type 0 where
   pub parts : DimensionParts
   pub there : p.dimensions ≡ Some parts

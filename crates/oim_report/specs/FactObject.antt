@@ -1,5 +1,5 @@
--- The JSON object of a written fact (xBRL-JSON 1.0, section 3.1; the choice of texts is own). The function `spelled` spells its
--- names.
+-- The JSON object of a written fact (xBRL-JSON 1.0, section 3.1; the choice of texts is own). The function `spelled` spells the
+-- fact's names.
 use Rattle.std.specs.Prelude.{ℕ, List, [], ◌∷◌, codes, Option, Some, None}
 use Rattle.oim_names.specs.QName.{QName}
 use Rattle.oim_value.specs.Plain.{plain}
@@ -38,7 +38,7 @@ module _ (spelled : QName → List ℕ) where
   with_defined [] ms = ms
   with_defined (e ∷ es) ms = put (spelled e.0) (member_data e.1) (with_defined es ms)
 
-  -- the members of `dimensions`, in byte order of their keys, however names are spelled
+  -- the members of `dimensions`; their keys are in byte order, however the names are spelled
   abbrev pub dimension_members : DimensionSet → Members
   dimension_members d =
       with_defined d.members

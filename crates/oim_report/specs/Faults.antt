@@ -37,11 +37,11 @@ abbrev pub or_else : List Refusal → List Refusal → List Refusal
 or_else [] later = later
 or_else (r ∷ rs) later = r ∷ rs
 
--- the facts that the fact objects of a report denote
+-- the facts that a report's fact objects denote; an object that denotes no fact is skipped
 abbrev pub facts_in : Sheet → Data → List Fact
 facts_in sheet tree = filter_map (λ d. option_and_then (said_fact sheet (bindings_of tree)) (fact_parts d)) (values (facts_of tree))
 
--- the level of the facts is above the declared one
+-- the level of the facts is above the declared one; false if the declaration is refused
 abbrev pub is_above_level : Sheet → Data → Bool
 is_above_level sheet tree = is_lt (level_cmp (unwrap_or (level_said tree) AllLevel) (level_of (facts_in sheet tree)))
 
@@ -54,7 +54,7 @@ tree_faults sheet tree =
     or_else (map (at AtDocument) (told (document_holds tree)))
     (or_else (faults_from sheet (bindings_of tree) 1 (values (facts_of tree))) (level_faults sheet tree))
 
--- the faults of a report's bytes under a sheet
+-- bytes that are not JSON have one fault only
 unfoldable pub faults : Sheet → List ℕ → List Refusal
 faults sheet bytes = option_map_or (tree_faults sheet) (json bytes) (at AtDocument NotJson ∷ [])
 

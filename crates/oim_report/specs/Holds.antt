@@ -1,5 +1,5 @@
 -- The conditions of a document and of a fact object, one clause per condition (OIM Common 1.0; xBRL-JSON 1.0; own where marked).
--- A condition on a missing part applies only if it requires that part.
+-- A condition on a missing part applies only if the condition requires the part.
 use Rattle.std.specs.Prelude.{ℕ, ℤ, List, [], ◌∷◌, ◌++◌, map, length, Bool, true, false, not, ◌||◌, ◌&&◌, nat_lt, int_lt, if◌then◌else◌, bytes_eq, codes, Option, Some, None, is_none, is_some, option_and_then}
 use Rattle.std.specs.Option.{option_map_or, option_to_list}
 use Rattle.std.specs.List.{filter, filter_map, flat_map, list_any}
@@ -52,7 +52,6 @@ no_text d = is_none (as_text d)
 abbrev pub no_text_or_null : Data → Bool
 no_text_or_null d = no_text d && is_none (as_null d)
 
--- some item passes a test
 abbrev pub any_item : (Data → Bool) → Items → Bool
 any_item test no_items = false
 any_item test (item d ds) = test d || any_item test ds
@@ -88,7 +87,7 @@ module _ (sheet : Sheet) (bs : List Binding) (fact : Data) (dimensions : Members
   abbrev pub value_text : Option (List ℕ)
   value_text = option_and_then as_text (get (codes "value") fact)
 
-  -- the expanded name of the concept
+  -- None if the concept is absent, is not a text or does not expand
   abbrev pub concept : Option QName
   concept = option_and_then (named bs) (text_at (codes "concept"))
 
@@ -96,7 +95,7 @@ module _ (sheet : Sheet) (bs : List Binding) (fact : Data) (dimensions : Members
   abbrev pub is_kind : ConceptKind → Bool
   is_kind k = is_some_and (same_concept_kind k) (option_and_then (map.get sheet.concepts) concept)
 
-  -- the taxonomy-defined dimensions: the members whose keys contain a colon
+  -- the taxonomy-defined dimensions: the members whose keys are UTF-8 and contain a colon
   abbrev pub defined : List (List ℕ × Data)
   defined = filter (λ m. has_colon m.0 && is_utf8 m.0) (entries dimensions)
 
@@ -177,6 +176,6 @@ module _ (tree : Data) where
   document_holds Feature = nat_lt 1 (length declared) || list_any (λ m. is_none (option_and_then level_with (as_text m.1))) declared
   document_holds r = false
 
--- the refusal of a document, if one of its conditions applies
+-- the lowest-numbered condition that applies to the document, or None
 abbrev pub document_refusal : Data → Option Reason
 document_refusal tree = least (document_holds tree)

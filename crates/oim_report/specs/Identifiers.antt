@@ -13,7 +13,6 @@ use Rattle.oim_report.specs.Json.{json, entries}
 use Rattle.oim_report.specs.Outcome.{outcome}
 use Rattle.oim_report.specs.Sheet.{Sheet}
 
--- the identifiers of fact objects
 abbrev pub identifiers_in : List (List ℕ × Data) → List (List ℕ)
 identifiers_in objects = map (λ o. o.0) objects
 
@@ -28,7 +27,6 @@ identifiers bytes = option_map tree_identifiers (json bytes)
 abbrev pub IdentifiersRise : Type 0
 IdentifiersRise = (bytes : List ℕ) (tree : Data) → json bytes ≡ Some tree → IsStrictlySortedBy (slice_cmp nat_cmp) (tree_identifiers tree)
 
--- the object of an identifier denotes the fact
 abbrev pub IdentifierSays : Sheet → List Binding → List ℕ × Data → Fact → Type 0
 IdentifierSays sheet bs object said = ObjectSays sheet bs object.1 said
 

@@ -1,4 +1,4 @@
--- The parts of a report outside its facts, and their contents (xBRL-JSON 1.0, section 2; own where marked).
+-- The parts of a report, and the contents of the parts outside its facts (xBRL-JSON 1.0, section 2; own where marked).
 use Rattle.std.specs.Prelude.{ℕ, List, [], ◌∷◌, Bool, false, ◌&&◌, bytes_eq, codes, if◌then◌else◌, Option, Some, None, option_map, option_and_then}
 use Rattle.std.specs.Option.{option_map_or, unwrap_or}
 use Rattle.oim_names.specs.Bindings.{Binding, uri_of}
@@ -34,9 +34,9 @@ features_of tree = members (option_and_then as_object (info (codes "features") t
 abbrev pub facts_of : Data → Members
 facts_of tree = members (object_at (codes "facts") tree)
 
--- ---- the contents of the parts; each is None if it is refused
+-- ---- the contents of the parts; a refused part is None
 
--- the http or https URL that relative references are resolved against; `Some None` if there is none
+-- the http or https URL that relative references are resolved against; `Some None` if there is no `baseURL`
 abbrev pub said_base : Given → Option (Option Parts)
 said_base absent = Some None
 said_base (text t) = option_map Some (base_url t)

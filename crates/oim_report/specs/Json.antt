@@ -16,7 +16,7 @@ without_mark bytes = if bytes_eq (take 3 bytes) (0xef ∷ 0xbb ∷ 0xbf ∷ []) 
 abbrev pub json_text : List ℕ → Option Data
 json_text text = if is_utf8 text then read text else None
 
--- the value of a file's bytes
+-- a byte order mark at the beginning is skipped
 abbrev pub json : List ℕ → Option Data
 json bytes = json_text (without_mark bytes)
 
@@ -58,7 +58,6 @@ is_no_text (text t) = false
 is_no_text (whole n) = true
 is_no_text other = true
 
--- the given text, if there is one
 abbrev pub text_of : Given → Option (List ℕ)
 text_of absent = None
 text_of nil = None
@@ -68,15 +67,14 @@ text_of other = None
 
 -- ---- members
 
--- the value at a key of an object's members
 abbrev pub given_at : List ℕ → Members → Given
 given_at key ms = given_of (get_member key ms)
 
--- the object at a key of a value
+-- None if there is no value at the key, or if the value is not an object
 abbrev pub object_at : List ℕ → Data → Option Members
 object_at key d = option_and_then as_object (get key d)
 
--- the value at a key of the object at an outer key
+-- the value at `key` in the object at the key `outer`
 abbrev pub within : List ℕ → List ℕ → Data → Option Data
 within outer key d = option_and_then (get key) (get outer d)
 
@@ -94,7 +92,6 @@ abbrev pub values : Members → List Data
 values no_members = []
 values (member key d ms) = d ∷ values ms
 
--- some member passes the test
 abbrev pub any_member : (List ℕ → Data → Bool) → Members → Bool
 any_member test no_members = false
 any_member test (member key d ms) = test key d || any_member test ms
@@ -108,11 +105,11 @@ has_member ms = any_in (λ key d. true) ms
 
 -- ---- keys
 
--- a key has a colon: in `dimensions` it names a taxonomy-defined dimension, in other objects with known keys an extension (own)
+-- a key has a colon. It names a taxonomy-defined dimension in `dimensions`, and belongs to an extension in other objects with
+-- known keys (own).
 abbrev pub has_colon : List ℕ → Bool
 has_colon key = list_any is_colon key
 
--- a key is not known and has no colon
 abbrev pub is_unknown : List (List ℕ) → List ℕ → Data → Bool
 is_unknown known key d = not (has_colon key) && not (list_any (λ k. bytes_eq k key) known)
 

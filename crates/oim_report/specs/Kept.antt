@@ -6,7 +6,6 @@ use Rattle.url.specs.Parser.{Parsed, parse_url}
 use Rattle.url.specs.Parts.{Parts, serialize}
 use Rattle.oim_report.specs.declared.limits.TheConstants.{MOST_REFERENCE_BYTES}
 
--- an http or https URL
 abbrev pub is_web : Parts → Bool
 is_web url = bytes_eq url.scheme (codes "http") || bytes_eq url.scheme (codes "https")
 
@@ -15,8 +14,8 @@ abbrev pub web_url : Parsed Parts → Option Parts
 web_url (Ok url) = if is_web url then Some url else None
 web_url (Err e) = None
 
--- the text is UTF-8 and the serialization of the http or https URL that it parses as (URL Standard, sections 4.4 and 4.5). The
--- serialization of every http or https URL passes, so no code tests this.
+-- the text is UTF-8, parses as an http or https URL, and is the serialization of that URL (URL Standard, sections 4.4 and 4.5).
+-- The serialization of every http or https URL passes this test, so no code performs the test.
 abbrev pub is_web_text : List ℕ → Bool
 is_web_text text = is_utf8 text && option_map_or (λ url. bytes_eq (serialize url) text) (web_url (parse_url None text)) false
 
@@ -25,14 +24,15 @@ abbrev pub web_text : Option Parts → Option (List ℕ)
 web_text None = None
 web_text (Some url) = if is_web_text (serialize url) then Some (serialize url) else None
 
--- the kept text of a reference: an http or https URL is kept as its text, another URL as it is spelled. A reference that is not
--- a URL is resolved to an http or https URL, or kept as it is spelled if there is no base URL.
+-- the kept text of a reference: an http or https URL is kept as its serialization, and another URL as it is spelled. A reference
+-- that is not a URL is kept as the serialization of the http or https URL that it resolves to, or as it is spelled if there is no
+-- base URL.
 abbrev pub kept_by : Parsed Parts → Option Parts → List ℕ → Option (List ℕ)
 kept_by (Ok url) base reference = if is_web url then web_text (Some url) else Some reference
 kept_by (Err e) None reference = Some reference
 kept_by (Err e) (Some base) reference = web_text (web_url (parse_url (Some base) reference))
 
--- the text under which a reference is kept, or None if it does not resolve
+-- the text under which a reference is kept, or None if the reference does not resolve
 abbrev pub kept : Option Parts → List ℕ → Option (List ℕ)
 kept base reference = kept_by (parse_url None reference) base reference
 
@@ -40,8 +40,8 @@ kept base reference = kept_by (parse_url None reference) base reference
 abbrev pub is_within_limit : List ℕ → Bool
 is_within_limit text = nat_le (length text) MOST_REFERENCE_BYTES
 
--- the URL that references are resolved against: a text within the limit that parses as an http or https URL (own: other URLs are
--- refused)
+-- the URL that relative references are resolved against, if the text is within the limit and parses as an http or https URL (own:
+-- other URLs are refused)
 abbrev pub base_url : List ℕ → Option Parts
 base_url text = if is_within_limit text then web_url (parse_url None text) else None
 

@@ -1,4 +1,4 @@
--- A refusal is the condition with the least number that applies; faults are all conditions that apply and are not hidden (own).
+-- The refusal is the lowest-numbered condition that applies. The faults are all conditions that apply and are not hidden (own).
 use Rattle.std.specs.Prelude.{◌≡◌, ◌↔◌, ◌≤◌, List, [], ◌∷◌, map, Contains, Bool, false, not, ◌&&◌, IsTrue, Option, Some, None}
 use Rattle.std.specs.List.{filter, find, list_any}
 use Rattle.std.specs.List.Sorted.{IsStrictlyIncreasing}
@@ -6,7 +6,7 @@ use Rattle.oim_names.specs.Reasons.{entry_of, reasons}
 use Rattle.oim_names.specs.declared.reason.Reason.{Reason}
 use Rattle.oim_names.specs.declared.reason.Reason.TheVariants.{Namespace, Feature}
 
--- the condition with the least number among those that apply; `reasons` is sorted by number
+-- the lowest-numbered condition that applies, or None (`reasons` is sorted by number)
 unfoldable pub least : (Reason → Bool) → Option Reason
 least holds = find holds reasons
 
@@ -35,8 +35,8 @@ abbrev pub first : List Reason → Option Reason
 first [] = None
 first (r ∷ rs) = Some r
 
--- `least` returns the least condition that applies; `told` lists exactly the conditions that are shown, by ascending number,
--- and begins with the least
+-- `least` returns the lowest-numbered condition that applies. `told` lists exactly the conditions that are shown, by ascending
+-- number, and begins with the condition that `least` returns.
 pub record Answers (holds : Reason → Bool) : Type 0 where
   pub some : (r : Reason) → (least holds ≡ Some r) ↔ IsLeast holds r
   pub none : (least holds ≡ None) ↔ ((r : Reason) → holds r ≡ false)

@@ -23,13 +23,15 @@ pub record SaysKind {K : Type 0} (kind_named : List ℕ → Option K) (bs : List
   pub name : Expands bs key n
   pub kind : option_and_then kind_named (text_of (given value)) ≡ Some k
 
--- an accepted sheet lists a concept with a kind exactly if a key of `concepts` expands to it and its value names the kind
+-- an accepted sheet lists a concept with a kind exactly if a key of `concepts` expands to the concept and the key's value names
+-- the kind
 abbrev pub ConceptsAreListed : Type 0
 ConceptsAreListed =
     (bytes : List ℕ) (tree : Data) (sheet : Sheet) (n : QName) (k : ConceptKind) → json bytes ≡ Some tree → sheet_outcome bytes ≡ Ok sheet →
     (map.get sheet.concepts n ≡ Some k) ↔ SaysKind concept_kind_named (sheet_bindings tree) (sheet_concepts tree) n k
 
--- an accepted sheet lists a dimension with a kind exactly if a key of `dimensions` expands to it and its value names the kind
+-- an accepted sheet lists a dimension with a kind exactly if a key of `dimensions` expands to the dimension and the key's value
+-- names the kind
 abbrev pub DimensionsAreListed : Type 0
 DimensionsAreListed =
     (bytes : List ℕ) (tree : Data) (sheet : Sheet) (n : QName) (k : DimensionKind) → json bytes ≡ Some tree → sheet_outcome bytes ≡ Ok sheet →

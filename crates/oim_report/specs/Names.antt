@@ -10,7 +10,6 @@ use Rattle.oim_names.specs.declared.reason.Reason.{Reason}
 use Rattle.oim_names.specs.declared.reason.Reason.TheVariants.{NameForm, UnboundPrefix, ReservedNamespace}
 use Rattle.oim_value.specs.ValueOrder.{name_cmp}
 
--- some name is refused for this reason
 abbrev pub refuses_some : Reason → List Binding → List Spelled → Bool
 refuses_some reason bs names = list_any (refuses reason bs) names
 

@@ -51,7 +51,7 @@ all_or_first n (Err reason ∷ outcomes) = Err (at (AtFact n) reason)
 abbrev pub facts_said : Sheet → List Binding → Members → Result (List Fact) Refusal
 facts_said sheet bs objects = all_or_first 1 (map (fact_outcome sheet bs) (values objects))
 
--- the document, or its refusal if the level found is above the declared one
+-- the document, or its refusal if the level `found` is above the declared one
 abbrev pub unless_above : Level → Document → Result Document Refusal
 unless_above found d = if is_lt (level_cmp d.level found) then Err (at AtDocument DisallowedDuplicates) else Ok d
 
@@ -134,7 +134,7 @@ RefusesFacts sheet bytes tree r =
     RefusesOne sheet (bindings_of tree) 1 (values (facts_of tree)) r
     ⊎ (AllByRecursion (IsFree sheet (bindings_of tree)) (values (facts_of tree)) × RefusesLevel sheet bytes r)
 
--- r is the least condition that applies to the document, or else the refusal of its facts
+-- r is the refusal for the lowest-numbered condition that applies to the document, or else the refusal of its facts
 abbrev pub RefusesTree : Sheet → List ℕ → Data → Refusal → Type 0
 RefusesTree sheet bytes tree r =
     ((reason : Reason) × IsLeast (document_holds tree) reason × (r ≡ at AtDocument reason)) ⊎ (((reason : Reason) → document_holds tree reason ≡ false) × RefusesFacts sheet bytes tree r)

@@ -5,8 +5,8 @@ use Rattle.serde_json.specs.Data.{Data, Members, no_members, member}
 use Rattle.serde_json.specs.Find.{get_member, as_object}
 use Rattle.oim_report.specs.Json.{Given, given, given_at, any_member, has_member, has_colon, is_absent, is_unknown, is_no_object}
 
--- the members of `dimensions`: the core dimensions, and the taxonomy-defined ones in byte order of their keys; `unknown` states
--- that some other key has no colon
+-- the members of `dimensions`: the core dimensions, and the taxonomy-defined dimensions in byte order of their keys; `unknown`
+-- states that some other key has no colon
 pub record DimensionParts : Type 0 where
   pub concept : Given
   pub entity : Given
@@ -20,7 +20,7 @@ pub record DimensionParts : Type 0 where
 abbrev pub core_keys : List (List ℕ)
 core_keys = codes "concept" ∷ codes "entity" ∷ codes "period" ∷ codes "unit" ∷ codes "language" ∷ codes "noteId" ∷ []
 
--- the members whose keys have a colon
+-- the members whose keys are UTF-8 and have a colon
 abbrev pub defined_in : Members → List (List ℕ × Given)
 defined_in no_members = []
 defined_in (member key d ms) = if has_colon key && is_utf8 key then (key, given d) ∷ defined_in ms else defined_in ms

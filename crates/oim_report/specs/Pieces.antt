@@ -10,7 +10,6 @@ alone piece = 91 ∷ 123 ∷ (piece ++ 125 ∷ 93 ∷ [])
 abbrev pub one_data : Members → Data
 one_data found = array (item (object found) no_items)
 
--- there is a member
 abbrev pub HasMember : Members → Type 0
 HasMember no_members = ⊥
 HasMember (member k d ms) = ⊤
@@ -21,7 +20,7 @@ EndsWithBrace [] = ⊥
 EndsWithBrace (x ∷ []) = x ≡ 125
 EndsWithBrace (x ∷ y ∷ xs) = EndsWithBrace (y ∷ xs)
 
--- the piece is the text of these members; there is at least one, and the piece ends with a brace
+-- the piece is the text of these members; there is at least one member, and the piece ends with a closing brace
 pub record IsPiece (piece : List ℕ) (found : Members) : Type 0 where
   pub closed : EndsWithBrace piece
   pub some : HasMember found
@@ -29,12 +28,12 @@ pub record IsPiece (piece : List ℕ) (found : Members) : Type 0 where
 
 -- ---- the members of several pieces
 
--- puts the members into `onto` one after another; the last value of a repeated key is kept (RFC 8259, section 4, as `serde_json`
--- reads it)
+-- puts the members into `onto` one after another; the last value of a repeated key is kept, as in `serde_json` (RFC 8259, section
+-- 4)
 abbrev pub put_all : Members → Members → Members
 put_all no_members onto = onto
 put_all (member k d ms) onto = put_all ms (put k d onto)
 
--- two pieces with a comma between them make a piece with the members of both (RFC 8259, section 4, as `serde_json` reads it)
+-- two pieces with a comma between them are a piece with the members of both, as in `serde_json` (RFC 8259, section 4)
 abbrev pub PiecesAreTheWhole : Type 0
 PiecesAreTheWhole = (a b : List ℕ) (found more : Members) → IsPiece a found → IsPiece b more → IsPiece (a ++ 44 ∷ b) (put_all more found)

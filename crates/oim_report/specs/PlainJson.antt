@@ -56,13 +56,13 @@ abbrev mutual
   MembersHaveUtf8 no_members = ⊤
   MembersHaveUtf8 (member k d ms) = IsUtf8 k × HasUtf8 d × MembersHaveUtf8 ms
 
--- a plain value with UTF-8 strings and keys, nested at most this deep
+-- a plain value with UTF-8 strings and keys, at most `most` levels deep
 pub record IsPlainJson (d : Data) (most : ℕ) : Type 0 where
   pub plain : IsPlain d
   pub utf8 : HasUtf8 d
   pub shallow : depth d ≤ most
 
--- the compact text of a plain object is read as that object
+-- the compact text of a plain object is read as that object, if the object is at most `max_depth` levels deep
 abbrev pub PlainTextReadsBack : Type 0
 PlainTextReadsBack = (ms : Members) → IsPlainJson (object ms) max_depth → json (compact_text (object ms)) ≡ Some (object ms)
 

@@ -29,7 +29,7 @@ use Rattle.oim_report.specs.Sheet.{Sheet}
 
 -- ---- names as a function spells them
 
--- a name is spelled with a prefix that is bound to its URI and consists of one or more ASCII letters and digits
+-- a name is spelled with a prefix that is bound to the name's URI and consists of one or more ASCII letters and digits
 pub record SpellsName (bs : List Binding) (spelled : QName → List ℕ) (n : QName) : Type 0 where
   pub prefix : List ℕ
   pub filled : prefix ≢ []
@@ -56,7 +56,7 @@ SpellsValue bs spelled (Number units places) = ⊤
 SpellsValue bs spelled (AText t) = ⊤
 SpellsValue bs spelled (AName n) = SpellsName bs spelled n
 
--- each name of a fact is spelled in this way
+-- each name of a fact is spelled as in `SpellsName`
 pub record SpellsFact (bs : List Binding) (spelled : QName → List ℕ) (f : Fact) : Type 0 where
   pub concept : SpellsName bs spelled f.dimensions.concept
   pub entity : IfSome f.dimensions.entity (SpellsName bs spelled)
@@ -121,7 +121,7 @@ module _ (spelled : QName → List ℕ) where
     unknown = false;
   }
 
--- the object of a fact that fits, with names spelled as in `SpellsFact`, has these parts
+-- if a fact fits a sheet and its names are spelled as in `SpellsFact`, its object has these parts
 abbrev pub FactObjectHasParts : Type 0
 FactObjectHasParts = (sheet : Sheet) (bs : List Binding) (spelled : QName → List ℕ) (f : Fact) → FactFits sheet f → SpellsFact bs spelled f → fact_parts (fact_object spelled f) ≡ Some (parts_given spelled f)
 
@@ -136,13 +136,13 @@ pub record AreFormed (p : FactParts) (ds : DimensionParts) : Type 0 where
 abbrev pub FormsAreAccepted : Type 0
 FormsAreAccepted = (spelled : QName → List ℕ) (f : Fact) → AreFormed (parts_given spelled f) (dimensions_given spelled f.dimensions)
 
--- no name in the object of a fact that fits is refused, if the names are spelled as in `SpellsFact`
+-- if a fact fits a sheet and its names are spelled as in `SpellsFact`, no name in its object is refused
 abbrev pub NamesAreAccepted : Type 0
 NamesAreAccepted = (sheet : Sheet) (bs : List Binding) (spelled : QName → List ℕ) (f : Fact) → FactFits sheet f → SpellsFact bs spelled f → let applies = holds sheet bs (fact_object spelled f) in (applies NameForm ≡ false) × (applies UnboundPrefix ≡ false) × (applies ReservedNamespace ≡ false)
 
 -- ---- the fact
 
--- the object of a fact that fits, with names spelled as in `SpellsFact`, is plain JSON that is at most two levels deep
+-- if a fact fits a sheet and its names are spelled as in `SpellsFact`, its object is plain JSON that is at most two levels deep
 abbrev pub FactObjectIsPlain : Type 0
 FactObjectIsPlain = (sheet : Sheet) (bs : List Binding) (spelled : QName → List ℕ) (f : Fact) → FactFits sheet f → SpellsFact bs spelled f → IsPlainJson (fact_object spelled f) 2
 
@@ -154,6 +154,6 @@ pub record IsReadAs (sheet : Sheet) (bs : List Binding) (d : Data) (f : Fact) : 
   pub says : SaysFact sheet bs parts f
   pub outcome : fact_outcome sheet bs d ≡ Ok f
 
--- the object of a fact that fits denotes the fact, if its names are spelled with prefixes that are bound to their URIs
+-- if a fact fits a sheet and its names are spelled as in `SpellsFact`, its object is read as the fact
 abbrev pub FactObjectReadsBack : Type 0
 FactObjectReadsBack = (sheet : Sheet) (bs : List Binding) (spelled : QName → List ℕ) (f : Fact) → FactFits sheet f → SpellsFact bs spelled f → IsReadAs sheet bs (fact_object spelled f) f

@@ -1,4 +1,5 @@
--- The fact that a fact object denotes, as a function (sources in `Fact`). A part is None if it cannot be read or is not allowed.
+-- The function that returns the fact that a fact object denotes (`Fact` names the sources). A part is None if it cannot be read
+-- or is not allowed.
 use Rattle.std.specs.Prelude.{ℕ, ℤ, List, [], ◌∷◌, not, ◌&&◌, if◌then◌else◌, Option, Some, None, option_map, option_and_then}
 use Rattle.std.specs.FinMap as map
 use Rattle.std.specs.List.{filter_map}
@@ -65,12 +66,12 @@ said_language kind = said_text None (λ t. if not (same_concept_kind Numeric kin
 
 -- ---- units
 
--- the names that several texts expand to
+-- None if one of the texts does not expand
 abbrev pub all_named : List Binding → List (List ℕ) → Option (List QName)
 all_named bs [] = Some []
 all_named bs (t ∷ ts) = option_and_then (λ n. option_map (λ ns. n ∷ ns) (all_named bs ts)) (named bs t)
 
--- adds a name to names in sorted order, and keeps repeats
+-- adds a name to a sorted list of names; repeats remain
 abbrev pub with_name : QName → List QName → List QName
 with_name n [] = n ∷ []
 with_name n (m ∷ ms) = if is_lt (name_cmp m n) then m ∷ with_name n ms else n ∷ m ∷ ms
@@ -82,7 +83,7 @@ in_order (n ∷ ns) = with_name n (in_order ns)
 abbrev pub side_of : List Binding → List (List ℕ) → Option (List QName)
 side_of bs ps = option_map in_order (all_named bs ps)
 
--- the unit with these numerators and denominators, or None if it is `pure` alone (own)
+-- the unit with these numerators and denominators, or None if the unit is `pure` alone (own)
 abbrev pub unit_with : List QName → List QName → Option Measures
 unit_with (n ∷ []) [] = if is_eq (name_cmp n pure_name) then None else Some (record { numerators = n ∷ []; denominators = [] })
 unit_with ns ds = Some (record { numerators = ns; denominators = ds })
@@ -131,7 +132,6 @@ text_said bs Numeric places t = if is_number t && is_short t then Some (Number (
 text_said bs Text places t = Some (AText t)
 text_said bs Name places t = option_map AName (named bs t)
 
--- the value with these decimals
 abbrev pub value_with : List Binding → ConceptKind → Given → Option ℤ → Option Value
 value_with bs kind (text t) places = text_said bs kind places t
 value_with bs kind nil places = Some Nil

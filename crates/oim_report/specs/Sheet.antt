@@ -67,7 +67,6 @@ same_dimension_kind Typed Typed = true
 same_dimension_kind k l = false
 
 module _ {K : Type 0} (kind_named : List ℕ → Option K) (same : K → K → Bool) where
-  -- the kind that a value names
   abbrev pub kind_in : Data → Option K
   kind_in d = option_and_then kind_named (text_of (given d))
 
@@ -88,7 +87,7 @@ module _ {K : Type 0} (kind_named : List ℕ → Option K) (same : K → K → B
   abbrev pub names_no_kind : List ℕ → Data → Bool
   names_no_kind key d = not (is_some (kind_in d))
 
-  -- the map does not list the name of the entry with its kind
+  -- the map does not list the entry's name with the entry's kind
   abbrev pub has_other_kind : FinMap name_cmp K → QName × K → Bool
   has_other_kind m e = not (option_map_or (same e.1) (map.get m e.0) false)
 
@@ -106,7 +105,7 @@ sheet_keys = codes "namespaces" ∷ codes "concepts" ∷ codes "dimensions" ∷ 
 abbrev pub sheet_names : Data → List Spelled
 sheet_names tree = key_names (sheet_concepts tree) ++ key_names (sheet_dimensions tree)
 
--- a condition of a sheet applies
+-- a condition without a clause here never applies to a sheet
 unfoldable pub sheet_holds : Data → Reason → Bool
 sheet_holds tree MemberForm =
     not (is_object tree) || is_no_object (get (codes "namespaces") tree) || is_no_object (get (codes "concepts") tree) || is_no_object (get (codes "dimensions") tree)
@@ -139,7 +138,7 @@ sheet_outcome bytes = sheet_of (json bytes)
 abbrev pub SheetOutcomesWantNoMemory : Type 0
 SheetOutcomesWantNoMemory = (bytes : List ℕ) → sheet_outcome bytes ≢ Err OutOfMemory
 
--- a sheet is refused because it is not JSON, or for the least condition that applies
+-- a sheet is refused because it is not JSON, or for the lowest-numbered condition that applies
 abbrev pub RefusesSheet : List ℕ → Reason → Type 0
 RefusesSheet bytes r = ((json bytes ≡ None) × (r ≡ NotJson)) ⊎ ((tree : Data) × (json bytes ≡ Some tree) × IsLeast (sheet_holds tree) r)
 

@@ -33,7 +33,7 @@ is_shown holds r = not (list_any holds (hidden_by r)) && holds r
 
 -- ---- parts
 
--- the part that is shown: nothing, the whole value, or a member, key, name or value in it; `two` has two keys
+-- the part that is shown for a condition; the comments of `Part` in the code describe each case
 pub data Shown : Type 0 where
   nothing : Shown
   whole : Shown
@@ -75,11 +75,11 @@ abbrev pub first_of : List (Bool × Shown) → Shown
 first_of [] = nothing
 first_of (t ∷ ts) = if t.0 then t.1 else first_of ts
 
--- the first member whose key is unknown
+-- the first unknown member, in byte order of the keys
 abbrev pub unknown_in : List (List ℕ) → Option Members → Option (List ℕ × Data)
 unknown_in known ms = find (λ m. is_unknown known m.0 m.1) (entries (members ms))
 
--- the first unknown key of the whole value, or else of the object at its key `place`
+-- the first unknown key of the whole value, or else of the object at the key `place`
 abbrev pub unknown_key : List (List ℕ) → Data → List (List ℕ) → List ℕ → Shown
 unknown_key known d inner place =
     option_map_or (λ m. key m.0) (unknown_in known (as_object d)) (option_map_or (λ m. key_in m.0 place) (unknown_in inner (object_at place d)) nothing)
@@ -88,7 +88,6 @@ unknown_key known d inner place =
 abbrev pub unbound_entry : Option Members → Shown
 unbound_entry ms = option_map_or entry (find (λ m. binds_nothing m.0 m.1) (entries (members ms))) nothing
 
--- two keys spell the same name
 abbrev pub spell_same : List Binding → List ℕ → List ℕ → Bool
 spell_same bs k l = is_some_and (λ n. is_some_and (λ o. is_eq (name_cmp n o)) (named bs l)) (named bs k)
 
@@ -159,7 +158,6 @@ fact_part sheet bs fact r = when (holds sheet bs fact r) (fact_shown sheet bs fa
 
 -- ---- documents
 
--- the first item that passes a test
 abbrev pub first_item : (Data → Bool) → Items → Option Data
 first_item test no_items = None
 first_item test (item d ds) = if test d then Some d else first_item test ds
@@ -197,7 +195,7 @@ module _ {K : Type 0} (kind_named : List ℕ → Option K) (same : K → K → B
   abbrev pub kindless : Members → Option (List ℕ × Data)
   kindless ms = find (λ m. names_no_kind kind_named same m.0 m.1) (entries ms)
 
-  -- the name that the key of an entry spells, with the kind that its value names
+  -- the name that an entry's key spells, with the kind that the entry's value names
   abbrev pub named_kind : List Binding → List ℕ × Data → Option (QName × K)
   named_kind bs m = option_and_then (λ n. option_map (λ k. (n, k)) (kind_in kind_named same m.1)) (named bs m.0)
 
@@ -214,7 +212,7 @@ module _ {K : Type 0} (kind_named : List ℕ → Option K) (same : K → K → B
   abbrev pub two_kinds : List Binding → Members → Option Shown
   two_kinds bs ms = option_map (λ m. beside_first bs (entries ms) m.0) (other_kind bs map.empty (entries ms))
 
--- the first part that is shown
+-- the first part that is present, or nothing
 abbrev pub first_shown : List (Option Shown) → Shown
 first_shown [] = nothing
 first_shown (o ∷ os) = option_map_or (λ part. part) o (first_shown os)

@@ -2,13 +2,14 @@
 pub mod Beside
 pub mod Findings
 pub mod FoundFacts
-pub mod Given
-pub mod Glossaries
-pub mod Glossary
 pub mod Groups
+pub mod JsonMember
 pub mod KindLaws
 pub mod NameCache
 pub mod Pieces
 pub mod Rows
+pub mod Scope
 pub mod SeenParts
 pub mod SheetCode
+pub mod TextCache
+pub mod TextCaches

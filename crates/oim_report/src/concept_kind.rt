@@ -1,10 +1,10 @@
-/// The kind of a concept's values.
+/// The kind of a concept's values. Values of every kind may be null.
 #[derive(Clone, Copy, Debug, PartialEq, Eq)]
 pub enum ConceptKind {
-    /// Numbers.
+    /// Numbers: `numeric` in a sheet.
     Numeric,
-    /// Texts.
+    /// Texts: `text` in a sheet.
     Text,
-    /// Expanded names.
+    /// Expanded names: `name` in a sheet.
     Name,
 }

@@ -1,8 +1,8 @@
 /// The kind of the members of a taxonomy-defined dimension.
 #[derive(Clone, Copy, Debug, PartialEq, Eq)]
 pub enum DimensionKind {
-    /// Names.
+    /// Names: `explicit` in a sheet.
     Explicit,
-    /// Texts, or nil.
+    /// Texts, or nil: `typed` in a sheet.
     Typed,
 }

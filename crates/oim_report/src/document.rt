@@ -1,4 +1,5 @@
-//! Reads the parts of a report outside its facts, and the identifiers and the level of its facts.
+//! Reads the parts of a report outside its facts, and finds the identifiers of its facts and their
+//! level of duplicates.
 
 pub(crate) mod base;
 pub(crate) mod base_url;
@@ -9,6 +10,6 @@ pub(crate) mod found_facts;
 pub(crate) mod identifiers;
 pub(crate) mod info;
 pub(crate) mod json_tree;
-pub(crate) mod kept;
 pub(crate) mod namespaces;
+pub(crate) mod references;
 pub(crate) mod taxonomy;

@@ -23,8 +23,8 @@ ghost use Rattle.oim_report.specs.ReadBack.{FactObjectHasParts, FactObjectIsPlai
 
 use url::Url;
 
-/// The text of an http or https URL is UTF-8 and parses as that URL. So this text is always the
-/// kept text of the URL (URL Standard, sections 4.4 and 4.5).
+/// The text of an http or https URL is UTF-8 and parses as that URL. So this text is the kept text
+/// of the URL (URL Standard, sections 4.4 and 4.5).
 pub fn web_texts_read_back(url: &Url)
     ensures utf8 { IsTrue (is_web url.now) → IsTrue (is_utf8 (serialize url.now)) }
     ensures parsed { IsTrue (is_web url.now) → parse_url None (serialize url.now) ≡ Ok url.now }
@@ -33,21 +33,22 @@ pub fn web_texts_read_back(url: &Url)
     let _text = url.as_str();
 }
 
-/// `named` returns exactly the name that a text expands to, and `entity_named` the entity.
+/// `named` returns exactly the name that a text expands to. `entity_named` does the same for
+/// entities.
 pub fn names_are_expanded()
     ensures names { (bs : List Binding) (t : List ℕ) (n : QName) → (named bs t ≡ Some n) ↔ Expands bs t n }
     ensures entities { (bs : List Binding) (t : List ℕ) (n : QName) → (entity_named bs t ≡ Some n) ↔ ExpandsEntity bs t n }
 {}
 
-/// Keeping a kept text again without a base URL does not change it. If a reference is accepted, its
-/// kept text is accepted without a base URL. If a reference is UTF-8, its kept text is UTF-8.
+/// A kept text does not change if it is kept again without a base URL. If a reference is accepted,
+/// its kept text is accepted without a base URL. If a reference is UTF-8, its kept text is UTF-8.
 pub fn kept_is_kept()
     ensures kept { KeptIsKept }
     ensures accepted { KeptIsAccepted }
     ensures utf8 { KeptIsUtf8 }
 {}
 
-/// Values are allowed as consistent duplicates exactly if they meet.
+/// Two values are allowed as consistent duplicates exactly if they meet.
 pub fn values_meet_is_meets()
     ensures { ValuesMeetIsMeets }
 {}
@@ -68,8 +69,9 @@ pub fn sheet_outcomes_want_no_memory()
     ensures { SheetOutcomesWantNoMemory }
 {}
 
-/// A sheet is refused for exactly one reason, the first that applies: its bytes are not JSON; the
-/// condition with the least number.
+/// A sheet is refused as `NotJson` exactly if its bytes are not JSON. If its bytes are JSON, a
+/// sheet is refused exactly if a condition applies. The reason is the lowest-numbered condition
+/// that applies.
 pub fn sheet_refused_where_held()
     ensures { SheetRefusedWhereHeld }
 {}
@@ -108,15 +110,16 @@ pub fn identifiers_rise()
 {}
 
 /// A report is accepted as a document exactly if its bytes are JSON and denote that document, no
-/// condition applies to the document or a fact, and the level of its facts is not above the
+/// condition applies to the document or a fact, and the level of its facts is not looser than the
 /// declared level.
 pub fn accepted_where_free()
     ensures { AcceptedWhereFree }
 {}
 
-/// A report is refused for exactly one reason, the first that applies: its bytes are not JSON; the
-/// document's condition with the least number; the first refused fact's condition with the least
-/// number, with that fact as the place; the level of its facts is above the declared level.
+/// A report is refused exactly for the first of these reasons that applies: its bytes are not JSON;
+/// a condition applies to the document; a condition applies to a fact; the level of its facts is
+/// above the declared level. If several facts are refused, the place is the first of them. If
+/// several conditions apply to the document or to that fact, the reason is the lowest-numbered one.
 pub fn refused_where_held()
     ensures { RefusedWhereHeld }
 {}
@@ -137,20 +140,22 @@ pub fn outcomes_want_no_memory()
     ensures { OutcomesWantNoMemory }
 {}
 
-/// Suppose that each name of a fact is spelled with a bound prefix of ASCII letters and digits. If
-/// the fact fits a sheet, its object has the parts that were written.
+/// Suppose that each name of a fact is spelled with a prefix of ASCII letters and digits that is
+/// bound to the name's URI. If the fact fits a sheet, its object has the parts that `parts_given`
+/// lists.
 pub fn fact_object_has_parts()
     ensures { FactObjectHasParts }
 {}
 
-/// No condition on form or names applies to the object of a fact as in `fact_object_has_parts`.
+/// Take a fact as in `fact_object_has_parts`. No condition on form or names applies to its object.
 pub fn written_facts_are_accepted()
     ensures form { FormsAreAccepted }
     ensures names { NamesAreAccepted }
 {}
 
-/// Suppose that each name of a fact is spelled with a bound prefix of ASCII letters and digits. If
-/// the fact fits a sheet, its object denotes the fact, and no condition applies to the object.
+/// Suppose that each name of a fact is spelled with a prefix of ASCII letters and digits that is
+/// bound to the name's URI. If the fact fits a sheet, its object denotes the fact, and no condition
+/// applies to the object.
 pub fn fact_object_reads_back()
     ensures { FactObjectReadsBack }
 {}
@@ -168,29 +173,30 @@ pub fn limits_are()
     ensures nested { NestedIsRead }
 {}
 
-/// The compact text of a plain object is read as that object. A plain object contains no float, so
-/// its compact text is the one that `serde_json` writes.
+/// The compact text of a plain object (`IsPlain`) is read as that object, if its strings and keys
+/// are UTF-8 and it is at most 127 levels deep. A plain object contains no float, so its compact
+/// text is the one that `serde_json` writes.
 pub fn plain_text_reads_back()
     ensures back { PlainTextReadsBack }
     ensures whole { PlainHasNoFloat }
 {}
 
-/// The object of a fact as in `fact_object_has_parts` is plain and at most two levels deep. So the
-/// compact text of the object is read as that object.
+/// Take a fact as in `fact_object_has_parts`. Its object is plain and at most two levels deep, so
+/// the compact text of the object is read as that object.
 pub fn fact_object_is_plain()
     ensures { FactObjectIsPlain }
 {}
 
-/// `least` returns the condition with the least number that applies. `told` lists the conditions
-/// that apply and are not hidden. Their numbers strictly ascend, and the first is the one that
+/// `least` returns the lowest-numbered condition that applies. `told` lists the conditions that
+/// apply and are not hidden. Their numbers strictly ascend, and the first is the condition that
 /// `least` returns.
 pub fn least_is_answered()
     ensures { LeastIsAnswered }
 {}
 
-/// Suppose that two texts of members end with a brace and can each be read alone. With a comma
-/// between them they are read as the members of both (RFC 8259, section 4; `serde_json` keeps the
-/// last value of a repeated key).
+/// Suppose that two pieces can each be read alone, and each ends with a closing brace. With a comma
+/// between them, they are read as the members of both pieces (RFC 8259, section 4; `serde_json`
+/// keeps the last value of a repeated key).
 pub fn pieces_are_the_whole()
     ensures { PiecesAreTheWhole }
 {}

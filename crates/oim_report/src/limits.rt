@@ -1,19 +1,20 @@
-/// The greatest length in bytes of a base URL, of a taxonomy reference and of its kept text.
+/// The greatest length in bytes of a base URL, a taxonomy reference or a kept text.
 pub const MOST_REFERENCE_BYTES: usize = 65_536;
 
 /// The greatest number of levels of nested arrays and objects, which is the limit of `serde_json`.
 pub const MOST_LEVELS: usize = 127;
 
-/// The greatest number of texts in a glossary. Most reports contain few distinct texts. The limit
-/// bounds the memory, and the time of a search among texts with the same hash.
+/// The greatest number of texts in a cache. The limit bounds the memory, and the time of a search
+/// among texts with the same hash.
 pub const MOST_MEANINGS: usize = 1_024;
 
-/// The greatest length in bytes of a text in a glossary. A `ReportReader` keeps its glossaries, even
-/// after a report is refused. The limit bounds the memory that they take.
+/// The greatest length in bytes of a text in a cache. The limit bounds the memory of the caches,
+/// which a `ReportReader` keeps even after a report is refused.
 pub const MOST_MEANING_BYTES: usize = 1_024;
 
-/// The least size in bytes of each piece of a report's facts except the last. For each piece the JSON
-/// parser fills 16 kB with zeros, so small pieces are slow. Larger pieces cause more page faults.
+/// The least size in bytes of each piece of a report's facts, except the last piece. For each
+/// piece, the JSON parser fills 16 kB with zeros, so small pieces are slow. Larger pieces cause
+/// more page faults.
 pub const PIECE_BYTES: usize = 65_536;
 
 /// The least size in bytes of a report that is read in pieces.

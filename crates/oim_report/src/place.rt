@@ -1,4 +1,4 @@
-/// The place of a refusal in a report.
+/// Where in a report the reason of a refusal applies.
 #[derive(Clone, Copy, Debug, PartialEq, Eq)]
 pub enum Place {
     /// The document, not a single fact. It is also the place of `OutOfMemory`.

@@ -60,15 +60,15 @@ impl<'s> Report<'s> {
         }
     }
 
-    /// Returns the facts with their repeats, in byte order of their identifiers.
+    /// Returns all facts, repeats included, in byte order of their identifiers.
     pub fn facts(&self) -> &[Fact]
         ensures { result.now ≡ self.now.document.facts }
     {
         self.facts.as_slice()
     }
 
-    /// Returns the kept texts of the taxonomy references, in the order of the report and with
-    /// repeats.
+    /// Returns the kept texts of all taxonomy references, repeats included, in the order of the
+    /// report.
     pub fn taxonomy(&self) -> &[Text]
         ensures { result.now ≡ self.now.document.references }
     {
@@ -83,7 +83,7 @@ impl<'s> Report<'s> {
         self.declared
     }
 
-    /// Returns the strictest level of duplicates that allows the facts with their repeats.
+    /// Returns the strictest level of duplicates that allows all facts, repeats included.
     pub fn level(&self) -> Level
         ensures { result ≡ level_of self.now.document.facts }
     {
@@ -97,7 +97,7 @@ impl<'s> Report<'s> {
         self.sheet
     }
 
-    /// Returns the indices of all facts, sorted by fact.
+    /// Returns the indices of all facts, in ascending order of the facts.
     pub fn order(&self) -> &[usize]
         ensures { result.now ≡ self.now.order }
     {

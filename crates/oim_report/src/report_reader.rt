@@ -1,30 +1,54 @@
-ghost use Rattle.std.specs.Prelude.{◌≡◌, ◌⊎◌, Ok, Err, IfOk, IfErr};
+ghost use Rattle.std.specs.Prelude.{◌≡◌, ◌⊎◌, Some, Ok, Err, IfOk, IfErr, IfSome};
+ghost use Rattle.serde_json.specs.View.{view};
 ghost use Rattle.oim_report.specs.Document.{SaysDocument};
-ghost use Rattle.oim_report.specs.Outcome.{at, outcome};
+ghost use Rattle.oim_report.specs.Identifiers.{identifiers};
+ghost use Rattle.oim_report.specs.Outcome.{at, outcome, tree_outcome};
 
-use crate::fact::known_texts::KnownTexts;
+use crate::document::duplicates::is_above;
+use crate::document::identifiers::identifiers_of;
+use crate::document::info::read_info;
+use crate::document::json_tree::{read_json, read_json_outline};
+use crate::fact::fact_reader::FactReader;
+use crate::fact::facts_reader::read_facts;
+use crate::limits::{LEAST_IN_PIECES, PIECE_BYTES};
+use crate::order::order_of;
+use crate::pieces::facts_in_pieces::read_facts_in_pieces;
 use crate::place::Place;
-use crate::reader::read_bytes;
 use crate::refusal::Refusal;
 use crate::report::Report;
 use crate::sheet::Sheet;
-use oim_names::Reason;
+use oim_names::{Reason, Text};
+use serde_json::Value;
 use std::alloc::Global;
 use std::marker::Model;
 
-/// Reads reports under one sheet, one after another. Reports often bind the same prefixes, and then
-/// a text means the same in all of them. While the prefixes stay the same, the reader caches the
-/// meanings of texts, so facts of many reports share names. In contracts, a reader is its sheet.
+/// Reads a report under a sheet (xBRL-JSON 1.0; further conditions are own).
+///
+/// Errors, the first that applies: `NotJson`; the lowest-numbered condition that applies to the
+/// document; the lowest-numbered condition that applies to the first refused fact, in byte order of
+/// the identifiers; `DisallowedDuplicates`. `OutOfMemory` may replace any result. The place of a
+/// fact's condition is that fact. The place of all other errors is the document.
+pub fn read_report<'s>(alloc: Global, sheet: &'s Sheet, bytes: &[u8]) -> Result<Report<'s>, Refusal>
+    ensures ok { IfOk result (λ r. outcome sheet.now bytes.now ≡ Ok r.document) }
+    ensures sheet { IfOk result (λ r. r.sheet ≡ sheet.now) }
+    ensures said { IfOk result (λ r. SaysDocument sheet.now bytes.now r.document) }
+    ensures errors { IfErr result
+        (λ r. (r ≡ at Place.Document Reason.OutOfMemory) ⊎ (outcome sheet.now bytes.now ≡ Err r)) }
+{
+    ReportReader::new(alloc, sheet).read(bytes)
+}
+
+/// Reads reports under one sheet, one after another. Reports often bind the same prefixes to the
+/// same URIs, and then a text means the same in all these reports. While these bindings stay the
+/// same, the reader caches the meanings of texts, so facts of many reports share the memory of
+/// names. Contracts represent a reader by its sheet.
 #[derive(Drop)]
 pub struct ReportReader<'s> {
     alloc: Global,
-    sheet: &'s Sheet,
-    known: KnownTexts<'s>,
+    facts: FactReader<'s>,
 }
 
 impl<'s> Model for ReportReader<'s> {
-    ghost use Rattle.std.specs.Coded.{codes};
-    ghost use Rattle.oim_report.specs.code.Glossaries.{AreGlossaries};
     ghost use Rattle.oim_report.specs.code.SheetCode.{sheet_code};
     ghost use Rattle.oim_report.specs.Sheet.{Sheet as ASheet};
 
@@ -32,9 +56,7 @@ impl<'s> Model for ReportReader<'s> {
 
     ghost coded = { sheet_code };
 
-    ghost view = { λ r. r.sheet.now };
-
-    ghost invariant = { λ r. AreGlossaries r.sheet.now r.known.aliases r.known.glossaries };
+    ghost view = { λ r. r.facts.sheet };
 }
 
 impl<'s> ReportReader<'s> {
@@ -42,23 +64,21 @@ impl<'s> ReportReader<'s> {
     pub fn new(alloc: Global, sheet: &'s Sheet) -> ReportReader<'s>
         ensures { result ≡ sheet.now }
     {
-        ReportReader {
-            alloc,
-            sheet,
-            known: KnownTexts::new(alloc),
-        }
+        let facts = FactReader::new(alloc, sheet);
+        ReportReader { alloc, facts }
     }
 
     /// Returns the sheet under which reports are read.
     pub fn sheet(&self) -> &'s Sheet
         ensures { result.now ≡ self.now }
     {
-        self.sheet
+        self.facts.sheet()
     }
 
     /// Reads a report as `read_report` does.
     ///
     /// Errors: as for `read_report`.
+    #[tactic(auto, unfolding(crate::specs::Outcome::outcome))]
     pub fn read(&mut self, bytes: &[u8]) -> Result<Report<'s>, Refusal>
         ensures same { self.new ≡ self.old }
         ensures ok { IfOk result (λ r. outcome self.old bytes.now ≡ Ok r.document) }
@@ -67,6 +87,74 @@ impl<'s> ReportReader<'s> {
         ensures errors { IfErr result
             (λ r. (r ≡ at Place.Document Reason.OutOfMemory) ⊎ (outcome self.old bytes.now ≡ Err r)) }
     {
-        read_bytes(self.alloc, self.sheet, &mut self.known, bytes)
+        if let Some(report) = self.read_in_pieces(bytes) {
+            return Ok(report);
+        }
+        let tree = read_json(self.alloc, bytes)?;
+        self.read_tree(&tree)
+    }
+
+    /// Reads a report as `read` does, and its identifiers as `fact_identifiers` does (xBRL-JSON 1.0;
+    /// further conditions are own). The bytes are parsed only once.
+    ///
+    /// Errors: as for `read`.
+    #[tactic(auto, unfolding(crate::specs::Outcome::outcome))]
+    pub fn read_identified(&mut self, bytes: &[u8]) -> Result<(Report<'s>, Vec<Text>), Refusal>
+        ensures same { self.new ≡ self.old }
+        ensures ok { IfOk result (λ read. outcome self.old bytes.now ≡ Ok read.0.document) }
+        ensures sheet { IfOk result (λ read. read.0.sheet ≡ self.old) }
+        ensures identifiers { IfOk result (λ read. identifiers bytes.now ≡ Some read.1.items) }
+        ensures errors { IfErr result
+            (λ r. (r ≡ at Place.Document Reason.OutOfMemory) ⊎ (outcome self.old bytes.now ≡ Err r)) }
+    {
+        let tree = read_json(self.alloc, bytes)?;
+        let report = self.read_tree(&tree)?;
+        let identifiers = identifiers_of(self.alloc, &tree)?;
+        Ok((report, identifiers))
+    }
+
+    /// Does the same as `read` for a JSON value.
+    pub(crate) fn read_tree(&mut self, tree: &Value) -> Result<Report<'s>, Refusal>
+        ensures same { self.new ≡ self.old }
+        ensures ok { IfOk result (λ r. tree_outcome self.old (Some (view tree.now)) ≡ Ok r.document) }
+        ensures sheet { IfOk result (λ r. r.sheet ≡ self.old) }
+        ensures errors { let said = tree_outcome self.old (Some (view tree.now)) in
+            IfErr result (λ r. (r ≡ at Place.Document Reason.OutOfMemory) ⊎ (said ≡ Err r)) }
+    {
+        let alloc = self.alloc;
+        let sheet = self.facts.sheet();
+        let info = read_info(alloc, tree)?;
+        self.facts.turn_to(info.aliases);
+        let facts = read_facts(alloc, &mut self.facts, tree)?;
+        let order = order_of(alloc, facts.as_slice())?;
+        if is_above(info.level, facts.as_slice(), order.as_slice()) {
+            return Err(Refusal::from(Reason::DisallowedDuplicates));
+        }
+        Ok(Report::new(sheet, facts, info.references, info.level, order))
+    }
+
+    /// Does the same as `read`, but parses the facts in pieces. Only one piece at a time is in
+    /// memory as a tree. The result is `None` if the text has fewer than `LEAST_IN_PIECES` bytes or
+    /// cannot be read in pieces, or if the report or a request for memory is refused. `read` then
+    /// reads the whole text.
+    fn read_in_pieces(&mut self, bytes: &[u8]) -> Option<Report<'s>>
+        ensures same { self.new ≡ self.old }
+        ensures ok { IfSome result (λ r. outcome self.old bytes.now ≡ Ok r.document) }
+        ensures sheet { IfSome result (λ r. r.sheet ≡ self.old) }
+    {
+        if bytes.len() < LEAST_IN_PIECES {
+            return None;
+        }
+        let alloc = self.alloc;
+        let sheet = self.facts.sheet();
+        let outline = read_json_outline(alloc, bytes)?;
+        let info = read_info(alloc, &outline.tree).ok()?;
+        self.facts.turn_to(info.aliases);
+        let facts = read_facts_in_pieces(alloc, &mut self.facts, outline.facts, PIECE_BYTES)?;
+        let order = order_of(alloc, facts.as_slice()).ok()?;
+        if is_above(info.level, facts.as_slice(), order.as_slice()) {
+            return None;
+        }
+        Some(Report::new(sheet, facts, info.references, info.level, order))
     }
 }

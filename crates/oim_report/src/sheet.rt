@@ -1,7 +1,7 @@
-pub(crate) mod gathered;
 pub(crate) mod kind;
-pub(crate) mod listed;
-pub(crate) mod listing;
+pub(crate) mod lookup;
+pub(crate) mod name_table;
+pub(crate) mod name_table_builder;
 pub(crate) mod sheet_form;
 pub(crate) mod sheet_kinds;
 
@@ -14,9 +14,9 @@ use crate::concept_kind::ConceptKind;
 use crate::dimension_kind::DimensionKind;
 use crate::document::json_tree::{object_at, read_json};
 use crate::document::namespaces::read_namespaces;
-use crate::sheet::listing::Listing;
+use crate::sheet::name_table::NameTable;
 use crate::sheet::sheet_form::{check_form, check_names};
-use crate::sheet::sheet_kinds::read_listing;
+use crate::sheet::sheet_kinds::read_table;
 use oim_names::{Name, Reason};
 use serde_json::Value;
 use std::alloc::Global;
@@ -25,8 +25,8 @@ use std::marker::Model;
 /// The concepts and taxonomy-defined dimensions that reports may use, each with its kind.
 #[derive(Debug, Drop)]
 pub struct Sheet {
-    concepts: Listing<ConceptKind>,
-    dimensions: Listing<DimensionKind>,
+    concepts: NameTable<ConceptKind>,
+    dimensions: NameTable<DimensionKind>,
 }
 
 impl Model for Sheet {
@@ -41,14 +41,15 @@ impl Model for Sheet {
 }
 
 impl Sheet {
-    /// Reads a sheet: a JSON object with the members `namespaces`, `concepts` and `dimensions`,
-    /// each an object or absent (own).
+    /// Reads a sheet: a JSON object with the optional members `namespaces`, `concepts` and
+    /// `dimensions`, which are objects (own).
     ///
     /// Errors, the first that applies: `NotJson`; `MemberForm` if the root or one of these members
-    /// is not an object; `UnknownMember` for another key without a colon; `Namespace` if an entry
-    /// of `namespaces` binds nothing; the first of `NameForm`, `UnboundPrefix` and
-    /// `ReservedNamespace` that applies to any key of `concepts` and `dimensions`; `SheetKind` if a
-    /// kind is invalid, or a member gives a name two kinds. `OutOfMemory` may replace any result.
+    /// is not an object; `UnknownMember` for any other key without a colon in the root; `Namespace`
+    /// if an entry of `namespaces` does not bind a prefix to a URI; the first of `NameForm`,
+    /// `UnboundPrefix` and `ReservedNamespace` that applies to any key of `concepts` or
+    /// `dimensions`; `SheetKind` if a kind is invalid, or if two keys of one member give a name two
+    /// kinds. `OutOfMemory` may replace any result.
     #[tactic(auto, unfolding(crate::specs::Sheet::sheet_outcome))]
     pub fn read(alloc: Global, bytes: &[u8]) -> Result<Sheet, Reason>
         ensures ok { IfOk result (λ s. sheet_outcome bytes.now ≡ Ok s) }
@@ -69,8 +70,8 @@ impl Sheet {
         let listed = object_at(tree, "concepts");
         let defined = object_at(tree, "dimensions");
         check_names(&aliases, listed, defined)?;
-        let concepts = read_listing(alloc, &aliases, listed)?;
-        let dimensions = read_listing(alloc, &aliases, defined)?;
+        let concepts = read_table(alloc, &aliases, listed)?;
+        let dimensions = read_table(alloc, &aliases, defined)?;
         Ok(Sheet {
             concepts,
             dimensions,
@@ -94,13 +95,13 @@ impl Sheet {
         Some(kind)
     }
 
-    pub(crate) fn concepts(&self) -> &Listing<ConceptKind>
+    pub(crate) fn concepts(&self) -> &NameTable<ConceptKind>
         ensures { result.now ≡ self.now.concepts }
     {
         &self.concepts
     }
 
-    pub(crate) fn dimensions(&self) -> &Listing<DimensionKind>
+    pub(crate) fn dimensions(&self) -> &NameTable<DimensionKind>
         ensures { result.now ≡ self.now.dimensions }
     {
         &self.dimensions

@@ -85,7 +85,7 @@ value_without_leading (d ∷ ds) =
       | false ↦ λ e. refl
     ] refl
 
--- one step of `value_without_trailing`: a fraction keeps its value without trailing zeros
+-- one step of `value_without_trailing`: dropping a fraction's trailing zeros does not change the value
 value_onto : (n c : ℕ) (cs ws : List ℕ) → digits_value_after 10 (n * 10 + digit_value c) cs * 10 ^ length ws ≡ digits_value_after 10 (n * 10 + digit_value c) ws * 10 ^ length cs → digits_value_after 10 n (c ∷ cs) * 10 ^ length (onto_digit c ws) ≡ digits_value_after 10 n (onto_digit c ws) * 10 ^ length (c ∷ cs)
 value_onto n c cs [] h =
     elim (eqb c 48) as (λ b. eqb c 48 ≡ b → digits_value_after 10 n (c ∷ cs) * 10 ^ length (cond b [] (c ∷ [])) ≡ digits_value_after 10 n (cond b [] (c ∷ [])) * 10 ^ length (c ∷ cs)) [

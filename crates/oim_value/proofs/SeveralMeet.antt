@@ -49,7 +49,7 @@ different_meet_as_numbers (AName m) (Number n e) other meet = absurd meet
 different_meet_as_numbers (AName m) (AText t) other meet = absurd meet
 different_meet_as_numbers (AName m) (AName n) other meet = absurd (other (ap AName meet))
 
--- ---- every two values meet exactly if any two members do
+-- ---- each value meets each later one exactly if every two members meet
 
 pub each_two_meet_by_members : EachTwoMeetByMembers
 each_two_meet_by_members vs = (

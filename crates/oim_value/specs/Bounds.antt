@@ -10,11 +10,10 @@ use Rattle.oim_value.specs.Number.{IsShort}
 abbrev pub end_bound : ℕ
 end_bound = 10 ^ (MOST_DIGITS + UNIT_PLACES) + half_width (Some (neg_ℤ MOST_DECIMALS))
 
--- both ends of an interval are smaller in size than the bound
 pub record EndsAreBounded (i : Interval) : Type 0 where
   pub low : unsigned_abs i.low < end_bound
   pub high : unsigned_abs i.high < end_bound
 
--- for any decimals, both ends of a short number's interval are bounded
+-- both ends of a short number's interval are bounded if the decimals are in the range
 abbrev pub IntervalEndsAreBounded : Type 0
 IntervalEndsAreBounded = (units : ℤ) (decimals : Option ℤ) → IsShort units → AreDecimals decimals → EndsAreBounded (interval units decimals)

@@ -1,4 +1,4 @@
--- How precisely a number is reported (Open Information Model, `decimals`).
+-- The precision of a number (Open Information Model, `decimals`).
 use Rattle.std.specs.Prelude.{ℤ, Bool, nat_le, unsigned_abs, ◌≡◌, IsTrue, Option, Some, None, refl}
 use Rattle.oim_value.specs.declared.limits.TheConstants.{MOST_DECIMALS}
 use Rattle.oim_value.specs.declared.decimals.Places.{Places}

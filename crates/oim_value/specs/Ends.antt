@@ -25,7 +25,8 @@ EndsAreOne = (is : List Interval) (d e : Interval) → AreEnds d is → AreEnds 
 abbrev pub WithinEndsIsWithinEach : Type 0
 WithinEndsIsWithinEach = (is : List Interval) (e : Interval) (units : ℤ) → AreEnds e is → IsWithin units e ↔ All (IsWithin units) is
 
--- if a non-empty interval contains exactly the numbers that lie in every interval, its ends are the ends of these intervals
+-- if one or more intervals have exactly the numbers of e in common, and e is not empty, e ranges from their greatest low end to
+-- their least high end
 abbrev pub EndsAreCommonInterval : Type 0
 EndsAreCommonInterval = (is : List Interval) (e : Interval) → 0 < length is → HasPoints e → ((units : ℤ) → IsWithin units e ↔ All (IsWithin units) is) → AreEnds e is
 
@@ -37,7 +38,7 @@ EachTwoMeet = AllPairs (λ i j. IsTrue (intervals_meet i j))
 abbrev pub AllMeetIffEndsMeet : Type 0
 AllMeetIffEndsMeet = (is : List Interval) (e : Interval) → All HasPoints is → AreEnds e is → EachTwoMeet is ↔ (e.low ≤ℤ e.high)
 
--- the intervals of the numbers in a list of values
+-- the interval of a number, as a list of one; other values have none
 abbrev pub interval_of_one : Value → List Interval
 interval_of_one (Number units decimals) = interval units decimals ∷ []
 interval_of_one other = []
@@ -45,7 +46,6 @@ interval_of_one other = []
 abbrev pub intervals_of : List Value → List Interval
 intervals_of vs = flat_map interval_of_one vs
 
--- a value has an interval exactly if it is a number
 abbrev pub has_interval : Value → Bool
 has_interval (Number units decimals) = true
 has_interval other = false

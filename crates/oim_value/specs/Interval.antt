@@ -4,7 +4,7 @@ use Rattle.std.specs.Int.{int_max, int_min}
 use Rattle.oim_value.specs.declared.interval.Interval.{Interval}
 use Rattle.oim_value.specs.declared.limits.TheConstants.{UNIT_PLACES}
 
--- UNIT_PLACES - 1 - d, which is not negative because d is below UNIT_PLACES
+-- UNIT_PLACES - 1 - d, which is not negative for finite decimals d, since they are below UNIT_PLACES
 abbrev pub half_zeros : ℤ → ℕ
 half_zeros d = unsigned_abs (pos (UNIT_PLACES - 1) -ℤ d)
 
@@ -22,7 +22,7 @@ pub record IsWithin (units : ℤ) (i : Interval) : Type 0 where
   pub above : i.low ≤ℤ units
   pub below : units ≤ℤ i.high
 
--- the interval is not empty
+-- an interval is empty if its low end is above its high end
 abbrev pub HasPoints : Interval → Type 0
 HasPoints i = i.low ≤ℤ i.high
 
@@ -45,23 +45,18 @@ HalfBeforePoint = (d : ℕ) → 2 * half_width (Some (neg_ℤ (pos d))) ≡ 10 ^
 abbrev pub WithinIsNear : Type 0
 WithinIsNear = (z units : ℤ) (decimals : Option ℤ) → IsWithin z (interval units decimals) ↔ (unsigned_abs (z -ℤ units) ≤ half_width decimals)
 
--- the interval of a number contains the number
 abbrev pub IntervalHasNumber : Type 0
 IntervalHasNumber = (units : ℤ) (decimals : Option ℤ) → IsWithin units (interval units decimals)
 
--- the interval of a number is not empty
 abbrev pub IntervalHasPoints : Type 0
 IntervalHasPoints = (units : ℤ) (decimals : Option ℤ) → HasPoints (interval units decimals)
 
--- the common part does not depend on the grouping of the intervals
 abbrev pub CommonIsAssociative : Type 0
 CommonIsAssociative = (a b c : Interval) → common_part (common_part a b) c ≡ common_part a (common_part b c)
 
--- the common part does not depend on the order of the intervals
 abbrev pub CommonIsCommutative : Type 0
 CommonIsCommutative = (a b : Interval) → common_part a b ≡ common_part b a
 
--- the common part of an interval with itself is the interval
 abbrev pub CommonIsIdempotent : Type 0
 CommonIsIdempotent = (a : Interval) → common_part a a ≡ a
 
@@ -69,7 +64,6 @@ CommonIsIdempotent = (a : Interval) → common_part a a ≡ a
 abbrev pub CommonIsBoth : Type 0
 CommonIsBoth = (units : ℤ) (a b : Interval) → IsWithin units (common_part a b) ↔ (IsWithin units a × IsWithin units b)
 
--- a number of units lies in both intervals
 pub record IsCommonPoint (a b : Interval) (units : ℤ) : Type 0 where
   pub first : IsWithin units a
   pub second : IsWithin units b

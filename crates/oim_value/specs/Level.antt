@@ -1,4 +1,4 @@
--- Which duplicate facts a report may have: the feature `xbrl:allowedDuplicates` and its values (Open Information Model Common
+-- The duplicate facts that a report may have: the feature `xbrl:allowedDuplicates` and its values (Open Information Model Common
 -- 1.0).
 use Rattle.std.specs.Prelude.{◌≡◌, ℕ, List, [], ◌∷◌, Option, Some, codes, slice_get}
 use Rattle.std.specs.List.{find}
@@ -27,10 +27,10 @@ levels = Unique ∷ Complete ∷ Consistent ∷ All ∷ []
 abbrev pub level_with : List ℕ → Option Level
 level_with t = find (λ l. bytes_eq (level_entry l).text t) levels
 
--- levels are ordered by rank
+-- the strictest level is the least
 abbrev pub level_cmp : Level → Level → Ordering
 level_cmp x y = nat_cmp (level_entry x).place (level_entry y).place
 
--- no two levels share a rank
+-- each level is at the index of its rank, so no two levels share a rank
 abbrev pub LevelsStandApart : Type 0
 LevelsStandApart = (l : Level) → slice_get levels (level_entry l).place ≡ Some l

@@ -12,10 +12,8 @@ Meets (AText s) (AText t) = s ≡ t
 Meets (AName m) (AName n) = m ≡ n
 Meets x y = ⊥
 
--- each value meets itself
 abbrev pub MeetsIsReflexive : Type 0
 MeetsIsReflexive = (x : Value) → Meets x x
 
--- if x meets y, then y meets x
 abbrev pub MeetsIsSymmetric : Type 0
 MeetsIsSymmetric = (x y : Value) → Meets x y → Meets y x

@@ -9,12 +9,11 @@ use Rattle.oim_names.specs.declared.reason.Reason.TheVariants.{NumberForm, Numbe
 use Rattle.oim_value.specs.declared.limits.TheConstants.{MOST_DIGITS, UNIT_PLACES}
 use lib.IntN.{neg_ℤ}
 
--- the text begins with `-`
 abbrev pub is_negative : List ℕ → Bool
 is_negative [] = false
 is_negative (c ∷ cs) = c == 45
 
--- the text without its sign
+-- the text without one leading `+` or `-`
 abbrev pub unsigned : List ℕ → List ℕ
 unsigned [] = []
 unsigned (c ∷ cs) = if c == 43 || c == 45 then cs else c ∷ cs
@@ -22,7 +21,7 @@ unsigned (c ∷ cs) = if c == 43 || c == 45 then cs else c ∷ cs
 abbrev pub is_point : ℕ → Bool
 is_point c = c == 46
 
--- the digits before the point, after it, and on both sides of it
+-- without the sign: the text before the first point, the text after this point, and both joined
 abbrev pub integer_part : List ℕ → List ℕ
 integer_part t = before_first is_point (unsigned t)
 
@@ -40,7 +39,7 @@ is_numeral ds = nat_lt 0 (length ds) && list_all is_ascii_digit ds
 abbrev pub is_number : List ℕ → Bool
 is_number t = is_numeral (both_parts t)
 
--- the number, negated if the flag is set
+-- the flag is true for a text with `-`
 abbrev pub signed : Bool → ℕ → ℤ
 signed true n = neg_ℤ (pos n)
 signed false n = pos n
@@ -51,22 +50,21 @@ pub record Denotes (t : List ℕ) (units : ℤ) : Type 0 where
   pub form : IsTrue (is_number t)
   pub value : units *ℤ pos (10 ^ length (fraction_part t)) ≡ signed (is_negative t) (10 ^ UNIT_PLACES * digits_value 10 (both_parts t))
 
--- digits without leading zeros
+-- zeros alone become the empty list
 abbrev pub without_leading : List ℕ → List ℕ
 without_leading [] = []
 without_leading (c ∷ cs) = if c == 48 then without_leading cs else c ∷ cs
 
--- a digit put before digits without trailing zeros; a zero is dropped if no digits follow
+-- a digit before digits that have no trailing zeros; a zero is dropped if no digits follow
 abbrev pub onto_digit : ℕ → List ℕ → List ℕ
 onto_digit c [] = if c == 48 then [] else c ∷ []
 onto_digit c (d ∷ ds) = c ∷ d ∷ ds
 
--- digits without trailing zeros
 abbrev pub without_trailing : List ℕ → List ℕ
 without_trailing [] = []
 without_trailing (c ∷ cs) = onto_digit c (without_trailing cs)
 
--- the number of significant digits
+-- the number of significant digits: leading zeros before the point and trailing zeros after it do not count (own)
 abbrev pub counted : List ℕ → ℕ
 counted t = length (without_leading (integer_part t)) + length (without_trailing (fraction_part t))
 

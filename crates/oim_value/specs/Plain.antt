@@ -7,7 +7,7 @@ use Rattle.std.specs.Str.{IsAscii}
 use Rattle.oim_value.specs.declared.limits.TheConstants.{UNIT_PLACES}
 use Rattle.oim_value.specs.Number.{is_negative, is_point, integer_part, fraction_part, number_refusal, without_trailing, Denotes, IsShort}
 
--- a numeral with zeros on the left, up to a width
+-- a numeral with zeros on the left, up to a width; a longer numeral does not change
 abbrev pub with_leading_zeros : ℕ → List ℕ → List ℕ
 with_leading_zeros width ds = replicate (width - length ds) 48 ++ ds
 
@@ -31,7 +31,6 @@ sign_text (negsuc n) = 45 ∷ []
 abbrev pub plain : ℤ → List ℕ
 plain units = sign_text units ++ (integer_digits (unsigned_abs units) ++ with_point (fraction_digits (unsigned_abs units)))
 
--- the text has a point
 abbrev pub has_point : List ℕ → Bool
 has_point t = list_any is_point t
 
@@ -53,7 +52,6 @@ IsWritable units = unsigned_abs units < 10 ^ 64
 abbrev pub FittingIsWritable : Type 0
 FittingIsWritable = (units : ℤ) → FitsSigned w128 units → IsWritable units
 
--- every short number is writable
 abbrev pub ShortIsWritable : Type 0
 ShortIsWritable = (units : ℤ) → IsShort units → IsWritable units
 
@@ -65,11 +63,10 @@ PlainIsPlain = (units : ℤ) → IsWritable units → IsPlain (plain units) unit
 abbrev pub PlainIsOne : Type 0
 PlainIsOne = (units : ℤ) (t : List ℕ) → IsWritable units → IsPlain t units → t ≡ plain units
 
--- the plain text of a writable number is ASCII
 abbrev pub PlainIsAscii : Type 0
 PlainIsAscii = (units : ℤ) → IsWritable units → IsAscii (plain units)
 
--- the text is read as this number of units
+-- the text denotes this number of units, and is not refused
 pub record IsReadAs (t : List ℕ) (units : ℤ) : Type 0 where
   pub denotes : Denotes t units
   pub accepted : number_refusal t ≡ None

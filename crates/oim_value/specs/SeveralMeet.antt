@@ -1,4 +1,4 @@
--- When every two of several different values meet, in terms of the ends of their intervals (own).
+-- Conditions under which every two of several different values meet (own).
 use Rattle.std.specs.Prelude.{◌≡◌, ◌≢◌, ◌↔◌, ◌⊎◌, ℕ, ◌≤◌, Bool, false, IsTrue, List, length, slice_get, Contains, Some, ℤ, ◌<ℤ◌}
 use Rattle.std.specs.List.{All, AllPairs, position_or_len}
 use Rattle.std.specs.Ordering.{int_eq}
@@ -36,8 +36,8 @@ pub record MeetBetween (vs : List Value) (e : Interval) : Type 0 where
 abbrev pub DifferentMeetAsNumbers : Type 0
 DifferentMeetAsNumbers = (x y : Value) → x ≢ y → Meets x y → IsTrue (has_interval x) × IsTrue (has_interval y)
 
--- several different values, all of one kind apart from nil, meet each other exactly if no value is nil and the interval between the
--- ends is not empty
+-- take two or more different values: one may be nil, all others are of one kind; they meet each other exactly if no value is nil
+-- and the interval between the ends is not empty
 abbrev pub DifferentMeetBetweenEnds : Type 0
 DifferentMeetBetweenEnds = (kind : ℕ) (vs : List Value) → 2 ≤ length vs → AreDifferent vs → AreNilOrOfKind kind vs → EachTwoValuesMeet vs ↔ ((e : Interval) × MeetBetween vs e)
 
@@ -50,15 +50,15 @@ abbrev pub has_high : ℤ → Value → Bool
 has_high z (Number units decimals) = int_eq (interval units decimals).high z
 has_high z other = false
 
--- the index of the first value with the low end of e
+-- the index of the first value whose interval has the low end of e, or the length if there is none
 abbrev pub place_of_greatest_low : Interval → List Value → ℕ
 place_of_greatest_low e = position_or_len (has_low e.low)
 
--- the index of the first value with the high end of e
+-- the same for the high end
 abbrev pub place_of_least_high : Interval → List Value → ℕ
 place_of_least_high e = position_or_len (has_high e.high)
 
--- the values at these two indices do not meet
+-- there are values at both indices, and they do not meet
 pub record AreApart (vs : List Value) (i j : ℕ) : Type 0 where
   pub first : Value
   pub second : Value

@@ -14,10 +14,10 @@ enum Places {
     Infinite,
 }
 
-/// How precisely a number is reported (Open Information Model, `decimals`): rounded to a number of
-/// places after the point, or exact. Negative decimals count places before the point. Contracts see
-/// the number of places, or None for an exact number. Finite decimals are ordered by number;
-/// infinite decimals are last.
+/// The precision of a number (Open Information Model, `decimals`): rounded to a number of places
+/// after the point, or exact. Negative decimals count places before the point. Contracts see the
+/// number of places, or None for an exact number. Finite decimals are ordered by number; infinite
+/// decimals are last.
 #[derive(Clone, Copy, Debug, PartialEq, Eq, PartialOrd, Ord)]
 pub struct Decimals {
     places: Places,
@@ -39,7 +39,7 @@ impl Model for Decimals {
 }
 
 impl Decimals {
-    /// The decimals of an exact number.
+    /// The decimals of an exact number. In a report, a number without `decimals` is exact.
     pub const INFINITE: Decimals = Decimals {
         places: Places::Infinite,
     };

@@ -10,9 +10,9 @@ use crate::limits::{MOST_DECIMALS, UNIT_PLACES};
 /// empty if `low` is above `high`.
 #[derive(Clone, Copy, Debug, PartialEq, Eq)]
 pub struct Interval {
-    /// The low end.
+    /// The least of the numbers, unless the interval is empty.
     pub low: i128,
-    /// The high end.
+    /// The greatest of the numbers, unless the interval is empty.
     pub high: i128,
 }
 
@@ -64,8 +64,8 @@ pub fn meets(a: Interval, b: Interval) -> bool
     a.low <= b.high && b.low <= a.high
 }
 
-/// Returns the common part of two intervals, from the greater low end to the lesser high end. It is
-/// empty if they do not meet.
+/// Returns the common part of two intervals, from the greater low end to the lesser high end. The
+/// common part is empty if the intervals do not meet.
 pub fn common(a: Interval, b: Interval) -> Interval
     ensures { result ≡ common_part a b }
 {

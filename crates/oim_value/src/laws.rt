@@ -91,8 +91,8 @@ pub fn interval_is_half_a_place()
     ensures before_point { HalfBeforePoint }
 {}
 
-/// The interval of a number contains exactly the numbers that differ from it by at most the half
-/// width. So it contains the number.
+/// The interval of a number contains exactly the numbers that differ from that number by at most
+/// the half width. So it contains the number itself and is not empty.
 pub fn interval_has_what_is_near()
     ensures near { WithinIsNear }
     ensures number { IntervalHasNumber }
@@ -137,8 +137,9 @@ pub fn each_two_meet_by_members()
     ensures { EachTwoMeetByMembers }
 {}
 
-/// One or more intervals have one greatest low end and one least high end. Between these ends lie
-/// exactly the numbers in every interval. No other non-empty interval contains exactly these.
+/// One or more intervals have one greatest low end and one least high end. The numbers between
+/// these ends are exactly the numbers in every interval. No other non-empty interval contains
+/// exactly these numbers.
 pub fn ends_are_common_interval()
     ensures exist { EndsExist }
     ensures one { EndsAreOne }
@@ -152,10 +153,10 @@ pub fn all_meet_iff_ends_meet()
     ensures { AllMeetIffEndsMeet }
 {}
 
-/// Take several different values, all of one kind apart from nil. They meet each other exactly if
-/// all are numbers and the greatest low end of their intervals is at most the least high end. If
-/// the greatest low end is above the least high end, two numbers do not meet: the first with this
-/// high end and the first with this low end.
+/// Take two or more different values: one may be nil, and all others are of one kind. They meet
+/// each other exactly if all are numbers and the greatest low end of their intervals is at most the
+/// least high end. If the greatest low end is above the least high end, two numbers do not meet:
+/// the first with this high end and the first with this low end.
 pub fn different_meet_between_ends()
     ensures numbers { DifferentMeetAsNumbers }
     ensures between { DifferentMeetBetweenEnds }

@@ -2,8 +2,8 @@ ghost use Rattle.std.specs.Prelude.{◌≡◌, ◌↔◌, Some};
 ghost use Rattle.oim_value.specs.declared.level.Level.{Level as Said};
 ghost use Rattle.oim_value.specs.Level.{level_entry, level_with};
 
-/// Which duplicate facts a report may have (`xbrl:allowedDuplicates` of the Open Information
-/// Model), the strictest level first.
+/// The duplicate facts that a report may have (`xbrl:allowedDuplicates` of the Open Information
+/// Model). The strictest level is first.
 #[derive(Clone, Copy, Debug, PartialEq, Eq, PartialOrd, Ord)]
 pub enum Level {
     /// No two facts may have the same dimensions.
@@ -24,8 +24,8 @@ const LEVELS: [Level; 4] = [
 ];
 
 impl Level {
-    /// Returns the level that a text declares. `none`, `complete`, `consistent` and `all` declare
-    /// `Unique`, `Complete`, `Consistent` and `All`. No other text declares a level.
+    /// Returns the level that a text declares, or None. `none`, `complete`, `consistent` and `all`
+    /// declare `Unique`, `Complete`, `Consistent` and `All`. No other text declares a level.
     pub fn read(text: &str) -> Option<Level>
         ensures table { result ≡ level_with text.now }
         ensures exact { (level : Said) → result ≡ Some level ↔ (level_entry level).text ≡ text.now }

@@ -1,4 +1,4 @@
-/// A number has at most this many significant digits.
+/// A number has at most this many significant digits, as `read_fixed` counts them.
 pub const MOST_DIGITS: usize = 18;
 
 /// Numbers are stored in units of 10^-`UNIT_PLACES`. The constant is greater than `MOST_DECIMALS`,

@@ -1,10 +1,10 @@
--- The second key differs between the two forms of text: `namespaces` in the earlier form, `features` in the present one.
+-- The second key of `documentInfo` is `namespaces` in the earlier form and `features` in the canonical form.
 use Rattle.std.proofs.Common.{◌≡◌, ℕ, get_or, refl}
 use Rattle.json.specs.Print.{escape_byte}
 use Rattle.fact_base.specs.Body.{Body}
 use Rattle.oim_write.specs.Bytes.{canonical, earlier}
 
--- the index at which the second key begins
+-- the index of the first letter of the second key
 abbrev pub behind_type : ℕ
 behind_type = 67
 

@@ -10,7 +10,7 @@ pub mod NameOrder
 pub mod WrittenOrder
 pub mod PartTexts
 pub mod NumberedFacts
-pub mod Labels
+pub mod LabelTexts
 pub mod SpelledFacts
 pub mod Namespaces
 pub mod PlainTrees

@@ -1,4 +1,4 @@
--- The URIs of facts that fit a sheet are namespaces.
+-- If facts fit a sheet, the URIs of their names are namespaces.
 use Rattle.std.proofs.Common.{[], ◌∷◌, ◌++◌, Option, Some, None, ⊎_elim, subst}
 use Rattle.std.specs.Prelude.{All, Contains, flat_map}
 use Rattle.oim_names.specs.QName.{QName}

@@ -35,7 +35,7 @@ module _ (us : List (List ℕ)) (digits : ℕ) where
       ∙ (λ i. parts (later_next before i) (numbered_members us digits (before + 1) fs) ++ numbered_text us digits (one_less before (length fs) i) gs))
       ∙ sym (append_assoc (fact_part before f) (parts true (numbered_members us digits (before + 1) fs)) (numbered_text us digits (before + suc (length fs)) gs))
 
-  -- the text of the remaining facts
+  -- the text of facts that follow `before` + 1 other facts
   abbrev pub rest_text : ℕ → List Fact → List ℕ
   rest_text before fs = parts true (numbered_members us digits (before + 1) fs)
 
@@ -91,7 +91,7 @@ module _ (before : ℕ) (fs : List Fact) (done rows rest : List Row) (r : Row) (
   length-row_facts : length (row_facts r) ≡ length r.1
   length-row_facts = length-map r.1 (λ v. record { dimensions = r.0; value = v })
 
-  -- the row is part of all facts, so the count of facts does not overflow
+  -- the facts up to the end of the row are among all facts, so their count does not overflow
   pub row_within : before + length r.1 ≤ length fs
   row_within = omega (arith, count, length-row_facts, ap length facts_split, length-append (rows_facts done) (row_facts r ++ rows_facts rest), length-append (row_facts r) (rows_facts rest))
 

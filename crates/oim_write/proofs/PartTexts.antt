@@ -25,7 +25,7 @@ part_is old before later k d ts front tokens =
     ∙ append_assoc old (comma_if later) (print (([] ++ key k ∷ []) ++ json_tokens (outline d)))
     ∙ ap (λ t. old ++ (comma_if later ++ t)) (print_member k d)
 
--- a writer that writes only a value produces its text
+-- a writer that writes only a value produces the text of the value
 pub item_is : (old before : List ℕ) (later : Bool) (d : Data) (ts : List Token) → before ≡ old ++ comma_if later → ts ≡ [] ++ json_tokens (outline d) → before ++ print ts ≡ old ++ (comma_if later ++ compact_text d)
 item_is old before later d ts front tokens =
     (λ i. front i ++ print (tokens i))

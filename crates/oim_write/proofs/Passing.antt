@@ -60,7 +60,7 @@ AppendsFront-broken {text = text} new broken = record {
   count = broken.count ∙ ap (λ (p : Pending). saturated (p.written + length broken.front)) new ∙ ap saturated (zero-add (length broken.front));
 }
 
--- a fault while flushing after the text was pushed
+-- if a text was pushed into a new buffer and flushing fails, the sink took a first part of the text
 pub AppendsFront-flushed : {a b : Option (List ℕ)} {p q : Pending} {text : List ℕ} (c : Option (List ℕ)) (r : Result (Unit {0}) WriteFault) → p ≡ nothing_yet → Passes a b p q text
     → IfErr r (λ fault. Breaks b c q [] (written_of fault)) → IfErr r (λ fault. AppendsFront a c text (written_of fault))
 AppendsFront-flushed c (Ok x) new passed broken = tt
@@ -93,7 +93,7 @@ Breaks-first a b p n put = record {
   count = ap (λ k. saturated (p.written + k)) (sym (length-take-le n p.bytes put.1));
 }
 
--- a fault while flushing the bytes that end with a text is a fault while pushing this text
+-- if a text was appended to the waiting bytes and flushing fails, the fault is a fault of pushing the text
 pub Breaks-pushed : (a b : Option (List ℕ)) (p : Pending) (text : List ℕ) (r : Result (Unit {0}) WriteFault)
     → IfErr r (λ fault. Breaks a b (record { written = p.written; bytes = p.bytes ++ text }) [] (written_of fault))
     → IfErr r (λ fault. Breaks a b p text (written_of fault))

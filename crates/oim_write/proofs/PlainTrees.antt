@@ -1,4 +1,4 @@
--- The tree of a body that fits a sheet is plain: its texts are UTF-8, it has no float, the keys of its objects rise, and it nests at most four deep.
+-- The tree of a body that fits a sheet is plain: its texts are UTF-8, it has no float, the keys of its objects ascend, and it nests at most four deep.
 use Rattle.std.proofs.Common.{◌≡◌, ℕ, suc, ◌≤◌, ◌<◌, List, [], ◌∷◌, length, get_or, Option, Some, None, refl, codes, arith}
 use Rattle.std.specs.Prelude.{All, IsUtf8}
 use Rattle.std.specs.Cmp.Lexicographic.{slice_cmp}
@@ -24,11 +24,11 @@ use Rattle.oim_write.specs.Prefixes.{bindings_of}
 use Rattle.oim_write.specs.Tree.{facts_object, features_member, identifier, info_object, members_before, name_text, namespaces_object, prefix, text_items, xbrl_member}
 use Rattle.oim_write.specs.Uris.{uris}
 use Rattle.oim_write.proofs.Namespaces.{uris_are_namespaces}
-use Rattle.oim_write.proofs.Labels.{numbered_rise, numbered_utf8}
+use Rattle.oim_write.proofs.LabelTexts.{numbered_rise, numbered_utf8}
 use Rattle.oim_write.proofs.SpelledFacts.{facts_are_spelled}
 use Rattle.oim_write.proofs.UrisOfFacts.{uris_rise}
 
--- ---- depth of a value
+-- ---- plain values and members of bounded depth
 
 record IsKept (d : Data) (most : ℕ) : Type 0 where
   plain : IsPlain d

@@ -1,4 +1,4 @@
--- The names of the rows are the names of their facts.
+-- The names in rows are the names in the facts of the rows.
 use Rattle.std.proofs.Common.{◌≡◌, ℕ, true, false, cond, List, [], ◌∷◌, ◌++◌, append-nil, inl, inr, ⊎_elim, refl, sym, ap, subst}
 use Rattle.std.specs.Prelude.{Contains, flat_map}
 use Rattle.std.specs.Cmp.{Equal-is}
@@ -26,7 +26,7 @@ module _ {A : Type 0} where
   by_part : {B : Type 0} (xs ys : List A) (x : A) → (Contains xs x → B) → (Contains ys x → B) → Contains (xs ++ ys) x → B
   by_part xs ys x f g h = ⊎_elim f g ((in_one_of_both xs ys x).0 h)
 
-  -- a repeated element counts once
+  -- a list that contains `d` once has the same members as a list that contains `d` twice
   said_once : (d v w rest : List A) → SameMembers ((d ++ (v ++ w)) ++ rest) ((d ++ v) ++ ((d ++ w) ++ rest))
   said_once d v w rest x = (
     by_part (d ++ (v ++ w)) rest x

@@ -1,4 +1,4 @@
--- Each name of a body's facts is spelled with a prefix that is bound to its URI.
+-- Each name of a body's facts is spelled with a prefix that is bound to the URI of the name.
 use Rattle.std.proofs.Common.{◌≡◌, ℕ, zero, suc, ◌+◌, ◌%◌, ◌/◌, ◌<◌, List, [], ◌∷◌, ◌++◌, length, Bool, true, not, ◌==◌, Option, Some, None, refl, arith}
 use Rattle.std.specs.Prelude.{Contains, IfSome, flat_map}
 use Rattle.std.specs.List.{list_all}
@@ -19,7 +19,7 @@ use Rattle.oim_write.specs.Prefixes.{bindings_of, FactsAreSpelled}
 use Rattle.oim_write.specs.Rank.{padded, rank, width}
 use Rattle.oim_write.specs.Tree.{name_text, prefix}
 use Rattle.oim_write.specs.Uris.{defined_names, dimension_names, entity_names, fact_names, unit_names, uris, value_names}
-use Rattle.oim_write.proofs.Labels.{prefix_bound, prefix_simple}
+use Rattle.oim_write.proofs.LabelTexts.{prefix_bound, prefix_simple}
 use Rattle.oim_write.proofs.UrisOfFacts.{uri_there, uris_rise}
 
 -- ---- prefixes

@@ -16,7 +16,7 @@ use Rattle.fact_base.proofs.TextOrder.{text_cmp_exact, text_cmp_total}
 use Rattle.oim_write.specs.Uris.{uris_of_names}
 use Rattle.oim_write.specs.code.Table.{Gains}
 
--- ---- what a set gains
+-- ---- the URIs that a set gains
 
 pub gains_none : (us : List (List ℕ)) → Gains us [] us
 gains_none us = record { members = λ u. (λ old. inl old, ⊎_elim (λ old. old) (none_there u)) }
@@ -44,7 +44,7 @@ gains_both {a} {b} {c} {ns} {ms} first second = record {
       );
 }
 
--- one loop step adds the names of the next item
+-- one loop step adds the URIs of the next item's names
 pub gains_more : {A : Type 0} (names : A → List QName) {a b c : List (List ℕ)} (xs : List A) (i : ℕ) (x : A) → i < length xs → x ≡ get_or xs i x
     → Gains a (flat_map names (take i xs)) b → Gains b (names x) c → Gains a (flat_map names (take (i + 1) xs)) c
 gains_more names {a} {b} {c} xs i x within is first second =
@@ -76,7 +76,7 @@ gains_one us n =
 pub in_set : (us : List (List ℕ)) (u : List ℕ) → Contains us u → Contains (set_of text_cmp us) u
 in_set us u h = ((set_of_is_set text_cmp_total text_cmp_exact us).members u).1 h
 
--- a successful comparison with the URI at an index shows that the set contains it
+-- if the URI at an index equals a URI, the set contains that URI
 pub told_there : (us : List (List ℕ)) (i : ℕ) (known u : List ℕ) (told : Bool) → told ≡ bytes_eq known u → i < length us → get_or us i u ≡ known → OnTrue told (Contains (set_of text_cmp us) u)
 told_there us i known u true is within there = in_set us u (i, within, there ∙ same_bytes known u (sym is))
 told_there us i known u false is within there = tt

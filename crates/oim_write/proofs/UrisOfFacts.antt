@@ -1,4 +1,4 @@
--- The URIs of facts rise, and they include the URI of each name in a fact.
+-- The URIs of facts ascend, and include the URI of every name in a fact.
 use Rattle.std.proofs.Common.{List, [], ◌∷◌}
 use Rattle.std.specs.Prelude.{Contains, flat_map}
 use Rattle.std.proofs.lemmas.Cmp.{nat_list_cmp_total}

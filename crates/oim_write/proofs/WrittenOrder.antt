@@ -1,4 +1,4 @@
--- The keys of a fact object are in byte order when its members are written in order.
+-- With the prefixes of a text, the order of `ordered_fact` is the byte order of the keys.
 use Rattle.std.proofs.Common.{◌≡◌, ℕ, List, [], ◌∷◌, true, Option, Some, None, codes, refl, ap, ◌∙◌}
 use Rattle.std.specs.Prelude.{Contains}
 use Rattle.std.specs.declared.cmp.Ordering.TheVariants.{Less, Greater}

@@ -1,4 +1,4 @@
--- The bytes of a body's canonical text (own).
+-- The bytes of a body's text, in the canonical and in the earlier form (own).
 use Rattle.std.specs.Prelude.{◌≡◌, ℕ, List, Option}
 use Rattle.fact_base.specs.Passed.{SameMembers}
 use Rattle.serde_json.specs.Written.{compact_text}

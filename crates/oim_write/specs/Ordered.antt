@@ -1,4 +1,4 @@
--- A fact object, member by member in the order of writing (own). By a law, this is the byte order of the keys.
+-- A fact object, member by member in the order of writing (own). With the prefixes of a text, this is the byte order of the keys.
 use Rattle.std.specs.Prelude.{◌≡◌, ℕ, List, [], ◌∷◌, codes, Option, Some, None, Contains}
 use Rattle.serde_json.specs.Data.{Data, number, string, object, Members, no_members, member}
 use Rattle.serde_json.specs.Find.{of_integer}
@@ -18,7 +18,7 @@ abbrev pub text_member : List ℕ → Option (List ℕ) → Members → Members
 text_member key None ms = ms
 text_member key (Some t) ms = member key (string t) ms
 
--- the member `decimals`, if the decimals are finite, before other members
+-- the member `decimals`, if the value is a number with finite decimals, before other members
 abbrev pub decimals_member : Value → Members → Members
 decimals_member (Number units (Some d)) ms = member (codes "decimals") (number (of_integer d)) ms
 decimals_member (Number units None) ms = ms
@@ -27,7 +27,7 @@ decimals_member (AText t) ms = ms
 decimals_member (AName n) ms = ms
 
 module _ (spelled : QName → List ℕ) where
-  -- the taxonomy-defined dimensions in the order of their names, before other members
+  -- one member for each taxonomy-defined dimension, in the order of the list, before other members
   abbrev pub defined_members : List (QName × Member) → Members → Members
   defined_members [] ms = ms
   defined_members (e ∷ es) ms = member (spelled e.0) (member_data spelled e.1) (defined_members es ms)

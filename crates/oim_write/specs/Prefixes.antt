@@ -10,6 +10,6 @@ use Rattle.oim_write.specs.Uris.{uris}
 abbrev pub bindings_of : List (List ℕ) → List Binding
 bindings_of us = map (λ u. record { prefix = prefix us u; uri = u }) us
 
--- each name of the facts is spelled with a prefix that is bound to its URI
+-- each name of the facts is spelled with a prefix that is bound to the URI of the name
 abbrev pub FactsAreSpelled : Type 0
 FactsAreSpelled = (facts : List Fact) (f : Fact) → Contains facts f → SpellsFact (bindings_of (uris facts)) (name_text (uris facts)) f

@@ -1,4 +1,4 @@
--- The rank of a member in a set, from 1, and ranks as texts of one width (own). In bytes, `0` is 48.
+-- The ranks of the members of a set, which begin at 1, and their texts of one width (own). In bytes, `0` is 48.
 use Rattle.std.specs.Prelude.{◌≡◌, ℕ, zero, suc, ◌+◌, ◌/◌, ◌%◌, ◌^◌, ◌<◌, ◌≤◌, List, [], ◌∷◌, ◌++◌, length, count_by, nat_lt, if◌then◌else◌, Contains}
 use Rattle.std.specs.declared.cmp.Ordering.{Ordering}
 use Rattle.std.specs.Ordering.{is_lt, nat_cmp}
@@ -11,7 +11,7 @@ use Rattle.std.specs.Str.Parse.{AllDigits, digits_value}
 abbrev pub rank : {K : Type 0} → (K → K → Ordering) → K → List K → ℕ
 rank R x members = suc (count_by (λ y. is_lt (R y x)) members)
 
--- the last `width` digits of n, padded with zeros if it has fewer
+-- n as a text of this many digits: zeros are in front if n has fewer digits; only the last digits remain if n has more
 unfoldable pub padded : ℕ → ℕ → List ℕ
 padded zero n = []
 padded (suc width) n = padded width (n / 10) ++ (48 + n % 10) ∷ []
@@ -48,10 +48,10 @@ pub record IsFewestDigits (n digits : ℕ) : Type 0 where
 abbrev pub WidthIsFewestDigits : Type 0
 WidthIsFewestDigits = (n : ℕ) → IsFewestDigits n (width n)
 
--- the members of a set have ranks from 1 to their count
+-- each member of a set has a rank from 1 to the number of members
 abbrev pub RanksAreWithin : {K : Type 0} → (K → K → Ordering) → Type 0
 RanksAreWithin {K} R = (members : List K) (x : K) → IsStrictlySortedBy R members → Contains members x → (1 ≤ rank R x members) × (rank R x members ≤ length members)
 
--- if numbers fit in a width, their padded texts have the byte order of the numbers
+-- if two numbers fit in a width, the padded text of the smaller number is first in byte order
 abbrev pub PaddedKeepsOrder : Type 0
 PaddedKeepsOrder = (digits m n : ℕ) → m < n → n < 10 ^ digits → slice_cmp nat_cmp (padded digits m) (padded digits n) ≡ Less

@@ -8,7 +8,6 @@ pub record Pending : Type 0 where
   pub written : ℕ
   pub bytes : List ℕ
 
--- nothing was pushed yet
 abbrev pub nothing_yet : Pending
 nothing_yet = record { written = 0; bytes = [] }
 
@@ -19,7 +18,7 @@ pub record Passes (old new : Option (List ℕ)) (before after : Pending) (text :
   pub appended : Appends old new front
   pub count : saturated after.written ≡ saturated (before.written + length front)
 
--- a fault during a push: the sink took a first part of the waiting bytes and the text; `written` counts all bytes that it took, and saturates
+-- a fault: the sink took a first part of the waiting bytes followed by the text; `written` counts all bytes that the sink took, and saturates
 pub record Breaks (old new : Option (List ℕ)) (before : Pending) (text : List ℕ) (written : ℕ) : Type 0 where
   pub front : List ℕ
   pub rest : List ℕ

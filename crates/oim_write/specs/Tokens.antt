@@ -6,20 +6,18 @@ use Rattle.json.specs.Written.{Written}
 use Rattle.serde_json.specs.Data.{Data, Members, no_members, member}
 use Rattle.serde_json.specs.Written.{outline}
 
--- these tokens were appended
+-- these tokens were appended; the bytes before the first token did not change
 pub record Adds (old new : Written) (further : List Token) : Type 0 where
   pub tokens : new.tokens ≡ old.tokens ++ further
   pub before : new.before ≡ old.before
 
--- the tokens of the value were appended
 abbrev pub AddsValue : Written → Written → Data → Type 0
 AddsValue old new d = Adds old new (json_tokens (outline d))
 
--- the tokens of an object's members
+-- the tokens of the members only, without the braces of the object
 abbrev pub members_tokens : Members → List Token
 members_tokens no_members = []
 members_tokens (member k d ms) = key k ∷ (json_tokens (outline d) ++ members_tokens ms)
 
--- the members were written into an open object
 abbrev pub AddsMembers : Written → Written → Members → Type 0
 AddsMembers old new ms = Adds old new (members_tokens ms)

@@ -1,4 +1,4 @@
--- The JSON value that is written for a body: xBRL-JSON 1.0, sections 2 and 3; the choice of prefixes and identifiers is own. The feature
+-- The JSON value that is written for a body: xBRL-JSON 1.0, sections 2 and 3; the choice of prefixes and identifiers is our own. The feature
 -- `xbrl:allowedDuplicates` declares a level of duplicates (OIM Common 1.0). The earlier form lacks this feature. In bytes, `:` is 58, `f`
 -- is 102 and `n` is 110.
 use Rattle.std.specs.Prelude.{ℕ, List, [], ◌∷◌, ◌++◌, codes, Option, Some, None}
@@ -14,7 +14,7 @@ use Rattle.fact_base.specs.Body.{Body, text_cmp}
 use Rattle.oim_write.specs.Rank.{numbered}
 use Rattle.oim_write.specs.Uris.{uris}
 
--- the prefix of a URI: the letter n and its padded rank among all URIs
+-- the prefix of a URI: the letter n and the padded rank of the URI among all URIs
 abbrev pub prefix : List (List ℕ) → List ℕ → List ℕ
 prefix us uri = numbered 110 text_cmp uri us
 
@@ -35,14 +35,13 @@ members_before key shown (x ∷ xs) others = member (key x) (shown x) (members_b
 abbrev pub members_by : {A : Type 0} → (A → List ℕ) → (A → Data) → List A → Members
 members_by key shown xs = members_before key shown xs no_members
 
--- one item for each text
 abbrev pub text_items : List (List ℕ) → Items
 text_items [] = no_items
 text_items (t ∷ ts) = item (string t) (text_items ts)
 
 -- ---- the declared level
 
--- the feature that declares a level, before other members; nothing is added if no level is declared
+-- the member `features`, which declares a level, before other members; absent if no level is declared
 abbrev pub features_member : Option Level → Members → Members
 features_member None others = others
 features_member (Some level) others =

@@ -19,7 +19,7 @@ abbrev pub unit_names : Option Measures → List QName
 unit_names None = []
 unit_names (Some m) = m.numerators ++ m.denominators
 
--- the name of a dimension, and its member if that is a name
+-- the name of a dimension, and its member if the member is a name
 abbrev pub defined_names : QName × Member → List QName
 defined_names (n, NoMember) = n ∷ []
 defined_names (n, MemberText t) = n ∷ []

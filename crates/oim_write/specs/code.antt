@@ -1,3 +1,3 @@
--- Definitions that only private code cites: the parts of a text and the table of prefixes. No public contract uses them.
+-- Definitions that no public contract uses: the parts of a text and the table of prefixes.
 pub mod Parts
 pub mod Table

@@ -9,8 +9,8 @@ use fact_base::Base;
 use oim_names::Aliases;
 use std::alloc::{AllocError, Global};
 
-/// Returns the prefixes of the names in a base's text: `n1`, `n2` and so on for their URIs, in byte
-/// order. All numbers are padded with zeros to the same width (own).
+/// Returns the prefixes of the names in a base's text: `n1`, `n2` and so on, in the byte order of
+/// their URIs. All numbers are padded with zeros to the same width (own).
 ///
 /// Errors: out of memory.
 pub fn prefixes(alloc: Global, base: &Base<'_>) -> Result<Aliases, AllocError>
@@ -24,7 +24,8 @@ pub fn prefixes(alloc: Global, base: &Base<'_>) -> Result<Aliases, AllocError>
     Ok(aliases)
 }
 
-// The prefix is well-formed and not bound yet, so `add` fails only if memory is refused.
+// The prefix is well-formed and not bound yet, and the URI is not empty. So `add` fails only if
+// memory is refused.
 fn bind(
     alloc: Global,
     aliases: &mut Aliases,

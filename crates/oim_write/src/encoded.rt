@@ -35,7 +35,7 @@ impl Encoded {
         Encoded { bytes }
     }
 
-    /// The bytes.
+    /// Returns all bytes of the text.
     pub fn as_bytes(&self) -> &[u8]
         ensures { result.now ≡ self.now }
     {

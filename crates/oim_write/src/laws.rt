@@ -23,7 +23,8 @@ pub fn facts_are_written_in_order()
     ensures { FactsAreWrittenInOrder }
 {}
 
-/// Each name of a body's facts is spelled with a prefix of letters and digits, bound to its URI.
+/// Each name of a body's facts is spelled with a prefix of letters and digits that is bound to the
+/// name's URI.
 pub fn facts_are_spelled()
     ensures { FactsAreSpelled }
 {}
@@ -33,18 +34,18 @@ pub fn padded_writes_number()
     ensures { PaddedWritesNumber }
 {}
 
-/// The width of a number is the smallest count of digits, at least 1, that can write it.
+/// The width of a number is the smallest count of digits, at least 1, that can write the number.
 pub fn width_is_fewest_digits()
     ensures { WidthIsFewestDigits }
 {}
 
-/// The members of a set have ranks from 1 to their count.
+/// The rank of a set's member is at least 1 and at most the number of members.
 pub fn ranks_are_within()
     ensures facts { RanksAreWithin fact_cmp }
     ensures uris { RanksAreWithin text_cmp }
 {}
 
-/// If numbers fit in a width, their padded texts have the byte order of the numbers.
+/// If two numbers fit in a width, the padded text of the smaller number is first in byte order.
 pub fn padded_keeps_order()
     ensures { PaddedKeepsOrder }
 {}

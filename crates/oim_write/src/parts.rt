@@ -8,8 +8,8 @@ ghost use Rattle.oim_write.specs.Rank.{padded};
 ghost use Rattle.oim_write.specs.Tree.{name_text, prefix};
 
 use crate::fact_text::write_fact;
+use crate::labels::push_label;
 use crate::prefix_table::PrefixTable;
-use crate::ranked::push_label;
 use crate::scratch::Scratch;
 use json::Writer;
 use oim_dims::Dimensions;
@@ -24,7 +24,7 @@ use std::mem;
 const TYPE_AND_FEATURE: &[u8] =
     b"{\"documentInfo\":{\"documentType\":\"https://xbrl.org/2021/xbrl-json\",\"features\":{\"xbrl:allowedDuplicates\":\"";
 
-/// The prefixes of the names in a text, and the number of digits in an identifier.
+/// The prefixes of the names in a text, and the number of digits in each identifier.
 #[derive(Clone, Copy)]
 pub(crate) struct Labels<'t> {
     pub table: &'t PrefixTable,

@@ -55,8 +55,8 @@ impl PeriodText {
     }
 }
 
-/// Caches the last text for each class of periods, since a report has few periods. Contracts see
-/// the period cached for each class.
+/// Caches the last text for each class of periods, since most reports have few periods. Contracts
+/// see the period cached for each class.
 #[derive(Drop)]
 pub(crate) struct PeriodTexts {
     texts: Vec<PeriodText>,
@@ -72,7 +72,7 @@ impl Model for PeriodTexts {
 }
 
 impl PeriodTexts {
-    /// An empty cache. Later calls take their memory from `alloc`.
+    /// Returns an empty cache. This requests no memory.
     pub(crate) fn new(alloc: Global) -> PeriodTexts {
         PeriodTexts {
             texts: Vec::new(alloc),

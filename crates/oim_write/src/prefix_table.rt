@@ -4,7 +4,7 @@ ghost use Rattle.oim_write.specs.Rank.{rank};
 ghost use Rattle.oim_write.specs.Tree.{prefix};
 ghost use Rattle.oim_write.specs.Uris.{uris};
 
-use crate::ranked::{label, push_label, width_of};
+use crate::labels::{label, push_label, width_of};
 use crate::spelling::Spelling;
 use crate::uri_set::UriSet;
 use fact_base::Base;
@@ -61,7 +61,7 @@ impl PrefixTable {
         label(alloc, "n", self.digits, self.rank(uri))
     }
 
-    // Few URIs share a class, so the cache usually has the index.
+    // Few URIs share a class of the cache, so it usually has the index.
     fn rank(&self, uri: &str) -> u128
         ensures { result ≡ rank text_cmp uri.now self.now }
     {
@@ -91,8 +91,8 @@ impl Spelling for PrefixTable {
     }
 }
 
-// Caches the indices of the URIs, except indices above 65,535. If several URIs share a class, only
-// the last cached index remains.
+// Caches the indices of the URIs, except indices above 65,535. If several URIs share a class of the
+// cache, only the last cached index remains.
 fn places_of(uris: &[Text]) -> PositionCache {
     let mut cache = PositionCache::new();
     for (place, uri) in uris.iter().enumerate() {

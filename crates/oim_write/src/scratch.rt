@@ -11,7 +11,7 @@ pub struct Scratch {
 }
 
 impl Scratch {
-    /// Empty buffers. Later calls take their memory from `alloc`.
+    /// Returns empty buffers. They request memory from `alloc` when they are used.
     pub fn new(alloc: Global) -> Scratch {
         Scratch {
             alloc,

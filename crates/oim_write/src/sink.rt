@@ -2,21 +2,21 @@ ghost use Rattle.std.specs.Prelude.{◌≡◌, ℕ, ◌+◌, ◌-◌, ◌^◌, �
 ghost use Rattle.std.specs.Io.KnownBytes.{Appends, WriteAppends};
 ghost use Rattle.oim_write.specs.Sink.{AppendsFirst};
 
-/// A sink failed.
+/// The error of a sink that failed. The failed call appended no bytes.
 #[derive(Clone, Copy, Debug, PartialEq, Eq)]
 pub struct SinkError;
 
 /// Takes bytes and counts its failures.
 pub trait Sink {
-    /// The bytes that it holds, if contracts can see them. They see the bytes of a list in memory,
-    /// but not the bytes of a file.
+    /// The bytes that the sink holds, if contracts can see them. Contracts see the bytes of a list
+    /// in memory, but not the bytes of a file.
     ghost told: { Self → Option (List ℕ) };
 
     /// The number of failures so far.
     ghost failures: { Self → ℕ };
 
-    /// Appends a first part of these bytes and returns its length, which is at least 1 unless no
-    /// bytes are given. On an error, it appends nothing and counts one more failure.
+    /// Appends a first part of these bytes and returns its length, which is at least 1 if there are
+    /// any bytes. On an error, the sink appends nothing and counts one more failure.
     fn put(&mut self, bytes: &[u8]) -> Result<usize, SinkError>
         requires { failures self.old < 2 ^ 64 - 1 }
         ensures bytes { WriteAppends (told self.old) (told self.new) result bytes.now }

@@ -10,8 +10,8 @@ use std::marker::Model;
 /// Once this many bytes wait, they are written to the sink.
 const CHUNK: usize = 1 << 16;
 
-/// A text on its way to a sink. It counts the bytes that the sink took and stores the waiting bytes
-/// until they fill a chunk or are flushed. It must not be used after a fault.
+/// A buffer for a text on its way to a sink. It counts the bytes that the sink took and stores the
+/// waiting bytes until they fill a chunk or are flushed. It must not be used after a fault.
 #[derive(Drop)]
 pub struct SinkBuffer {
     buffer: Vec<u8>,
@@ -96,7 +96,7 @@ impl SinkBuffer {
         }
     }
 
-    /// The number of bytes that the sink took. The count saturates.
+    /// The number of bytes that the sink took. It saturates at the greatest `u64`.
     pub fn written(&self) -> u64
         ensures { result ≡ self.now.written }
     {

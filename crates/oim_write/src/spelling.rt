@@ -6,9 +6,9 @@ use oim_dims::Unit;
 use oim_names::Name;
 use std::alloc::AllocError;
 
-/// A way to write names.
+/// A way to write names, for example with a prefix or as `{URI}local`.
 pub trait Spelling {
-    /// The text of a name.
+    /// The bytes that `push_name` appends for a name.
     ghost spelled: { Self → QName → List ℕ };
 
     /// Appends the text of a name.
@@ -18,7 +18,7 @@ pub trait Spelling {
         ensures { OnOk result (string_bytes text.new ≡ string_bytes text.old ++ spelled self.now name.now) };
 }
 
-/// Replaces the text by the text of a name.
+/// Replaces the content of `text` with the text of a name.
 ///
 /// Errors: out of memory.
 pub fn spell<S: Spelling>(text: &mut String, spelling: &S, name: &Name) -> Result<(), AllocError>
@@ -28,7 +28,8 @@ pub fn spell<S: Spelling>(text: &mut String, spelling: &S, name: &Name) -> Resul
     spelling.push_name(text, name)
 }
 
-/// Replaces the text by the text of a unit (xBRL-JSON 1.0). The names on each side are in order.
+/// Replaces the content of `text` with the text of a unit (xBRL-JSON 1.0). The names on each side
+/// keep their order in the unit.
 ///
 /// Errors: out of memory.
 pub fn spell_unit<S: Spelling>(
@@ -54,7 +55,7 @@ fn push_unit<S: Spelling>(text: &mut String, spelling: &S, unit: &Unit) -> Resul
     push_side(text, spelling, unit.denominators())
 }
 
-// Only a unit with two sides has parentheses, around a side with several measures.
+// If a unit has two sides, each side with several measures is in parentheses.
 fn push_side<S: Spelling>(text: &mut String, spelling: &S, names: &[Name]) -> Result<(), AllocError>
     ensures { OnOk result (string_bytes text.new ≡ string_bytes text.old ++ side_text (S.spelled spelling.now) names.now) }
 {

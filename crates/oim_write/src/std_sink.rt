@@ -4,7 +4,8 @@ ghost use Rattle.std.specs.Io.KnownBytes.{WriteAppends};
 use crate::sink::{Sink, SinkError};
 use std::io::Write;
 
-/// A sink over a writer. It fails if a write fails, is interrupted or takes none of its bytes.
+/// A sink over a writer. It fails if a write fails or is interrupted, or if the writer takes no
+/// byte of a non-empty slice.
 #[derive(Drop)]
 pub struct StdSink<W: Write> {
     writer: W,
@@ -13,7 +14,7 @@ pub struct StdSink<W: Write> {
 }
 
 impl<W: Write> StdSink<W> {
-    /// A sink over this writer, with no failures and no bytes yet.
+    /// A sink over this writer. `failures` and `taken` begin at 0.
     pub fn new(writer: W) -> StdSink<W>
         ensures writer { result.writer ≡ writer }
         ensures failures { result.failures ≡ 0 }
@@ -26,14 +27,14 @@ impl<W: Write> StdSink<W> {
         }
     }
 
-    /// The number of bytes that the writer took. The count saturates.
+    /// The number of bytes that the writer took from this sink. It saturates at the greatest `u64`.
     pub fn taken(&self) -> u64
         ensures { result ≡ self.now.taken }
     {
         self.taken
     }
 
-    /// The writer.
+    /// Returns the writer and drops the numbers of failures and of bytes.
     pub fn into_inner(self) -> W
         ensures { result ≡ self.writer }
     {

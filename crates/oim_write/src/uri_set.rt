@@ -15,9 +15,9 @@ use std::alloc::{AllocError, Global};
 use std::marker::Model;
 
 /// The URIs of names. Contracts see them distinct and in byte order. In memory, a sorted part is
-/// followed by later URIs in order of arrival, which may repeat. A URI is appended if it is neither
-/// cached nor in the sorted part. If half the earlier length, rounded down, then exceeds the sorted
-/// part, the list is sorted and loses its repeats.
+/// followed by later URIs in order of arrival, which may repeat. A URI is appended unless the cache
+/// or a search of the sorted part finds it. Once the list is slightly more than twice as long as
+/// its sorted part, the list is sorted and its repeats are removed.
 #[derive(Drop)]
 pub(crate) struct UriSet {
     uris: Vec<Text>,
@@ -140,7 +140,7 @@ impl UriSet {
         }
     }
 
-    // For most names, the cache has the index of their URI, and no memory is requested.
+    // For most names, the cache has the index of the URI, so no memory is requested.
     fn add(&mut self, alloc: Global, name: &Name) -> Result<(), AllocError>
         ensures { OnOk result (Gains self.old (name.now ∷ []) self.new) }
     {
@@ -162,7 +162,8 @@ impl UriSet {
         }
     }
 
-    // Adds the URI as `add` does, and returns its index. A sort can make the index invalid.
+    // Adds the URI unless the sorted part contains it, and returns its index. If the list is then
+    // sorted, the index may be wrong.
     fn put(&mut self, alloc: Global, name: &Name) -> Result<usize, AllocError>
         ensures { OnOk result (Gains self.old (name.now ∷ []) self.new) }
     {

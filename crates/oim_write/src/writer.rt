@@ -7,10 +7,10 @@ ghost use Rattle.oim_write.specs.SinkBuffer.{Breaks, Passes};
 ghost use Rattle.oim_write.specs.Sink.{AppendsFront, failures_after_write, written_of};
 
 use crate::encoded::Encoded;
+use crate::labels::width_of;
 use crate::memory_sink::MemorySink;
 use crate::parts::{Labels, append_fact, append_reference, head};
 use crate::prefix_table::PrefixTable;
-use crate::ranked::width_of;
 use crate::scratch::Scratch;
 use crate::sink::Sink;
 use crate::sink_buffer::SinkBuffer;
@@ -19,8 +19,8 @@ use fact_base::{Base, Row};
 use oim_names::Text;
 use std::alloc::{AllocError, Global};
 
-/// The canonical text of a base (xBRL-JSON 1.0; the choice of prefixes and identifiers is own). It
-/// declares the strictest level of duplicates that the facts satisfy (OIM Common 1.0,
+/// The canonical text of a base (xBRL-JSON 1.0; the choice of prefixes and identifiers is our own).
+/// It declares the strictest level of duplicates that the facts satisfy (OIM Common 1.0,
 /// `xbrl:allowedDuplicates`).
 ///
 /// Errors: out of memory.
@@ -35,7 +35,8 @@ pub fn text(alloc: Global, base: &Base<'_>) -> Result<Encoded, AllocError>
 }
 
 /// Appends the canonical text of the base to the sink, in chunks of at least 65,536 bytes except
-/// the last. After a fault the sink has a first part of the text; the fault contains its length.
+/// the last. After a fault, the sink has a first part of the text. The fault contains the length of
+/// this part.
 ///
 /// Errors: `Device` if the sink failed; `OutOfMemory`.
 pub fn write_to<S: Sink>(alloc: Global, base: &Base<'_>, out: &mut S) -> Result<(), WriteFault>
@@ -45,7 +46,7 @@ pub fn write_to<S: Sink>(alloc: Global, base: &Base<'_>, out: &mut S) -> Result<
         (canonical base.now.body) (written_of fault)) }
     ensures failures { S.failures out.new ≡ failures_after_write result (S.failures out.old) }
 {
-    // the text is canonical because the facts fit the sheet
+    // the proof needs that the facts fit this sheet
     let _sheet = base.sheet();
     let Ok(table) = PrefixTable::of(alloc, base) else {
         return Err(WriteFault::OutOfMemory(0));

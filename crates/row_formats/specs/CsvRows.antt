@@ -1,4 +1,4 @@
--- A row of a body as CSV, one record for each fact (RFC 4180; own columns). In bytes, `'` is 39.
+-- A row of a body as CSV, one record for each fact (RFC 4180; the columns are our own). In bytes, `'` is 39.
 use Rattle.std.specs.Prelude.{ℕ, suc, Bool, false, ◌&&◌, ◌||◌, ◌==◌, nat_lt, if◌then◌else◌, List, [], ◌∷◌, ◌++◌, codes, length, Option, Some, None, ℤ}
 use Rattle.std.specs.Fmt.{decimal, signed_decimal}
 use Rattle.std.specs.Option.{unwrap_or}
@@ -22,7 +22,7 @@ use Rattle.oim_write.specs.Ordered.{defined_members}
 use Rattle.oim_merge.specs.Lines.{verdict_shown, verdict_word}
 use Rattle.row_formats.specs.Spelled.{braced}
 
--- commas between fields, quotes around a field that needs them, doubled quotes inside it, and CRLF at a line end (RFC 4180)
+-- commas between fields, quotes around a field that needs them, doubled quotes inside it, and CRLF after each record (RFC 4180)
 abbrev pub rfc_4180 : WriterBuilder
 rfc_4180 = with_terminator default_writer term.CRLF
 
@@ -36,9 +36,9 @@ columns =
     ∷ codes "value" ∷ codes "nil" ∷ codes "decimals"
     ∷ codes "common_low" ∷ codes "common_high" ∷ codes "apart_first" ∷ codes "apart_second" ∷ []
 
--- ---- texts that a spreadsheet reads as a formula
+-- ---- texts that a spreadsheet may read as a formula
 
--- bytes that a spreadsheet may skip before a formula: control characters, blanks, quotes, and the bytes of space characters such as U+00A0 and U+3000
+-- bytes that a spreadsheet may skip before a formula: those below 33, quotes, and two ranges that include the bytes of spaces such as U+00A0 and U+3000
 abbrev pub is_skipped : ℕ → Bool
 is_skipped b = nat_lt b 33 || b == 34 || b == 39 || (nat_lt 127 b && nat_lt b 195) || (nat_lt 224 b && nat_lt b 228)
 
@@ -50,7 +50,7 @@ abbrev pub begins_formula : List ℕ → Bool
 begins_formula [] = false
 begins_formula (b ∷ t) = if is_skipped b then begins_formula t else is_sign b
 
--- a `'` is put before a formula if the text is for a spreadsheet
+-- the text; in CSV for a spreadsheet, a `'` precedes a text that may be read as a formula
 abbrev pub guarded : Bool → List ℕ → List ℕ
 guarded spreadsheet t = if spreadsheet && begins_formula t then 39 ∷ t else t
 
@@ -59,7 +59,7 @@ guarded spreadsheet t = if spreadsheet && begins_formula t then 39 ∷ t else t
 abbrev pub or_empty : Option (List ℕ) → List ℕ
 or_empty o = unwrap_or o []
 
--- the taxonomy-defined dimensions as a JSON object; empty if there are none
+-- the taxonomy-defined dimensions as a JSON object, or an empty text if there are none
 abbrev pub defined_text : List (QName × Member) → List ℕ
 defined_text es = if length es == 0 then [] else compact_text (object (defined_members braced es no_members))
 
@@ -73,7 +73,7 @@ abbrev pub decimals_text : Option ℤ → List ℕ
 decimals_text None = []
 decimals_text (Some d) = signed_decimal d
 
--- the value, `true` for nil, and the decimals
+-- three fields: the value, `true` if the fact is nil, and the decimals
 abbrev pub value_fields : Bool → Value → List (List ℕ)
 value_fields spreadsheet Nil = [] ∷ codes "true" ∷ [] ∷ []
 value_fields spreadsheet (Number units places) = plain units ∷ [] ∷ decimals_text places ∷ []

@@ -13,7 +13,7 @@ use Rattle.oim_write.specs.Ordered.{decimals_member, ordered_dimensions}
 use Rattle.oim_merge.specs.Lines.{verdict_shown, verdict_word}
 use Rattle.row_formats.specs.Spelled.{braced}
 
--- the object of a fact with this identifier
+-- a fact without its dimensions: the row contains the dimensions once
 abbrev pub fact_data : List ℕ → Value → Data
 fact_data identifier v =
     object (member (codes "identifier") (string identifier) (
@@ -36,7 +36,7 @@ apart_data first second = array (item (string first) (item (string second) no_it
 abbrev pub evidence_member : List ℕ → Data → Members
 evidence_member key d = member (codes "evidence") (object (member key d no_members)) no_members
 
--- the evidence, given the identifiers of the facts; a single fact has none
+-- the evidence, given the identifiers of the facts; a row with a single fact has no evidence
 abbrev pub evidence_members : (ℕ → List ℕ) → Evidence → Members
 evidence_members name Alike = no_members
 evidence_members name (Common c) = evidence_member (codes "common") (common_data c)

@@ -1,4 +1,4 @@
--- The bytes that a listing of rows in a format appends, the refusals that it returns, and its faults (own).
+-- Calls that list rows in a format: the appended bytes, the returned refusals, and the faults (own).
 use Rattle.std.specs.Prelude.{ℕ, Option, List}
 use Rattle.fact_base.specs.Body.{Body}
 use Rattle.fact_base.specs.Passed.{Sheet}

@@ -18,13 +18,13 @@ row_text Json = json_row
 row_text Csv = csv_row false
 row_text SpreadsheetCsv = csv_row true
 
--- the text before the first row
+-- JSON lines have no header
 abbrev pub header : RowFormat → List ℕ
 header Json = []
 header Csv = record_text columns
 header SpreadsheetCsv = record_text columns
 
--- the header and the rows of a body
+-- the text is the header, followed by the rows of the body
 pub record AreRows (format : RowFormat) (b : Body) (text : List ℕ) : Type 0 where
   pub rows : List ℕ
   pub are : AreRowsOf (row_text format) b rows
@@ -32,11 +32,11 @@ pub record AreRows (format : RowFormat) (b : Body) (text : List ℕ) : Type 0 wh
 
 -- ---- laws
 
--- a body that fits a sheet has exactly one list of rows in each format
+-- the rows of a body that fits a sheet have exactly one text in each format
 abbrev pub RowsAreOne : Type 0
 RowsAreOne = (format : RowFormat) (sheet : Sheet) (b : Body) → Fits sheet b → HasOneText (AreRows format b)
 
--- the evidence in a row shows the verdict on the dimension set
+-- in a body that fits a sheet, the evidence for a row shows the verdict on its dimension set
 abbrev pub RowsTellVerdicts : Type 0
 RowsTellVerdicts =
     (sheet : Sheet) (b : Body) → Fits sheet b → (r : Row) → Contains (rows_of b.facts) r →

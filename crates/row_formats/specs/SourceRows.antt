@@ -33,7 +33,7 @@ source_text Json = json_source
 source_text Csv = csv_source false
 source_text SpreadsheetCsv = csv_source true
 
--- the text before the first row
+-- JSON lines have no header
 abbrev pub source_header : RowFormat → List ℕ
 source_header Json = []
 source_header Csv = record_text source_columns
@@ -49,6 +49,6 @@ sources_in format sheet reports = source_header format ++ sources_by (source_tex
 abbrev pub ListsSourceRows : RowFormat → Sheet → List (List ℕ) → Option (List ℕ) → Option (List ℕ) → List (ℕ × Refusal) → Type 0
 ListsSourceRows format = AppendsSources (source_header format) (source_text format)
 
--- after a fault, a first part of the header and the rows was appended, and the fault contains the number of its bytes
+-- after a fault, a first part of the header and the rows was appended; the fault contains the number of these bytes, which saturates
 abbrev pub SourceRowsStop : RowFormat → Sheet → List (List ℕ) → Option (List ℕ) → Option (List ℕ) → Fault → Type 0
 SourceRowsStop format = AppendingStops (source_header format) (source_text format)

@@ -1,4 +1,4 @@
--- Names that need no prefix (own). In bytes, `{` is 123, `}` 125.
+-- Names that need no prefix (own). In bytes, `{` is 123 and `}` is 125.
 use Rattle.std.specs.Prelude.{ℕ, List, ◌∷◌, ◌++◌}
 use Rattle.oim_names.specs.QName.{QName}
 

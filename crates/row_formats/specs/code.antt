@@ -1,3 +1,3 @@
--- Definitions that only private code cites: the items of a JSON array, and a law about the texts of rows. No public contract uses them.
+-- Definitions that no public contract uses: the items of a JSON array, and a law about the identifiers in rows.
 pub mod Items
 pub mod SameRows

@@ -5,6 +5,7 @@ ghost use Rattle.row_formats.specs.CsvRows.{record_text};
 use csv::{Error, StringRecord, Terminator, WriterBuilder};
 use std::alloc::{AllocError, Global};
 
+// A writer to memory fails only if memory is refused.
 pub(crate) fn text_of_record(alloc: Global, fields: &StringRecord) -> Result<Vec<u8>, AllocError>
     ensures { IfOk result (λ text. text.items ≡ record_text (fields_of fields.now)) }
 {
@@ -14,7 +15,6 @@ pub(crate) fn text_of_record(alloc: Global, fields: &StringRecord) -> Result<Vec
     }
 }
 
-// A sink in memory fails only if memory is refused.
 fn bytes_of_record(alloc: Global, fields: &StringRecord) -> Result<Vec<u8>, Error>
     ensures { IfOk result (λ text. text.items ≡ record_text (fields_of fields.now)) }
 {

@@ -33,7 +33,7 @@ use std::str;
 /// The initial capacity of a record, in bytes. Few records are longer.
 const RECORD: usize = 1 << 9;
 
-/// The number of fields in a record.
+/// The number of fields in a record of verdicts.
 const FIELDS: usize = 16;
 
 pub(crate) fn csv_header(alloc: Global) -> Result<Vec<u8>, AllocError>

@@ -1,10 +1,10 @@
-/// A format of rows for other programs.
+/// A format of verdicts and sources for other programs.
 #[derive(Clone, Copy, Debug, PartialEq, Eq)]
 pub enum RowFormat {
     /// One JSON object per line.
     Json,
-    /// A header, then one record per fact for verdicts, or per fact object for sources (RFC 4180).
+    /// CSV (RFC 4180): a header, then a record for each fact (verdicts) or fact object (sources).
     Csv,
-    /// CSV for a spreadsheet: a `'` is put before a text that would be read as a formula.
+    /// CSV for a spreadsheet: a `'` is put before each text that may be read as a formula.
     SpreadsheetCsv,
 }

@@ -38,9 +38,10 @@ impl VerdictFormat for RowFormat {
 }
 
 /// Merges reports under a sheet and appends one row for each dimension set to the sink, in this
-/// format (own). CSV begins with a header. A row has its number from 1, its verdict, dimensions,
-/// facts and evidence; a single fact has no evidence. The verdicts are the same as in
-/// `verdict_lines`. Returns the refusals with the numbers of their reports, from 1.
+/// format (own). CSV begins with a header, and has one record for each fact of a row. A row has a
+/// number (from 1), a verdict, dimensions, facts and, if it has several facts, evidence. The
+/// verdicts are the same as in `verdict_lines`. Returns the refusals with the numbers of their
+/// reports, from 1.
 ///
 /// Errors: `Device` if the sink failed; `OutOfMemory`.
 pub fn verdict_rows<S: Sink>(

@@ -3,7 +3,7 @@ use oim_report::{Place, Refusal, Report, Sheet, read_report};
 use std::alloc::{AllocError, Global};
 
 // Repeats a call after a refused request for memory. A line on standard error reports the refusal
-// to `tests/refused_memory`: `refused here` if the test itself made the request, otherwise
+// to `tests/refused_memory`: `refused here` if the request was for the test's own data, otherwise
 // `refused`.
 
 /// A sheet with every kind of concept and dimension.
@@ -45,8 +45,8 @@ pub fn read<'s>(rt: &HostRuntime, sheet: &'s Sheet, bytes: &[u8]) -> Result<Repo
     }
 }
 
-/// Reads a report. Tests call this function because `read_report` has a long contract, so each call
-/// of it is slow to prove.
+/// Reads a report. Tests call this function instead of `read_report`, whose long contract makes
+/// each call slow to prove.
 pub fn read_once<'s>(alloc: Global, sheet: &'s Sheet, bytes: &[u8]) -> Result<Report<'s>, Refusal> {
     read_report(alloc, sheet, bytes)
 }
@@ -79,7 +79,8 @@ pub fn joined(rt: &HostRuntime, parts: &[&str]) -> Result<Vec<u8>, AllocError> {
     Ok(all)
 }
 
-/// Returns the text repeated `count` times.
+/// Returns `count` copies of the piece. If memory is refused, prints `refused here` and tries once
+/// more.
 pub fn repeated(rt: &HostRuntime, piece: &str, count: usize) -> Result<String, AllocError> {
     match piece.repeat(rt.alloc(), count) {
         Err(_) => {

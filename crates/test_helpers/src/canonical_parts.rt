@@ -1,4 +1,4 @@
-// Parts of the canonical texts that tests expect.
+// Parts of the texts that tests expect, both in the canonical form and in the earlier form.
 
 /// The text before the namespaces if no two facts have the same dimensions.
 pub const HEAD: &str =

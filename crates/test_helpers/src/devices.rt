@@ -6,11 +6,11 @@ use std::io::{self, ErrorKind, Read, Write};
 /// How a reader behaves at its end, or a writer when it is full.
 #[derive(Clone, Copy, Debug, PartialEq, Eq)]
 pub enum Then {
-    /// It gives or takes nothing.
+    /// Each further call reads or writes no bytes.
     Ends,
-    /// It fails.
+    /// Each further call returns an error of the kind `Other`.
     Fails,
-    /// It is interrupted.
+    /// Each further call returns an error of the kind `Interrupted`.
     IsInterrupted,
     /// A reader gives zeros forever; a writer fails.
     GoesOn,
@@ -19,9 +19,8 @@ pub enum Then {
 /// How much of a request a device satisfies at once.
 #[derive(Clone, Copy, Debug, PartialEq, Eq)]
 pub enum Step {
-    /// All of it.
     All,
-    /// Half of it, but at least one byte.
+    /// Half of the request, but at least one byte.
     Half,
     /// At most this many bytes.
     Few(usize),
@@ -47,7 +46,7 @@ fn fault(then: Then) -> io::Error {
     io::Error::from(kind)
 }
 
-/// Gives its remaining bytes in steps, then behaves as `then`. It counts the calls.
+/// Gives its remaining bytes in steps, then behaves as `then`, and counts the calls.
 #[derive(Clone, Copy)]
 pub struct TestReader<'a> {
     left: &'a [u8],
@@ -88,7 +87,7 @@ impl Read for TestReader<'_> {
     }
 }
 
-/// Takes bytes in steps until it holds `room` of them, then behaves as `then`.
+/// Takes `room` bytes in steps, then behaves as `then`.
 #[derive(Drop)]
 pub struct TestWriter {
     held: Vec<u8>,
@@ -98,7 +97,7 @@ pub struct TestWriter {
 }
 
 impl TestWriter {
-    /// Reserves memory for `room` bytes, so that no write requests memory.
+    /// Reserves memory for `room` bytes, so that writing requests no memory.
     pub fn new(
         alloc: Global,
         step: Step,
@@ -156,7 +155,7 @@ impl<'a> ComparingWriter<'a> {
         }
     }
 
-    /// Returns whether it took exactly the text.
+    /// Returns whether the bytes taken are exactly the text.
     pub fn is_met(&self) -> bool {
         self.text.is_met()
     }

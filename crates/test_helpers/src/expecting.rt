@@ -27,7 +27,7 @@ impl<'a> Expecting<'a> {
         }
     }
 
-    /// Returns whether the bytes written so far are as expected and complete the text.
+    /// Returns whether the bytes written so far are as expected and include the whole text.
     pub fn is_met(&self) -> bool {
         self.left.is_empty() && !self.differs
     }

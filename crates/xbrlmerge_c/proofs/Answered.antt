@@ -1,4 +1,4 @@
--- What each status implies about the caller's memory.
+-- The caller's memory after a call, by status.
 use Rattle.std.proofs.Common.{◌≡◌, ◌≤◌, ◌<◌, ◌⊎◌, inl, inr, ℕ, List, [], length, Result, Ok, Err, refl, sym, ap, ◌∙◌, subst, arith}
 use Rattle.std.specs.Prelude.{IfOk, IfErr}
 use Rattle.oim_names.specs.declared.reason.Reason.{Reason}

@@ -1,5 +1,5 @@
 -- The results of calls on the bytes of a sheet and of reports (own).
-use Rattle.std.specs.Prelude.{◌≡◌, ℕ, List, Ok, Err}
+use Rattle.std.specs.Prelude.{◌≡◌, ◌≢◌, ◌≤◌, ◌<◌, ℕ, List, Ok, Err}
 use Rattle.oim_names.specs.declared.reason.Reason.{Reason}
 use Rattle.oim_value.specs.declared.level.Level.{Level}
 use Rattle.oim_report.specs.Sheet.{Sheet, sheet_outcome}
@@ -12,14 +12,16 @@ use Rattle.oim_merge.specs.Sources.{sources}
 use Rattle.row_formats.specs.Rows.{AreRows}
 use Rattle.row_formats.specs.SourceRows.{sources_in}
 use Rattle.row_formats.specs.declared.row_format.RowFormat.TheVariants.{Json}
+use Rattle.xbrlmerge_c.specs.Ends.{AreEnds, reports_at}
+use Rattle.xbrlmerge_c.specs.Room.{Asks, Hands, Rejects, Room}
+use Rattle.xbrlmerge_c.specs.Statuses.{bad_ends, done, no_memory, refused_some, sheet_refused, too_loose, too_short}
 use Rattle.xbrlmerge_c.specs.declared.listing.Listing.{Listing}
 use Rattle.xbrlmerge_c.specs.declared.listing.Listing.TheVariants.{Sources, SourcesJson, Verdicts, VerdictsJson}
 
--- the bytes of a sheet are refused
 abbrev pub IsSheetRefused : List ℕ → Reason → Type 0
 IsSheetRefused sheet reason = sheet_outcome sheet ≡ Err reason
 
--- no row is above the level: the canonical text of the accepted reports, and the refusals of the others
+-- no row is above the level; `text` is the canonical text of the accepted reports, and `told` lists the refusals of the others
 pub record Merges (sheet : List ℕ) (reports : List (List ℕ)) (level : Level) (text : List ℕ) (told : List (ℕ × Refusal)) : Type 0 where
   pub listed : Sheet
   pub read : sheet_outcome sheet ≡ Ok listed
@@ -27,23 +29,35 @@ pub record Merges (sheet : List ℕ) (reports : List (List ℕ)) (level : Level)
   pub text_is : text ≡ canonical (merged listed reports)
   pub refusals_are : told ≡ refused listed reports
 
--- the row with this number, from 1, is the first above the level
+-- the row with this number, from 1, is the first above the level; these are the refusals of the refused reports
 pub record IsLoose (sheet : List ℕ) (reports : List (List ℕ)) (level : Level) (number : ℕ) (told : List (ℕ × Refusal)) : Type 0 where
   pub listed : Sheet
   pub read : sheet_outcome sheet ≡ Ok listed
   pub first : IsFirstAbove level (merged listed reports) number
   pub refusals_are : told ≡ refused listed reports
 
--- the text of a listing of the accepted reports
 abbrev pub IsListing : Listing → Sheet → List (List ℕ) → List ℕ → Type 0
 IsListing Verdicts sheet reports text = AreLines (merged sheet reports) text
 IsListing Sources sheet reports text = text ≡ sources sheet reports
 IsListing VerdictsJson sheet reports text = AreRows Json (merged sheet reports) text
 IsListing SourcesJson sheet reports text = text ≡ sources_in Json sheet reports
 
--- a listing of the accepted reports, and the refusals of the others
+-- `text` lists the rows or sources of the accepted reports, and `told` lists the refusals of the others
 pub record Lists (listing : Listing) (sheet : List ℕ) (reports : List (List ℕ)) (text : List ℕ) (told : List (ℕ × Refusal)) : Type 0 where
   pub listed : Sheet
   pub read : sheet_outcome sheet ≡ Ok listed
   pub is : IsListing listing listed reports text
   pub refusals_are : told ≡ refused listed reports
+
+-- the result of a call that lists rows or sources: the status, and the caller's memory before and after the call
+pub record AnswersListing (listing : Listing) (sheet bytes ends : List ℕ) (status : ℕ) (old new : Room) : Type 0 where
+  pub within : status ≤ bad_ends
+  pub not_loose : status ≢ too_loose
+  pub are_ends : status ≤ no_memory → AreEnds bytes ends
+  pub listed : status ≤ refused_some → Hands (Lists listing sheet (reports_at bytes ends)) old new
+  pub none_refused : status ≡ done → new.refused ≡ 0
+  pub some_refused : status ≡ refused_some → 0 < new.refused
+  pub short : status ≡ too_short → Asks (Lists listing sheet (reports_at bytes ends)) old new
+  pub sheet_is_refused : status ≡ sheet_refused → Rejects (IsSheetRefused sheet) old new
+  pub no_ends : status ≡ bad_ends → AreEnds bytes ends → ⊥
+  pub same : no_memory ≤ status → new ≡ old

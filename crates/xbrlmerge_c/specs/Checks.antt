@@ -24,7 +24,7 @@ pub record Accepts (sheet report : List ℕ) (r : CheckedReport) : Type 0 where
   pub is_checked : IsChecked listed report checked
   pub row_is : IsRowOf checked r
 
--- the report is refused; its record has the report number 1
+-- the report is refused; the record of the refusal has the report number 1
 pub record Refuses (sheet report : List ℕ) (r : RefusedReport) : Type 0 where
   pub listed : Sheet
   pub read : sheet_outcome sheet ≡ Ok listed
@@ -32,7 +32,7 @@ pub record Refuses (sheet report : List ℕ) (r : RefusedReport) : Type 0 where
   pub refused : outcome listed report ≡ Err refusal
   pub row_is : r ≡ row 1 refusal
 
--- the sheet is refused; its record has the report number 0
+-- the sheet is refused; the record of the refusal has the report number 0
 pub record RefusesSheet (sheet : List ℕ) (r : RefusedReport) : Type 0 where
   pub reason : Reason
   pub refused : sheet_outcome sheet ≡ Err reason

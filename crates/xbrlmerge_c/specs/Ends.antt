@@ -1,4 +1,4 @@
--- Concatenated reports, split at the position where each one ends (own).
+-- Concatenated reports, split at their ends (own).
 use Rattle.std.specs.Prelude.{◌≤◌, ◌-◌, ℕ, List, [], ◌∷◌, length, take, drop}
 
 -- the ends never decrease, the first is at least `from`, and none is greater than `count`
@@ -9,11 +9,10 @@ AreEndsFrom from count (end ∷ ends) = (from ≤ end) × ((end ≤ count) × Ar
 abbrev pub AreEnds : List ℕ → List ℕ → Type 0
 AreEnds bytes ends = AreEndsFrom 0 (length bytes) ends
 
--- the bytes from one position to another
 abbrev pub between : ℕ → ℕ → List ℕ → List ℕ
 between from end bytes = take (end - from) (drop from bytes)
 
--- the reports: the first begins at `from`, and each other one where the report before it ends
+-- the first report begins at `from`, and each later report begins where the report before it ends
 abbrev pub reports_from : ℕ → List ℕ → List ℕ → List (List ℕ)
 reports_from from bytes [] = []
 reports_from from bytes (end ∷ ends) = between from end bytes ∷ reports_from end bytes ends

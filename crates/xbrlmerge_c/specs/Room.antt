@@ -16,7 +16,7 @@ pub record Room : Type 0 where
 abbrev pub room : List ℕ → ℕ → List RefusedReport → ℕ → Room
 room out needed rows refused = record { out = out; needed = needed; rows = rows; refused = refused }
 
--- the text and the records are at the start of the buffers, and the rest is unchanged
+-- the text and the records are at the start of the buffers; the rest of the buffers is unchanged; `needed` and `refused` are the two lengths
 pub record IsHanded (text : List ℕ) (told : List (ℕ × Refusal)) (old new : Room) : Type 0 where
   pub out : new.out ≡ text ++ drop (length text) old.out
   pub needed : new.needed ≡ length text
@@ -31,14 +31,14 @@ pub record IsTooShort (text : List ℕ) (told : List (ℕ × Refusal)) (old new 
   pub rows : new.rows ≡ old.rows
   pub refused : new.refused ≡ length told
 
--- the number of a row and the refused reports are returned
+-- the number of a row and the refused reports are returned, without a text
 pub record TellsRow (number : ℕ) (told : List (ℕ × Refusal)) (old new : Room) : Type 0 where
   pub out : new.out ≡ old.out
   pub needed : new.needed ≡ number
   pub rows : new.rows ≡ rows_of told ++ drop (length told) old.rows
   pub refused : new.refused ≡ length told
 
--- the number of the sheet's refusal is returned
+-- the number of the sheet's refusal is returned, and 0 as the count of refused reports
 pub record TellsReason (reason : Reason) (old new : Room) : Type 0 where
   pub out : new.out ≡ old.out
   pub needed : new.needed ≡ (entry_of reason).number
@@ -53,7 +53,7 @@ pub record Hands (Says : List ℕ → List (ℕ × Refusal) → Type 0) (old new
   pub says : Says text told
   pub handed : IsHanded text told old new
 
--- the returned lengths belong to a text and refusals with the property
+-- a buffer is too short; the returned lengths belong to a text and refusals with the property
 pub record Asks (Says : List ℕ → List (ℕ × Refusal) → Type 0) (old new : Room) : Type 0 where
   pub text : List ℕ
   pub told : List (ℕ × Refusal)

@@ -5,7 +5,7 @@ use Rattle.std.specs.Prelude.{ℕ}
 abbrev pub done : ℕ
 done = 0
 
--- some reports were refused
+-- at least one report was refused
 abbrev pub refused_some : ℕ
 refused_some = 1
 
@@ -13,19 +13,19 @@ refused_some = 1
 abbrev pub too_loose : ℕ
 too_loose = 2
 
--- a buffer is too short
+-- the text or the refusals are longer than their buffer; both lengths are returned
 abbrev pub too_short : ℕ
 too_short = 3
 
--- the sheet is refused
+-- the number of the sheet's refusal is returned
 abbrev pub sheet_refused : ℕ
 sheet_refused = 4
 
--- memory was refused
+-- memory was refused; the caller's memory is unchanged
 abbrev pub no_memory : ℕ
 no_memory = 5
 
--- an end is less than the one before it, or beyond the bytes
+-- an end is less than the end before it, or greater than the number of bytes
 abbrev pub bad_ends : ℕ
 bad_ends = 6
 

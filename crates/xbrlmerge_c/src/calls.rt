@@ -1,8 +1,8 @@
-ghost use Rattle.std.specs.Prelude.{◌≡◌, slice_get, ◌⊎◌, ◌↔◌, ◌<◌, ◌≤◌, None, Some, IfErr, IfOk, ◌≢◌};
+ghost use Rattle.std.specs.Prelude.{◌≡◌, slice_get, ◌⊎◌, ◌↔◌, ◌<◌, ◌≤◌, None, Some, IfErr, IfOk};
 ghost use Rattle.oim_value.specs.Level.{levels};
 ghost use Rattle.oim_value.specs.declared.level.Level.{Level as Allowed};
 ghost use Rattle.xbrlmerge_c.specs.Answers.{StopsBy};
-ghost use Rattle.xbrlmerge_c.specs.Calls.{IsLoose, IsSheetRefused, Lists, Merges};
+ghost use Rattle.xbrlmerge_c.specs.Calls.{AnswersListing, IsLoose, IsSheetRefused, Merges};
 ghost use Rattle.xbrlmerge_c.specs.Ends.{AreEnds, reports_at};
 ghost use Rattle.xbrlmerge_c.specs.Room.{Asks, Hands, HasNoText, Rejects, TellsFirst, room};
 ghost use Rattle.xbrlmerge_c.specs.Statuses.{bad_ends, bad_level, done, no_memory, refused_some, sheet_refused, too_loose, too_short};
@@ -16,7 +16,7 @@ use oim_value::Level;
 use oim_write::StdSink;
 use std::alloc::Global;
 
-// C has no slices: each is a pointer and a length, so the calls have many parameters.
+// In C, each slice is two parameters, a pointer and a length, and `alloc` is not a parameter.
 
 pub(crate) fn level_numbered(number: u32) -> Option<Level>
     ensures { result ≡ slice_get levels number }
@@ -35,9 +35,10 @@ pub(crate) fn level_numbered(number: u32) -> Option<Level>
 /// text is written to the start of `out` and the refused reports to the start of `refusals`;
 /// `needed` and `refused` get their lengths.
 ///
-/// Errors, by the status: `TOO_LOOSE`, with no text, and the number of the first row above the level
-/// in `needed`; `TOO_SHORT`, with only the lengths; `SHEET_REFUSED`, with the number of the refusal
-/// in `needed` and 0 in `refused`; `NO_MEMORY`, `BAD_ENDS` and `BAD_LEVEL`, with nothing changed.
+/// Errors, by the status: `TOO_LOOSE`, with the refused reports but no text, and with the number of
+/// the first row above the level in `needed`; `TOO_SHORT`, with only the lengths; `SHEET_REFUSED`,
+/// with the number of the refusal in `needed` and 0 in `refused`; `NO_MEMORY`, `BAD_ENDS` and
+/// `BAD_LEVEL`, with nothing changed.
 #[unsafe(no_mangle)]
 pub extern "C" fn xbrlmerge_merge(
     alloc: Global,
@@ -107,8 +108,8 @@ fn merged(
     })
 }
 
-/// Writes one line for each row, with its verdict, as `oim_merge::verdict_lines` does. Otherwise it
-/// is like `xbrlmerge_merge`, but without a level.
+/// Writes one line for each row, with its verdict, as `oim_merge::verdict_lines` does. Otherwise
+/// the call is like `xbrlmerge_merge`, but without a level.
 ///
 /// Errors, by the status: as for `xbrlmerge_merge`, but never `TOO_LOOSE` or `BAD_LEVEL`.
 #[unsafe(no_mangle)]
@@ -122,20 +123,8 @@ pub extern "C" fn xbrlmerge_verdicts(
     refusals: &mut [RefusedReport],
     refused: &mut usize,
 ) -> u32
-    ensures statuses { result ≤ bad_ends }
-    ensures never_loose { result ≢ too_loose }
-    ensures ends { result ≤ no_memory → AreEnds reports.now ends.now }
-    ensures done { result ≤ refused_some → Hands (Lists Verdicts sheet.now (reports_at reports.now ends.now))
+    ensures { AnswersListing Verdicts sheet.now reports.now ends.now result
         (room out.old needed.old refusals.old refused.old) (room out.new needed.new refusals.new refused.new) }
-    ensures none_refused { result ≡ done → refused.new ≡ 0 }
-    ensures some_refused { result ≡ refused_some → 0 < refused.new }
-    ensures short { result ≡ too_short → Asks (Lists Verdicts sheet.now (reports_at reports.now ends.now))
-        (room out.old needed.old refusals.old refused.old) (room out.new needed.new refusals.new refused.new) }
-    ensures sheet { result ≡ sheet_refused → Rejects (IsSheetRefused sheet.now)
-        (room out.old needed.old refusals.old refused.old) (room out.new needed.new refusals.new refused.new) }
-    ensures bad_ends { result ≡ bad_ends → AreEnds reports.now ends.now → ⊥ }
-    ensures kept { no_memory ≤ result → room out.new needed.new refusals.new refused.new
-        ≡ room out.old needed.old refusals.old refused.old }
 {
     list(
         alloc,
@@ -150,8 +139,8 @@ pub extern "C" fn xbrlmerge_verdicts(
     )
 }
 
-/// Writes a line for each source of a fact, as `oim_merge::source_lines` does. Otherwise it is like
-/// `xbrlmerge_verdicts`.
+/// Writes a line for each source of a fact, as `oim_merge::source_lines` does. Otherwise the call
+/// is like `xbrlmerge_verdicts`.
 #[unsafe(no_mangle)]
 pub extern "C" fn xbrlmerge_sources(
     alloc: Global,
@@ -163,20 +152,8 @@ pub extern "C" fn xbrlmerge_sources(
     refusals: &mut [RefusedReport],
     refused: &mut usize,
 ) -> u32
-    ensures statuses { result ≤ bad_ends }
-    ensures never_loose { result ≢ too_loose }
-    ensures ends { result ≤ no_memory → AreEnds reports.now ends.now }
-    ensures done { result ≤ refused_some → Hands (Lists Sources sheet.now (reports_at reports.now ends.now))
+    ensures { AnswersListing Sources sheet.now reports.now ends.now result
         (room out.old needed.old refusals.old refused.old) (room out.new needed.new refusals.new refused.new) }
-    ensures none_refused { result ≡ done → refused.new ≡ 0 }
-    ensures some_refused { result ≡ refused_some → 0 < refused.new }
-    ensures short { result ≡ too_short → Asks (Lists Sources sheet.now (reports_at reports.now ends.now))
-        (room out.old needed.old refusals.old refused.old) (room out.new needed.new refusals.new refused.new) }
-    ensures sheet { result ≡ sheet_refused → Rejects (IsSheetRefused sheet.now)
-        (room out.old needed.old refusals.old refused.old) (room out.new needed.new refusals.new refused.new) }
-    ensures bad_ends { result ≡ bad_ends → AreEnds reports.now ends.now → ⊥ }
-    ensures kept { no_memory ≤ result → room out.new needed.new refusals.new refused.new
-        ≡ room out.old needed.old refusals.old refused.old }
 {
     list(
         alloc,
@@ -191,8 +168,8 @@ pub extern "C" fn xbrlmerge_sources(
     )
 }
 
-/// Writes one JSON object for each row, one per line, as `row_formats::verdict_rows` does. Otherwise
-/// it is like `xbrlmerge_verdicts`.
+/// Writes one JSON object for each row, one per line, as `row_formats::verdict_rows` does.
+/// Otherwise the call is like `xbrlmerge_verdicts`.
 #[unsafe(no_mangle)]
 pub extern "C" fn xbrlmerge_verdicts_json(
     alloc: Global,
@@ -204,20 +181,8 @@ pub extern "C" fn xbrlmerge_verdicts_json(
     refusals: &mut [RefusedReport],
     refused: &mut usize,
 ) -> u32
-    ensures statuses { result ≤ bad_ends }
-    ensures never_loose { result ≢ too_loose }
-    ensures ends { result ≤ no_memory → AreEnds reports.now ends.now }
-    ensures done { result ≤ refused_some → Hands (Lists VerdictsJson sheet.now (reports_at reports.now ends.now))
+    ensures { AnswersListing VerdictsJson sheet.now reports.now ends.now result
         (room out.old needed.old refusals.old refused.old) (room out.new needed.new refusals.new refused.new) }
-    ensures none_refused { result ≡ done → refused.new ≡ 0 }
-    ensures some_refused { result ≡ refused_some → 0 < refused.new }
-    ensures short { result ≡ too_short → Asks (Lists VerdictsJson sheet.now (reports_at reports.now ends.now))
-        (room out.old needed.old refusals.old refused.old) (room out.new needed.new refusals.new refused.new) }
-    ensures sheet { result ≡ sheet_refused → Rejects (IsSheetRefused sheet.now)
-        (room out.old needed.old refusals.old refused.old) (room out.new needed.new refusals.new refused.new) }
-    ensures bad_ends { result ≡ bad_ends → AreEnds reports.now ends.now → ⊥ }
-    ensures kept { no_memory ≤ result → room out.new needed.new refusals.new refused.new
-        ≡ room out.old needed.old refusals.old refused.old }
 {
     list(
         alloc,
@@ -233,7 +198,7 @@ pub extern "C" fn xbrlmerge_verdicts_json(
 }
 
 /// Writes a JSON object for each source of a fact, one per line, as `row_formats::source_rows`
-/// does. Otherwise it is like `xbrlmerge_verdicts`.
+/// does. Otherwise the call is like `xbrlmerge_verdicts`.
 #[unsafe(no_mangle)]
 pub extern "C" fn xbrlmerge_sources_json(
     alloc: Global,
@@ -245,20 +210,8 @@ pub extern "C" fn xbrlmerge_sources_json(
     refusals: &mut [RefusedReport],
     refused: &mut usize,
 ) -> u32
-    ensures statuses { result ≤ bad_ends }
-    ensures never_loose { result ≢ too_loose }
-    ensures ends { result ≤ no_memory → AreEnds reports.now ends.now }
-    ensures done { result ≤ refused_some → Hands (Lists SourcesJson sheet.now (reports_at reports.now ends.now))
+    ensures { AnswersListing SourcesJson sheet.now reports.now ends.now result
         (room out.old needed.old refusals.old refused.old) (room out.new needed.new refusals.new refused.new) }
-    ensures none_refused { result ≡ done → refused.new ≡ 0 }
-    ensures some_refused { result ≡ refused_some → 0 < refused.new }
-    ensures short { result ≡ too_short → Asks (Lists SourcesJson sheet.now (reports_at reports.now ends.now))
-        (room out.old needed.old refusals.old refused.old) (room out.new needed.new refusals.new refused.new) }
-    ensures sheet { result ≡ sheet_refused → Rejects (IsSheetRefused sheet.now)
-        (room out.old needed.old refusals.old refused.old) (room out.new needed.new refusals.new refused.new) }
-    ensures bad_ends { result ≡ bad_ends → AreEnds reports.now ends.now → ⊥ }
-    ensures kept { no_memory ≤ result → room out.new needed.new refusals.new refused.new
-        ≡ room out.old needed.old refusals.old refused.old }
 {
     list(
         alloc,

@@ -15,11 +15,11 @@ use std::alloc::{AllocError, Global};
 #[repr(C)]
 #[derive(Clone, Copy, Debug, PartialEq, Eq)]
 pub struct CheckedReport {
-    /// The number of its facts, repeats included.
+    /// The number of the report's facts, repeats included.
     pub facts: u64,
-    /// The strictest level that its facts satisfy, from 0 for `none` to 3 for `all`.
+    /// The strictest level that the facts satisfy, from 0 for `none` to 3 for `all`.
     pub level: u32,
-    /// 1 if its bytes are the canonical text of its facts and references, otherwise 0.
+    /// 1 if the report's bytes are the canonical text of its facts and references, otherwise 0.
     pub canonical: u32,
 }
 
@@ -36,7 +36,7 @@ impl CheckedReport {
 }
 
 /// Checks one report, as `oim_merge::check_report` does. `checked` gets the result for an accepted
-/// report. `refusal` gets the refusal of the report (its report number is 1) or of the sheet (0).
+/// report. `refusal` gets the refusal of the report (with the report number 1) or of the sheet (0).
 ///
 /// Errors, by the status: `REFUSED`; `SHEET_REFUSED`; `NO_MEMORY`, with nothing changed.
 #[unsafe(no_mangle)]

@@ -1,9 +1,8 @@
-ghost use Rattle.std.specs.Prelude.{◌≡◌, ◌≢◌, ◌-◌, ◌^◌, ◌<◌, ◌≤◌, IfErr, IfOk};
+ghost use Rattle.std.specs.Prelude.{◌-◌, ◌^◌, ◌<◌, IfErr, IfOk};
 ghost use Rattle.xbrlmerge_c.specs.Answers.{NoReason, NoRow, StopsBy};
-ghost use Rattle.xbrlmerge_c.specs.Calls.{IsSheetRefused, Lists};
+ghost use Rattle.xbrlmerge_c.specs.Calls.{AnswersListing, IsSheetRefused, Lists};
 ghost use Rattle.xbrlmerge_c.specs.Ends.{AreEnds, reports_at};
-ghost use Rattle.xbrlmerge_c.specs.Room.{Asks, Hands, Rejects, room};
-ghost use Rattle.xbrlmerge_c.specs.Statuses.{bad_ends, done, no_memory, refused_some, sheet_refused, too_loose, too_short};
+ghost use Rattle.xbrlmerge_c.specs.Room.{room};
 ghost use Rattle.xbrlmerge_c.specs.code.Listing.{AppendsListing};
 
 use crate::output::{BAD_ENDS, Made, RefusedReport, answer};
@@ -14,7 +13,7 @@ use oim_write::{Sink, StdSink};
 use row_formats::{RowFormat, finish_rows, source_rows};
 use std::alloc::Global;
 
-/// What a call lists, and in which format.
+/// The rows that a call lists, and their format.
 #[derive(Clone, Copy, Debug)]
 pub(crate) enum Listing {
     Verdicts,
@@ -23,8 +22,8 @@ pub(crate) enum Listing {
     SourcesJson,
 }
 
-/// The body of each exported call that lists verdicts or sources. It has the same contract, and one
-/// more parameter, `listing`.
+/// The body of each exported call that lists verdicts or sources. This function has the same
+/// contract as the call, and one more parameter, `listing`.
 pub(crate) fn list(
     alloc: Global,
     listing: Listing,
@@ -36,20 +35,8 @@ pub(crate) fn list(
     refusals: &mut [RefusedReport],
     refused: &mut usize,
 ) -> u32
-    ensures statuses { result ≤ bad_ends }
-    ensures never_loose { result ≢ too_loose }
-    ensures ends { result ≤ no_memory → AreEnds reports.now ends.now }
-    ensures done { result ≤ refused_some → Hands (Lists listing sheet.now (reports_at reports.now ends.now))
+    ensures { AnswersListing listing sheet.now reports.now ends.now result
         (room out.old needed.old refusals.old refused.old) (room out.new needed.new refusals.new refused.new) }
-    ensures none_refused { result ≡ done → refused.new ≡ 0 }
-    ensures some_refused { result ≡ refused_some → 0 < refused.new }
-    ensures short { result ≡ too_short → Asks (Lists listing sheet.now (reports_at reports.now ends.now))
-        (room out.old needed.old refusals.old refused.old) (room out.new needed.new refusals.new refused.new) }
-    ensures sheet { result ≡ sheet_refused → Rejects (IsSheetRefused sheet.now)
-        (room out.old needed.old refusals.old refused.old) (room out.new needed.new refusals.new refused.new) }
-    ensures bad_ends { result ≡ bad_ends → AreEnds reports.now ends.now → ⊥ }
-    ensures kept { no_memory ≤ result → room out.new needed.new refusals.new refused.new
-        ≡ room out.old needed.old refusals.old refused.old }
 {
     if !are_ends(reports, ends) {
         return BAD_ENDS;

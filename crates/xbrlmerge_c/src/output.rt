@@ -32,7 +32,7 @@ pub struct RefusedReport {
     pub report: u64,
     /// The number of the fact, from 1; 0 for the document.
     pub fact: u64,
-    /// The number of the refusal.
+    /// The number of the refusal, which `xbrlmerge_refusal_name` turns into a name.
     pub number: u32,
 }
 

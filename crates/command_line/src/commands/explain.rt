@@ -18,8 +18,8 @@ pub(crate) const NAME: &str = "explain";
 const ABOUT: &str = "Explains what is wrong with reports, in plain words";
 
 const MORE: &str =
-    "Each line describes a fault of a report: the file, the fact if the fault is in one, the number
-and the name of the refusal, and what is wrong, with the text at fault. At most 80 characters of an
+    "Each line for a fault contains the file, the fact if the fault is in one, the number and the name
+of the refusal, and what is wrong, usually with the text at fault. At most 80 characters of an
 identifier or a text are shown.
 
 The other commands name only the first fault of a report. `explain` lists all faults of the
@@ -28,12 +28,14 @@ lists the fault of the duplicates. If several names or members in one place shar
 first is shown. Some faults appear only after others are corrected.
 
 It also lists repeated members of a report or of the sheet, such as two facts with the same
-identifier. Only the last one is read. The other commands do not refuse a file for them, so run
-`explain` first on files from untrusted sources.
+identifier. Only the last one is read. A line for a repeated member has no number or name of a
+refusal. The other commands do not refuse a file for such members, so run `explain` first on files
+from untrusted sources.
 
 The last line contains the numbers of reports, of reports with a fault, and of faults.
 
-With --format json each fault is a JSON object on one line, and there is no last line. Its members:
+With --format json each fault is a JSON object on one line, and the line with the numbers is not
+printed. The members of an object:
   report      the number of the report, from 1; null for the sheet
   file        the name of the file
   place       the location of the fault: \"document\" or \"fact N\"
@@ -113,7 +115,7 @@ fn put_under<'n, F: Files, E: Write, S: Sink>(
     put_each(&sheet, format, inputs, out, repeated)
 }
 
-/// Errors: `Sheet` with the line that describes its fault; out of memory.
+/// Errors: `Sheet` with the line that describes the fault of the sheet; out of memory.
 fn read_sheet<'n>(alloc: Global, name: &str, bytes: &[u8]) -> Result<Sheet, Error<'n>> {
     match sheet_of(alloc, bytes) {
         Err(Error::Sheet(reason, _)) => {

@@ -36,9 +36,9 @@ and messages are counted from 1.
   receive I K   replica I takes message K, at any later time and any number of times
   restart I     replica I loses everything
 
-At the end, the merged report of each replica is written, one per line. Whatever the schedule, it
-is the same as from one merge of the reports that reached the replica since its last restart,
-directly or through others.
+At the end, the merged report of each replica is written, one per line. For every schedule, it
+equals one merge of the reports that reached the replica since its start or last restart, directly
+or through others.
 
 Example:
   xbrlmerge replay --sheet examples/sheet.json --replicas 2 \\
@@ -47,8 +47,8 @@ Example:
 
 Status:
   0  every event was run
-  1  a report that was taken was refused, and standard error shows why, one line for each take; the
-     others were taken
+  1  every event was run, but a `take` named a refused report and changed nothing; standard error
+     shows why, in one line for each such `take`
   3  not done, or not completed: invalid arguments, a refused sheet, a line of EVENTS that is not
      an event or names something that does not exist, a file or device that failed, or out of
      memory";
@@ -118,7 +118,6 @@ fn put_replayed<S: Sink>(
     Ok(refused)
 }
 
-/// Returns the required option for the number of replicas.
 fn replicas_argument<'w>(alloc: Global) -> Arg<'w> {
     Arg::new(alloc, REPLICAS)
         .long(REPLICAS)
@@ -128,17 +127,16 @@ fn replicas_argument<'w>(alloc: Global) -> Arg<'w> {
         .help("The number of replicas, from 1 to 64")
 }
 
-/// Returns the required option for the schedule.
 fn events_argument<'w>(alloc: Global) -> Arg<'w> {
     Arg::new(alloc, EVENTS)
         .long(EVENTS)
         .value_name("EVENTS")
         .required(true)
-        .help("The file of the schedule, one event a line")
+        .help("The file of the schedule, with one event per line")
 }
 
 /// Errors: out of memory, and `Device` with the number of bytes taken of one text. `write_out`
-/// replaces it with the number for all texts.
+/// replaces this number with the number of bytes taken of all texts.
 fn put_replicas<S: Sink>(
     alloc: Global,
     out: &mut S,

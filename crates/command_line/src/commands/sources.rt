@@ -15,11 +15,11 @@ use std::rt::Files;
 
 pub(crate) const NAME: &str = "sources";
 
-const ABOUT: &str = "Lists the report that each fact comes from, and its identifier there";
+const ABOUT: &str = "Lists the reports that contain each fact, and its identifiers there";
 
 const MORE: &str =
     "A merged report contains each fact once, under a new identifier, even if several reports contain
-it. Each line shows where a fact comes from:
+it. Each line names one report that contains a fact:
 
   FACT REPORT IDENTIFIER
 
@@ -27,13 +27,14 @@ it. Each line shows where a fact comes from:
   REPORT      the number of the report, from 1, in the order of the arguments
   IDENTIFIER  the fact's identifier in that report, as a JSON string
 
-Lines are sorted by these three. Each fact object of each accepted report has one line. If several
-lines have the same FACT, several reports agree exactly, or one report repeats the fact.
+Lines are sorted by fact, report and identifier. Each fact object of each accepted report has one
+line. If several lines have the same FACT, several reports agree exactly, or one report repeats the
+fact.
 
 FORMAT is one of:
   lines  as above
   json   a JSON object per line
-  csv    a header and a record for each line, quoted as RFC 4180 says
+  csv    a header and a record for each line, quoted as in RFC 4180
 
 Example:
   xbrlmerge sources --sheet examples/sheet.json examples/issuer.json examples/statfeed.json
@@ -50,8 +51,8 @@ pub(crate) fn words<'w>(alloc: Global) -> Result<Command<'w>, AllocError> {
     with_reports(alloc, with_format(alloc, command)?)
 }
 
-/// Reads the reports and writes the line of each fact object in an accepted report to `out`.
-/// Returns the refused reports with their numbers, from 1.
+/// Reads the reports and writes a row to `out` for each fact object in an accepted report. Returns
+/// the refused reports with their numbers, from 1.
 ///
 /// Errors: `Unread`, `TooLong`, and the errors of `source_lines` and `source_rows`.
 pub(crate) fn run<'n, F: Files, E: Write, S: Sink>(

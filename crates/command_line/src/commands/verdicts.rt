@@ -35,7 +35,7 @@ whether they agree exactly, agree within rounding, or contradict each other, wit
 FORMAT is one of:
   lines  as above
   json   a JSON object per line, with the dimensions and the facts of the row
-  csv    a header and a record for each fact, quoted as RFC 4180 says
+  csv    a header and a record for each fact, quoted as in RFC 4180
 
 Example:
   xbrlmerge verdicts --sheet examples/sheet.json examples/issuer.json examples/statfeed.json

@@ -117,7 +117,8 @@ fn show(rt: &HostRuntime, rows: &[(&str, &str)]) -> Result<bool, Fail> {
     Ok(all)
 }
 
-// One test makes and uses the files: tests may run in parallel, and share the current folder.
+// One test makes and uses the files, because tests may run in parallel and share the current
+// folder.
 #[test]
 fn files_are_read_and_answered(rt: HostRuntime) -> Result<(), Fail> {
     made(&rt)?;

@@ -5,8 +5,8 @@ use test_helpers::asked_again::{tell_refused, tell_refused_here};
 use test_helpers::devices::{Step, TestReader, Then};
 use test_helpers::expecting::{Either, Expecting};
 
-// Runs the program on arguments. If memory is refused, the program must report it; the test then
-// prints a line on standard error and runs the program again.
+// Runs the program on arguments. If memory is refused, the program must report the refusal; the
+// test then prints a line on standard error and runs the program again.
 
 /// No arguments, for a bundle on standard input.
 pub(crate) const NO_WORDS: &[&str] = &[];

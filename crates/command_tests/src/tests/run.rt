@@ -7,8 +7,8 @@ use test_helpers::canonical_parts::{END, HEAD, MIDDLE, MIDDLE_ALONE, ONE_URI, WR
 use test_helpers::devices::{FullAfter, NeverFlushed, STEPS, Step, TestReader, TestWriter, Then};
 use test_helpers::expecting::{Either, Expecting};
 
-// If memory is refused, the program must report it; the test then prints a line on standard error
-// and runs the program again.
+// If memory is refused, the program must report the refusal; the test then prints a line on
+// standard error and runs the program again.
 
 const ROOM: usize = 1 << 16;
 
@@ -38,7 +38,7 @@ fn run_once(rt: &HostRuntime, input: TestReader<'_>, room: usize) -> Result<Ran,
     Ok(Ran { status, out, err })
 }
 
-/// Runs the program on standard input, with this much room on standard output.
+/// Runs the program on this standard input, with room for this many bytes on standard output.
 fn run_in(rt: &HostRuntime, input: TestReader<'_>, room: usize) -> Result<Ran, AllocError> {
     let ran = run_once(rt, input, room)?;
     if ran.status == 3 && ran.err.held() == b"out of memory\n".as_slice() {
@@ -109,7 +109,7 @@ fn a_refused_report_changes_nothing(rt: HostRuntime) -> Result<(), Fail> {
     Ok(())
 }
 
-/// Bundles with a refused sheet, and the line that reports it.
+/// Bundles with a refused sheet, and the line that reports the refusal.
 const REFUSED_SHEETS: [(&str, &str); 5] = [
     ("", "sheet: 1 NotJson\n"),
     ("\n{}", "sheet: 1 NotJson\n"),
@@ -139,8 +139,8 @@ fn a_refused_sheet_ends_the_run(rt: HostRuntime) -> Result<(), Fail> {
     Ok(())
 }
 
-/// Returns whether the run ends with status 3 and this line, and standard output contains exactly
-/// this text, if standard output has this much room.
+/// Returns whether the run ends with status 3, exactly this text on standard output, and this line
+/// on standard error, if standard output has room for this many bytes.
 fn stops(
     rt: &HostRuntime,
     input: TestReader<'_>,
@@ -178,7 +178,7 @@ fn is_unread(rt: &HostRuntime, input: TestReader<'_>) -> Option<bool> {
     Some(status == 3 && out.is_met() && err.0.is_met())
 }
 
-/// Returns whether inputs that fail after these bytes are reported as unread, with each step.
+/// Returns whether an input is reported as unread if it fails or is interrupted after these bytes.
 fn are_unread(rt: &HostRuntime, front: &[u8]) -> bool {
     for step in STEPS {
         for then in [Then::Fails, Then::IsInterrupted] {
@@ -233,8 +233,8 @@ fn a_text_that_is_not_flushed_is_a_fault(rt: HostRuntime) -> Result<(), Fail> {
     Ok(())
 }
 
-/// Returns the status and the number of flushes when standard output has this much room; None if
-/// memory was refused.
+/// Returns the status and the number of flushes when standard output has room for this many bytes;
+/// None if memory was refused.
 fn flushed(rt: &HostRuntime, bundle: &[u8], room: usize) -> Option<(u8, u64)> {
     let mut out = FullAfter::new(room);
     let mut err = Expecting::just(b"out of memory\n");

@@ -5,8 +5,8 @@ use test_helpers::asked_again::tell_refused;
 use test_helpers::devices::{FullAfter, Step, TestReader, Then};
 use test_helpers::expecting::Expecting;
 
-/// Returns whether the program ends with status 3 and these lines when its input and standard error
-/// are terminals.
+/// Returns whether the program ends with status 3 and prints exactly these lines on standard error,
+/// when standard input and standard error are terminals.
 fn shows_once(rt: &HostRuntime, words: &[&str], input: &str, lines: &str) -> bool {
     let mut err = Expecting::just(lines.as_bytes());
     let streams = Streams {

@@ -3,7 +3,7 @@ use std::test::Fail;
 use test_helpers::devices::FullAfter;
 use test_helpers::expecting::Expecting;
 
-// clap prints help and errors, so only the beginning of these texts is compared.
+// clap formats the help and the errors, so only the beginning of most texts is compared.
 
 /// Returns whether the program ends with status 3 and prints an error, on standard error only.
 fn is_usage(rt: &HostRuntime, words: &[&str]) -> bool {
@@ -178,7 +178,7 @@ const ANSWERED: [(&str, &str); 17] = [
     ("merge r --sheet s --help", "Writes one canonical report"),
     ("help verdicts", "Prints a verdict for each set"),
     ("verdicts --help", "Prints a verdict for each set"),
-    ("help sources", "Lists the report that each fact"),
+    ("help sources", "Lists the reports that contain"),
     ("help check", "Counts the facts of one report"),
     ("help explain", "Explains what is wrong with reports"),
     ("check -h", "Counts the facts of one report"),

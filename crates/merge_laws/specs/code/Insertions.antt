@@ -1,4 +1,4 @@
--- The changes that merging one list into another makes (own): new items and merged values, each with its index.
+-- The changes to a list if another list is merged into it (own): new items and merged values, each with its index.
 use Rattle.std.specs.Prelude.{ℕ, zero, suc, ◌≤◌, if◌then◌else◌, List, [], ◌∷◌, ◌++◌, take, drop, Option, Some, None, Result, Ok, Err, not}
 use Rattle.std.specs.List.{AllByRecursion, flat_map, position_or_len}
 use Rattle.std.specs.declared.cmp.Ordering.{Ordering}
@@ -10,12 +10,12 @@ abbrev pub inserted : {E : Type 0} → List E → List (ℕ × E) → List E
 inserted es [] = es
 inserted es (n ∷ ns) = inserted (take n.0 es) ns ++ n.1 ∷ drop n.0 es
 
--- the index of the first new item, or the end of the items if there is none
+-- the index of the first new item, or `end` if there are no new items
 abbrev pub first_place : {E : Type 0} → ℕ → List (ℕ × E) → ℕ
 first_place end [] = end
 first_place end (n ∷ ns) = n.0
 
--- no new item is inserted before the index of the first one
+-- no new item has a smaller index than the first one
 abbrev pub IsFirstLeast : {E : Type 0} → ℕ → List (ℕ × E) → Type 0
 IsFirstLeast end ns = AllByRecursion (λ n. first_place end ns ≤ n.0) ns
 
@@ -47,7 +47,7 @@ module _ {K V : Type 0} (R : K → K → Ordering) (merged : V → V → V) wher
   abbrev pub new_values : List (K × V) → List (K × V) → List (ℕ × V)
   new_values es fs = flat_map (new_value es) fs
 
--- the entries after one value is replaced
+-- the entries with v as the value at index i; an index beyond the end changes nothing
 abbrev pub with_value : {K V : Type 0} → ℕ → V → List (K × V) → List (K × V)
 with_value i v [] = []
 with_value zero v (e ∷ es) = (e.0, v) ∷ es

@@ -1,4 +1,4 @@
--- The items at the keys of ascending lists and of their unions (own). Lists with the same item at each key are equal.
+-- The items at the keys of ascending lists and of their unions (own). Ascending lists with the same item at each key are equal.
 use Rattle.std.specs.Prelude.{◌≡◌, ◌≢◌, true, false, cond, List, [], ◌∷◌, Option, Some, None, is_some, unwrap_or, refl}
 use Rattle.std.proofs.Common.{sym, ap, ◌∙◌}
 use Rattle.std.specs.declared.cmp.Ordering.{Ordering}

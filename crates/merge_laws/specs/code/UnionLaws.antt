@@ -1,4 +1,4 @@
--- The laws of unions (own). A union is associative, commutative or idempotent if joining items with equal keys is.
+-- The laws of unions (own): each follows from the same law for joining items.
 use Rattle.std.specs.Prelude.{◌≡◌, true, false, cond, List, [], ◌∷◌, Option, Some, None, IfSome, refl}
 use Rattle.std.proofs.Common.{sym, ap, ◌∙◌}
 use Rattle.std.specs.declared.cmp.Ordering.{Ordering}

@@ -65,7 +65,7 @@ const ROWS: [Row; 9] = [
     ),
 ];
 
-/// Reports of one fact, with the value 100, that are not canonical, each for another reason.
+/// Reports of one fact, with the value 100. Each has a different reason not to be canonical.
 const SPELLED: [&[&str]; 9] = [
     // members in another order
     &[

@@ -47,7 +47,7 @@ fn answers(
 }
 
 /// Tests sources that stop after these bytes, with each step. If the source fails, the fault must
-/// contain their number. If it ends, `read_all` must return the bytes.
+/// contain the number of bytes. If the source ends, `read_all` must return the bytes.
 fn stops_behind(rt: &HostRuntime, front: &[u8], limit: u32) -> bool {
     let fault = ReadFault::Device(front.len() as u64);
     for step in STEPS {
@@ -169,7 +169,7 @@ fn calls_of_endless(rt: &HostRuntime) -> Option<u64> {
     }
 }
 
-/// Reads a source of `LONG` equal bytes. Also returns the number of its failures.
+/// Reads a source of `LONG` equal bytes. Also returns the number of the source's failures.
 fn read_repeated(rt: &HostRuntime) -> (Result<Encoded, ReadFault>, u64) {
     let mut source = StdSource::new(io::repeat(7).take(u64::from(LONG)));
     let mut answer = read_all(rt.alloc(), &mut source, LONG);

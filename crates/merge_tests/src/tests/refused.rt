@@ -49,7 +49,7 @@ fn holds(sink: &StdSink<Expecting<'_>>, text: &[u8], written: u64) -> bool {
 }
 
 /// If the sink took exactly the first `written` bytes of the text, prints the refusal on standard
-/// error and returns None. Otherwise returns false.
+/// error and returns None. Otherwise returns `Some(false)`.
 fn wanted_memory(
     rt: &HostRuntime,
     sink: StdSink<Expecting<'_>>,
@@ -69,7 +69,8 @@ fn wanted_memory(
     None
 }
 
-/// True if the base is written as the text; None if memory was refused before the end of the text.
+/// True if the base is written as the text; None if memory was refused and the sink took exactly as
+/// many bytes of the text as the fault reports.
 fn writes_once(rt: &HostRuntime, base: &Base<'_>, text: &[u8]) -> Option<bool> {
     let mut sink = StdSink::new(Expecting::just(text));
     match write_to(rt.alloc(), base, &mut sink) {
@@ -172,8 +173,8 @@ fn a_refused_base_comes_back(rt: HostRuntime) -> Result<(), Fail> {
 /// Fifty letters.
 const LETTERS: &str = "abcdefghijklmnopqrstuvwxyzabcdefghijklmnopqrstuvwx";
 
-// The last value repeats `LETTERS` `MORE` times, and each other value `MANY` times. Memory for the
-// last value is requested after the sink took a chunk.
+// The last value contains the letters 1,200 times (`MORE`), each other value 400 times (`MANY`).
+// Memory for the last value is requested after the sink took a chunk.
 
 const MANY: usize = 400;
 
@@ -220,7 +221,7 @@ fn long_report(rt: &HostRuntime) -> Result<String, AllocError> {
     Ok(text)
 }
 
-/// True if `write_to` writes the same bytes as `text` returns, and these are longer than a chunk.
+/// True if `write_to` writes the same bytes as `text` returns, and the text is longer than a chunk.
 fn writes_long(rt: &HostRuntime, base: &Base<'_>) -> bool {
     match text_of(rt, base) {
         Ok(text) => text.as_bytes().len() > 100_000 && writes(rt, base, text.as_bytes()),

@@ -41,8 +41,8 @@ pub(crate) fn base_of<'s>(
     Ok(base)
 }
 
-/// True if a sink that stops after seven bytes contains exactly the first seven, and the fault
-/// reports seven.
+/// True if a sink that stops after seven bytes contains exactly the first seven bytes of the text,
+/// and the fault reports seven.
 fn takes_seven(alloc: Global, then: Then) -> Result<bool, AllocError> {
     let sheet = sheet(alloc)?;
     let base = Base::new(alloc, &sheet);

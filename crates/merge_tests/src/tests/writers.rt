@@ -13,10 +13,10 @@ use test_helpers::canonical_parts::{
 };
 use test_helpers::devices::{ComparingWriter, STEPS, Step, Then};
 
-// Tests calls that write a text. For each number of bytes up to the whole text, writers stop after
-// that many bytes. After a refused request for memory, the row is tested again.
+// Tests calls that write a text. Writers stop after each number of bytes, from 0 to the length of
+// the text. After a refused request for memory, the row is tested again.
 
-/// The call that writes a text.
+/// A call that writes a text, with its input.
 #[derive(Clone, Copy)]
 enum Call<'a, 's> {
     Base(&'a Base<'s>),
@@ -51,8 +51,8 @@ fn whole(refusals: &Refusals) -> Ended {
     }
 }
 
-/// Makes the call on a new sink over the writer. Returns its result, the number of the sink's
-/// failures, and whether the writer took exactly the bytes that it expects.
+/// Makes the call on a new sink over the writer. Returns the result of the call, the number of the
+/// sink's failures, and whether the writer took exactly the bytes that it expects.
 fn called(
     alloc: Global,
     call: Call<'_, '_>,
@@ -148,7 +148,7 @@ fn reports_hold(
     holds_each_front(alloc, call, text)
 }
 
-/// The call to make.
+/// A kind of `Call`. The row supplies the input.
 #[derive(Clone, Copy)]
 enum Kind {
     Base,

@@ -27,8 +27,8 @@ fn is_encoded(alloc: Global) -> Result<bool, AllocError> {
     Ok(Encoded::new(alloc, b"ab")?.as_bytes() == b"ab".as_slice())
 }
 
-/// True if the writer took two pieces through a buffer and a third without one, and all bytes were
-/// counted.
+/// True if the writer took two pieces through a buffer and a third piece directly, and all bytes
+/// were counted.
 fn passes(alloc: Global) -> Result<bool, AllocError> {
     let mut sink = StdSink::new(Vec::new(alloc));
     let mut buffer = SinkBuffer::new(alloc)?;

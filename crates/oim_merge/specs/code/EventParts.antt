@@ -6,7 +6,6 @@ use Rattle.oim_merge.specs.EventLines.{IsNumber}
 abbrev pub is_space : ℕ → Bool
 is_space c = c == 32
 
--- the text of a number
 abbrev pub IsNumberText : List ℕ → ℕ → Type 0
 IsNumberText text n = (text ≡ decimal n) × IsNumber n
 

@@ -6,17 +6,15 @@ use Rattle.fact_base.specs.Body.{Body}
 use Rattle.fact_base.specs.Contents.{Contents}
 use Rattle.fact_base.specs.Fits.{Fits}
 use Rattle.oim_write.specs.Bytes.{canonical}
-use Rattle.oim_merge.specs.code.Kept.{AreKept}
+use Rattle.oim_merge.specs.code.Readings.{AreReadings}
 use Rattle.oim_merge.specs.Replay.{world_of, texts_at}
 use Rattle.oim_merge.specs.Schedule.{World}
-use Rattle.oim_merge.specs.declared.messages.Messages.{Messages}
-use Rattle.oim_merge.specs.declared.replicas.Replicas.{Replicas}
+use Rattle.oim_merge.specs.declared.schedules.messages.Messages.{Messages}
+use Rattle.oim_merge.specs.declared.schedules.replicas.Replicas.{Replicas}
 
--- each index is within the list
 abbrev pub AreWithin : List (List ℕ) → List ℕ → Type 0
 AreWithin texts places = All (λ place. place < length texts) places
 
--- the list has this text at this index
 abbrev pub IsTextAt : List (List ℕ) → List ℕ → ℕ → Type 0
 IsTextAt texts text place = (place < length texts) × (slice_index_or texts place [] ≡ text)
 
@@ -35,22 +33,22 @@ pub record IsWritten (sheet : Sheet) (text : List ℕ) : Type 0 where
   pub fits : Fits sheet body
   pub written : text ≡ canonical body
 
--- the sent texts in order
+-- the sent texts in order; a text that was sent again is repeated
 abbrev pub sent_texts : Messages → List (List ℕ)
 sent_texts messages = texts_at messages.texts.items messages.sent.items
 
--- each sent text is stored; each stored text is the text of a body, and its cached reading is the result of reading it
+-- each sent text is stored; each stored text is the text of a body; each cached reading is the result of reading its text
 pub record AreHeld (sheet : Sheet) (messages : Messages) : Type 0 where
   pub places : AreWithin messages.texts.items messages.sent.items
-  pub kept : AreKept sheet messages.texts.items messages.kept.items
+  pub kept : AreReadings sheet messages.texts.items messages.kept.items
   pub written : All (IsWritten sheet) messages.texts.items
 
 -- the bases of the replicas, and the texts that they sent
 abbrev pub world_in : Replicas → World Contents (List ℕ)
 world_in replicas = world_of replicas.bases.items (sent_texts replicas.messages)
 
--- each cached reading is the result of reading that report or text, and each current text is the text of its base
+-- each cached reading is the result of reading its report or text, and each current text is the text of its base
 pub record KeepReadings (sheet : Sheet) (reports : List (List ℕ)) (replicas : Replicas) : Type 0 where
-  pub taken : AreKept sheet reports replicas.reports.items
+  pub taken : AreReadings sheet reports replicas.reports.items
   pub held : AreHeld sheet replicas.messages
   pub current : AllZip (IsCurrent replicas.messages.texts.items) replicas.bases.items replicas.current.items

@@ -23,7 +23,7 @@ abbrev pub is_above : Option (List ℕ) → List ℕ → Bool
 is_above None key = true
 is_above (Some last) key = is_lt (slice_cmp nat_cmp last key)
 
--- the keys ascend strictly, and the first is greater than `last`, if there is one
+-- the keys ascend strictly; if `last` is not None, the first key is greater than `last`
 abbrev pub rise_after : Option (List ℕ) → List (String Global) → Bool
 rise_after last [] = true
 rise_after last (s ∷ ss) = if is_above last (string_bytes s) then rise_after (Some (string_bytes s)) ss else false

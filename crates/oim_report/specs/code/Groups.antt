@@ -9,7 +9,7 @@ use Rattle.oim_names.specs.QName.{QName}
 use Rattle.oim_value.specs.ValueOrder.{name_cmp}
 
 module _ {K Y : Type 0} where
-  -- each name has this URI, and its key as its local part
+  -- each name has this URI, and its key in the map is its local part
   abbrev pub IsGroup : List ℕ → BTreeMap (String Y) (QName × K) → Type 0
   IsGroup u g = AllByRecursion (λ e. e.1.0 ≡ record { uri = u; local_part = string_bytes e.0 }) g.entries
 
@@ -32,7 +32,7 @@ module _ {K Y : Type 0} where
   abbrev pub with_group : BTreeMap (String Y) (QName × K) → FinMap name_cmp K → FinMap name_cmp K
   with_group g m = map.from_entries (values g ++ map.entries m)
 
-  -- each URI has at most one group, and the names in the group have this URI
+  -- each URI has at most one group, and the names in a group have the group's URI
   pub record AreGroups (m : BTreeMap (String Y) (BTreeMap (String Y) (QName × K))) : Type 0 where
     pub ordered : IsOrdered string_cmp m
     pub each : AllByRecursion (λ e. IsGroup (string_bytes e.0) e.1) m.entries

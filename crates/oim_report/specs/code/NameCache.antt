@@ -1,4 +1,4 @@
--- The names of a sheet that texts spell under one set of prefixes, and the group of names for each prefix (own).
+-- The listed names that texts spell under one set of prefixes, and the group of names for each prefix (own).
 use Rattle.std.specs.Prelude.{◌≡◌, ℕ, List, String, Option, Some, option_and_then}
 use Rattle.std.specs.BTreeMap.{BTreeMap, get_by_text}
 use Rattle.std.specs.Borrow.{Bor}
@@ -9,7 +9,7 @@ use Rattle.oim_names.specs.QName.{QName}
 use Rattle.oim_names.specs.Bindings.{Binding, uri_of}
 use Rattle.oim_value.specs.ValueOrder.{name_cmp}
 use Rattle.oim_report.specs.declared.fact.name_cache.NameCache.{NameCache}
-use Rattle.oim_report.specs.code.Glossary.{IsGlossary}
+use Rattle.oim_report.specs.code.TextCache.{IsTextCache}
 use Rattle.oim_report.specs.code.Groups.{IsGroupOf}
 use Rattle.oim_report.specs.Names.{named}
 
@@ -26,5 +26,5 @@ module _ {K : Type 0} (m : FinMap name_cmp K) (bs : List Binding) where
   IsReached p group = (u : List ℕ) → uri_of bs p ≡ Some u → IsGroupOf m u (option_copied group)
 
   pub record IsNameCache (c : NameCache K) : Type 0 where
-    pub texts : IsGlossary NamesListed c.texts
+    pub texts : IsTextCache NamesListed c.texts
     pub groups : (p : List ℕ) (group : Option (Bor (BTreeMap (String _) (QName × K)))) → get_by_text c.groups p ≡ Some group → IsReached p group

@@ -15,7 +15,7 @@ abbrev pub append : Members → Members → Members
 append no_members ns = ns
 append (member k d ms) ns = member k d (append ms ns)
 
--- a piece, followed by a comma and the rest if there is one
+-- a piece, followed by a comma and the rest if there is a rest
 abbrev pub with_rest : List ℕ → Option (List ℕ) → List ℕ
 with_rest piece None = piece
 with_rest piece (Some rest) = piece ++ 44 ∷ rest

@@ -26,7 +26,7 @@ is_defined key = has_colon key && is_utf8 key
 abbrev pub first_defined : (List ℕ → Data → Bool) → Members → Option (List ℕ × Data)
 first_defined test ms = find (λ m. is_defined m.0 && test m.0 m.1) (entries ms)
 
--- the key of a taxonomy-defined dimension, and the member of an explicit one
+-- the key of a taxonomy-defined dimension, and the member of an explicit dimension
 abbrev pub names_at : Sheet → List Binding → List ℕ × Data → List Spelled
 names_at sheet bs m = if is_defined m.0 then a_name m.0 ∷ map a_name (option_to_list (explicit_text sheet bs null no_members m)) else []
 
@@ -51,7 +51,7 @@ defined_members ms = filter (λ m. is_defined m.0) (entries ms)
 abbrev pub is_misdeclared : List Binding → List ℕ × Data → Bool
 is_misdeclared bs m = is_allowed_duplicates bs m.0 && declares_no_level m
 
--- the first such member, or else all features
+-- the first member that declares the feature but no level, or else all features
 abbrev pub misdeclared_part : List Binding → Data → Shown
 misdeclared_part bs tree = option_map_or entry (find (is_misdeclared bs) (entries (features_of tree))) (value_or_nothing (info (codes "features") tree))
 

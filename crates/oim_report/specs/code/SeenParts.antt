@@ -1,14 +1,14 @@
 -- The values that the code's borrowed parts represent (own).
 use Rattle.std.specs.Prelude.{List, ℕ, map, option_map}
 use Rattle.std.specs.Borrow.{Bor}
-use Rattle.oim_report.specs.declared.fact.given.Given.{Given as Lent}
-use Rattle.oim_report.specs.declared.fact.parts.DimensionParts.{DimensionParts as LentDimensions}
-use Rattle.oim_report.specs.declared.fact.parts.FactParts.{FactParts as LentFact}
-use Rattle.oim_report.specs.code.Given.{seen}
+use Rattle.oim_report.specs.declared.fact.json_member.JsonMember.{JsonMember}
+use Rattle.oim_report.specs.declared.fact.fact_parts.DimensionParts.{DimensionParts as LentDimensions}
+use Rattle.oim_report.specs.declared.fact.fact_parts.FactParts.{FactParts as LentFact}
+use Rattle.oim_report.specs.code.JsonMember.{seen}
 use Rattle.oim_report.specs.Json.{Given}
 use Rattle.oim_report.specs.Parts.{DimensionParts, FactParts}
 
-abbrev pub seen_defined : List (Bor (List ℕ) × Lent) → List (List ℕ × Given)
+abbrev pub seen_defined : List (Bor (List ℕ) × JsonMember) → List (List ℕ × Given)
 seen_defined = map (λ m. (m.0.now, seen m.1))
 
 abbrev pub seen_dimensions : LentDimensions → DimensionParts

@@ -1,4 +1,4 @@
--- Injective encodings of a sheet and of its names while it is read (own).
+-- Injective encodings of a sheet, and of its names while the sheet is read (own).
 use Rattle.std.specs.Prelude.{◌≡◌, ℕ, zero, suc, List, refl}
 use Rattle.std.specs.Coded.{Coded, code_by, coded×, coded_ℕ, coded_list}
 use Rattle.std.specs.FinMap as map
@@ -38,19 +38,19 @@ pub dimension_back : (k : DimensionKind) → dimension_of_number (dimension_numb
 dimension_back Explicit = refl
 dimension_back Typed = refl
 
-abbrev pub listing_code : {K : Type 0} → Coded K → Coded (FinMap name_cmp K)
-listing_code kinds = map.code (code_by (List ℕ × List ℕ) (coded× (coded_list coded_ℕ) (coded_list coded_ℕ)) (λ (n : QName). (n.uri, n.local_part)) (λ p. record { uri = p.0; local_part = p.1 }) (λ _. refl)) kinds
+abbrev pub name_table_code : {K : Type 0} → Coded K → Coded (FinMap name_cmp K)
+name_table_code kinds = map.code (code_by (List ℕ × List ℕ) (coded× (coded_list coded_ℕ) (coded_list coded_ℕ)) (λ (n : QName). (n.uri, n.local_part)) (λ p. record { uri = p.0; local_part = p.1 }) (λ _. refl)) kinds
 
 abbrev pub sheet_code : Coded Sheet
 sheet_code =
     code_by (FinMap name_cmp ConceptKind × FinMap name_cmp DimensionKind)
-    (coded× (listing_code (code_by ℕ coded_ℕ concept_number concept_of_number concept_back)) (listing_code (code_by ℕ coded_ℕ dimension_number dimension_of_number dimension_back)))
+    (coded× (name_table_code (code_by ℕ coded_ℕ concept_number concept_of_number concept_back)) (name_table_code (code_by ℕ coded_ℕ dimension_number dimension_of_number dimension_back)))
     (λ s. (s.concepts, s.dimensions)) (λ m. record { concepts = m.0; dimensions = m.1 }) (λ _. refl)
 
 -- the names of a sheet while it is read, and the URI of the current namespace
-pub record Gathering (K : Type 0) : Type 0 where
+pub record Unfinished (K : Type 0) : Type 0 where
   pub uri : List ℕ
   pub names : FinMap name_cmp K
 
-abbrev pub gathering_code : {K : Type 0} → Coded K → Coded (Gathering K)
-gathering_code {K} kinds = code_by (List ℕ × FinMap name_cmp K) (coded× (coded_list coded_ℕ) (listing_code kinds)) (λ g. (g.uri, g.names)) (λ p. record { uri = p.0; names = p.1 }) (λ _. refl)
+abbrev pub unfinished_code : {K : Type 0} → Coded K → Coded (Unfinished K)
+unfinished_code {K} kinds = code_by (List ℕ × FinMap name_cmp K) (coded× (coded_list coded_ℕ) (name_table_code kinds)) (λ g. (g.uri, g.names)) (λ p. record { uri = p.0; names = p.1 }) (λ _. refl)

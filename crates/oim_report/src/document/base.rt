@@ -9,7 +9,7 @@ use std::alloc::Global;
 use std::marker::Model;
 use url::{ParseError, ParseResult, Url};
 
-/// The URL against which a report's taxonomy references are resolved.
+/// The URL against which a report's relative taxonomy references are resolved.
 #[derive(Drop)]
 pub(crate) struct Base {
     url: Url,

@@ -4,7 +4,7 @@ ghost use Rattle.oim_report.specs.Info.{base_said};
 
 use crate::document::base::{Base, read_base};
 use crate::document::json_tree::within;
-use crate::fact::given::Given;
+use crate::fact::json_member::JsonMember;
 use oim_names::Reason;
 use serde_json::Value;
 use std::alloc::Global;
@@ -14,9 +14,9 @@ pub(crate) fn read_base_url(alloc: Global, tree: &Value) -> Result<Option<Base>,
     ensures errors { IfErr result
         (λ r. (r ≡ Reason.OutOfMemory) ⊎ ((r ≡ Reason.BaseUrl) × (base_said (view tree.now) ≡ None))) }
 {
-    match Given::of(within(tree, "documentInfo", "baseURL")) {
-        Given::Absent => Ok(None),
-        Given::Text(text) => Ok(Some(read_base(alloc, text)?)),
+    match JsonMember::of(within(tree, "documentInfo", "baseURL")) {
+        JsonMember::Absent => Ok(None),
+        JsonMember::Text(text) => Ok(Some(read_base(alloc, text)?)),
         _ => Err(Reason::BaseUrl),
     }
 }

@@ -9,7 +9,7 @@ ghost use Rattle.oim_report.specs.Holds.{document_holds};
 ghost use Rattle.oim_report.specs.Shown.{document_part, seen};
 
 use crate::document::json_tree::{is_no_array, is_no_object, object_at, unknown_in, within};
-use crate::fact::given::Given;
+use crate::fact::json_member::JsonMember;
 use crate::findings::part::Part;
 use oim_names::Reason;
 use serde_json::Value;
@@ -91,7 +91,7 @@ pub(crate) fn has_other_type(tree: &Value) -> bool
 fn is_document_type(value: Option<&Value>) -> bool
     ensures { result ≡ is_text document_type (given_of (option_map (λ v. view v.now) value.entry)) }
 {
-    match Given::of(value).text() {
+    match JsonMember::of(value).text() {
         Some(found) => found == DOCUMENT_TYPE,
         None => false,
     }

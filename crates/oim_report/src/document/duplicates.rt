@@ -10,8 +10,8 @@ ghost use Rattle.oim_report.specs.Report.{IsOrderOf};
 use oim_dims::Fact;
 use oim_value::{Interval, Level, Value, common, interval_of, meets};
 
-/// Returns whether the facts have duplicates above the declared level. `All` allows any facts, so
-/// they are not compared if this level is declared.
+/// Returns whether the level of the facts is above the declared level. `All` allows any facts, so
+/// facts are not compared if `All` is declared.
 pub(crate) fn is_above(declared: Level, facts: &[Fact], order: &[usize]) -> bool
     requires { IsOrderOf facts.now order.now }
     ensures { result ≡ is_lt (level_cmp declared (level_of facts.now)) }
@@ -19,7 +19,7 @@ pub(crate) fn is_above(declared: Level, facts: &[Fact], order: &[usize]) -> bool
     declared != Level::All && declared < level_of(facts, order)
 }
 
-/// Finds the strictest level that allows the facts (`xbrl:allowedDuplicates` of OIM Common 1.0).
+/// Returns the strictest level that allows the facts (`xbrl:allowedDuplicates` of OIM Common 1.0).
 pub(crate) fn level_of(facts: &[Fact], order: &[usize]) -> Level
     requires { IsOrderOf facts.now order.now }
     ensures { result ≡ level_of facts.now }
@@ -30,10 +30,10 @@ pub(crate) fn level_of(facts: &[Fact], order: &[usize]) -> Level
     }
 }
 
-/// Finds the level of the facts. If it is above `limit`, the error is the index of the first fact in
-/// sorted order that `limit` does not allow beside an earlier one. One visit to each fact suffices:
-/// values meet pairwise exactly if all are equal, or all are numbers whose intervals have a common
-/// part.
+/// Returns the level of the facts. If the level is above `limit`, the error is the index of the
+/// first fact in sorted order that `limit` does not allow beside an earlier fact. One visit to each
+/// fact suffices, because values meet pairwise exactly if all are equal, or all are numbers whose
+/// intervals have a common part.
 pub(crate) fn level_within(limit: Level, facts: &[Fact], order: &[usize]) -> Result<Level, usize>
     requires { IsOrderOf facts.now order.now }
     ensures level { IfOk result (λ level. level ≡ level_of facts.now) }
@@ -64,9 +64,9 @@ pub(crate) fn level_within(limit: Level, facts: &[Fact], order: &[usize]) -> Res
     Ok(level)
 }
 
-// Returns what `value` adds to the level of the earlier values with the same dimensions: the level
-// of all values is the maximum of the earlier level and the result. Only the last earlier value and
-// the common part of the intervals of all earlier ones matter.
+// Returns the level that `value` adds to earlier values with the same dimensions. The level of all
+// these values is the maximum of the earlier level and the result. `last` is the last earlier
+// value, and `shared` is the common part of the intervals of all earlier values.
 fn level_beside(last: &Value, shared: Option<Interval>, value: &Value) -> Level
     ensures { result ≡ level_beside last.now shared value.now }
 {

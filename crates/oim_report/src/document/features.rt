@@ -2,11 +2,11 @@ ghost use Rattle.std.specs.Prelude.{◌≡◌, ◌∷◌, [], None, IfErr, IsSom
 ghost use Rattle.std.specs.Result.{result_ok};
 ghost use Rattle.oim_names.specs.QName.{prefix_part, local_part};
 ghost use Rattle.serde_json.specs.View.{view, members_view};
-ghost use Rattle.oim_report.specs.code.Given.{seen};
+ghost use Rattle.oim_report.specs.code.JsonMember.{seen};
 ghost use Rattle.oim_report.specs.Info.{declarations, features_of, is_allowed_duplicates, level_said, said_level};
 
 use crate::document::json_tree::within;
-use crate::fact::given::Given;
+use crate::fact::json_member::JsonMember;
 use oim_names::{Aliases, Reason};
 use oim_value::Level;
 use serde_json::{Map, Value};
@@ -34,7 +34,7 @@ fn declared_level(aliases: &Aliases, features: &Map<String, Value>) -> Option<Le
     let mut declared = None;
     for (key, value) in features.iter() {
         if is_allowed_duplicates(aliases, key.as_str()) {
-            match only_level(declared, Given::of_value(value)) {
+            match only_level(declared, JsonMember::of_value(value)) {
                 Some(level) => declared = Some(level),
                 None => return None,
             }
@@ -43,7 +43,7 @@ fn declared_level(aliases: &Aliases, features: &Map<String, Value>) -> Option<Le
     Some(declared.unwrap_or(Level::All))
 }
 
-fn only_level(before: Option<Level>, value: Given<'_>) -> Option<Level>
+fn only_level(before: Option<Level>, value: JsonMember<'_>) -> Option<Level>
     ensures first { before ≡ None → result ≡ said_level (seen value.entry ∷ []) }
     ensures again { IsSome before → result ≡ None }
 {

@@ -12,8 +12,8 @@ use oim_dims::Fact;
 use std::alloc::Global;
 use std::collections::BTreeMap;
 
-/// The facts of several pieces, each with its identifier. The pieces are in the order of the text;
-/// in each piece, the identifiers are in byte order.
+/// The facts of one or more pieces, with their identifiers. The pieces are in the order of the
+/// text. In each piece, the identifiers are in byte order.
 #[derive(Drop)]
 pub(crate) struct FoundFacts {
     pub(crate) identifiers: Vec<String>,
@@ -22,7 +22,7 @@ pub(crate) struct FoundFacts {
 
 impl FoundFacts {
     /// Returns the facts in byte order of their identifiers. If an identifier is repeated, only its
-    /// last fact is kept. The result is `None` if a request for memory is refused.
+    /// last fact is returned. The result is `None` if a request for memory is refused.
     pub(crate) fn in_order(self, alloc: Global) -> Option<Vec<Fact>>
         ensures { IfSome result (λ facts. (sheet : ASheet) (bs : List Binding) (ms : Members) →
             AreFound sheet bs ms self.identifiers.items self.facts.items →

@@ -20,7 +20,7 @@ pub(crate) struct Info {
     pub(crate) aliases: Aliases,
     /// The kept texts of the references in `taxonomy`.
     pub(crate) references: Vec<Text>,
-    /// The declared level of duplicates.
+    /// The declared level of duplicates, or `All` if none is declared.
     pub(crate) level: Level,
 }
 

@@ -35,7 +35,8 @@ pub(crate) fn read_json_outline(alloc: Global, bytes: &[u8]) -> Option<Outline<'
     read_outline(alloc, text)
 }
 
-/// Returns the bytes without the byte order mark of UTF-8 at their start, if there is one.
+/// Returns the bytes after the UTF-8 byte order mark at the start, or all bytes if there is no
+/// mark.
 pub fn after_mark(bytes: &[u8]) -> &[u8]
     ensures { result.now ≡ without_mark bytes.now }
 {
@@ -71,7 +72,7 @@ pub(crate) fn has_member(object: Option<&Map<String, Value>>) -> bool
 }
 
 /// In `dimensions`, a key with a colon names a taxonomy-defined dimension. In the root of a report
-/// or a sheet, in `documentInfo` and in a fact, it belongs to an extension.
+/// or a sheet, in `documentInfo` and in a fact, a key with a colon belongs to an extension.
 pub(crate) fn has_colon(key: &str) -> bool
     ensures { result ≡ has_colon key.now }
 {

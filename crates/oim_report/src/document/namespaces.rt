@@ -3,7 +3,7 @@ ghost use Rattle.serde_json.specs.View.{members_view};
 ghost use Rattle.oim_report.specs.Json.{any_in, any_member, members};
 ghost use Rattle.oim_report.specs.Namespaces.{binds_nothing, bindings_in};
 
-use crate::fact::given::Given;
+use crate::fact::json_member::JsonMember;
 use oim_names::{Aliases, Reason};
 use serde_json::{Map, Value};
 use std::alloc::Global;
@@ -33,7 +33,7 @@ fn bind_all(alloc: Global, entries: &Map<String, Value>) -> Result<Aliases, Reas
 {
     let mut aliases = Aliases::new(alloc);
     for (prefix, uri) in entries.iter() {
-        let Some(uri) = Given::of_value(uri).text() else {
+        let Some(uri) = JsonMember::of_value(uri).text() else {
             return Err(Reason::Namespace);
         };
         aliases.add(prefix.as_str(), uri)?;

@@ -5,8 +5,8 @@ ghost use Rattle.oim_report.specs.Info.{said_reference, said_references, taxonom
 
 use crate::document::base::Base;
 use crate::document::json_tree::within;
-use crate::document::kept::keep;
-use crate::fact::given::Given;
+use crate::document::references::keep;
+use crate::fact::json_member::JsonMember;
 use oim_names::{Reason, Text};
 use serde_json::Value;
 use std::alloc::Global;
@@ -48,7 +48,7 @@ pub(crate) fn keep_item(alloc: Global, base: Option<&Base>, item: &Value) -> Res
     ensures errors { let said = said_reference (option_copied base.entry) (view item.now) in
         IfErr result (λ r. (r ≡ Reason.OutOfMemory) ⊎ ((r ≡ Reason.TaxonomyUrl) × (said ≡ None))) }
 {
-    match Given::of_value(item).text() {
+    match JsonMember::of_value(item).text() {
         Some(reference) => keep(alloc, base, reference),
         None => Err(Reason::TaxonomyUrl),
     }

@@ -2,7 +2,7 @@ ghost use Rattle.std.specs.Prelude.{IfSome};
 ghost use Rattle.oim_report.specs.Parts.{HasForm};
 ghost use Rattle.oim_report.specs.code.SeenParts.{seen_dimensions, seen_parts};
 
-use crate::fact::parts::{DimensionParts, FactParts};
+use crate::fact::fact_parts::{DimensionParts, FactParts};
 
 pub(crate) fn well_formed<'p, 'a>(parts: &'p FactParts<'a>) -> Option<&'p DimensionParts<'a>>
     ensures { let p = seen_parts parts.now in

@@ -1,125 +1,270 @@
-ghost use Rattle.std.specs.Prelude.{◌≡◌, ◌⊎◌, Ok, Err, Some, IfOk, IfErr, IfSome, OnOk, option_map};
+ghost use Rattle.std.specs.Prelude.{◌≡◌, ◌⊎◌, Ok, Err, Some, None, IsTrue, IfOk, IfErr, IfSome, option_map};
 ghost use Rattle.serde_json.specs.View.{view};
-ghost use Rattle.oim_report.specs.code.Given.{seen};
-ghost use Rattle.oim_report.specs.code.Glossaries.{AreGlossaries};
-ghost use Rattle.oim_report.specs.code.NameCache.{IsNameCache};
+ghost use Rattle.oim_report.specs.code.JsonMember.{seen};
+ghost use Rattle.oim_report.specs.code.TextCache.{concept_with};
+ghost use Rattle.oim_report.specs.code.SeenParts.{seen_defined, seen_dimensions, seen_parts};
 ghost use Rattle.oim_report.specs.Outcome.{fact_outcome};
-ghost use Rattle.oim_report.specs.Said.{concept_kind, fact_of, said_concept};
-ghost use Rattle.oim_report.specs.code.SeenParts.{seen_dimensions, seen_parts};
+ghost use Rattle.oim_report.specs.Said.{concept_kind, dimension_kind, fact_of, said_concept, said_dimensions, said_member, said_members};
+ghost use Rattle.oim_report.specs.Names.{named};
 
 use crate::concept_kind::ConceptKind;
-use crate::fact::dimensions_reader::read_dimensions;
+use crate::dimension_kind::DimensionKind;
+use crate::fact::cached::cached_name;
+use crate::fact::core_dimensions::{read_entity, read_language, read_period, read_unit};
 use crate::fact::fact_form::well_formed;
+use crate::fact::fact_parts::{DimensionParts, FactParts};
 use crate::fact::fact_value::read_value;
-use crate::fact::given::Given;
-use crate::fact::glossaries::Glossaries;
-use crate::fact::name_cache::NameCache;
-use crate::fact::parts::{DimensionParts, FactParts};
+use crate::fact::json_member::JsonMember;
+use crate::fact::text_caches::TextCaches;
 use crate::findings::fact_faults::add_fact_faults;
 use crate::findings::fault_list::Faults;
 use crate::place::Place;
 use crate::sheet::Sheet;
-use oim_dims::Fact;
-use oim_names::{Aliases, Copied, Name, Reason};
+use oim_dims::{Dimensions, Fact, Member};
+use oim_names::{Aliases, Copied, Name, Reason, Text};
 use serde_json::Value;
 use std::alloc::Global;
+use std::marker::Model;
 
-pub(crate) fn read_fact<'s>(
+/// Reads facts under a sheet and the prefixes of a report. Reports often bind the same prefixes to
+/// the same URIs, and then a text means the same in all these reports. While these bindings stay
+/// the same, the reader caches the meanings of texts. Contracts represent a reader by its sheet and
+/// its prefixes.
+#[derive(Drop)]
+pub(crate) struct FactReader<'s> {
     alloc: Global,
     sheet: &'s Sheet,
-    aliases: &Aliases,
-    glossaries: &mut Glossaries<'s>,
-    object: &Value,
-) -> Result<Fact, Reason>
-    requires known { AreGlossaries sheet.now aliases.now glossaries.old }
-    ensures ok { IfOk result (λ f. fact_outcome sheet.now aliases.now (view object.now) ≡ Ok f) }
-    ensures errors { IfErr result
-        (λ r. (r ≡ Reason.OutOfMemory)
-        ⊎ (fact_outcome sheet.now aliases.now (view object.now) ≡ Err r)) }
-    ensures known { AreGlossaries sheet.now aliases.now glossaries.new }
-{
-    match read_object(alloc, sheet, aliases, glossaries, object) {
-        Ok(fact) => Ok(fact),
-        Err(Reason::OutOfMemory) => Err(Reason::OutOfMemory),
-        Err(_) => Err(least_fault(alloc, sheet, aliases, object)),
+    aliases: Aliases,
+    caches: TextCaches<'s>,
+}
+
+impl<'s> Model for FactReader<'s> {
+    ghost use Rattle.oim_report.specs.code.TextCaches.{AreTextCaches};
+    ghost use Rattle.oim_report.specs.code.Scope.{Scope, scope_code};
+
+    ghost Value = { Scope };
+
+    ghost coded = { scope_code };
+
+    ghost view = { λ r. record { sheet = r.sheet.now; aliases = r.aliases } };
+
+    ghost invariant = { λ r. AreTextCaches r.sheet.now r.aliases r.caches };
+}
+
+impl<'s> FactReader<'s> {
+    /// Returns a reader that binds no prefixes yet. Later calls allocate from `alloc`.
+    pub(crate) fn new(alloc: Global, sheet: &'s Sheet) -> Self
+        ensures { result.sheet ≡ sheet.now }
+    {
+        FactReader {
+            alloc,
+            sheet,
+            aliases: Aliases::new(alloc),
+            caches: TextCaches::new(alloc),
+        }
+    }
+
+    pub(crate) fn sheet(&self) -> &'s Sheet
+        ensures { result.now ≡ self.now.sheet }
+    {
+        self.sheet
+    }
+
+    /// Prepares for the prefixes of the next report. The caches are emptied if the prefixes differ,
+    /// or if a cache is full, because a full cache takes no new texts.
+    pub(crate) fn turn_to(&mut self, aliases: Aliases)
+        ensures { self.new ≡ record self.old { aliases = aliases } }
+    {
+        if self.has_room_under(&aliases) {
+            return;
+        }
+        self.aliases = aliases;
+        self.caches = TextCaches::new(self.alloc);
+    }
+
+    fn has_room_under(&self, aliases: &Aliases) -> bool
+        ensures { IsTrue result → self.now.aliases ≡ aliases.now }
+    {
+        self.aliases.same_as(aliases) && !self.caches.is_full()
+    }
+
+    /// Reads the JSON value of a fact. An error is the lowest-numbered condition that applies, or
+    /// `OutOfMemory`.
+    pub(crate) fn read(&mut self, object: &Value) -> Result<Fact, Reason>
+        ensures same { self.new ≡ self.old }
+        ensures ok { IfOk result (λ f. fact_outcome self.old.sheet self.old.aliases (view object.now) ≡ Ok f) }
+        ensures errors { IfErr result
+            (λ r. (r ≡ Reason.OutOfMemory)
+            ⊎ (fact_outcome self.old.sheet self.old.aliases (view object.now) ≡ Err r)) }
+    {
+        match self.read_object(object) {
+            Ok(fact) => Ok(fact),
+            Err(Reason::OutOfMemory) => Err(Reason::OutOfMemory),
+            Err(_) => Err(self.least_fault(object)),
+        }
+    }
+
+    fn least_fault(&self, object: &Value) -> Reason
+        ensures { (result ≡ Reason.OutOfMemory)
+            ⊎ (fact_outcome self.now.sheet self.now.aliases (view object.now) ≡ Err result) }
+    {
+        let mut faults = Faults::new(self.alloc);
+        let place = Place::Document;
+        match add_fact_faults(
+            self.alloc,
+            self.sheet,
+            &self.aliases,
+            object,
+            place,
+            &mut faults,
+        ) {
+            Ok(()) => match faults.as_slice().first() {
+                Some(refusal) => refusal.reason,
+                None => Reason::OutOfMemory,
+            },
+            Err(_) => Reason::OutOfMemory,
+        }
+    }
+
+    // Most facts are accepted, so this function visits each part once, and does not look for the
+    // lowest-numbered condition.
+    fn read_object(&mut self, object: &Value) -> Result<Fact, Reason>
+        ensures same { self.new ≡ self.old }
+        ensures ok { IfOk result (λ f. fact_outcome self.old.sheet self.old.aliases (view object.now) ≡ Ok f) }
+    {
+        let Some(parts) = FactParts::of(self.alloc, object)? else {
+            return Err(Reason::MemberForm);
+        };
+        let Some(dimensions) = well_formed(&parts) else {
+            return Err(Reason::MemberForm);
+        };
+        self.read_content(&parts, dimensions)
+    }
+
+    fn read_content(
+        &mut self,
+        parts: &FactParts<'_>,
+        dimensions: &DimensionParts<'_>,
+    ) -> Result<Fact, Reason>
+        ensures same { self.new ≡ self.old }
+        ensures said { let p = seen_parts parts.now in
+            let ds = seen_dimensions dimensions.now in
+            IfOk result (λ f. fact_of self.old.sheet self.old.aliases p ds ≡ Some f) }
+    {
+        let Some((name, kind)) = self.find_concept(dimensions.concept) else {
+            return Err(Reason::UnknownConcept);
+        };
+        let concept = name.copied(self.alloc)?;
+        let read = self.read_dimensions(concept, kind, dimensions)?;
+        let value = read_value(self.alloc, &self.aliases, kind, parts.value, parts.decimals)?;
+        Ok(Fact {
+            dimensions: read,
+            value,
+        })
+    }
+
+    fn find_concept(&mut self, concept: JsonMember<'_>) -> Option<(&'s Name, ConceptKind)>
+        ensures same { self.new ≡ self.old }
+        ensures kind { option_map (λ c. c.1) result
+            ≡ concept_kind self.old.sheet self.old.aliases (seen concept.entry) }
+        ensures name { IfSome result (λ c. said_concept self.old.aliases (seen concept.entry) ≡ Some c.0.now) }
+    {
+        let text = concept.text()?;
+        let concepts = self.sheet.concepts();
+        self.caches.concepts.find(concepts, &self.aliases, text)
+    }
+
+    fn read_dimensions(
+        &mut self,
+        concept: Name,
+        kind: ConceptKind,
+        parts: &DimensionParts<'_>,
+    ) -> Result<Dimensions, Reason>
+        requires concept { said_concept self.old.aliases (seen parts.now.concept) ≡ Some concept }
+        ensures same { self.new ≡ self.old }
+        ensures said { IfOk result
+            (λ d. said_dimensions self.old.sheet self.old.aliases kind (seen_dimensions parts.now) ≡ Some d) }
+    {
+        let mut read = self.read_members(concept, parts.defined.as_slice())?;
+        let (alloc, aliases, caches) = (self.alloc, &self.aliases, &mut self.caches);
+        read.set_period(read_period(alloc, &mut caches.periods, parts.period)?);
+        read.set_unit(read_unit(alloc, aliases, &mut caches.units, kind, parts.unit)?);
+        let language = read_language(alloc, &mut caches.languages, kind, parts.language)?;
+        set_language(&mut read, language);
+        let entity = read_entity(alloc, aliases, &mut caches.entities, parts.entity)?;
+        set_entity(&mut read, entity);
+        Ok(read)
+    }
+
+    // The keys in `defined` are in byte order of their spelling, not in the order of names. So the
+    // members are sorted once, at the end.
+    fn read_members(
+        &mut self,
+        concept: Name,
+        defined: &[(&str, JsonMember<'_>)],
+    ) -> Result<Dimensions, Reason>
+        ensures same { self.new ≡ self.old }
+        ensures said { let all = seen_defined defined.now in
+            IfOk result (λ d. said_members self.old.sheet self.old.aliases all ≡ Some d.members) }
+        ensures others { IfOk result (λ d. d ≡ concept_with concept d.members) }
+    {
+        let alloc = self.alloc;
+        let mut found = Vec::with_capacity(alloc, defined.len())?;
+        for (key, member) in defined {
+            let Some((name, kind)) = self.find_dimension(*key) else {
+                return Err(Reason::UnknownDimension);
+            };
+            let member = self.read_member(kind, *member)?;
+            found.push_reserved((name.copied(alloc)?, member));
+        }
+        let mut dimensions = Dimensions::new(alloc, concept);
+        dimensions.set_members(found)?;
+        Ok(dimensions)
+    }
+
+    fn find_dimension(&mut self, key: &str) -> Option<(&'s Name, DimensionKind)>
+        ensures same { self.new ≡ self.old }
+        ensures kind { option_map (λ d. d.1) result
+            ≡ dimension_kind self.old.sheet self.old.aliases key.now }
+        ensures name { IfSome result (λ d. named self.old.aliases key.now ≡ Some d.0.now) }
+    {
+        let dimensions = self.sheet.dimensions();
+        self.caches.dimensions.find(dimensions, &self.aliases, key)
+    }
+
+    fn read_member(&mut self, kind: DimensionKind, member: JsonMember<'_>) -> Result<Member, Reason>
+        ensures same { self.new ≡ self.old }
+        ensures said { IfOk result
+            (λ m. said_member self.old.aliases (Some kind) (seen member.entry) ≡ Some m) }
+    {
+        match (kind, member) {
+            (DimensionKind::Explicit, JsonMember::Text(text)) => {
+                let members = &mut self.caches.members;
+                Ok(Member::Name(cached_name(self.alloc, &self.aliases, members, text)?))
+            }
+            (DimensionKind::Typed, JsonMember::Text(text)) => {
+                Ok(Member::Text(Text::new(self.alloc, text)?))
+            }
+            (DimensionKind::Typed, JsonMember::Nil) => Ok(Member::Nil),
+            _ => Err(Reason::DimensionValue),
+        }
     }
 }
 
-fn least_fault(alloc: Global, sheet: &Sheet, aliases: &Aliases, object: &Value) -> Reason
-    ensures { (result ≡ Reason.OutOfMemory)
-        ⊎ (fact_outcome sheet.now aliases.now (view object.now) ≡ Err result) }
+fn set_language(dimensions: &mut Dimensions, language: Option<Text>)
+    requires { dimensions.old.language ≡ None }
+    ensures { dimensions.new ≡ record dimensions.old { language = language } }
 {
-    let mut faults = Faults::new(alloc);
-    match add_fact_faults(alloc, sheet, aliases, object, Place::Document, &mut faults) {
-        Ok(()) => match faults.as_slice().first() {
-            Some(refusal) => refusal.reason,
-            None => Reason::OutOfMemory,
-        },
-        Err(_) => Reason::OutOfMemory,
+    if let Some(language) = language {
+        dimensions.set_language(language);
     }
 }
 
-// Most facts are accepted, so this function visits each part once, and does not look for the
-// condition with the least number.
-fn read_object<'s>(
-    alloc: Global,
-    sheet: &'s Sheet,
-    aliases: &Aliases,
-    glossaries: &mut Glossaries<'s>,
-    object: &Value,
-) -> Result<Fact, Reason>
-    requires known { AreGlossaries sheet.now aliases.now glossaries.old }
-    ensures ok { IfOk result (λ f. fact_outcome sheet.now aliases.now (view object.now) ≡ Ok f) }
-    ensures known { AreGlossaries sheet.now aliases.now glossaries.new }
+fn set_entity(dimensions: &mut Dimensions, entity: Option<Name>)
+    requires { dimensions.old.entity ≡ None }
+    ensures { dimensions.new ≡ record dimensions.old { entity = entity } }
 {
-    let Some(parts) = FactParts::of(alloc, object)? else {
-        return Err(Reason::MemberForm);
-    };
-    let Some(dimensions) = well_formed(&parts) else {
-        return Err(Reason::MemberForm);
-    };
-    read_content(alloc, sheet, aliases, glossaries, &parts, dimensions)
-}
-
-// Together, the parts of a fact need the allocator, the sheet, the prefixes and the caches.
-fn read_content<'s>(
-    alloc: Global,
-    sheet: &'s Sheet,
-    aliases: &Aliases,
-    glossaries: &mut Glossaries<'s>,
-    parts: &FactParts<'_>,
-    dimensions: &DimensionParts<'_>,
-) -> Result<Fact, Reason>
-    requires known { AreGlossaries sheet.now aliases.now glossaries.old }
-    ensures said { let p = seen_parts parts.now in
-        let ds = seen_dimensions dimensions.now in
-        IfOk result (λ f. fact_of sheet.now aliases.now p ds ≡ Some f) }
-    ensures known { AreGlossaries sheet.now aliases.now glossaries.new }
-{
-    let concepts = &mut glossaries.concepts;
-    let Some((name, kind)) = find_concept(sheet, aliases, concepts, dimensions.concept) else {
-        return Err(Reason::UnknownConcept);
-    };
-    let concept = name.copied(alloc)?;
-    let read = read_dimensions(alloc, sheet, aliases, glossaries, concept, kind, dimensions)?;
-    let value = read_value(alloc, aliases, kind, parts.value, parts.decimals)?;
-    Ok(Fact {
-        dimensions: read,
-        value,
-    })
-}
-
-fn find_concept<'s>(
-    sheet: &'s Sheet,
-    aliases: &Aliases,
-    concepts: &mut NameCache<'s, ConceptKind>,
-    concept: Given<'_>,
-) -> Option<(&'s Name, ConceptKind)>
-    requires known { IsNameCache sheet.now.concepts aliases.now concepts.old }
-    ensures kind { option_map (λ c. c.1) result
-        ≡ concept_kind sheet.now aliases.now (seen concept.entry) }
-    ensures name { IfSome result (λ c. said_concept aliases.now (seen concept.entry) ≡ Some c.0.now) }
-    ensures known { IsNameCache sheet.now.concepts aliases.now concepts.new }
-{
-    concepts.find(sheet.concepts(), aliases, concept.text()?)
+    if let Some(entity) = entity {
+        dimensions.set_entity(entity);
+    }
 }

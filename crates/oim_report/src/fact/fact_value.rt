@@ -1,10 +1,10 @@
 ghost use Rattle.std.specs.Prelude.{◌≡◌, Some, IfOk};
-ghost use Rattle.oim_report.specs.code.Given.{seen};
+ghost use Rattle.oim_report.specs.code.JsonMember.{seen};
 ghost use Rattle.oim_report.specs.Json.{whole};
 ghost use Rattle.oim_report.specs.Said.{said_decimals, said_value, text_said};
 
 use crate::concept_kind::ConceptKind;
-use crate::fact::given::Given;
+use crate::fact::json_member::JsonMember;
 use oim_names::{Aliases, Reason, Text};
 use oim_value::{Decimals, Value, read_fixed};
 use std::alloc::Global;
@@ -13,16 +13,16 @@ pub(crate) fn read_value(
     alloc: Global,
     aliases: &Aliases,
     kind: ConceptKind,
-    value: Given<'_>,
-    decimals: Given<'_>,
+    value: JsonMember<'_>,
+    decimals: JsonMember<'_>,
 ) -> Result<Value, Reason>
     ensures said { IfOk result
         (λ v. said_value aliases.now kind (seen value.entry) (seen decimals.entry) ≡ Some v) }
 {
     let places = read_decimals(kind, decimals)?;
     match value {
-        Given::Nil => Ok(Value::Nil),
-        Given::Text(text) => read_text(alloc, aliases, kind, places, text),
+        JsonMember::Nil => Ok(Value::Nil),
+        JsonMember::Text(text) => read_text(alloc, aliases, kind, places, text),
         _ => Err(Reason::ValueForm),
     }
 }
@@ -44,12 +44,12 @@ fn read_text(
 }
 
 // A number without decimals is exact.
-fn read_decimals(kind: ConceptKind, decimals: Given<'_>) -> Result<Decimals, Reason>
+fn read_decimals(kind: ConceptKind, decimals: JsonMember<'_>) -> Result<Decimals, Reason>
     ensures { IfOk result (λ read. said_decimals kind (seen decimals.entry) ≡ Some read) }
 {
     match (kind, decimals) {
-        (_, Given::Absent) => Ok(Decimals::INFINITE),
-        (ConceptKind::Numeric, Given::Whole(number)) => read_whole(number),
+        (_, JsonMember::Absent) => Ok(Decimals::INFINITE),
+        (ConceptKind::Numeric, JsonMember::Whole(number)) => read_whole(number),
         _ => Err(Reason::DecimalsForm),
     }
 }

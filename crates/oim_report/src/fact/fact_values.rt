@@ -1,4 +1,4 @@
-//! Reads the values in a fact object.
+//! Reads single values for the search for faults (`findings`).
 
 ghost use Rattle.std.specs.Prelude.{◌≡◌, is_none, codes, option_map, option_and_then};
 ghost use Rattle.serde_json.specs.View.{view};
@@ -7,7 +7,7 @@ ghost use Rattle.oim_report.specs.Holds.{as_text, as_whole, is_some_and, no_text
 ghost use Rattle.oim_report.specs.Json.{members, object_at};
 
 use crate::document::json_tree::within;
-use crate::fact::given::Given;
+use crate::fact::json_member::JsonMember;
 use serde_json::Value;
 
 pub(crate) fn dimension<'a>(object: &'a Value, key: &str) -> Option<&'a Value>
@@ -21,13 +21,13 @@ pub(crate) fn text(value: Option<&Value>) -> Option<&str>
     ensures { option_map (λ t. t.now) result
         ≡ option_and_then as_text (option_map (λ v. view v.now) value.entry) }
 {
-    Given::of(value).text()
+    JsonMember::of(value).text()
 }
 
 pub(crate) fn is_no_text(value: Option<&Value>) -> bool
     ensures { result ≡ is_some_and no_text (option_map (λ v. view v.now) value.entry) }
 {
-    Given::of(value).is_no_text()
+    JsonMember::of(value).is_no_text()
 }
 
 pub(crate) fn is_no_text_or_null(value: Option<&Value>) -> bool

@@ -6,21 +6,21 @@ ghost use Rattle.oim_report.specs.code.NameCache.{IsNameCache, IsReached, kind_o
 ghost use Rattle.oim_report.specs.Names.{named};
 
 use crate::document::features::split;
-use crate::fact::glossary::Glossary;
+use crate::fact::text_cache::TextCache;
 use crate::sheet::kind::Kind;
-use crate::sheet::listing::{Group, Listing, find_in};
+use crate::sheet::name_table::{Group, NameTable, find_in};
 use oim_names::{Aliases, Name};
 use std::alloc::Global;
 use std::collections::BTreeMap;
 
-/// Finds the names of a sheet that texts spell under one set of prefixes. It finds the group of
-/// names once per prefix, so further names with this prefix need no comparison of URIs.
+/// Finds which listed name a text spells, under one set of prefixes. Groups are cached by prefix,
+/// so that later names with the same prefix are found without comparing URIs.
 #[derive(Drop)]
 pub(crate) struct NameCache<'s, K: Kind> {
     alloc: Global,
-    /// The texts that spell a listed name.
-    pub(crate) texts: Glossary<(&'s Name, K)>,
-    /// The prefixes, each with the group of its namespace.
+    /// The texts that spell a listed name, each with the name and its kind.
+    pub(crate) texts: TextCache<(&'s Name, K)>,
+    /// The prefixes that were used, each with the group of its namespace, if the sheet has one.
     pub(crate) groups: BTreeMap<String, Option<&'s Group<K>>>,
 }
 
@@ -30,45 +30,45 @@ impl<'s, K: Kind> NameCache<'s, K> {
     {
         NameCache {
             alloc,
-            texts: Glossary::new(alloc),
+            texts: TextCache::new(alloc),
             groups: BTreeMap::new(alloc),
         }
     }
 
     pub(crate) fn find(
         &mut self,
-        listing: &'s Listing<K>,
+        table: &'s NameTable<K>,
         aliases: &Aliases,
         text: &str,
     ) -> Option<(&'s Name, K)>
-        requires known { IsNameCache listing.now aliases.now self.old }
-        ensures kind { option_map (λ e. e.1) result ≡ kind_of listing.now aliases.now text.now }
+        requires known { IsNameCache table.now aliases.now self.old }
+        ensures kind { option_map (λ e. e.1) result ≡ kind_of table.now aliases.now text.now }
         ensures name { IfSome result (λ e. named aliases.now text.now ≡ Some e.0.now) }
-        ensures known { IsNameCache listing.now aliases.now self.new }
+        ensures known { IsNameCache table.now aliases.now self.new }
     {
         if let Some(known) = self.texts.find(text) {
             return Some((known.0, known.1));
         }
-        let (name, kind) = self.look_up(listing, aliases, text)?;
+        let (name, kind) = self.look_up(table, aliases, text)?;
         self.texts.add(text, (name, kind));
         Some((name, kind))
     }
 
     fn look_up(
         &mut self,
-        listing: &'s Listing<K>,
+        table: &'s NameTable<K>,
         aliases: &Aliases,
         text: &str,
     ) -> Option<(&'s Name, K)>
-        requires known { IsNameCache listing.now aliases.now self.old }
-        ensures kind { option_map (λ e. e.1) result ≡ kind_of listing.now aliases.now text.now }
+        requires known { IsNameCache table.now aliases.now self.old }
+        ensures kind { option_map (λ e. e.1) result ≡ kind_of table.now aliases.now text.now }
         ensures name { IfSome result (λ e. named aliases.now text.now ≡ Some e.0.now) }
-        ensures known { IsNameCache listing.now aliases.now self.new }
+        ensures known { IsNameCache table.now aliases.now self.new }
     {
         match aliases.resolve(text) {
             Ok((_uri, local)) => {
                 let (prefix, _local) = split(text);
-                find_in(self.group(listing, aliases, prefix), local)
+                find_in(self.group(table, aliases, prefix), local)
             }
             Err(_) => None,
         }
@@ -76,18 +76,18 @@ impl<'s, K: Kind> NameCache<'s, K> {
 
     fn group(
         &mut self,
-        listing: &'s Listing<K>,
+        table: &'s NameTable<K>,
         aliases: &Aliases,
         prefix: &str,
     ) -> Option<&'s Group<K>>
-        requires known { IsNameCache listing.now aliases.now self.old }
-        ensures reached { IsReached listing.now aliases.now prefix.now result }
-        ensures known { IsNameCache listing.now aliases.now self.new }
+        requires known { IsNameCache table.now aliases.now self.old }
+        ensures reached { IsReached table.now aliases.now prefix.now result }
+        ensures known { IsNameCache table.now aliases.now self.new }
     {
         if let Some(known) = self.groups.get(prefix) {
             return *known;
         }
-        let group = listing.group(aliases.uri(prefix)?);
+        let group = table.group(aliases.uri(prefix)?);
         if let Ok(key) = String::from_str(self.alloc, prefix) {
             let _replaced = self.groups.insert(key, group);
         }

@@ -17,7 +17,7 @@ use crate::concept_kind::ConceptKind;
 use crate::fact::fact_values::{dimension, is_no_text_or_null, text, whole};
 use crate::findings::part::{Part, value_if};
 use crate::sheet::Sheet;
-use crate::sheet::listed::find_named_concept;
+use crate::sheet::lookup::find_named_concept;
 use oim_dims::{is_language, is_unit_text, read_period};
 use oim_names::{Aliases, Reason};
 use oim_value::{Decimals, read_fixed};

@@ -1,4 +1,4 @@
-//! Finds the taxonomy-defined dimension of a fact object that violates a condition.
+//! Finds the first taxonomy-defined dimension in a fact object that violates a condition.
 
 ghost use Rattle.std.specs.Prelude.{◌≡◌, ◌&&◌, [], option_map, IfOk};
 ghost use Rattle.std.specs.Ordering.{is_eq};
@@ -15,8 +15,8 @@ use crate::document::json_tree::{has_colon, object_at};
 use crate::fact::fact_values::text;
 use crate::findings::part::Part;
 use crate::sheet::Sheet;
-use crate::sheet::gathered::Gathered;
-use crate::sheet::listed::find_dimension;
+use crate::sheet::lookup::find_dimension;
+use crate::sheet::name_table_builder::NameTableBuilder;
 use crate::unless_memory::unless_memory;
 use oim_names::{Aliases, Name, Reason};
 use serde_json::{Map, Value};
@@ -121,14 +121,14 @@ fn two_keys<'a>(
         IfOk result (λ part. option_map seen part ≡ option_map (λ m. beside_first aliases.now (entries ms) m.0)
         (repeated aliases.now [] (defined_members ms))) }
 {
-    let mut before = Gathered::new(alloc);
+    let mut before = NameTableBuilder::new(alloc);
     for (key, _value) in dimensions.iter() {
         if let Some(name) = dimension_name(aliases, key.as_str())? {
             before.turn_to(name.uri())?;
             if before.has(&name) {
                 return Ok(Some(beside_first(aliases, dimensions, key.as_str())));
             }
-            // the kind does not matter
+            // `before` compares only names, so any kind serves
             before.put(name, DimensionKind::Explicit)?;
         }
     }

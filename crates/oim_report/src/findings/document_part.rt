@@ -11,8 +11,8 @@ use oim_names::Reason;
 use serde_json::Value;
 use std::alloc::{AllocError, Global};
 
-/// Returns the part of a document that violates a condition from `MemberForm` to `Feature`: the
-/// first one, or all features if `xbrl:allowedDuplicates` is repeated with valid values (own). The
+/// Returns the first part of a document that violates a condition from `MemberForm` to `Feature`
+/// (own). If `xbrl:allowedDuplicates` is repeated with valid values, the part is all features. The
 /// result is `None` exactly if the condition is not one of these, does not apply or is hidden.
 ///
 /// Errors: out of memory.

@@ -14,8 +14,7 @@ use oim_names::{Aliases, Reason};
 use serde_json::Value;
 use std::alloc::{AllocError, Global};
 
-// The sheet, the prefixes and the object determine which conditions apply. The last two parameters
-// are the place of the faults and their list.
+// Adds to `faults` each condition that applies to a fact object, with `place` as its place.
 pub(crate) fn add_fact_faults(
     alloc: Global,
     sheet: &Sheet,
@@ -56,7 +55,7 @@ pub(crate) fn add_fact_faults(
     add_each(alloc, sheet, aliases, object, place, reasons, faults)
 }
 
-// As `add_fact_faults`, for the conditions in `reasons`.
+// Does the same as `add_fact_faults`, but only for the conditions in `reasons`.
 fn add_each(
     alloc: Global,
     sheet: &Sheet,

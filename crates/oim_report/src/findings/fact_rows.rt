@@ -19,8 +19,8 @@ use serde_json::Value;
 use std::alloc::{AllocError, Global};
 
 /// Returns the part of a fact object that violates a condition under a sheet and these prefixes, or
-/// `None` exactly if the condition does not apply (own). If several parts violate it, the first is
-/// returned.
+/// `None` exactly if the condition does not apply (own). If several parts violate the condition,
+/// the first is returned.
 ///
 /// Errors: out of memory.
 pub fn fact_part<'a>(

@@ -10,8 +10,8 @@ ghost use Rattle.oim_report.specs.Report.{IsOrderOf};
 
 use crate::document::duplicates::level_within;
 use crate::document::info::read_info;
+use crate::fact::fact_reader::FactReader;
 use crate::fact::facts_reader::read_facts;
-use crate::fact::glossaries::Glossaries;
 use crate::order::order_of;
 use crate::sheet::Sheet;
 use oim_dims::Fact;
@@ -20,8 +20,9 @@ use oim_value::{Level, Value as Said, value_meets};
 use serde_json::Value;
 use std::alloc::{AllocError, Global};
 
-/// If a report is refused for its duplicates, returns two facts that its declared level forbids
-/// together, as indices from 0 in byte order of the identifiers. Otherwise returns `None` (own).
+/// Returns the indices of two facts that the declared level does not allow together, or `None` if
+/// the report is not refused for its duplicates (own). Indices are counted from 0 in byte order of
+/// the identifiers.
 ///
 /// Errors: out of memory.
 pub fn facts_apart(
@@ -34,7 +35,7 @@ pub fn facts_apart(
     ensures found { IfOk result (λ two. HasFactsApart sheet.now (view tree.now) → IsSome two) }
 {
     match read_info(alloc, tree) {
-        Ok(info) => apart_under(alloc, sheet, tree, &info.aliases, info.level),
+        Ok(info) => apart_under(alloc, sheet, tree, info.aliases, info.level),
         Err(Reason::OutOfMemory) => Err(AllocError),
         Err(_) => Ok(None),
     }
@@ -44,17 +45,18 @@ fn apart_under(
     alloc: Global,
     sheet: &Sheet,
     tree: &Value,
-    aliases: &Aliases,
+    aliases: Aliases,
     level: Level,
 ) -> Result<Option<(usize, usize)>, AllocError>
-    requires aliases { aliases.now ≡ bindings_of (view tree.now) }
+    requires aliases { aliases ≡ bindings_of (view tree.now) }
     requires level { level_said (view tree.now) ≡ Some level }
     ensures apart { IfOk result
         (λ two. IfSome two (λ t. AreFactsApart sheet.now (view tree.now) t.0 t.1)) }
     ensures found { IfOk result (λ two. HasFactsApart sheet.now (view tree.now) → IsSome two) }
 {
-    let mut glossaries = Glossaries::new(alloc);
-    match read_facts(alloc, sheet, aliases, &mut glossaries, tree) {
+    let mut reader = FactReader::new(alloc, sheet);
+    reader.turn_to(aliases);
+    match read_facts(alloc, &mut reader, tree) {
         Ok(facts) => {
             let order = order_of(alloc, facts.as_slice())?;
             Ok(first_apart(facts.as_slice(), order.as_slice(), level))
@@ -64,8 +66,8 @@ fn apart_under(
     }
 }
 
-// Visits each fact at most twice: the first walk finds the later fact of the pair, the second one
-// the earlier fact.
+// Visits each fact at most twice. The first walk finds the later fact of the pair in sorted order,
+// and the second walk finds the earlier fact.
 fn first_apart(facts: &[Fact], order: &[usize], level: Level) -> Option<(usize, usize)>
     requires { IsOrderOf facts.now order.now }
     ensures apart { IfSome result (λ t. IsTrue (are_apart level facts.now t.0 t.1)) }

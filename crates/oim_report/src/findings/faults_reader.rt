@@ -7,12 +7,11 @@ ghost use Rattle.oim_report.specs.Outcome.{tree_outcome};
 
 use crate::document::info::read_info;
 use crate::document::json_tree::read_json;
-use crate::fact::known_texts::KnownTexts;
 use crate::findings::document_faults::add_document_faults;
 use crate::findings::facts_faults::add_facts_faults;
 use crate::findings::fault_list::Faults;
-use crate::reader::read_document;
 use crate::refusal::Refusal;
+use crate::report_reader::ReportReader;
 use crate::sheet::Sheet;
 use crate::unless_memory::unless_memory;
 use oim_names::Reason;
@@ -20,11 +19,11 @@ use serde_json::Value;
 use std::alloc::{AllocError, Global};
 
 /// Returns the faults of a report's bytes under a sheet (own). `read_report` returns only the first
-/// of them. If the bytes are not JSON, that is the only fault. Otherwise the faults are all
-/// conditions that apply to the document. If there are none, the faults are all conditions that
-/// apply to its facts, each with its place. If no condition applies, the only possible fault is
-/// `DisallowedDuplicates`. `Feature` is omitted if `Namespace` applies. An accepted report has no
-/// faults.
+/// fault. If the bytes are not JSON, `NotJson` is the only fault. Otherwise the faults are all
+/// conditions that apply to the document. If no condition applies to the document, the faults are
+/// all conditions that apply to its facts, each with its place. If no condition applies to a fact
+/// either, the only possible fault is `DisallowedDuplicates`. `Feature` is omitted if `Namespace`
+/// applies. An accepted report has no faults.
 ///
 /// Errors: out of memory.
 #[tactic(auto, unfolding(crate::specs::Faults::faults, crate::specs::Outcome::outcome))]
@@ -73,8 +72,7 @@ fn add_answered(
     ensures { let said = tree_outcome sheet.now (Some (view tree.now)) in
         OnOk result (faults.new ≡ faults.old ++ option_to_list (result_err said)) }
 {
-    let mut known = KnownTexts::new(alloc);
-    match read_document(alloc, sheet, &mut known, tree) {
+    match ReportReader::new(alloc, sheet).read_tree(tree) {
         Ok(_) => Ok(()),
         Err(refusal) if refusal.reason == Reason::OutOfMemory => Err(AllocError),
         Err(refusal) => faults.push(refusal),

@@ -1,4 +1,4 @@
-//! Finds the name of a fact object that violates a condition on names. The search does not
+//! Finds the first name in a fact object that violates a condition on names. The search does not
 //! allocate.
 
 ghost use Rattle.std.specs.Prelude.{◌≡◌, [], codes, if◌then◌else◌, true, map, option_map, option_and_then};
@@ -19,7 +19,7 @@ use crate::findings::content_rows::kind_of;
 use crate::findings::defined_rows::is_defined;
 use crate::findings::part::Part;
 use crate::sheet::Sheet;
-use crate::sheet::listed::find_dimension;
+use crate::sheet::lookup::find_dimension;
 use oim_dims::{is_unit_text, refused_piece};
 use oim_names::{Aliases, Reason};
 use serde_json::{Map, Value};

@@ -7,7 +7,7 @@ use serde_json::Value;
 /// The part of a report or a sheet that violates a condition.
 #[derive(Clone, Copy)]
 pub enum Part<'a> {
-    /// Nothing can be shown, because a part is missing.
+    /// Nothing can be shown, because the part is missing.
     Nothing,
     /// The whole value, which is not an object.
     Whole,
@@ -19,15 +19,15 @@ pub enum Part<'a> {
     NoArray(&'static str),
     /// The dimension with this key, which is not a text.
     NoText(&'static str),
-    /// A key.
+    /// An unknown or repeated key.
     Key(&'a str),
-    /// A key, and the key of the object that contains it.
+    /// An unknown key, and the key of the object that contains it.
     KeyIn(&'a str, &'static str),
     /// A name, as the file spells it.
     Name(&'a str),
     /// An entity, as the file spells it.
     Entity(&'a str),
-    /// A value.
+    /// The value of a member or of an array item, without a key.
     Value(&'a Value),
     /// A key with its value.
     Member(&'a str, &'a Value),

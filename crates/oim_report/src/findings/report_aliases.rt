@@ -11,7 +11,8 @@ use oim_names::{Aliases, Reason};
 use serde_json::{Map, Value};
 use std::alloc::{AllocError, Global};
 
-/// Returns the prefixes that a report binds, or `None` if an entry of `namespaces` binds nothing.
+/// Returns the prefixes that a report binds, or `None` if an entry of `namespaces` does not bind a
+/// prefix to a URI.
 ///
 /// Errors: out of memory.
 pub fn report_aliases(alloc: Global, tree: &Value) -> Result<Option<Aliases>, AllocError>

@@ -17,15 +17,16 @@ use crate::findings::part::Part;
 use crate::findings::report_aliases::bound_aliases;
 use crate::findings::unbound::unbound;
 use crate::sheet::Sheet;
-use crate::sheet::gathered::Gathered;
 use crate::sheet::kind::Kind;
+use crate::sheet::name_table_builder::NameTableBuilder;
 use crate::sheet::sheet_kinds::kind_in;
 use oim_names::{Aliases, Name, Reason};
 use serde_json::{Map, Value};
 use std::alloc::{AllocError, Global};
 
-/// Returns the refusal of a sheet with the part that violates the condition, or `None` exactly if
-/// the sheet is accepted (own). If several parts violate it, the first is returned.
+/// Returns the condition for which a sheet is refused, with the part that violates it, or `None`
+/// exactly if the sheet is accepted (own). If several parts violate the condition, the first is
+/// returned.
 ///
 /// Errors: out of memory.
 pub fn sheet_part(alloc: Global, tree: &Value) -> Result<Option<(Reason, Part<'_>)>, AllocError>
@@ -214,7 +215,7 @@ fn two_kinds_in<'a, K: Kind>(
     ensures { let ms = members_view listed.now.entries in
         IfOk result (λ part. option_map seen part ≡ two_kinds K.kind_named K.same_kind aliases.now ms) }
 {
-    let mut gathered: Gathered<K> = Gathered::new(alloc);
+    let mut gathered: NameTableBuilder<K> = NameTableBuilder::new(alloc);
     for (key, value) in listed.iter() {
         if let Some((name, kind)) = named_kind::<K>(aliases, key.as_str(), value)? {
             gathered.turn_to(name.uri())?;

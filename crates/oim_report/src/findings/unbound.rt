@@ -6,7 +6,7 @@ ghost use Rattle.oim_report.specs.Json.{entries, members};
 ghost use Rattle.oim_report.specs.Namespaces.{binds_nothing};
 ghost use Rattle.oim_report.specs.Shown.{entry, seen};
 
-use crate::fact::given::Given;
+use crate::fact::json_member::JsonMember;
 use crate::findings::part::Part;
 use crate::unless_memory::unless_memory;
 use oim_names::Aliases;
@@ -46,7 +46,7 @@ fn first_unbound<'a>(
 fn binds_nothing(alloc: Global, prefix: &str, uri: &Value) -> Result<bool, AllocError>
     ensures { IfOk result (λ nothing. nothing ≡ binds_nothing prefix.now (view uri.now)) }
 {
-    match Given::of_value(uri).text() {
+    match JsonMember::of_value(uri).text() {
         Some(uri) => is_no_binding(alloc, prefix, uri),
         None => Ok(true),
     }

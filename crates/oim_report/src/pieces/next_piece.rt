@@ -7,9 +7,9 @@ use crate::pieces::spaces::strip_front;
 use serde_json::{Map, Value};
 use std::alloc::Global;
 
-/// Reads the next piece of a text of members, and also returns the rest of the text. The piece ends
-/// at a comma after at least `size` bytes, or at the end of the text. The result is `None` if the
-/// piece cannot be read or a request for memory is refused.
+/// Reads the first piece of `text`, and also returns the rest of `text` after the comma. The piece
+/// has at least `size` bytes and ends before a comma, or it is the whole text. The result is `None`
+/// if the piece cannot be read or a request for memory is refused.
 pub(crate) fn read_next<'t>(
     alloc: Global,
     buffer: &mut String,
@@ -47,7 +47,7 @@ fn cut_at_comma(text: &str, at: usize) -> Option<(&str, &str)>
 }
 
 // Guesses the end of a piece of `size` bytes or more: a comma between a closing brace and a fact. A
-// wrong guess costs only time: if the piece cannot be read, the whole report is read.
+// wrong guess costs only time, because a report with an unreadable piece is read as a whole.
 fn guess_end(text: &str, size: usize) -> Option<usize> {
     let bytes = text.as_bytes();
     let mut after_brace = false;
@@ -67,7 +67,7 @@ fn begins_fact(text: &str) -> bool {
     }
 }
 
-// Returns the key at the start of the text, if an object follows it.
+// Returns the key at the start of the text, if a colon and an opening brace follow.
 fn key_of_object(text: &str) -> Option<&str> {
     let (key, rest) = strip_front(text, "\"")?.split_once('"')?;
     let _members = strip_front(strip_front(rest, ":")?, "{")?;

@@ -7,7 +7,8 @@ use crate::pieces::spaces::{strip_back, strip_front, trim_back};
 use serde_json::{Map, Value};
 use std::alloc::Global;
 
-// The reader looks for the end of `facts` only in the last `MOST_BEHIND` bytes of a document.
+// The end of `facts` is searched only in the last `MOST_BEHIND` bytes of a document, not counting
+// white space at the end.
 const MOST_BEHIND: usize = 16_384;
 
 /// A document without its member `facts`, and the text of the members of `facts`.
@@ -26,7 +27,7 @@ struct Split<'t> {
 }
 
 /// Splits a document, or returns `None` if it cannot be split or a request for memory is refused.
-/// If the text of its facts can be parsed as a piece, the whole document can be parsed.
+/// If the text of the facts can be parsed as a piece, the whole document can be parsed.
 pub(crate) fn read_outline(alloc: Global, text: &str) -> Option<Outline<'_>>
     ensures { IfSome result (λ o. IsOutline text.now (view o.tree) o.facts.now) }
 {
@@ -99,7 +100,7 @@ fn split_end(text: &str) -> Option<Option<&str>>
 }
 
 // Guesses the index of the brace that closes `facts`: the leftmost closing brace or bracket that is
-// not inside another pair.
+// not inside another pair. The last byte is skipped, because it closes the document.
 fn guess_end(bytes: &[u8]) -> usize {
     let mut end = 0;
     let mut depth: usize = 0;

@@ -6,8 +6,8 @@ ghost use Rattle.oim_report.specs.Pieces.{alone, one_data, EndsWithBrace, IsPiec
 use serde_json::{Map, Value};
 use std::alloc::Global;
 
-/// Reads the members of a piece as the only object of an array. The members of `facts` are then
-/// nested as deep as in the report.
+/// Reads a piece as the members of the only object of an array. Members of `facts` are then nested
+/// as deep as in the report.
 pub(crate) fn read_piece(
     alloc: Global,
     buffer: &mut String,

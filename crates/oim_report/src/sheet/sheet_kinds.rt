@@ -5,19 +5,19 @@ ghost use Rattle.oim_report.specs.Names.{names_refusal};
 ghost use Rattle.oim_report.specs.Sheet.{has_bad_kind, key_names, kind_in, listed};
 
 use crate::document::features::split;
-use crate::fact::given::Given;
-use crate::sheet::gathered::Gathered;
+use crate::fact::json_member::JsonMember;
 use crate::sheet::kind::Kind;
-use crate::sheet::listing::Listing;
+use crate::sheet::name_table::NameTable;
+use crate::sheet::name_table_builder::NameTableBuilder;
 use oim_names::{Aliases, Reason};
 use serde_json::{Map, Value};
 use std::alloc::{AllocError, Global};
 
-pub(crate) fn read_listing<K: Kind>(
+pub(crate) fn read_table<K: Kind>(
     alloc: Global,
     aliases: &Aliases,
     object: Option<&Map<String, Value>>,
-) -> Result<Listing<K>, Reason>
+) -> Result<NameTable<K>, Reason>
     requires { let ms = members (option_map (λ m. members_view m.now.entries) object) in
         names_refusal aliases.now (key_names ms) ≡ None }
     ensures listed { let ms = members (option_map (λ m. members_view m.now.entries) object.entry) in
@@ -30,7 +30,7 @@ pub(crate) fn read_listing<K: Kind>(
 {
     match object {
         Some(members) => list_all(alloc, aliases, members),
-        None => Ok(Listing::new(alloc)),
+        None => Ok(NameTable::new(alloc)),
     }
 }
 
@@ -38,7 +38,7 @@ fn list_all<K: Kind>(
     alloc: Global,
     aliases: &Aliases,
     members: &Map<String, Value>,
-) -> Result<Listing<K>, Reason>
+) -> Result<NameTable<K>, Reason>
     requires { names_refusal aliases.now (key_names (members_view members.now.entries)) ≡ None }
     ensures listed { let ms = members_view members.now.entries in
         IfOk result (λ l. l ≡ listed K.kind_named K.same_kind aliases.now ms) }
@@ -48,7 +48,7 @@ fn list_all<K: Kind>(
         IfErr result (λ r. (r ≡ Reason.OutOfMemory) ⊎ ((r ≡ Reason.SheetKind)
         × (has_bad_kind K.kind_named K.same_kind aliases.now ms ≡ true))) }
 {
-    let mut gathered = Gathered::new(alloc);
+    let mut gathered = NameTableBuilder::new(alloc);
     let mut last = None;
     for (key, value) in members.iter() {
         let Some(kind) = kind_in::<K>(value) else {
@@ -63,12 +63,12 @@ fn list_all<K: Kind>(
             return Err(Reason::SheetKind);
         }
     }
-    Ok(gathered.into_listing()?)
+    Ok(gathered.into_table()?)
 }
 
 // Keys with the same prefix are adjacent, so the group changes at most once per prefix.
 fn turn<K: Kind>(
-    gathered: &mut Gathered<K>,
+    gathered: &mut NameTableBuilder<K>,
     last: Option<&str>,
     prefix: &str,
     uri: &str,
@@ -85,7 +85,7 @@ fn turn<K: Kind>(
 pub(crate) fn kind_in<K: Kind>(value: &Value) -> Option<K>
     ensures { result ≡ kind_in K.kind_named K.same_kind (view value.now) }
 {
-    match Given::of_value(value).text() {
+    match JsonMember::of_value(value).text() {
         Some(text) => K::named(text),
         None => None,
     }

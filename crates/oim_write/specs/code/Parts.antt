@@ -51,7 +51,7 @@ numbered_members us digits before (f ∷ fs) = member (102 ∷ padded digits (be
 abbrev pub numbered_text : List (List ℕ) → ℕ → ℕ → List Fact → List ℕ
 numbered_text us digits before fs = parts (nat_lt 0 before) (numbered_members us digits before fs)
 
--- the text of all facts
+-- the members of the object `facts`, without the braces
 abbrev pub facts_text : List (List ℕ) → List Fact → List ℕ
 facts_text us facts = numbered_text us (width (length facts)) 0 facts
 

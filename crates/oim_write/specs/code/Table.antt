@@ -7,7 +7,7 @@ use Rattle.fact_base.specs.Rows.{Row}
 use Rattle.oim_write.specs.Rank.{width}
 use Rattle.oim_write.specs.Uris.{dimension_names, uris_of_names, value_names}
 
--- the invariant of a table of prefixes: the URIs rise, and `digits` is the width of their count
+-- the invariant of a table of prefixes: the URIs ascend, and `digits` is the width of the number of URIs
 pub record IsTable (us : List (List ℕ)) (digits : ℕ) : Type 0 where
   pub rises : IsSet text_cmp us
   pub enough : digits ≡ width (length us)

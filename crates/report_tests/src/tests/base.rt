@@ -29,7 +29,7 @@ fn take(rt: &HostRuntime, base: &mut Base<'_>, report: &Report<'_>) -> bool {
     base.take(report).is_ok()
 }
 
-// Takes a report with this text, or returns false if it is refused.
+// Takes a report with this text, or returns false if the report is refused.
 fn take_text(rt: &HostRuntime, base: &mut Base<'_>, text: &[u8]) -> bool {
     match read(rt, base.sheet(), text) {
         Ok(report) => take(rt, base, &report),
@@ -37,7 +37,7 @@ fn take_text(rt: &HostRuntime, base: &mut Base<'_>, text: &[u8]) -> bool {
     }
 }
 
-// Takes a report whose text is given in three parts.
+// Takes a report whose text consists of three parts.
 fn add(rt: &HostRuntime, base: &mut Base<'_>, start: &str, text: &str, end: &str) -> bool {
     match joined(rt, &[start, text, end]) {
         Ok(report) => take_text(rt, base, &report),

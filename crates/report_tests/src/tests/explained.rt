@@ -111,7 +111,7 @@ const DOCUMENTS: [Table<'static>; 2] = [
                 r#","namespaces":{"xbrl":"https://xbrl.org/2021"},"features":{"xbrl:allowedDuplicates":"some"}}}"#,
                 "r: 8 Feature: \"features\" must have \"allowedDuplicates\" once, with \"none\", \"complete\", \"consistent\" or \"all\"; it has \"xbrl:allowedDuplicates\": \"some\"\n",
             ),
-            // of several references, the refused one is shown; of two declared levels, both are
+            // the refused reference is shown; if two levels are declared, both are shown
             (
                 r#","baseURL":"http://example.org/","taxonomy":["a.xsd","mailto:x","//["]}}"#,
                 "r: 7 TaxonomyUrl: the reference \"//[\" of \"taxonomy\" is not a string, is longer than 65,536 bytes as written or as a URL, or is not an http or https URL when resolved against \"baseURL\"\n",
@@ -201,12 +201,12 @@ const FACTS: [Table<'static>; 1] = [Table {
         ),
         // ten different faults
         (TEN, TOLD),
-        // repeated members are shown, and nothing in a line changes a terminal
+        // repeated members are shown, and control characters are escaped
         (
             r#""a":{"value":"1","value":"2","dimensions":{"concept":"eg:A"}},"\u001b[2J":7,"a":{"value":"1","dimensions":{"concept":"eg:A","concept":"eg:A"}}"#,
             "r: fact \"\\u001b[2J\": 2 MemberForm: the fact is not an object\nr: fact \"a\" is repeated; only the last one is read\nr: fact \"a\": \"value\" is repeated; only the last one is read\nr: fact \"a\": \"concept\" is repeated in \"dimensions\"; only the last one is read\n",
         ),
-        // invisible characters, and those that change the direction, are escaped
+        // invisible characters, and characters that change the direction of text, are escaped
         (
             "\"a\\u061c\u{200b}\u{feff}\u{85}\u{202e}\u{ad}\u{e0001}\":7",
             "r: fact \"a\\u061c\\u200b\\ufeff\\u0085\\u202e\\u00ad\\udb40\\udc01\": 2 MemberForm: the fact is not an object\n",

@@ -61,10 +61,10 @@ enum Answer<'t> {
     InDocument(u8),
     InFact(u8, u64),
     Read,
-    /// It is accepted, and declares `all` or no level. It has this number of facts and this level.
+    /// The report declares `all` or no level, and has this number of facts and this level.
     HasLevel(usize, Level),
     Declares(Level),
-    /// It has these references.
+    /// The report has these references.
     Keeps(&'t [&'t str]),
     /// The local names of the facts' concepts, and the order of the facts.
     Sorts(&'t [&'t str], &'t [usize]),

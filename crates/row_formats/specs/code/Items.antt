@@ -5,7 +5,7 @@ use Rattle.json.specs.Tree.{json_tokens}
 use Rattle.serde_json.specs.Data.{Items, no_items, item}
 use Rattle.serde_json.specs.Written.{outline}
 
--- the tokens of an array's items
+-- the tokens of the items only, without the brackets of the array
 abbrev pub item_tokens : Items → List Token
 item_tokens no_items = []
 item_tokens (item d ds) = json_tokens (outline d) ++ item_tokens ds

@@ -1,4 +1,4 @@
--- The text of a row is the same if the identifiers of its facts are the same.
+-- The text of a row depends on the identifiers of its facts, and on no other identifiers.
 use Rattle.std.proofs.Common.{◌≡◌, ℕ, suc, ◌+◌, ◌<◌, Bool, true, false, List, [], ◌∷◌, ◌++◌, length, codes, refl, arith}
 use Rattle.serde_json.specs.Data.{item}
 use Rattle.serde_json.specs.Written.{compact_text}

@@ -9,8 +9,8 @@ use oim_dims::{
 use oim_names::{Aliases, Copied, Name, Reason, Text};
 use std::alloc::AllocError;
 
-// `tests/refused_memory` refuses one request for memory in a run. The test then repeats the call,
-// and prints `refused here` if it made the request itself, or `refused` if the library made it.
+// `tests/refused_memory` refuses one request for memory in a run. The test then prints `refused
+// here` for its own request, or `refused` for a request of the library, and repeats the call.
 
 fn tell_refused(rt: &HostRuntime) {
     let _ = eprintln!(rt; "refused");

@@ -9,8 +9,8 @@ use oim_names::{Copied, Text};
 use std::alloc::AllocError;
 use std::test::Fail;
 
-// `tests/refused_memory` refuses one request for memory in a run. The test then repeats the call,
-// and prints `refused here` if it made the request itself, or `refused` if the library made it.
+// `tests/refused_memory` refuses one request for memory in a run. The test then prints `refused
+// here` for its own request, or `refused` for a request of the library, and repeats the call.
 
 type Items = SortedSet<Text>;
 
@@ -81,7 +81,6 @@ fn has_just(set: &Items, items: &[&str]) -> bool {
     true
 }
 
-// Returns an empty list with capacity for two items.
 fn room<T: Drop>(rt: &HostRuntime) -> Result<Vec<T>, AllocError>
     ensures items { IfOk result (λ room. room.items ≡ []) }
     ensures room { IfOk result (λ room. 2 ≤ vec_capacity room) }

@@ -14,7 +14,7 @@ AnswersText text told old new status =
     ⊎ (((status ≡ done) × ((told ≡ []) × IsHanded text told old new))
     ⊎ ((status ≡ refused_some) × ((0 < length told) × IsHanded text told old new)))
 
--- the row and the refused reports were returned, unless the buffer for the reports is too short
+-- the number of the row and the refused reports were returned, unless the buffer for these reports is too short
 abbrev pub AnswersRow : ℕ → List (ℕ × Refusal) → Room → Room → ℕ → Type 0
 AnswersRow number told old new status =
     ((status ≡ too_short) × IsTooShort [] told old new) ⊎ ((status ≡ too_loose) × TellsRow number told old new)

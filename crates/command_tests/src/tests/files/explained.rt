@@ -64,7 +64,7 @@ pub(super) const EXPLAINED: [Row; 13] = [
         ],
         "",
     ),
-    // an object with one member, an escaped text, another value, and two texts
+    // each kind of part: an object with one member, a text, another value, and two texts
     (
         "explain --sheet sheet --format json wrong apart",
         1,

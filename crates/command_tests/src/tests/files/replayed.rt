@@ -132,8 +132,8 @@ pub(super) const REPLAYED: [Row; 10] = [
     ),
 ];
 
-/// A bad event, a file that cannot be read, or a refused sheet ends the run. Only the line about it
-/// is printed.
+/// A bad event, a file that cannot be read, or a refused sheet ends the run. Only the line about
+/// this cause is printed.
 pub(super) const STOPPED: [Row; 15] = [
     // a line that is not an event, before any report is opened
     (
@@ -154,7 +154,7 @@ pub(super) const STOPPED: [Row; 15] = [
         &[],
         "event 1: refused\n",
     ),
-    // names of things that do not exist, after all reports are read
+    // a missing report, replica or message is found only after all reports are read
     (
         "replay --sheet sheet --replicas 2 --events late 100",
         3,
@@ -230,7 +230,8 @@ pub(super) const STOPPED: [Row; 15] = [
     ),
 ];
 
-/// Standard output fills up in the first text, after it, and in a later one. All bytes are counted.
+/// Standard output fills up in the first text, after the first text, or in a later text. All bytes
+/// are counted.
 pub(super) const FULL: [Full; 6] = [
     (
         "replay --sheet sheet --replicas 2 --events empty",

@@ -6,7 +6,8 @@ use test_helpers::canonical_parts::{
 /// standard error.
 pub(super) type Row = (&'static str, u8, &'static [&'static str], &'static str);
 
-/// Arguments, the number of bytes that standard output takes, and the line that reports it.
+/// Arguments, the number of bytes that standard output takes, and the line that reports this
+/// number.
 pub(super) type Full = (&'static str, usize, &'static str);
 
 pub(super) const SECOND: &str = "report 2: 13 UnboundPrefix at fact 1\n";
@@ -180,7 +181,7 @@ pub(super) const CHECKED: [Row; 7] = [
     ("check --sheet sheet empty", 1, &[], NOT_JSON),
 ];
 
-/// The arguments name an output file. Runs that end with status 2 or 3 leave it unchanged.
+/// The arguments name an output file. Runs that end with status 2 or 3 leave this file unchanged.
 pub(super) const WRITTEN: [Row; 6] = [
     ("merge --sheet sheet empty 100 -o out", 1, &[], NOT_JSON),
     (
@@ -260,7 +261,8 @@ pub(super) const LISTED: [Row; 8] = [
     ),
 ];
 
-/// A file that cannot be read, or a refused sheet, ends the run. Only the line about it is printed.
+/// A file that cannot be read, or a refused sheet, ends the run. Only the line about this cause is
+/// printed.
 pub(super) const STOPPED: [Row; 13] = [
     ("merge --sheet none", 3, &[], NOT_READ),
     ("verdicts --sheet none list", 3, &[], NOT_READ),

@@ -61,7 +61,7 @@ const BAD: &[(&[u8], u64)] = &[
     (b"\xff\n", 1),
     (b"send 1\0\n", 1),
     (b"\0", 1),
-    // the first of several bad lines
+    // a bad line after good lines, once before another bad line and once at the end
     (b"send 1\nsend 2\nsend 03\nsend", 3),
     (b"send 1\nsend", 2),
 ];

@@ -64,7 +64,7 @@ const ROWS: &[Row] = &[
         &[SHEET, LINE, INFO, ONE, LINE, INFO, ONE, LINE, INFO, ONE],
         &[ONE_TEXT],
     ),
-    // consistent facts are both written
+    // two consistent facts are both written
     (
         &[
             SHEET,
@@ -95,7 +95,7 @@ const ROWS: &[Row] = &[
         &[SHEET, LINE, HEAD, TWO_URIS, MIDDLE, BLUE, END],
         &[HEAD, TWO_URIS, MIDDLE, BLUE, END],
     ),
-    // references are resolved, sorted and written once; those of a merged text do not change
+    // references are resolved, sorted and written once; a merged text keeps its references
     (
         &[
             SHEET,
@@ -151,7 +151,7 @@ const ROWS: &[Row] = &[
         &[HEAD, NO_URI, r#""a.xsd","b.xsd","urn:x:Y""#, "]", NO_FACTS],
     ),
     (&[SHEET, LINE, REFERENCE], &[REFERENCE]),
-    // a report with every kind of part
+    // a report with every kind of value and dimension, and with members that a merge drops
     (
         &[
             SHEET,

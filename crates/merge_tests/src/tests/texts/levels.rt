@@ -11,7 +11,7 @@ use test_helpers::canonical_parts::{
 
 // Tests the level that a text declares, and texts in the earlier form, which declare no level.
 
-/// The text before and after the declared level.
+/// The text before the declared level. `BEHIND_LEVEL` is the text after the level.
 const BEFORE_LEVEL: &str =
     r#"{"documentInfo":{"documentType":"https://xbrl.org/2021/xbrl-json","features":{"xbrl:allowedDuplicates":""#;
 
@@ -84,7 +84,7 @@ fn a_text_is_held_to_its_level(rt: HostRuntime) -> Result<(), Fail> {
     Ok(())
 }
 
-/// The text of one fact up to its value, and the rest of the report after the value.
+/// The text of one fact up to its value. `VALUE_END` is the rest of the report after the value.
 const ONE_VALUE: &str = r#""f1":{"decimals":0,"dimensions":{"concept":"n1:A"},"value":""#;
 
 const VALUE_END: &str = r#""}}}"#;
@@ -114,7 +114,7 @@ const ROWS: &[Row] = &[
         ],
         &[CONSISTENT_HEAD, ONE_URI, MIDDLE, WRITTEN_BOTH, END],
     ),
-    // merged texts may declare a stricter level than the result
+    // merged texts may declare a stricter level than the text that is merged from them
     (
         &[
             SHEET, LINE, HEAD, ONE_URI, MIDDLE, ONE_VALUE, "101", VALUE_END, LINE, HEAD, ONE_URI,
@@ -149,8 +149,8 @@ fn the_least_level_is_declared(rt: HostRuntime) -> Result<(), Fail> {
     Ok(())
 }
 
-/// A text in the earlier form and its length, and its merged text in the present form and its
-/// length, both in bytes.
+/// A text in the earlier form and its length in bytes, then the canonical text and its length in
+/// bytes.
 type Earlier = (
     &'static [&'static str],
     usize,
@@ -183,7 +183,7 @@ fn length(rt: &HostRuntime, parts: &[&str]) -> Result<usize, AllocError> {
     Ok(joined(rt, parts)?.len())
 }
 
-/// True if merging the earlier text gives the text in the present form.
+/// True if merging the text in the earlier form gives the canonical text.
 fn is_renewed(rt: &HostRuntime, earlier: &[&str], text: &[&str]) -> Result<bool, Fail> {
     let earlier = joined(rt, earlier)?;
     match std::str::from_utf8(&earlier) {

@@ -60,8 +60,8 @@ fn push(
     }
 }
 
-/// True if a writer of this size takes the first bytes of the text. If it is too small for the
-/// whole text, the fault must report their number.
+/// True if a writer of this size takes the first bytes of the text. If the writer is too small for
+/// the whole text, the fault must report how many bytes were taken.
 fn stops_at(
     alloc: Global,
     text: &[u8],
@@ -133,7 +133,7 @@ fn a_writer_may_stop_about_a_chunk(rt: HostRuntime) {
     assert!(rt; holds(&rt, stops_about_a_chunk));
 }
 
-/// A writer whose first write is interrupted and whose second succeeds.
+/// A writer whose first write is interrupted and whose later writes succeed.
 #[derive(Clone, Copy)]
 struct InterruptedOnce {
     is_over: bool,

@@ -5,7 +5,7 @@ use Rattle.fact_base.specs.Passed.{IsSet}
 use Rattle.fact_base.proofs.Members.{to_the_end}
 use Rattle.oim_write.specs.Prefixes.{bindings_of}
 use Rattle.oim_write.specs.Tree.{prefix}
-use Rattle.oim_write.proofs.Labels.{bound_more}
+use Rattle.oim_write.proofs.LabelTexts.{bound_more}
 use Rattle.oim_write.proofs.bindings.prefixes.Goals as goal
 
 pub loop-uri-preserved : goal.loop-uri-preserved

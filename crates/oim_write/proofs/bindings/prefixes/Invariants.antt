@@ -2,6 +2,6 @@ use Rattle.std.proofs.Common.{◌≡◌, map, take}
 use Rattle.oim_write.specs.Tree.{prefix}
 use Rattle.oim_write.proofs.bindings.prefixes.Given as goal
 
--- the URIs so far have their prefixes
+-- the URIs so far are bound to their prefixes
 abbrev pub invariant-loop-uri : goal.invariant-loop-uri
 invariant-loop-uri l = l.aliases ≡ map (λ u. record { prefix = prefix l.uri-items u; uri = u }) (take l.uri-index l.uri-items)

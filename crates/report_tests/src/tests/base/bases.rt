@@ -44,7 +44,7 @@ struct Joined<'t> {
     values: &'t [&'t str],
     others: &'t [&'t str],
     all: &'t [&'t str],
-    // whether the base has all values before it joins the other
+    // whether the base has all values before it joins the other base
     has_all: bool,
 }
 

@@ -12,9 +12,9 @@ use test_helpers::asked_again::{SHEET, read_once, read_sheet, tell_refused};
 const LARGE: &str =
     r#"{"documentInfo":{"documentType":"https://xbrl.org/2021/xbrl-json","namespaces":{"eg":"http://example.org/t"}},"facts":{"a":{"value":"0","decimals":0,"dimensions":{"concept":"eg:A"}},"b":{"value":"1","decimals":0,"dimensions":{"concept":"eg:A"}},"c":{"value":"2","decimals":0,"dimensions":{"concept":"eg:A"}},"d":{"value":"3","decimals":0,"dimensions":{"concept":"eg:A"}},"e":{"value":"4","decimals":0,"dimensions":{"concept":"eg:A"}},"f":{"value":"5","decimals":0,"dimensions":{"concept":"eg:A"}},"g":{"value":"6","decimals":0,"dimensions":{"concept":"eg:A"}},"h":{"value":"7","decimals":0,"dimensions":{"concept":"eg:A"}},"i":{"value":"8","decimals":0,"dimensions":{"concept":"eg:A"}},"j":{"value":"9","decimals":0,"dimensions":{"concept":"eg:A"}}}}"#;
 
-// The parts of a small report's text: up to its reference, between reference and value, and after
-// the value. The last part may add one more fact, so that the small reports have more dimension
-// sets than the large report.
+// The parts of a small report's text: before the number in its reference, between this number and
+// the value, and after the value. The last part may add one more fact, so that the small reports
+// have more dimension sets than the large report.
 const REFERENCE: &str =
     r#"{"documentInfo":{"documentType":"https://xbrl.org/2021/xbrl-json","namespaces":{"eg":"http://example.org/t"},"taxonomy":[""#;
 
@@ -92,8 +92,8 @@ fn take_small(
     take(rt, base, text.as_str())
 }
 
-// Returns whether both bases have the same facts and references after the first takes all these
-// reports.
+// Returns whether both bases have the same facts and references after `base` takes the large report
+// and the small report for each number.
 fn takes_each(
     rt: &HostRuntime,
     base: &mut Base<'_>,

@@ -71,7 +71,7 @@ const FAULTS: Table = Table {
                 r#"{"value":"1","dimensions":{"concept":"eg:A","entity":"xbrl:1"}}"#,
             ],
         ),
-        // the sheet lists the concept and the dimensions of a fact
+        // the concept and the taxonomy-defined dimensions of a fact
         (InFact(15, 1), &[r#"{"value":"1","dimensions":{}}"#]),
         (
             InFact(16, 1), // UnknownConcept
@@ -92,7 +92,7 @@ const FAULTS: Table = Table {
                 r#"{"value":"1","dimensions":{"concept":"eg:A","eg:Sku":"a","zz:Sku":"a"}}"#,
             ],
         ),
-        // the forms of core dimensions
+        // the period, the unit and the language of a fact
         (
             InFact(19, 1), // PeriodForm
             &[r#"{"value":"1","dimensions":{"concept":"eg:A","period":"2020-12-31"}}"#],
@@ -122,7 +122,7 @@ const FAULTS: Table = Table {
             InFact(24, 1), // LanguageOnNumeric
             &[r#"{"value":"1","dimensions":{"concept":"eg:A","language":"en"}}"#],
         ),
-        // the forms of values and decimals
+        // the value and the decimals of a fact
         (
             InFact(25, 1), // ValueForm
             &[

@@ -275,7 +275,7 @@ const TWO_FAULTS: [Table; 3] = [
     },
 ];
 
-// Each document has a refused fact. A fault of the document has precedence over it.
+// Each document has a refused fact. A fault of the document takes precedence over the refused fact.
 const BEFORE_FACTS: Table = Table {
     start: BOUND,
     rows: &[

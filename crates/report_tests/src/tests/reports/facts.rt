@@ -41,7 +41,7 @@ const PLACES: [Table; 3] = [
         ],
         end: "}}",
     },
-    // a text of an earlier fact is tested again if other conditions apply to it
+    // a text that was accepted in one fact can be refused in a later fact
     Table {
         start: FACTS,
         rows: &[
@@ -82,7 +82,7 @@ const PLACES: [Table; 3] = [
 ];
 
 const PARTS: [Table; 5] = [
-    // notes are refused, and links unless they are empty
+    // notes are refused, and so are links that are not empty
     Table {
         start: r#"{"documentInfo":{"documentType":"https://xbrl.org/2021/xbrl-json","namespaces":{"eg":"http://example.org/t"}},"facts":{"a":"#,
         rows: &[
@@ -101,7 +101,8 @@ const PARTS: [Table; 5] = [
         ],
         end: "}}",
     },
-    // a number has at most 18 digits; leading zeros and trailing zeros of its fraction do not count
+    // a number has at most 18 digits, not counting leading zeros before the point and trailing
+    // zeros after it
     Table {
         start: r#"{"documentInfo":{"documentType":"https://xbrl.org/2021/xbrl-json","namespaces":{"eg":"http://example.org/t"}},"facts":{"a":{"dimensions":{"concept":"eg:A"},"value":""#,
         rows: &[
@@ -148,7 +149,7 @@ const PARTS: [Table; 5] = [
         ],
         end: "}}}",
     },
-    // a period has dates and times that exist, in order
+    // the dates and times of a period exist and are in order
     Table {
         start: r#"{"documentInfo":{"documentType":"https://xbrl.org/2021/xbrl-json","namespaces":{"eg":"http://example.org/t"}},"facts":{"a":{"value":"1","dimensions":{"concept":"eg:A","period":""#,
         rows: &[

@@ -58,12 +58,12 @@ const FACTS: Rows<'static> = &[
         r#""a":{"dimensions":{"concept":"q:A","noteId":1}},"b":{"value":"1","dimensions":{"concept":1}}"#,
         &[(2, 1), (10, 1), (13, 1), (2, 2)],
     ),
-    // the conditions on the form and the prefix of names, in several names
+    // the three conditions on names, each in a different name
     (
         r#""a":{"value":"1","dimensions":{"concept":"A","eg:Reg":"xbrl:b","entity":"q:a"}}"#,
         &[(12, 1), (13, 1), (14, 1)],
     ),
-    // the conditions on the form and the prefix of names, in one unit
+    // the three conditions on names, in one unit
     (
         r#""a":{"value":"1","dimensions":{"concept":"eg:A","unit":"xbrl:a*a/q:a"}}"#,
         &[(12, 1), (13, 1), (14, 1)],

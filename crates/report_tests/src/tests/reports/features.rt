@@ -100,7 +100,7 @@ const DUPLICATES: [Table; 5] = [
         ],
         end: r#"}},"facts":{"a":{"value":"1","decimals":0,"dimensions":{"concept":"eg:A"}},"b":{"value":"1","decimals":0,"dimensions":{"concept":"eg:A"}}}}"#,
     },
-    // facts that meet need `consistent`
+    // unequal facts that meet need `consistent`
     Table {
         start: DECLARED,
         rows: &[

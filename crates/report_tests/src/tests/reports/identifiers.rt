@@ -1,6 +1,6 @@
 use super::{SHEET, read_sheet, tell_refused};
 use oim_names::{Reason, Text};
-use oim_report::{Refusal, Report, Sheet, fact_identifiers, read_identified};
+use oim_report::{Refusal, Report, ReportReader, Sheet, fact_identifiers};
 use oim_value::Value;
 use std::test::Fail;
 
@@ -56,10 +56,11 @@ fn identified<'s>(
     sheet: &'s Sheet,
     text: &str,
 ) -> Result<(Report<'s>, Vec<Text>), Refusal> {
-    match read_identified(rt.alloc(), sheet, text.as_bytes()) {
+    let mut reader = ReportReader::new(rt.alloc(), sheet);
+    match reader.read_identified(text.as_bytes()) {
         Err(refusal) if refusal == Refusal::from(Reason::OutOfMemory) => {
             tell_refused(rt);
-            read_identified(rt.alloc(), sheet, text.as_bytes())
+            reader.read_identified(text.as_bytes())
         }
         answer => answer,
     }

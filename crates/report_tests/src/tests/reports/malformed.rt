@@ -5,7 +5,8 @@ use oim_report::Sheet;
 use std::test::Fail;
 
 // Cuts a report with every kind of part at each index: each prefix must be refused. Then replaces
-// the byte at each index by several others: each text must be accepted or refused.
+// the byte at each index by several others in turn: no changed text may be refused for lack of
+// memory.
 
 const EVERY_PART: &str =
     r#"{"documentInfo":{"documentType":"https://xbrl.org/2021/xbrl-json","features":{"xbrl:allowedDuplicates":"all","eg:f":7},"baseURL":"http://x.org/d/","linkTypes":{},"namespaces":{"eg":"http://example.org/t","x":"u:u","xbrl":"https://xbrl.org/2021"},"taxonomy":["b.xsd"],"eg:m":[true,-1.5e3]},"facts":{"a":{"value":"-12.50","decimals":-3,"dimensions":{"concept":"eg:A","entity":"x:A1","period":"2020-01-01T00:00:00/2020-12-31T24:00:00","unit":"(x:a*x:b)/x:c","eg:Reg":"eg:N","eg:Sku":null}},"b":{"value":"é\u00e9\ud83d\ude00\n","dimensions":{"concept":"eg:T","language":"en-GB"}},"c":{"value":"x:N","links":{},"dimensions":{"concept":"eg:Q","eg:Sku":"a b","period":"2020-12-31T24:00:00"}},"d":{"value":null,"dimensions":{"concept":"eg:A"},"eg:z":{}}}}"#;
@@ -13,7 +14,7 @@ const EVERY_PART: &str =
 // Zero, a tab, a line feed, a backslash and a byte that is never part of UTF-8.
 const OTHERS: &[u8] = &[0, 9, 10, 92, 255];
 
-/// Returns whether the bytes are accepted, or refused for a reason other than memory.
+/// Returns false if the bytes are refused for lack of memory, otherwise true.
 fn is_answered(rt: &HostRuntime, sheet: &Sheet, bytes: &[u8]) -> bool {
     match read(rt, sheet, bytes) {
         Ok(_) => true,

@@ -58,14 +58,14 @@ const SHEETS: [(Option<Reason>, &[&str]); 9] = [
     (
         Some(Reason::SheetKind),
         &[
-            // concepts have one of three kinds, and dimensions one of two others
+            // a concept has one of three kinds, and a dimension has one of two others
             r#"{"namespaces":{"eg":"u:t"},"concepts":{"eg:A":"typed"}}"#,
             r#"{"namespaces":{"eg":"u:t"},"concepts":{"eg:A":"Numeric"}}"#,
             r#"{"namespaces":{"eg":"u:t"},"concepts":{"eg:A":1}}"#,
             r#"{"namespaces":{"eg":"u:t"},"concepts":{"eg:A":null}}"#,
             r#"{"namespaces":{"eg":"u:t"},"dimensions":{"eg:A":"numeric"}}"#,
             r#"{"namespaces":{"eg":"u:t"},"dimensions":{"eg:A":{}}}"#,
-            // a concept or a dimension has one kind
+            // each concept or dimension has only one kind
             r#"{"namespaces":{"eg":"u:t","zz":"u:t"},"concepts":{"eg:A":"numeric","zz:A":"text"}}"#,
             r#"{"namespaces":{"eg":"u:t","zz":"u:t"},"concepts":{"eg:A":"text","zz:A":"name","zz:B":"name"}}"#,
             r#"{"namespaces":{"eg":"u:t","zz":"u:t"},"dimensions":{"eg:A":"typed","zz:A":"explicit"}}"#,

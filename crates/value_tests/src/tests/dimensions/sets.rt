@@ -12,8 +12,8 @@ pub(super) enum Kind {
     Nil,
 }
 
-// Any part of a dimension set except the concept, spelled as in a report. A member has the name
-// of its dimension and its own kind.
+// Any part of a dimension set except the concept, spelled as in a report. `Member` has the name of
+// a dimension and the kind of its member.
 pub(super) enum Part {
     Entity(&'static str),
     Period(&'static str),

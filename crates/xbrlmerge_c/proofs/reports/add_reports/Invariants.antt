@@ -3,7 +3,7 @@ use Rattle.oim_merge.specs.Added.{begun, with_reports}
 use Rattle.xbrlmerge_c.specs.Ends.{AreEndsFrom, reports_at, reports_from}
 use Rattle.xbrlmerge_c.proofs.reports.add_reports.Given as goal
 
--- the added reports, followed by the remaining ones, are all reports
+-- adding the remaining reports gives the result of adding all reports
 abbrev pub invariant-loop-end : goal.invariant-loop-end
 invariant-loop-end l = record {
   all : with_reports l.consolidation (reports_from l.from l.reports (drop l.end-index l.ends)) ≡ with_reports (begun l.sheet) (reports_at l.reports l.ends);

@@ -1,4 +1,4 @@
-use Rattle.std.proofs.Common.{rules, Err, inl, inr, ⊎_elim, sym, ap, ◌∙◌}
+use Rattle.std.proofs.Common.{rules, Err, inl, inr, ⊎_elim, refl, sym, ap, ◌∙◌}
 use Rattle.serde_json.specs.View.{view, members_view}
 use Rattle.oim_report.specs.Json.{values}
 use Rattle.oim_report.specs.Outcome.{fact_outcome}
@@ -8,25 +8,28 @@ use Rattle.oim_report.proofs.fact.facts_reader.read_all.Goals as goal
 
 pub returns-in-Err-clause-errors : goal.returns-in-Err-clause-errors
 returns-in-Err-clause-errors c =
-    let read = fact_outcome c.args.sheet.now c.args.aliases.now in
+    let own = c.args.reader.now in
+    let read = fact_outcome own.sheet own.aliases in
+    let object = view c.in-Some.object.now in
     let l = c.loop-identifier in
     ⊎_elim
     (λ memory. inl (c.of_fact.ensures.memory memory))
-    (λ refused. inr
+    (λ before. let refused = ap (λ r. fact_outcome r.sheet r.aliases object) (sym l.invariant.2) ∙ before in inr
     (sym (all_facts read (values (members_view c.args.objects.now.entries)))
     ∙ sym l.invariant.0
     ∙ ap (λ es. facts_after read l.place l.facts.items (values (members_view es))) c.in-Some.ensures.steps
     ∙ ap (λ o. facts_step l.place l.facts.items o (λ m more. facts_after read m more (values (members_view c.next.new.self)))) refused
-    ∙ ap Err (sym (c.of_fact.ensures.fact (λ memory. fact_other c.args.sheet.now c.args.aliases.now (view c.in-Some.object.now) (refused ∙ ap Err memory))))))
+    ∙ ap Err (sym (c.of_fact.ensures.fact (λ memory. fact_other own.sheet own.aliases object (refused ∙ ap Err memory))))))
     c.in-Err.ensures.errors
 
 pub returns-clause-ok : goal.returns-clause-ok
 returns-clause-ok c =
-    let read = fact_outcome c.args.sheet.now c.args.aliases.now in
+    let own = c.args.reader.now in
+    let read = fact_outcome own.sheet own.aliases in
     let l = c.loop-identifier in
     sym (all_facts read (values (members_view c.args.objects.now.entries)))
     ∙ sym l.invariant.0
     ∙ ap (λ es. facts_after read l.place l.facts.items (values (members_view es))) c.in-None.ensures.steps.0
 
 pub loop-identifier-init : goal.loop-identifier-init
-loop-identifier-init c = (search rules, search rules, c.requires.known)
+loop-identifier-init c = (search rules, search rules, refl)

@@ -1,6 +1,5 @@
 use Rattle.std.proofs.Common.{◌≡◌, ◌+◌, ◌≤◌, [], length}
 use Rattle.serde_json.specs.View.{members_view}
-use Rattle.oim_report.specs.code.Glossaries.{AreGlossaries}
 use Rattle.oim_report.specs.Json.{values}
 use Rattle.oim_report.specs.Outcome.{fact_outcome}
 use Rattle.oim_report.proofs.Facts.{facts_after}
@@ -8,7 +7,7 @@ use Rattle.oim_report.proofs.fact.facts_reader.read_all.Given as goal
 
 abbrev pub invariant-loop-identifier : goal.invariant-loop-identifier
 invariant-loop-identifier l =
-    let read = fact_outcome l.sheet l.aliases in
+    let read = fact_outcome l.initial.reader.sheet l.initial.reader.aliases in
     (facts_after read l.place l.facts.items (values (members_view l._identifier-iterator)) ≡ facts_after read 1 [] (values (members_view l.objects.entries)))
     × (l.place + length l._identifier-iterator ≤ length l.objects.entries + 1)
-    × AreGlossaries l.sheet l.aliases l.glossaries
+    × (l.reader ≡ l.initial.reader)

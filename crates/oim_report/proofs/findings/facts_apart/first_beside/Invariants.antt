@@ -3,6 +3,6 @@ use Rattle.std.specs.List.{list_any}
 use Rattle.oim_report.specs.Apart.{are_apart}
 use Rattle.oim_report.proofs.findings.facts_apart.first_beside.Given as goal
 
--- the level disallows some fact beside the fact at `last` exactly if it disallows one of the remaining facts
+-- the level forbids some fact beside the fact at `last` exactly if one of the remaining facts is forbidden there
 abbrev pub invariant-loop-one : goal.invariant-loop-one
 invariant-loop-one l = list_any (λ one. are_apart l.level l.facts one l.last) (drop l.one-index l.order) ≡ list_any (λ one. are_apart l.level l.facts one l.last) l.order

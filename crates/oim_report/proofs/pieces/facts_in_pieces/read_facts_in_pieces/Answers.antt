@@ -1,4 +1,4 @@
-use Rattle.std.proofs.Common.{rules, ◌≡◌, ◌++◌, List, option_map, Ok, subst, refl}
+use Rattle.std.proofs.Common.{rules, ◌≡◌, ◌++◌, List, option_map, Ok, subst, refl, ◌∙◌}
 use Rattle.oim_names.specs.Bindings.{Binding}
 use Rattle.serde_json.specs.Data.{Members, no_members}
 use Rattle.serde_json.specs.View.{members_view}
@@ -13,21 +13,22 @@ use Rattle.oim_report.proofs.pieces.facts_in_pieces.read_facts_in_pieces.Goals a
 
 pub loop-init : goal.loop-init
 loop-init c =
-    let sheet = c.args.sheet.now in
-    let bs = c.args.aliases.now in
-    (search rules, no_members, refl, none_found sheet bs _ _ c.new-identifiers.ensures.items c.new-facts.ensures.items, c.requires.known)
+    let sheet = c.args.reader.now.sheet in
+    let bs = c.args.reader.now.aliases in
+    (search rules, no_members, refl, none_found sheet bs _ _ c.new-identifiers.ensures.items c.new-facts.ensures.items, refl)
 
 pub returns-in-None-clause-facts : goal.returns-in-None-clause-facts
 returns-in-None-clause-facts c =
-    let sheet = c.args.sheet.now in
-    let bs = c.args.aliases.now in
+    let sheet = c.args.reader.now.sheet in
+    let bs = c.args.reader.now.aliases in
     let new = members_view c.in_ok-objects.objects.entries in
     let more = c.in_ok-more.more in
     let objects = c.loop.invariant.1 in
     let next = subst (λ r. IsNext c.loop.left.now new (option_map (λ r. r.now) r)) c.in-None.is c.in_ok-objects.ensures in
     let pushed : c.append.new.self.items ≡ c.loop.identifiers.items ++ more.identifiers.items = search rules in
     let added : c.append-in-loop.new.self.items ≡ c.loop.facts.items ++ more.facts.items = search rules in
-    let found = found_by sheet bs _ _ _ _ _ pushed added (found_append sheet bs objects new c.loop.identifiers.items more.identifiers.items c.loop.facts.items more.facts.items c.loop.invariant.3 c.in_ok-more.ensures.found) in
+    let more_found = subst (λ r. AreFound r.sheet r.aliases new more.identifiers.items more.facts.items) c.loop.invariant.4 c.in_ok-more.ensures.found in
+    let found = found_by sheet bs _ _ _ _ _ pushed added (found_append sheet bs objects new c.loop.identifiers.items more.identifiers.items c.loop.facts.items more.facts.items c.loop.invariant.3 more_found) in
     weaker c.in_order.result
     (λ facts. (s : Sheet) (b : List Binding) (ms : Members) → AreFound s b ms c.append.new.self.items c.append-in-loop.new.self.items → facts_said s b (put_all ms no_members) ≡ Ok facts.items)
     (λ facts. (ms : Members) × IsPiece c.args.text.now ms × (facts_said sheet bs ms ≡ Ok facts.items))
@@ -36,13 +37,14 @@ returns-in-None-clause-facts c =
 
 pub loop-preserved : goal.loop-preserved
 loop-preserved c =
-    let sheet = c.args.sheet.now in
-    let bs = c.args.aliases.now in
+    let sheet = c.args.reader.now.sheet in
+    let bs = c.args.reader.now.aliases in
     let new = members_view c.in_ok-objects.objects.entries in
     let more = c.in_ok-more.more in
     let objects = c.loop.invariant.1 in
     let next = subst (λ r. IsNext c.loop.left.now new (option_map (λ r. r.now) r)) c.in-Some.is c.in_ok-objects.ensures in
     let pushed : c.append.new.self.items ≡ c.loop.identifiers.items ++ more.identifiers.items = search rules in
     let added : c.append-in-loop.new.self.items ≡ c.loop.facts.items ++ more.facts.items = search rules in
-    let found = found_by sheet bs _ _ _ _ _ pushed added (found_append sheet bs objects new c.loop.identifiers.items more.identifiers.items c.loop.facts.items more.facts.items c.loop.invariant.3 c.in_ok-more.ensures.found) in
-    (search rules, append objects new, one_more c.args.text.now c.loop.left.now c.in-Some.rest.now objects new c.loop.invariant.2 next, found, c.in_ok-more.ensures.known)
+    let more_found = subst (λ r. AreFound r.sheet r.aliases new more.identifiers.items more.facts.items) c.loop.invariant.4 c.in_ok-more.ensures.found in
+    let found = found_by sheet bs _ _ _ _ _ pushed added (found_append sheet bs objects new c.loop.identifiers.items more.identifiers.items c.loop.facts.items more.facts.items c.loop.invariant.3 more_found) in
+    (search rules, append objects new, one_more c.args.text.now c.loop.left.now c.in-Some.rest.now objects new c.loop.invariant.2 next, found, c.read_objects.ensures.same ∙ c.loop.invariant.4)

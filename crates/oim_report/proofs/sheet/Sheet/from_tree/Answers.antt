@@ -17,14 +17,14 @@ second : (a b : Bool) → b ≡ true → (a || b) ≡ true
 second true b h = refl
 second false b h = h
 
-pub read_listing-requires : goal.read_listing-requires
-read_listing-requires c =
+pub read_table-requires : goal.read_table-requires
+read_table-requires c =
     let listed = key_names (members (option_map (λ m. members_view m.now.entries) c.object_at-listed.result)) in
     let defined = key_names (members (option_map (λ m. members_view m.now.entries) c.object_at-defined.result)) in
     (names-parts c.in_ok-aliases.aliases listed defined (sym c.in_ok-check_names.ensures)).0
 
-pub read_listing-requires-2 : goal.read_listing-requires-2
-read_listing-requires-2 c =
+pub read_table-requires-2 : goal.read_table-requires-2
+read_table-requires-2 c =
     let listed = key_names (members (option_map (λ m. members_view m.now.entries) c.object_at-listed.result)) in
     let defined = key_names (members (option_map (λ m. members_view m.now.entries) c.object_at-defined.result)) in
     (names-parts c.in_ok-aliases.aliases listed defined (sym c.in_ok-check_names.ensures)).1

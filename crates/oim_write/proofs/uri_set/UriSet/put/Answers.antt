@@ -6,7 +6,7 @@ use Rattle.oim_write.specs.code.Table.{Gains}
 use Rattle.oim_write.proofs.UriSets.{gains_one}
 use Rattle.oim_write.proofs.uri_set.UriSet.put.Goals as goal
 
--- pushing the URI of a name adds the name
+-- pushing the URI of a name adds exactly this URI to the set
 gained : (us new old : List (List ℕ)) (n : QName) (uri pushed : List ℕ) → set_of text_cmp us ≡ old → new ≡ us ++ pushed ∷ [] → pushed ≡ uri → uri ≡ n.uri → Gains old (n ∷ []) (set_of text_cmp new)
 gained us new old n uri pushed view put made named =
     let is = put ∙ ap (λ u. us ++ u ∷ []) (made ∙ named) in

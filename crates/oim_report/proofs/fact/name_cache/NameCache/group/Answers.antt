@@ -11,7 +11,7 @@ returns-in-Some-clause-reached g c = c.requires.known.groups c.args.prefix.now c
 
 pub returns-in-Ok-clause-known : goal.returns-in-Ok-clause-known
 returns-in-Ok-clause-known g c =
-    let m = c.args.listing.now in
+    let m = c.args.table.now in
     let bs = c.args.aliases.now in
     let p = c.args.prefix.now in
     let group = c.group-group.result in

@@ -1,0 +1,47 @@
+use Rattle.std.proofs.Common.{◌≡◌, ◌∷◌, ◌++◌, false, List, [], map, sym, ap, subst, ◌∙◌, append_assoc, arith, ⊎_elim}
+use Rattle.std.specs.List.{All}
+use Rattle.std.proofs.lemmas.List.{length-append, length-map, map_push}
+use Rattle.fact_base.specs.Rows.{Row}
+use Rattle.fact_base.specs.Shown.{rows_left, shown}
+use Rattle.fact_base.proofs.Members.{each_by_there, each_there, first_or_later, in_one_of_both, none_there}
+use Rattle.oim_value.specs.declared.level.Level.{Level}
+use Rattle.oim_merge.specs.Above.{row_is_above, some_above}
+use Rattle.oim_merge.proofs.allowed_level.first_above.Goals as goal
+
+also : (allow : Level) (done : List Row) (r : Row) → All (λ q. row_is_above allow q ≡ false) done → row_is_above allow r ≡ false → All (λ q. row_is_above allow q ≡ false) (done ++ r ∷ [])
+also allow done r within this = each_by_there (λ q. row_is_above allow q ≡ false) (done ++ r ∷ []) (λ q at.
+    ⊎_elim (each_there (λ q. row_is_above allow q ≡ false) done q within)
+    (λ there. ⊎_elim (λ is. subst (λ p. row_is_above allow p ≡ false) is this) (none_there q) (first_or_later r [] q there))
+    ((in_one_of_both done (r ∷ []) q).0 at))
+
+pub returns-then-is_above : goal.returns-then-is_above
+returns-then-is_above c =
+    let l = c.loop-row in
+    let done = map shown l.yielded in
+    let rest = rows_left c.next.new.self in
+    let r : Row = shown c.in-Some.row in
+    let all = ap (λ rs. done ++ rs) (sym c.in-Some.ensures.steps) ∙ l.invariant.rows in
+    record {
+      before = done;
+      row = r;
+      behind = rest;
+      rows = sym all;
+      number_is = omega (arith, l.invariant.count, length-map l.yielded shown);
+      above = ap (some_above c.args.allow) c.verdict.ensures ∙ sym c.is_above.ensures ∙ c.if-is_above.true;
+      earlier = l.invariant.within;
+    }
+
+pub loop-row-preserved : goal.loop-row-preserved
+loop-row-preserved c =
+    let l = c.loop-row in
+    let done = map shown l.yielded in
+    let rest = rows_left c.next.new.self in
+    let r : Row = shown c.in-Some.row in
+    let all = ap (λ rs. done ++ rs) (sym c.in-Some.ensures.steps) ∙ l.invariant.rows in
+    let with_row : map shown (l.yielded ++ c.in-Some.row ∷ []) ≡ done ++ r ∷ [] = map_push shown l.yielded c.in-Some.row in
+    record {
+      rows = ap (λ rs. rs ++ rest) with_row ∙ append_assoc done (r ∷ []) rest ∙ all;
+      count = omega (arith, l.invariant.count, length-append l.yielded (c.in-Some.row ∷ []));
+      within = subst (All (λ q. row_is_above c.args.allow q ≡ false)) (sym with_row) (also c.args.allow done r l.invariant.within
+          (ap (some_above c.args.allow) c.verdict.ensures ∙ sym c.is_above.ensures ∙ c.if-is_above.false));
+    }

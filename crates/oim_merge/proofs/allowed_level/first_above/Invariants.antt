@@ -1,0 +1,14 @@
+use Rattle.std.proofs.Common.{◌≡◌, ◌++◌, false, length, map}
+use Rattle.std.specs.List.{All}
+use Rattle.fact_base.specs.Rows.{rows_of}
+use Rattle.fact_base.specs.Shown.{rows_left, shown}
+use Rattle.oim_merge.specs.Above.{row_is_above}
+use Rattle.oim_merge.proofs.allowed_level.first_above.Given as goal
+
+-- the rows so far are counted, and none is above the level
+abbrev pub invariant-loop-row : goal.invariant-loop-row
+invariant-loop-row l = record {
+  rows : map shown l.yielded ++ rows_left l.row-iterator ≡ rows_of l.base.body.facts;
+  count : l.number ≡ length l.yielded;
+  within : All (λ r. row_is_above l.allow r ≡ false) (map shown l.yielded);
+}

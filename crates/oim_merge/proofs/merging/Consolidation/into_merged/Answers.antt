@@ -1,8 +1,0 @@
-use Rattle.std.proofs.Common.{ap, ◌∙◌}
-use Rattle.fact_base.specs.Contents.{Contents}
-use Rattle.oim_merge.specs.Added.{Added}
-use Rattle.oim_merge.proofs.merging.Consolidation.into_merged.Goals as goal
-
-pub returns-clause-base : goal.returns-clause-base
-returns-clause-base c =
-    c.in_ok-base.ensures ∙ ap (λ (a : Added). let x : Contents = record { sheet = a.sheet; body = a.body } in x) c.self.view_is

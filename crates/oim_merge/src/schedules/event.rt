@@ -1,0 +1,14 @@
+/// An event of a schedule. Replicas, reports and sent texts have numbers from 1.
+#[derive(Clone, Copy, Debug, PartialEq, Eq)]
+pub enum Event {
+    /// The replica with the first number takes the report with the second number.
+    Take(u32, u32),
+    /// The first replica takes everything that the second replica has.
+    Join(u32, u32),
+    /// The replica sends its text, which gets the next number.
+    Send(u32),
+    /// The replica with the first number takes the sent text with the second number.
+    Receive(u32, u32),
+    /// The replica loses everything and starts empty.
+    Restart(u32),
+}

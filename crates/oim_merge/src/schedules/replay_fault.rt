@@ -1,0 +1,25 @@
+ghost use Rattle.std.specs.Prelude.{◌≡◌};
+ghost use Rattle.oim_merge.specs.declared.schedules.replay_fault.ReplayFault.TheVariants.{OutOfMemory};
+
+use std::alloc::AllocError;
+use thiserror::Error;
+
+/// Why a schedule was not read, or was not run to its end.
+#[derive(Clone, Copy, Debug, PartialEq, Eq, Error)]
+pub enum ReplayFault {
+    /// Memory was refused. The result so far is lost.
+    #[error("out of memory")]
+    OutOfMemory,
+    /// The number, from 1, of the first line that is not an event. If all lines are events, it is
+    /// the number of the first line that names something that does not exist.
+    #[error("line {0} is refused")]
+    BadEvent(u64),
+}
+
+impl From<AllocError> for ReplayFault {
+    ghost from_gives = { λ _ made. made ≡ OutOfMemory };
+
+    fn from(_error: AllocError) -> ReplayFault {
+        ReplayFault::OutOfMemory
+    }
+}

@@ -1,0 +1,12 @@
+use oim_names::Text;
+
+/// A mention: a fact object in a report, and the fact of a base that the object reports.
+#[derive(Debug, Drop)]
+pub struct PlacedMention {
+    /// The number of facts in the base that are less than this fact.
+    pub place: usize,
+    /// The number of the report, from 1.
+    pub report: u64,
+    /// The identifier of the fact in the report.
+    pub identifier: Text,
+}

@@ -1,0 +1,32 @@
+ghost use Rattle.std.specs.Prelude.{◌≡◌, ℕ, List, IfOk};
+ghost use Rattle.oim_merge.specs.Sources.{SourceText};
+
+use crate::sources::placed_mention::PlacedMention;
+use std::alloc::{AllocError, Global};
+
+/// A format of sources: one text for each fact object in an accepted report.
+pub trait SourceFormat {
+    /// The text before the first source.
+    ghost header: { Self → List ℕ };
+
+    /// The text of a source: it depends on the canonical identifier of the fact, the number of the
+    /// report and the identifier in the report.
+    ghost source_text: { Self → SourceText };
+
+    /// Returns the text before the first source.
+    ///
+    /// Errors: out of memory.
+    fn header(&self, alloc: Global) -> Result<Vec<u8>, AllocError>
+        ensures { IfOk result (λ text. text.items ≡ header self.now) };
+
+    /// Returns the text of a mention. `fact` is the canonical identifier of the mentioned fact.
+    ///
+    /// Errors: out of memory.
+    fn source(
+        &self,
+        alloc: Global,
+        fact: &str,
+        mention: &PlacedMention,
+    ) -> Result<Vec<u8>, AllocError>
+        ensures { IfOk result (λ text. text.items ≡ source_text self.now fact.now mention.now.report mention.now.identifier) };
+}

@@ -1,0 +1,125 @@
+ghost use Rattle.std.specs.Prelude.{◌≡◌, ◌-◌, ◌^◌, ◌<◌, IfOk, IfErr, OnOk};
+ghost use Rattle.fact_base.specs.Rows.{rows_of};
+ghost use Rattle.oim_write.specs.Sink.{failures_after_write, written_of};
+ghost use Rattle.oim_merge.specs.Listing.{AppendsFrontOfRows, AppendsRows, ListStops, ListingStops, Lists, ListsVerdicts};
+ghost use Rattle.oim_merge.specs.code.Listing.{BreaksRows, PassesRows};
+ghost use Rattle.oim_merge.specs.Run.{failures_after_run};
+
+use crate::consolidation::Consolidation;
+use crate::fault::Fault;
+use crate::identifiers::Identifiers;
+use crate::refusals::Refusals;
+use crate::verdicts::judged_row::JudgedRow;
+use crate::verdicts::verdict_format::VerdictFormat;
+use fact_base::Base;
+use oim_report::Sheet;
+use oim_write::{Encoded, Scratch, Sink, SinkBuffer, WriteFault};
+use std::alloc::Global;
+
+/// Merges reports under a sheet and appends one line to the sink for each dimension set, in the
+/// order of the sets (own). A line contains the number of the set (from 1), the identifiers of the
+/// set's first and last facts, and the verdict with its evidence. Returns the refusals with the
+/// numbers of their reports, from 1.
+///
+/// Errors: `Device` if the sink failed; `OutOfMemory`.
+pub fn verdict_lines<S: Sink>(
+    alloc: Global,
+    sheet: &Sheet,
+    reports: &[Encoded],
+    out: &mut S,
+) -> Result<Refusals, Fault>
+    requires { S.failures out.old < 2 ^ 64 - 1 }
+    ensures ok { IfOk result (ListsVerdicts sheet.now reports.now (S.told out.old) (S.told out.new)) }
+    ensures err { IfErr result (ListingStops sheet.now reports.now (S.told out.old) (S.told out.new)) }
+    ensures failures { S.failures out.new ≡ failures_after_run result (S.failures out.old) }
+{
+    let Ok(consolidation) = Consolidation::of(alloc, sheet, reports) else {
+        return Err(Fault::OutOfMemory(0));
+    };
+    consolidation.finish_lines(out)
+}
+
+/// Appends the header and the rows of a base to the sink in this format, and returns `refusals`
+/// unchanged.
+///
+/// Errors: `Device` if the sink failed; `OutOfMemory`.
+pub fn write_verdicts<S: Sink, F: VerdictFormat>(
+    alloc: Global,
+    base: &Base<'_>,
+    refusals: Refusals,
+    format: &F,
+    out: &mut S,
+) -> Result<Refusals, Fault>
+    requires { S.failures out.old < 2 ^ 64 - 1 }
+    ensures ok { IfOk result (Lists (F.header format.now) (F.row_text format.now) base.now.body refusals (S.told out.old) (S.told out.new)) }
+    ensures err { IfErr result (ListStops (F.header format.now) (F.row_text format.now) base.now.body (S.told out.old) (S.told out.new)) }
+    ensures failures { S.failures out.new ≡ failures_after_run result (S.failures out.old) }
+{
+    match write_all(alloc, base, format, out) {
+        Ok(()) => Ok(refusals),
+        Err(fault) => Err(Fault::from(fault)),
+    }
+}
+
+fn write_all<S: Sink, F: VerdictFormat>(
+    alloc: Global,
+    base: &Base<'_>,
+    format: &F,
+    out: &mut S,
+) -> Result<(), WriteFault>
+    requires { S.failures out.old < 2 ^ 64 - 1 }
+    ensures ok { OnOk result (AppendsRows (F.header format.now) (F.row_text format.now) base.now.body (S.told out.old) (S.told out.new)) }
+    ensures err { IfErr result (λ fault. AppendsFrontOfRows (F.header format.now) (F.row_text format.now) base.now.body (S.told out.old) (S.told out.new) (written_of fault)) }
+    ensures failures { S.failures out.new ≡ failures_after_write result (S.failures out.old) }
+{
+    // each row has evidence, because the facts fit the sheet
+    let _sheet = base.sheet();
+    let Ok(mut buffer) = SinkBuffer::new(alloc) else {
+        return Err(WriteFault::OutOfMemory(0));
+    };
+    let Ok(header) = format.header(alloc) else {
+        return Err(WriteFault::OutOfMemory(0));
+    };
+    buffer.push(out, header.as_slice())?;
+    push_rows(alloc, &mut buffer, out, base, format)?;
+    buffer.flush(out)
+}
+
+fn push_rows<S: Sink, F: VerdictFormat>(
+    alloc: Global,
+    buffer: &mut SinkBuffer,
+    out: &mut S,
+    base: &Base<'_>,
+    format: &F,
+) -> Result<(), WriteFault>
+    requires { S.failures out.old < 2 ^ 64 - 1 }
+    ensures ok { OnOk result (PassesRows (F.row_text format.now) base.now.body.facts (rows_of base.now.body.facts) (S.told out.old) (S.told out.new) buffer.old buffer.new) }
+    ensures err { IfErr result (λ fault. BreaksRows (F.row_text format.now) base.now.body.facts (rows_of base.now.body.facts) (S.told out.old) (S.told out.new) buffer.old (written_of fault)) }
+    ensures failures { S.failures out.new ≡ failures_after_write result (S.failures out.old) }
+{
+    let _sheet = base.sheet();
+    let mut scratch = Scratch::new(alloc);
+    let mut identifiers = Identifiers {
+        alloc,
+        before: 0,
+        count: base.fact_count(),
+    };
+    // the number of rows fits in a `u64`, so `number` does not overflow
+    let _most = base.row_count();
+    let mut number = 0;
+    for row in base.rows() {
+        number += 1;
+        let judged = JudgedRow {
+            number,
+            identifiers,
+            row,
+            evidence: row.evidence(),
+        };
+        let Ok(text) = format.row(&mut scratch, &judged) else {
+            return Err(buffer.stop(out));
+        };
+        buffer.push(out, text.as_slice())?;
+        identifiers.before += row.values.len() as u128;
+    }
+    Ok(())
+}

@@ -1,4 +1,0 @@
-use Rattle.oim_report.proofs.findings.faults_reader.add_answered.Goals as goal
-
-pub read_document-requires : goal.read_document-requires
-read_document-requires c = record { known = c.new-known.ensures c.args.sheet.now }

@@ -1,0 +1,67 @@
+ghost use Rattle.std.specs.Prelude.{◌≡◌, ◌⊎◌, Some, false, IfOk, IfErr, IsTrue, OnOk};
+ghost use Rattle.std.specs.Option.{option_copied};
+ghost use Rattle.url.specs.Parser.{parse_url};
+ghost use Rattle.oim_report.specs.Kept.{is_reference_refused, is_within_limit, is_text_within_limit, is_web, kept, web_text, web_url};
+
+use crate::document::base::{Base, is_web};
+use crate::limits::MOST_REFERENCE_BYTES;
+use oim_names::{Reason, Text};
+use std::alloc::Global;
+use url::{ParseError, Url};
+
+/// Returns the text under which a taxonomy reference is kept. An http or https URL is kept as its
+/// serialization (URL Standard, section 4.5), and another URL as it is spelled. If there is a base
+/// URL, any other reference is resolved to an http or https URL, and the serialization of that URL
+/// is kept. Without a base URL, the reference is kept as it is spelled.
+///
+/// Errors: `TaxonomyUrl` if the reference or its kept text has more than `MOST_REFERENCE_BYTES`
+/// bytes, or if resolving the reference does not give an http or https URL; `OutOfMemory`.
+pub(crate) fn keep(alloc: Global, base: Option<&Base>, reference: &str) -> Result<Text, Reason>
+    ensures ok { IfOk result (λ text. kept (option_copied base.entry) reference.now ≡ Some text) }
+    ensures accepted { OnOk result (is_reference_refused (option_copied base.entry) reference.now ≡ false) }
+    ensures errors { IfErr result
+        (λ r. (r ≡ Reason.OutOfMemory)
+        ⊎ ((r ≡ Reason.TaxonomyUrl) × IsTrue (is_reference_refused (option_copied base.entry) reference.now))) }
+{
+    if reference.len() > MOST_REFERENCE_BYTES {
+        return Err(Reason::TaxonomyUrl);
+    }
+    match Url::parse(alloc, reference) {
+        Ok(url) if is_web(&url) => text_of(alloc, url),
+        Ok(_) => Ok(Text::new(alloc, reference)?),
+        Err(ParseError::OutOfMemory | ParseError::Overflow) => Err(Reason::OutOfMemory),
+        Err(_) => match base {
+            Some(base) => resolved(alloc, base, reference),
+            None => Ok(Text::new(alloc, reference)?),
+        },
+    }
+}
+
+fn text_of(alloc: Global, url: Url) -> Result<Text, Reason>
+    requires { IsTrue (is_web url) }
+    ensures ok { IfOk result (λ text. web_text (Some url) ≡ Some text) }
+    ensures limit { IfOk result (λ text. IsTrue (is_within_limit text)) }
+    ensures errors { IfErr result
+        (λ r. (r ≡ Reason.OutOfMemory)
+        ⊎ ((r ≡ Reason.TaxonomyUrl) × (is_text_within_limit (web_text (Some url)) ≡ false))) }
+{
+    if url.as_str().len() > MOST_REFERENCE_BYTES {
+        return Err(Reason::TaxonomyUrl);
+    }
+    Ok(Text::from_string(alloc, String::from(url))?)
+}
+
+fn resolved(alloc: Global, base: &Base, reference: &str) -> Result<Text, Reason>
+    ensures ok { IfOk result (λ text. web_text (web_url (parse_url (Some base.now) reference.now)) ≡ Some text) }
+    ensures limit { IfOk result (λ text. IsTrue (is_within_limit text)) }
+    ensures errors { IfErr result
+        (λ r. (r ≡ Reason.OutOfMemory)
+        ⊎ ((r ≡ Reason.TaxonomyUrl)
+        × (is_text_within_limit (web_text (web_url (parse_url (Some base.now) reference.now))) ≡ false))) }
+{
+    match base.join(reference) {
+        Ok(found) if is_web(&found) => text_of(alloc, found),
+        Err(ParseError::OutOfMemory | ParseError::Overflow) => Err(Reason::OutOfMemory),
+        Ok(_) | Err(_) => Err(Reason::TaxonomyUrl),
+    }
+}

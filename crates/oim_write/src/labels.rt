@@ -1,0 +1,69 @@
+ghost use Rattle.std.specs.Prelude.{◌≡◌, ◌∷◌, ◌++◌, IfOk, OnOk, string_bytes};
+ghost use Rattle.oim_write.specs.Rank.{padded, width};
+
+use oim_names::Text;
+use std::alloc::{AllocError, Global};
+
+/// The initial capacity of a label in bytes; few labels are longer.
+const LABEL: usize = 16;
+
+/// Returns a fact's identifier in a canonical text: the letter `f`, then the fact's rank, padded
+/// with zeros to as many digits as `count` has (own). Ranks begin at 1. A rank with more digits is
+/// cut to its last digits.
+///
+/// Errors: out of memory.
+pub fn identifier(alloc: Global, rank: u128, count: u128) -> Result<Text, AllocError>
+    ensures { IfOk result (λ text. text ≡ 102 ∷ padded (width count) rank) }
+{
+    let text = label(alloc, "f", width_of(count), rank)?;
+    Text::new(alloc, text.as_str())
+}
+
+#[tactic(auto, unfolding(crate::specs::Rank::digits_up_to))]
+pub(crate) fn width_of(number: u128) -> usize
+    ensures { result ≡ width number }
+{
+    let mut digits = 1;
+    let mut rest = number;
+    while rest >= 10 {
+        rest /= 10;
+        digits += 1;
+    }
+    digits
+}
+
+pub(crate) fn label(
+    alloc: Global,
+    front: &str,
+    digits: usize,
+    number: u128,
+) -> Result<String, AllocError>
+    ensures { IfOk result (λ text. string_bytes text ≡ front.now ++ padded digits number) }
+{
+    let mut text = String::with_capacity(alloc, LABEL)?;
+    push_label(&mut text, front, digits, number)?;
+    Ok(text)
+}
+
+pub(crate) fn push_label(
+    text: &mut String,
+    front: &str,
+    digits: usize,
+    number: u128,
+) -> Result<(), AllocError>
+    ensures { OnOk result (string_bytes text.new ≡ string_bytes text.old ++ (front.now ++ padded digits number)) }
+{
+    text.push_str(front)?;
+    push_padded(text, digits, number)
+}
+
+#[tactic(auto, unfolding(crate::specs::Rank::padded))]
+fn push_padded(text: &mut String, digits: usize, number: u128) -> Result<(), AllocError>
+    ensures { OnOk result (string_bytes text.new ≡ string_bytes text.old ++ padded digits number) }
+{
+    if digits == 0 {
+        return Ok(());
+    }
+    push_padded(text, digits - 1, number / 10)?;
+    text.push(char::from(b'0' + (number % 10) as u8))
+}
