@@ -1,6 +1,6 @@
 /* xbrlmerge.h - merges xBRL-JSON reports into one canonical report, judges their duplicates, and lists
-   who reported what. Refused reports are returned as numbers. The calls that merge or list write the bytes that the
-   program's commands print. docs/LIBRARY.md lists what is proved about the calls, and what is not.
+   the sources of each fact. Refused reports are returned as numbers. The calls that merge or list write the bytes that
+   the program's commands print. docs/LIBRARY.md lists what is proved about the calls, and what is not.
 
    Memory. The caller provides all buffers. A call keeps no pointer after it returns, and returns none. If the buffer for
    the text or for the refused reports is too short, the call returns the required lengths and leaves both unchanged: make
@@ -10,18 +10,18 @@
    Pointers. No pointer may be null, even if the length is 0: pass the address of any variable of its type instead. (The
    data() of an empty std::vector may be null.) The output (`out`, `needed`, `refusals`, `refused`, `checked`,
    `refusal`) must not overlap any other argument. During the call, nothing else may access the output, or write to the
-   input. Output need not be initialised. A pointer to numbers must be aligned as C requires.
+   input. Output need not be initialised. Each pointer must be aligned for its type, as C requires.
 
    Reports. They are concatenated in `reports`, and `ends` contains the position where each report ends, counted from the
    start: reports of 3 and 4 bytes have the ends 3 and 7. Bytes after the last end are ignored. If an end is less than the
-   one before it, or beyond `reports_length`, the call returns XBRLMERGE_BAD_ENDS and reads neither sheet nor reports. (If
-   `allow` is not a level either, it returns XBRLMERGE_BAD_LEVEL.)
+   one before it, or beyond `reports_length`, the call returns XBRLMERGE_BAD_ENDS and reads neither sheet nor reports. If
+   `allow` is not a level, the call returns XBRLMERGE_BAD_LEVEL, even if an end is wrong.
 
    Threads. Calls share no state: several threads may call at the same time. Do not call from a signal handler, or in the
    forked child of a process with several threads.
 
    Stack. A call needs at most 128 kB of stack for JSON that is nested 126 deep. That is measured, not proved. JSON may be
-   nested 127 deep, so leave some room. */
+   nested 127 deep, so allow a little more. */
 #ifndef XBRLMERGE_H
 #define XBRLMERGE_H
 
@@ -54,11 +54,11 @@ enum {
     XBRLMERGE_ALLOW_ALL = 3
 };
 
-/* A refused report. Facts are counted from 1 in byte order of their identifiers. */
+/* A refused report, or the refused sheet. Facts are counted from 1 in byte order of their identifiers. */
 typedef struct {
     uint64_t report; /* the number of the report, from 1; 0 for the sheet (only from xbrlmerge_check) */
     uint64_t fact;   /* the number of the fact, from 1; 0 for the document */
-    uint32_t number; /* the number of the refusal, as docs/REFUSALS.md lists them */
+    uint32_t number; /* the number of the refusal in docs/REFUSALS.md */
 } xbrlmerge_refusal;
 
 /* The result for an accepted report. */
@@ -83,8 +83,8 @@ uint32_t xbrlmerge_verdicts(const uint8_t *sheet, size_t sheet_length, const uin
                             const size_t *ends, size_t ends_length, uint8_t *out, size_t out_length, size_t *needed,
                             xbrlmerge_refusal *refusals, size_t refusals_length, size_t *refused);
 
-/* Lists who reported what, as `sources` does: `out` gets a line for each fact object of the accepted reports. Otherwise it
-   is like xbrlmerge_verdicts. It reads the reports twice, and keeps a copy of them in memory. */
+/* Lists the sources of each fact, as `sources` does: `out` gets a line for each fact object of the accepted reports.
+   Otherwise it is like xbrlmerge_verdicts. It reads the reports twice, and keeps a copy of them in memory. */
 uint32_t xbrlmerge_sources(const uint8_t *sheet, size_t sheet_length, const uint8_t *reports, size_t reports_length,
                            const size_t *ends, size_t ends_length, uint8_t *out, size_t out_length, size_t *needed,
                            xbrlmerge_refusal *refusals, size_t refusals_length, size_t *refused);
