@@ -1,14 +1,15 @@
 #!/usr/bin/env python3
 """Measures xbrlmerge on generated reports: bench/merge [FOLDER]
 
-There are three workloads, each in two sizes: one report, reports of 50 facts, and eight providers of the same facts. A
-workload is a bundle: a sheet and its reports, one per line. For comparison, a peer runs on the same bundle: a short program
-that reads each line with serde_json and writes it back. The ratio shows the cost beyond reading and writing JSON. Growth is
-the exponent: 1 if ten times the facts cost ten times as much. It is computed from instructions if valgrind is installed,
-otherwise from processor time. Each merged text is checked: it must contain every fact once. FOLDER keeps the peer, the bundles
-and the texts.
+There are three workloads: one report, reports of 50 facts, and eight providers of the same facts, some of them rounded. Each
+workload is measured in two sizes, as a bundle: a line with the sheet, then a line per report. For comparison, a peer runs on
+the same bundle. The peer is a short program that reads each line with serde_json and writes it back. A ratio is the cost of
+xbrlmerge divided by the peer's. Growth is an exponent: it is 1 if ten times the facts cost ten times as much. Growth is
+computed from instructions if valgrind is installed, otherwise from processor time. Each merged text must contain every fact of
+the bundle once, and no other facts. If FOLDER is given, it receives the peer, the bundles and the texts that both programs
+wrote.
 
-The status is 2 if a measurement fails or a merged text is wrong.
+The status is 2 if a build or a measurement fails, a merged text is wrong, or more than one argument is given.
 """
 import json
 import math
@@ -59,11 +60,11 @@ fn main(rt: HostRuntime) -> io::Result<()> {
 
 
 class Failure(Exception):
-    """A measurement failed, or a merged text is wrong."""
+    """A build or a measurement failed, or a merged text or the arguments are wrong."""
 
 
 def in_child(work, *words):
-    """Runs a function in a child process. The peak memory of later children includes the memory of their parent, so this
+    """Runs a function in a child process. The peak memory of a child includes its parent's memory at the fork, so this
     process must stay small."""
     sys.stdout.flush()
     child = os.fork()
@@ -79,13 +80,13 @@ def in_child(work, *words):
 
 
 def concept(n):
-    """Returns the URI and the local part of a concept. One concept in ten is the issuer's own, and is a text."""
+    """Returns the namespace URI and the local name of a concept. One concept in ten is the issuer's own; its kind is text."""
     n %= CONCEPTS
     return (ISSUER if n % 10 == 9 else TAXONOMY), f"{SUBJECTS[n % len(SUBJECTS)]}Item{n}"
 
 
 def fact(n, entity, prefixes, value, decimals):
-    """Returns fact n of an entity. No two facts have the same concept, year and segment."""
+    """Returns fact n of an entity. Facts with different n differ in concept, year or segment."""
     year, segment = 2018 + n // CONCEPTS % YEARS, n // CONCEPTS // YEARS
     uri, local = concept(n)
     dimensions = {
@@ -103,7 +104,7 @@ def fact(n, entity, prefixes, value, decimals):
 
 
 def report(number, facts, rng):
-    """Returns a report with its own prefixes. Each fact is given as a number, an entity, a value and decimals."""
+    """Returns a report with its own prefixes. For each fact, `facts` has a number, an entity, a value and decimals."""
     uris = TAXONOMY, ISSUER, SCHEME, CURRENCIES
     prefixes = {uri: f"{name}{number}" for uri, name in zip(uris, ("ifrs", "own", "lei", "iso"))}
     return {
@@ -150,7 +151,7 @@ def write_bundle(workload, size, path):
 
 
 def said_by(line):
-    """Returns the facts of a report, with expanded names."""
+    """Yields the facts of a report, with names expanded to URIs and local names."""
     said = json.loads(line)
     uris = said["documentInfo"]["namespaces"]
 
@@ -177,7 +178,7 @@ def check_text(bundle, text):
 def build(crate):
     """Proves and builds a program, and returns its path."""
     made = subprocess.run(["rt", "run"], cwd=crate, stdin=subprocess.DEVNULL, stdout=subprocess.PIPE, stderr=subprocess.STDOUT)
-    # this also runs the program on empty input; the status of that run is ignored
+    # `rt run` also runs the program on empty input; the status of that run is ignored
     if b"rt: running" not in made.stdout:
         raise Failure(f"{crate} is not built:\n{made.stdout.decode(errors='replace')}")
     return os.path.join(crate, "out", os.path.basename(crate))
@@ -194,7 +195,7 @@ def build_peer(folder):
 
 
 def run(program, bundle, text):
-    """Returns the processor seconds and the peak kilobytes of one run."""
+    """Returns the processor seconds and the peak kilobytes of memory of one run."""
     with open(bundle, "rb") as given, open(text, "wb") as taken:
         child = subprocess.Popen([program], stdin=given, stdout=taken)
         _, status, used = os.wait4(child.pid, 0)
@@ -218,8 +219,8 @@ def instructions(program, bundle):
 
 
 def measure(workload, size, programs, folder):
-    """Returns the size of the bundle and, for each program, the least seconds, the peak kilobytes and the instructions. Checks
-    the merged text."""
+    """Returns the bundle's size in bytes and, for each program, the least seconds, the peak kilobytes and the instructions.
+    Checks the merged text."""
     stem = os.path.join(folder, f"{workload.replace(' ', '_')}_{size}")
     bundle = f"{stem}.bundle"
     in_child(write_bundle, workload, size, bundle)

@@ -1,4 +1,4 @@
-"""The shapes of input that bench/shapes measures: the arguments of a command and the files that it reads."""
+"""The shapes of input that bench/shapes measures. Each returns the arguments of a command, and the files that they name."""
 import json
 import random
 
@@ -9,7 +9,7 @@ MONTHS = 12
 YEARS = 9_000
 REPLICAS = 8
 FACTS = 1_000
-# a report with this name is refused
+# the name of a report that is refused
 REFUSED = "refused.json"
 
 
@@ -52,13 +52,13 @@ def falling(n):
 
 
 def merging(a_sheet, *reports):
-    """The arguments of the command, and the files that they name."""
+    """The arguments of `merge`, and the files that they name."""
     files = {"sheet.json": a_sheet, **{f"report{place}.json": one for place, one in enumerate(reports)}}
     return ["merge", "--sheet", *files], files
 
 
 def drawn_events(chance, n):
-    """Draws n events. The first is a send. Later, a restart is one event in fifty, and all other kinds are equally likely."""
+    """Draws n events. The first is a send. Later, about one event in fifty is a restart; the other kinds are equally likely."""
     replica, sent = lambda: chance.randint(1, REPLICAS), 0
     yield f"send {replica()}"
     for _ in range(n - 1):
@@ -129,13 +129,13 @@ def measures_of_a_unit(n):
 
 
 def measures_beside_a_long_uri(n):
-    """A unit with n measures of one namespace. Its URI has about 5,000 bytes."""
+    """A unit with n measures of one namespace, whose URI has about 5,000 bytes."""
     names = {"eg": URI, "u": f"{URI}/{'u' * 5_000}"}
     return merging(sheet(), report(numbered([numeric("1", unit="*".join(f"u:m{n - place:07}" for place in range(n)))]), names))
 
 
 def long_uri(names, size):
-    """A sheet and a report with this number of names, all in one namespace whose URI has about `size` bytes."""
+    """A sheet with this many concepts, and a report that uses them all. They share a namespace URI of about `size` bytes."""
     bound = {"u": f"{URI}/{'u' * size}"}
     concepts = [f"u:c{place:07}" for place in range(names)]
     return sheet(dict.fromkeys(concepts, "text"), namespaces=bound), report(numbered(fact(concept=name) for name in concepts), bound)
@@ -154,7 +154,7 @@ def names_of_a_long_uri_in_a_sheet(n):
 
 
 def names_and_bytes_of_a_uri_in_a_sheet(n):
-    """n names with a URI of about 20 n bytes. If each name cost a comparison of URIs, four times the size would
+    """n names that share a URI of about 20 n bytes. If each name cost a comparison of URIs, four times n would
     cost sixteen times as much."""
     return merging(long_uri(n, 20 * n)[0], report({}))
 
@@ -189,7 +189,7 @@ def extension_members_of_a_fact(n):
 
 
 def objects_in_an_extension(n):
-    """An extension with n objects of one member, which are read and ignored."""
+    """An extension with n objects of one member each. The program reads and ignores the objects."""
     return merging(sheet(), {**report(numbered([fact()])), "x:e": [{"a": 1}] * n})
 
 
@@ -295,7 +295,7 @@ def faults_of_one_fact(n):
 
 
 def duplicates_that_are_denied(n):
-    """n numbers that agree within rounding, and one that does not."""
+    """n numbers that agree within rounding, and one that contradicts them all."""
     numbers = [{**numeric(str(n - place)), "decimals": -18} for place in range(n)] + [numeric("9" * 18)]
     level = {"namespaces": {"eg": URI, "xbrl": "https://xbrl.org/2021"}, "features": {"xbrl:allowedDuplicates": "consistent"}}
     return explaining(report(numbered(numbers), **level))
@@ -308,7 +308,7 @@ def repeated_members(n):
 
 
 def repeated_members_of_one_fact(n):
-    """A fact with an identifier of n characters and n / 10 repeated members."""
+    """A fact with n / 10 repeated members, and with an identifier of n characters."""
     twice = ",".join(f'"x:e{place:07}":1' for place in range(n // 10) for _ in range(2))
     text = json.dumps(report({"f" * n: fact()}), separators=(",", ":"))
     return explaining(text.removesuffix("}}}") + f",{twice}}}}}}}")
@@ -337,7 +337,7 @@ def sends_without_a_change(n):
 
 
 def joins_of_what_is_there(n):
-    """n joins: a replica of 1,000 facts takes the base of one that has half of them."""
+    """n joins: a replica of 1,000 facts joins a replica that has half of them."""
     halves = [report(numbered(numeric(str(place), period=period(place)) for place in range(0, FACTS, step))) for step in (1, 2)]
     return replaying(2, ["take 1 1", "take 2 2", *["join 1 2"] * n], *halves)
 

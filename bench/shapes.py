@@ -1,10 +1,10 @@
 #!/usr/bin/env python3
 """Checks that no shape of input costs much more than its size: bench/shapes [options] [SHAPE ..]
 
-Each shape makes an input long in one way, as a sender of a report, a sheet or a schedule could. Its size n is a number of
-parts (such as facts) or of characters. The program runs at size n and at four times that size. The second run may take at
-most five times the instructions of the first, as `valgrind --tool=callgrind` counts them. So a cost of n log n passes if n is
-at least 256; a quadratic cost takes sixteen times and fails. The table is printed on standard output, in Markdown.
+Each shape makes an input long in one way, as a sender of a report, a sheet or a schedule could. The size n of a shape is a
+number of parts (such as facts) or of characters. The program runs at size n and at four times that size. The second run may
+take at most five times the instructions of the first, as `valgrind --tool=callgrind` counts them. So a cost of n log n passes
+if n is at least 256. A quadratic cost grows sixteenfold and fails. The result is printed as a table in Markdown.
 
     --list              lists the shapes
     --seconds           measures processor seconds instead of instructions, the least of five runs
@@ -12,9 +12,10 @@ at least 256; a quadratic cost takes sixteen times and fails. The table is print
     --size N            the smaller size, instead of the shape's own
     --bound TIMES       the largest allowed ratio (5)
     --program FILE      the program, instead of the built one in crates/xbrlmerge
-    --keep FOLDER       keeps the files of each shape there
+    --keep FOLDER       leaves the files of all shapes in FOLDER
 
-Status 0: each shape is within the bound. 1: some are not. 2: a measurement failed, or a shape or the program does not exist.
+Status 0: each shape is within the bound. 1: some are not. 2: a measurement failed, an argument is wrong, or a program is
+missing.
 """
 import argparse
 import json
@@ -36,7 +37,7 @@ RUNS = 5
 
 
 class Failure(Exception):
-    """A measurement failed."""
+    """A measurement failed, or a shape or a program does not exist."""
 
 
 # ---- measuring
@@ -78,7 +79,7 @@ def kilobytes(command, folder):
     return run(command, folder)[1].ru_maxrss
 
 
-# the spelling of a cost
+# how each kind of cost is printed
 UNITS = {instructions: lambda it: f"{it / 1e6:,.1f} M", seconds: lambda it: f"{it:.3f} s", kilobytes: lambda it: f"{it / 1e3:,.1f} MB"}
 
 
@@ -90,7 +91,7 @@ def cost_of(shape, size, measure, program, folder):
 
 
 def measure_all(shapes, given, measure, folder):
-    """Prints a line for each shape, and returns the shapes that exceed the bound."""
+    """Prints the table, and returns the names of the shapes that exceed the bound."""
     print(f"| Shape | n | n of them | {TIMES}n of them | Times |\n|---|--:|--:|--:|--:|", flush=True)
     broken, told = [], UNITS[measure]
     for shape in shapes:
@@ -111,7 +112,7 @@ def chosen(words):
     names = [word.replace(" ", "_") for word in words]
     unknown = [name for name in names if name not in named]
     if unknown:
-        raise Failure(f"no shape is named {', '.join(unknown)}: --list names them")
+        raise Failure(f"no shape is named {', '.join(unknown)}: --list lists the names")
     return [named[name] for name in names] or list(SHAPES)
 
 
@@ -140,14 +141,14 @@ def main():
     shapes = chosen(given.shapes)
     given.program = os.path.realpath(given.program)
     if not os.access(given.program, os.X_OK):
-        raise Failure(f"there is no {given.program}: ./build makes it")
+        raise Failure(f"{given.program} cannot be run: ./build makes the program")
     measure = kilobytes if given.memory else seconds if given.seconds else instructions
     if measure is instructions and shutil.which("valgrind") is None:
         raise Failure("valgrind is not installed; --seconds and --memory measure without it")
     with tempfile.TemporaryDirectory() as room:
         broken = measure_all(shapes, given, measure, given.keep or room)
     for name in broken:
-        print(f"shapes: {name}: more than {given.bound:g} times", file=sys.stderr)
+        print(f"shapes: {name}: the cost grew more than {given.bound:g} times", file=sys.stderr)
     return 1 if broken else 0
 
 

@@ -1,10 +1,15 @@
-/* Calls the library for C, for tests/c_abi: c_abi merge LEVEL SHEET REPORT ..; c_abi
-   verdicts|verdicts-json|sources|sources-json SHEET REPORT ..; c_abi check SHEET REPORT; c_abi edges SHEET. It prints the
-   text and the lines of refused reports as the program does, and returns the status of the call. Calls with buffers are
-   also made with buffers that are too short. With the static library, each request for memory of each call is also refused
-   in turn. Standard error ends with the number of refused requests that made the call fail, in a line that begins with
-   `requests`. `edges` makes calls with unusual arguments instead, prints nothing and returns 0. Status 90 with a line means
-   that a call does not do what the header promises. */
+/* Calls the library for C. tests/c_abi runs this program as
+
+       c_abi merge LEVEL SHEET REPORT ..
+       c_abi verdicts|verdicts-json|sources|sources-json SHEET REPORT ..
+       c_abi check SHEET REPORT
+       c_abi edges SHEET
+
+   The program prints the text and the lines of refused reports as xbrlmerge does, and returns the status of the call. Calls
+   with buffers are also made with buffers that are too short. With the static library, each request for memory is also refused
+   in turn. The last line on standard error begins with `requests`; it contains the number of refused requests that made the
+   call fail. `edges` instead makes calls with unusual arguments, prints nothing and returns 0. Status 90 means that a condition
+   in this file does not hold; a line prints the condition. */
 #include <stdio.h>
 #include <stdlib.h>
 #include <string.h>
@@ -33,7 +38,7 @@ static void fail(int line, const char *told) {
     exit(90);
 }
 
-/* The arguments of a call, and its buffers, filled with marks that show what it wrote. */
+/* The arguments of a call. */
 struct asked {
     const char *command;
     uint32_t allow;
@@ -41,6 +46,7 @@ struct asked {
     size_t sheet_length, reports_length, ends[MOST], count;
 };
 
+/* The buffers of a call, filled with marks that show what the call wrote. */
 struct room {
     uint8_t *out;
     xbrlmerge_refusal *rows;
@@ -52,7 +58,7 @@ static uint8_t *read_file(const char *name, size_t *length, uint8_t *before, siz
     EXPECT(file != NULL && fseek(file, 0, SEEK_END) == 0);
     *length = (size_t)ftell(file);
     rewind(file);
-    /* one byte more, so that no size is 0; the address sanitizer reports reads beyond it */
+    /* one byte more, so that no size is 0; the address sanitizer reports reads beyond that byte */
     uint8_t *bytes = realloc(before, at + *length + 1);
     EXPECT(bytes != NULL && fread(bytes + at, 1, *length, file) == *length);
     fclose(file);
@@ -116,8 +122,8 @@ static void tell_refusal(const xbrlmerge_refusal *row) {
         fprintf(stderr, "fact %llu\n", (unsigned long long)row->fact);
 }
 
-/* Makes the call with empty buffers and, if they are too short, with one byte or row too few, and with enough. Returns buffers
-   that are long enough. */
+/* Makes the call with empty buffers. If they are too short, makes it again with one byte too few, with one row too few, and
+   with enough of both. Returns buffers that are long enough. */
 static struct room short_rooms(const struct asked *asked) {
     struct room none = make_room(0, 0);
     uint32_t status = call(asked, &none);
@@ -144,7 +150,8 @@ static struct room short_rooms(const struct asked *asked) {
     return ample;
 }
 
-/* Refuses each request in turn. A call then changes nothing, or has its usual result if only a cache lacks the memory. */
+/* Refuses each request for memory in turn. A call then changes nothing. If only a cache lacks the memory, the call may have its
+   usual result. */
 static long refuse_each(const struct asked *asked, const struct room *whole, uint32_t wanted) {
     long number = 0, refused = 0;
     do {
@@ -218,7 +225,7 @@ static int check(const struct asked *asked) {
     return (int)status;
 }
 
-/* each of these calls must return this status, change nothing and request no memory */
+/* with these ends of reports, each call must return this status, change nothing and request no memory */
 static void ends_in(struct asked asked, uint32_t wanted, size_t count, size_t first, size_t second) {
     static const char *const commands[] = {"merge", "verdicts", "verdicts-json", "sources", "sources-json"};
     asked.count = count, asked.ends[0] = first, asked.ends[1] = second;
@@ -244,7 +251,7 @@ static int edges(struct asked *asked) {
     asked->command = "merge", asked->count = 0;
     for (asked->allow = 4; asked->allow != 0; asked->allow = asked->allow == 4 ? UINT32_MAX : 0)
         EXPECT(call(asked, &room) == XBRLMERGE_BAD_LEVEL && room.needed == 77 && room.refused == 78 && is_kept(&room, 0, 0));
-    /* three reports, with the second one empty, and bytes after the last one */
+    /* three reports, of which the second is empty, and bytes after the last report */
     asked->command = "verdicts", asked->count = 3, asked->ends[0] = 2, asked->ends[1] = 2, asked->ends[2] = 4;
     EXPECT(call(asked, &room) == XBRLMERGE_REFUSED && room.needed == 0 && room.refused == 3 && is_kept(&room, 0, 3));
     EXPECT(room.rows[1].report == 2 && room.rows[1].number == 1 && room.rows[1].fact == 0 && room.rows[2].report == 3);

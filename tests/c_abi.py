@@ -1,16 +1,17 @@
 #!/usr/bin/env python3
-"""Calls the library for C from C, under the address sanitizer. Not part of the gate.
+"""Calls the library for C from a C program, under the address sanitizer. Not part of the gate.
 
     [XBRLMERGE=PROGRAM] tests/c_abi
 
-It checks libxbrlmerge.so and libxbrlmerge.a, which ./build --library wrote to lib/. Both must export the calls of
+The script checks libxbrlmerge.so and libxbrlmerge.a, which ./build --library wrote to lib/. Both must export the calls of
 include/xbrlmerge.h and no other names. The types in the header must agree with crates/xbrlmerge_c. Then the script builds
 tests/c_abi.c with each library and makes each call on the examples. The texts, lines and statuses must equal the program's.
-It also passes buffers that are too short, wrong ends of reports, an unknown level and lengths of 0. With the static library,
-each request for memory is refused in turn. The header is compiled as C and, if g++ is installed, as C++.
+For a refused sheet, only the number of the refusal is compared. With the static library, each request for memory in these
+calls is also refused in turn. Other calls have buffers that are too short, wrong ends of reports, an unknown level or lengths
+of 0. The header is compiled as C and, if g++ is installed, as C++.
 
-Status 0: all is as expected. 1: it is not; each difference is printed. 2: the library or the program is not built, or gcc is
-not installed.
+Status 0: all is as expected. 1: something differs; each difference is printed. 2: a library or the program is not built, or gcc
+is not installed.
 """
 import argparse
 import os
@@ -28,7 +29,7 @@ WARNINGS = ("-Wall", "-Wextra", "-Werror", "-pedantic", f"-I{TOP}/include")
 SANITIZED = ("-std=c99", "-g", "-O1", "-fsanitize=address,undefined", "-fno-sanitize-recover=all", *WARNINGS)
 WRAPS = ("-Wl,--wrap=malloc", "-Wl,--wrap=realloc", "-Wl,--wrap=calloc")
 LEVELS = ("none", "complete", "consistent", "all")
-# the C types for each type in an export
+# the C types for each Rattle type in an exported function
 CROSSES = {"&[u8]": "const uint8_t *, size_t", "&[usize]": "const size_t *, size_t", "&mut [u8]": "uint8_t *, size_t", "u32": "uint32_t",
            "usize": "size_t", "&mut usize": "size_t *", "&mut [RefusedReport]": "xbrlmerge_refusal *, size_t",
            "&mut RefusedReport": "xbrlmerge_refusal *", "&mut CheckedReport": "xbrlmerge_checked *"}
@@ -116,7 +117,7 @@ def lines(text):
 
 
 def compare(program, callers, words, files):
-    """Makes one call with each C program, and compares it with the program's command. NAME-json is `NAME --format json`."""
+    """Makes a call with each C program, and compares its result with xbrlmerge's. NAME-json is `NAME --format json`."""
     name, *rest = words
     command, _, in_json = name.partition("-")
     more = ("--allow", LEVELS[int(rest[0])]) if rest else ("--format", "json") if in_json else ()
@@ -128,7 +129,7 @@ def compare(program, callers, words, files):
         requests = [int(it.split()[1]) for it in said if it.startswith("requests:")]
         said = [it for it in said if not it.startswith("requests:")]
         if done.returncode == 4:
-            # the call returns only the number of the refusal
+            # a call returns only the number of a sheet's refusal
             same = wanted.returncode == 3 and said[0] == " ".join(lines(wanted.stderr)[0].split()[:2])
         else:
             same = (done.returncode, said) == (wanted.returncode, lines(wanted.stderr)) and done.stdout == wanted.stdout
@@ -140,7 +141,7 @@ def main():
     argparse.ArgumentParser(description=__doc__, formatter_class=argparse.RawDescriptionHelpFormatter).parse_args()
     program, missing = built_program(), [it for it in (SHARED, STATIC) if not os.path.exists(it)]
     if missing or shutil.which("gcc") is None:
-        print(f"tests/c_abi: not built: {' '.join(missing)} (./build --library), or no gcc", file=sys.stderr)
+        print(f"tests/c_abi: gcc is not installed, or ./build --library has not made {' '.join(missing)}", file=sys.stderr)
         return 2
     names_agree()
     rows_agree()

@@ -1,11 +1,11 @@
 #!/usr/bin/env python3
-"""Runs the program on failing devices and on files that are not regular. Not part of the gate.
+"""Runs the program on failing devices, and on files that cannot be read or are not regular. Not part of the gate.
 
     tests/devices [PROGRAM]
 
-PROGRAM is $XBRLMERGE or the built one by default. The tables below list the expected status and line for each case. If the
-line contains a number of bytes, standard output must contain exactly that many bytes from the start of the text. Otherwise it
-must contain all of the text or nothing. No file may change.
+By default, PROGRAM is $XBRLMERGE or, if that is not set, the built program. The tables below list the expected status and line
+for most cases. The functions contain the other cases. If the line contains a number of bytes, standard output must contain
+exactly that many bytes from the start of the text. Otherwise it must contain all of the text or nothing. No file may change.
 
 Status 0: all cases are as expected. 1: some are not; each is printed. 2: there is no program.
 """
@@ -27,12 +27,12 @@ from support import built_program, bytes_of
 NOBODY, LIMIT, ENDLESS_LIMIT = 65534, 20, 180
 # the command that returns the size of a pipe; Python has a name for it since 3.10
 PIPE_SIZE = 1032
-# kilobytes: in LITTLE of address space, an endless file exhausts memory and the other files do not. If less than MUCH of memory
-# is free, endless files are read only in LITTLE
+# in kilobytes. With LITTLE address space, an endless file exhausts memory, but the other files do not. If less than MUCH memory
+# is free, endless files are read only with LITTLE
 LITTLE, MUCH = 150_000, 6_000_000
 
 GOOD, REFUSED, NOTHING_TAKEN = (0, ""), (1, "report 2: 1 NotJson at document\n"), (3, "device: 0 bytes written\n")
-# for each command line: the result, and the result if standard output takes no byte; the report `cut` is refused
+# for each command line: the result, and the result if standard output accepts no byte; the report `cut` is refused
 WORDS = {
     "": (REFUSED, NOTHING_TAKEN),
     "merge --sheet sheet long cut": (REFUSED, NOTHING_TAKEN),
@@ -54,7 +54,7 @@ STOPS_INPUT = {"standard input closed": "<&-", "standard input a folder": "<.", 
 
 UNREAD, MEMORY, LENGTH = (3, "file strange: cannot be read\n"), (3, "out of memory\n"), (3, "file strange: too long\n")
 BAD_SHEET, BAD_EVENT, BAD_REPORT = (3, "sheet: 1 NotJson\n"), (3, "event 2: refused\n"), (1, "report 1: 1 NotJson at document\n")
-# for each kind of file: the result if the sheet, the events or a report is a file of this kind
+# for each kind of file: the results when the sheet, the events or a report, in this order, is such a file
 FILES = {
     "missing": (UNREAD, UNREAD, UNREAD),
     "a folder": (UNREAD, UNREAD, UNREAD),
@@ -66,8 +66,8 @@ FILES = {
     "endless, little memory": (MEMORY, MEMORY, MEMORY),
     "endless": (LENGTH, LENGTH, LENGTH),
 }
-# command lines with the file as the sheet, the events or a report. An `endless` file is slow, so only the first line of each
-# list is run with it
+# command lines in which `strange` is the sheet, the events or a report. Reading an `endless` file is slow, so only the first
+# command line in each list is run with one
 PLACES = {
     "sheet": ("check --sheet strange report", "merge --sheet strange report", "verdicts --sheet strange report",
               "replay --sheet strange --replicas 2 --events events report"),
@@ -80,7 +80,7 @@ Ran = collections.namedtuple("Ran", "status out err")
 
 
 def free_memory():
-    """Returns the free memory in kilobytes."""
+    """Returns the kilobytes of memory that a program can get without swapping."""
     with open("/proc/meminfo", encoding="ascii") as file:
         return int(re.search(r"^MemAvailable: +(\d+)", file.read(), re.MULTILINE).group(1))
 
@@ -91,7 +91,7 @@ def report_of(facts):
 
 
 def contents():
-    """Returns the content of the files by name. The text for `long` has about 1 MB, and so have the lines for `rows`."""
+    """Returns the files' contents by name. The merged text of `long` and the lines for `rows` have at least 500,000 bytes."""
     sheet = {"namespaces": {"m": "https://made.example/2024"}, "concepts": {"m:A": "numeric", "m:T": "text"},
              "dimensions": {"m:Mill": "typed"}}
     words = {f"{it}": {"value": "Blue" * 650, "dimensions": {"concept": "m:T", "m:Mill": f"{it}"}} for it in range(400)}
@@ -104,7 +104,7 @@ def contents():
 
 
 class Room:
-    """A folder with the program and its files, which must not change."""
+    """A folder with the program and the files that it reads, which must not change."""
 
     def __init__(self, program, folder):
         self.folder, self.contents, self.count, self.wrong, self.left_out = folder, contents(), 0, [], []
@@ -116,7 +116,7 @@ class Room:
         self.whole = {words: self.run(words) for words in WORDS}
 
     def command(self, words, redirection):
-        """Returns the command that runs the program. A shell closes streams, since Python would pass them on."""
+        """Returns the command that runs the program. A shell redirects or closes streams: `subprocess` cannot close them."""
         given = "" if words or "<" in redirection else "<bundle"
         return ["sh", "-c", f'exec "$@" {given} {redirection}', "sh", self.program, *words.split()]
 
@@ -160,7 +160,7 @@ def compare_outputs(room):
 
 
 def compare_inputs(room):
-    """Makes standard input fail. Only the program without arguments reads it."""
+    """Makes standard input fail. Only the command line without arguments reads it."""
     for words, (ends, _) in WORDS.items():
         for case, redirection in STOPS_INPUT.items():
             ran, expected = room.run(words, redirection), (ends[0], room.whole[words].out, ends[1])
@@ -173,8 +173,8 @@ def waiting(pipe):
 
 
 def take_five(child, reader):
-    """Reads 5 bytes, waits until the pipe is full or the program has ended, and closes the pipe. Returns the bytes, and how
-    many bytes the pipe had taken.
+    """Reads 5 bytes, waits until the pipe is full or the program has ended, and closes the pipe. Returns these bytes, and how
+    many bytes the program had written to the pipe.
     """
     front, end = b"", time.monotonic() + LIMIT
     while len(front) < 5 and (more := os.read(reader, 5 - len(front))):
@@ -188,7 +188,7 @@ def take_five(child, reader):
 
 
 def take_late(child, reader):
-    """Waits until the program ends, and reads a pipe that does not block. Returns its bytes and their number."""
+    """Waits until the program ends, and then reads the pipe. Returns its bytes and their number."""
     child.wait(LIMIT)
     with open(reader, "rb") as file:
         front = file.read()
@@ -196,8 +196,8 @@ def take_late(child, reader):
 
 
 def run_with_pipe(room, words, take, waits):
-    """Runs the program with a pipe for its output. Without `take`, the reading end is closed first. Returns the result with the
-    bytes that were read, and the number of bytes that the pipe took.
+    """Runs the program with a pipe as standard output. Without `take`, the reading end is closed first. Returns the result with
+    the bytes that were read, and the number of bytes that the pipe took.
     """
     reader, writer = os.pipe()
     os.set_blocking(writer, waits)
@@ -221,7 +221,7 @@ def compare_pipes(room):
     for words, (ends, stopped) in WORDS.items():
         whole = room.whole[words].out
         ran, _ = run_with_pipe(room, words, None, True)
-        room.expect((ran.status, ran.err) == stopped, "a pipe closed before", words, ran)
+        room.expect((ran.status, ran.err) == stopped, "a pipe closed at the start", words, ran)
         for case, take, waits in (("a pipe closed after 5 bytes", take_five, True), ("a full pipe", take_late, False)):
             ran, taken = run_with_pipe(room, words, take, waits)
             expected = (3, f"device: {taken} bytes written\n") if words in LONG else ends
@@ -272,8 +272,8 @@ def run_strange(room, kind, words):
 
 
 def compare_file(room, kind, name, words, ends):
-    """Runs the program on a file of this kind. With status 3 the output must be empty. Otherwise it must be the same as for a
-    regular file; a refused report counts as an empty one."""
+    """Runs the program on a file of this kind. If status 3 is expected, the output must be empty. Otherwise it must be the same
+    as for a regular file with the same content. Half a report is compared with an empty one, since both are refused."""
     writer = make(room, kind, name)
     try:
         ran = run_strange(room, kind, words)
@@ -285,10 +285,10 @@ def compare_file(room, kind, name, words, ends):
 
 
 def compare_files(room):
-    """Replaces the sheet, the events and a report by each kind of file, and standard input by an endless one."""
+    """Replaces the sheet, the events or a report by each kind of file, and standard input by an endless file."""
     for kind, all_ends in FILES.items():
         if kind == "endless" and free_memory() < MUCH:
-            room.left_out.append(f"endless files, with less than {MUCH:,} kB of free memory")
+            room.left_out.append(f"endless files, since less than {MUCH:,} kB of memory is free")
             continue
         for (name, all_words), ends in zip(PLACES.items(), all_ends):
             for words in all_words[:1] if kind == "endless" else all_words:

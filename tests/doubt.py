@@ -4,8 +4,8 @@
     tests/doubt [--format] [--quiet] [--write]
 
 An entry, `- [FILE](../crates/..): `name`, ..`, lists contracts, types, limits and lines of code (`src/`), or definitions
-(`specs/`). A row `| [`word`](../crates/..) | [`law`](../crates/..) |` names a word, which is a definition that needs no
-reading, and laws that state enough about it. FORMAT may use every name that DOUBT lists, and may list words of DOUBT as
+(`specs/`). A row `| [`word`](../crates/..) | [`law`](../crates/..) |` names a word and its laws. A word is a definition that
+needs no reading, because its laws state enough. FORMAT may use every name that DOUBT lists, and may list words of DOUBT as
 entries. The status is 1 if
 
 - a name is not in its file, or is listed twice;
@@ -13,11 +13,12 @@ entries. The status is 1 if
 - a page has an entry or a word that none of its contracts needs;
 - a word has no law, or its law does not exist, is on neither page, or does not mention the word;
 - the table of conditions differs from `Reason`, its numbers, or the definitions of the conditions;
-- the number of lines on a page is wrong, or the headline has more than 600 lines.
+- a page shows a wrong number of lines, or the number for DOUBT is above 600.
 
 Definitions of the kit are not followed. A record field does not hide a definition of the same name; a variable does, in its
-scope. With --format it prints the definitions that docs/FORMAT.md lists; with --quiet it prints no definitions. --write updates
-the entries, the conditions and the numbers of lines, but not the words.
+scope. Without options, the script prints the definitions that DOUBT lists. --format prints the definitions that FORMAT lists
+instead, and --quiet prints none.
+--write updates the entries, the table of conditions and the numbers of lines, but not the words.
 """
 import glob
 import os
@@ -53,9 +54,9 @@ def imports_of(text):
 
 
 def pieces(text):
-    """Returns a file's definitions in order: the name, the other names that it owns, and its text.
+    """Yields a file's definitions in order. Each has its name, the other names that it owns, and its text.
 
-    A `data` definition owns its constructors, a mutual one its further heads. A record does not own its fields.
+    A `data` definition owns its constructors, and a mutual definition owns its further heads. A record does not own its fields.
     """
     for block in re.split(r"\n[ \t]*\n", text):
         lines = [it for it in block.split("\n") if it.strip() and not re.match(r"\s*(-- ----|use |module )", it)]
@@ -92,7 +93,8 @@ class Specs:
                 self.types.setdefault((crate, name), path)
 
     def owner(self, path, word):
-        """Returns the definition, type or limit to which a word of a file refers, or its name in the kit, or None."""
+        """Returns the definition, type or limit that a word in a file means. Returns the name
+        of a word of the kit, and None for other words."""
         word, *rest = word.split(".")
         if (path, word) in self.owners:
             return self.owners[path, word]
@@ -118,7 +120,7 @@ class Specs:
 
 
 def of_code(path, name):
-    """Returns a type, a limit, or the contract of a function with its comment, or None."""
+    """Returns the text of a type, a limit or the contract of a function, with its comment, or None."""
     lines = content(path).split("\n")
     head = re.compile(rf"\s*pub (?:struct|enum|const|fn|trait) {name.split('::')[-1]}\b")
     place = next((n for n, it in enumerate(lines) if head.match(it)), None)
@@ -194,8 +196,8 @@ def needs(specs, path, name):
 
 
 def closure(specs, root, stops=()):
-    """Returns everything that a contract or a definition depends on, each after its own dependencies. The dependencies of
-    `stops` are not followed."""
+    """Returns the names that a contract or a definition depends on, except the kit's. A name follows its own dependencies.
+    Names in `stops` are returned, but not followed."""
     order, seen = [], {root}
 
     def follow(item):
@@ -215,7 +217,7 @@ def is_contract(specs, path, name):
 
 
 class Page:
-    """A page: the entries under each heading in order, and the words that need no reading with their laws."""
+    """A page: the entries under each heading in order, and the words that need no reading, with their laws."""
 
     def __init__(self, specs, path, before=None):
         self.specs, self.path, self.text = specs, path, content(path)
@@ -231,12 +233,11 @@ class Page:
         self.there = [(path, name) for _, path, name in self.entries]
         self.contracts = [it for it in self.there if is_contract(specs, *it)]
         self.tabled = IN_THE_TABLE if CONDITION.search(self.text) else []
-        # names that need no entry: words, names in the table, and what the previous page lists and this page does not repeat
+        # names that need no entry: words, names in the table, and names that only the previous page lists
         self.stops = {*self.words, *self.tabled, *({*before.there, *before.words}.difference(self.there) if before else ())}
 
     def needed(self):
-        """Returns the names that the page's contracts need, in order. Words and names of the previous page are not
-        followed."""
+        """Returns the names that the page's contracts need, in order. Names in `stops` are returned, but not followed."""
         found = (it for root in self.contracts for it in closure(self.specs, root, self.stops))
         return [it for it in dict.fromkeys(found) if it not in self.contracts]
 
@@ -275,7 +276,7 @@ def entry_problems(page, others):
             found.append(f"{path}: `{name}` is on the pages twice")
         elif (path, name) in page.there and " " not in name:
             missing = (it for it in needs(specs, path, name) if it[0] != "kit" and it not in page.there and it not in page.stops)
-            found += [f"{path}: `{name}` names `{it[1]}` of {it[0]}, which is not on the page" for it in missing]
+            found += [f"{path}: `{name}` uses `{it[1]}` of {it[0]}, which is missing on the page" for it in missing]
     if not found:
         needed = {*page.needed(), *page.contracts}
         idle = (it for it in [*page.there, *page.words] if it not in needed and " " not in it[1])
@@ -300,7 +301,7 @@ def word_problems(page, entries):
 
 
 def tested_on(page):
-    """Returns, for each reason, the parts of a document or fact on which the definitions test it."""
+    """Returns, for each reason, whether its definitions test the sheet, the document, a fact or several of these."""
     found = {}
     for path, name in (it for it in page.there if "holds" in it[1] and it[0].endswith(".antt")):
         thing = next((it for it in ("sheet", "document") if it in name), "fact")
@@ -310,8 +311,8 @@ def tested_on(page):
 
 
 def table_rows(page):
-    """Yields the rows that the code requires. The page supplies the sections, and the cell 'Tested on' of each reason that no
-    definition tests."""
+    """Yields the rows of conditions that the code requires. The page supplies the sections and, for a reason that no definition
+    tests, the cell 'Tested on'."""
     there = {it[1]: it[3:] for it in CONDITION.findall(page.text)}
     comments = {name: text for text, name in re.findall(r"((?: *///.*\n)+) +(\w+),", content(REASONS[0]))}
     for name, number in re.findall(r"^entry_of (\w+) = record \{ number = (\d+);", content(REASONS[1]), re.MULTILINE):
@@ -327,7 +328,7 @@ def mended_table(page):
 
 
 def mended_entries(page):
-    """Returns the page with the entries that it needs. New ones follow the other entries of their file."""
+    """Returns the page with the entries that it needs. New names follow the other names of their file."""
     needed, groups = [it for it in page.needed() if it not in page.stops], []
     keep = [it for it in page.entries if it[1:] in {*needed, *page.contracts} or " " in it[2]]
     for heading, path, name in keep:
@@ -376,9 +377,9 @@ def problems(pages):
         rows = (it for it in table_rows(page) if page.tabled and it not in page.text.split("\n"))
         found += [f"{page.path}: the table of conditions should have {it}" for it in rows]
         if told is None or int(told[1].replace(",", "")) != count:
-            found.append(f"{page.path} does not say that there are {count:,} lines of definitions and contracts")
+            found.append(f"{page.path} should say that there are {count:,} lines of definitions and contracts")
         if page.path == DOUBT and count > MOST_LINES:
-            found.append(f"{page.path}: the headline has {count:,} lines, of {MOST_LINES} at most")
+            found.append(f"{page.path}: the headline has {count:,} lines; at most {MOST_LINES} are allowed")
     return list(dict.fromkeys(found))
 
 

@@ -3,25 +3,25 @@
 
     tests/examples [PROGRAM [EMBEDDED]]
 
-It builds the program and, with a copy of the libraries, examples/embed/main.txt, or uses the named programs. If only PROGRAM
-is named, examples/embed/main.txt is skipped. It compares
+Without arguments, the script builds the program and, with a copy of the libraries, examples/embed/main.txt. If only PROGRAM is
+named, examples/embed/main.txt is skipped. The script compares
 
-- the output for the reports in examples/ with the files beside them; earlier.json is the merged report as it was
-  written before levels were declared;
-- each page in PAGES with the results of its commands. The blocks of a page run in order, as a reader types them, by `sh`
-  and then by `bash`, in a folder with the repository's files. They may leave no other file there. The last command of a block
-  must return the status that the paragraph before it names, or 0; each other command must return 0. If a block of
-  output follows, the commands must print exactly that; ` ..` at the end of a line matches the rest of the line. If no
-  output follows, standard error may contain only refusals and `too loose`. A block that proves (`rt`, ./build, the gate)
-  is skipped;
-- the facts that docs/GUIDE.md shows as JSON with the examples; a sheet that it shows must be accepted;
+- the output for the reports in examples/ with the files beside them. An older version, which did not declare levels,
+  wrote earlier.json;
+- each page in PAGES with the results of its commands. The blocks of a page run in order, by `sh` and then by `bash`, in a
+  folder with the repository's files except crates/. They must leave no other files there. The last command of a block must
+  return the status that the paragraph before the block names, or 0; all other commands must return 0. If a block of output
+  follows, the commands must print exactly this output; ` ..` at the end of a line matches the rest of the line. If no output
+  follows, standard error may contain only the lines for refusals, too loose rows and refused events. `./build && ` at
+  the start of a block is removed. A block that still proves (`rt`, ./build, the gate) is skipped;
+- each fact that docs/GUIDE.md shows in JSON with the facts in examples/. Sheets that the guide shows must be accepted;
 - the sheet and the merged text of tools/contradictions with those expected in tests/normalise/vendors. The tool makes the
   sheet from a taxonomy package, and normalises the reports of other tools in that folder;
-- the commands in the man pages and in the program's help, in the same way;
-- each example in docs/REFUSALS.md with the line that refuses it.
+- the commands in the man pages and in the program's help, as on a page that shows no output;
+- each example in docs/REFUSALS.md with the line that the program prints for it.
 
-If no program is named, the code in docs/LIBRARY.md is proved too. This takes minutes, and much longer if ./build was not run
-before.
+If no program is named, the Rattle code in docs/LIBRARY.md is proved too. The proof takes minutes, and much longer if ./build
+was not run before.
 
 Status 0: all is as shown. 1: something is not. 2: the code cannot be proved, or a program cannot be built.
 """
@@ -38,16 +38,16 @@ import zipfile
 from support import TOP, content
 
 CRATE = os.path.join(TOP, "crates", "xbrlmerge")
-# the crates made from the embedding example and from the pieces in docs/LIBRARY.md
+# the crates made from examples/embed/main.txt and from the code in docs/LIBRARY.md
 EMBED, SHOWN = "embed", "shown"
 NOT_MERGED = "not merged, or not to the end\n"
 PAGES = ("README", "docs/GUIDE", "docs/REFUSALS", "docs/COSTS")
 SHELLS = ("sh", "bash")
-# this beginning of a block is left out, since the program is built before the commands run
+# this start of a block is removed, since the program is built before the commands run
 BUILDS = "./build && "
-# a block with one of these is skipped: it proves for minutes
+# a block with one of these commands is skipped, since it proves for minutes
 SLOW = re.compile(r"(?:^|&& )(?:rt|bash \.ci/run|\./build)\b", re.MULTILINE)
-# the beginnings of commands on lines of their own in the man pages and the help
+# in the man pages and the help, a line that starts with one of these is a command
 STARTS = ("xbrlmerge ", "cat examples/")
 TOLD = re.compile(r"report \d+: \d+ \w+ at (document|fact \d+)|too loose: row \d+|event \d+: refused")
 LIMIT = 120
@@ -56,9 +56,9 @@ BAD = "oldharbour.json"
 MERGED, EARLIER = "merged.json", "earlier.json"
 # the feature that declares the level, and its namespace; rows 12, 34 and 37 are contradictions, so the level is `all`
 DECLARED = ('"features":{"xbrl:allowedDuplicates":"all"},', ',"xbrl":"https://xbrl.org/2021"')
-# the reasons for which a vendor's report is refused without the lossy option that it needs
+# the faults of odd_units.json that only lossy options of tools/normalise remove
 ODD_UNITS = ('fact "TS1": 12 NameForm', 'fact "TS2": 26 NumberForm', 'fact "TS3": 19 PeriodForm')
-# the text without facts
+# the merged text if there are no facts
 EMPTY = ('{"documentInfo":{"documentType":"https://xbrl.org/2021/xbrl-json","features":{"xbrl:allowedDuplicates":"none"},'
          '"namespaces":{"xbrl":"https://xbrl.org/2021"},"taxonomy":[]},"facts":{}}')
 CUT = " .."
@@ -73,7 +73,7 @@ SCHEMA = """<xs:schema xmlns:xs="http://www.w3.org/2001/XMLSchema" xmlns:xbrli="
 
 
 def build(crate):
-    """Builds a program and returns its path. If that fails, it prints the end of the output and returns an empty text."""
+    """Builds a program and returns its path. If the build fails, prints the end of its output and returns an empty text."""
     ran = subprocess.run(["rt", "run"], cwd=crate, stdin=subprocess.DEVNULL, capture_output=True, text=True)
     said = ran.stdout + ran.stderr
     if re.search("^rt: running", said, re.MULTILINE):
@@ -105,7 +105,7 @@ def pieces():
 
 
 def build_embedded(room):
-    """Proves the pieces of docs/LIBRARY.md and builds the example of embedding. Returns its path, or an empty text if either
+    """Proves the code in docs/LIBRARY.md and builds the example of embedding. Returns its path, or an empty text if either
     fails."""
     lines, embed = copied_libraries(room), re.search("'(embed: .*)'", content("docs/LIBRARY.md"))[1]
     below = " ".join(it.partition(":")[0] for it in lines)
@@ -126,7 +126,8 @@ def build_embedded(room):
 
 
 def whole_lines(text):
-    """Returns the lines of a text that are not empty, without spaces around them. A backslash at its end continues a line."""
+    """Returns the lines of a text that are not empty, without spaces around them. A backslash at the end of a line
+    joins the line to the next one."""
     return [it.strip() for it in re.sub(r"\\\n *", "", text).splitlines() if it.strip()]
 
 
@@ -141,8 +142,8 @@ def status_before(text, gap):
 
 
 def of_page(name):
-    """Yields a page's blocks of commands except the slow ones, each with the status of its last command and its shown output,
-    which is None if no output follows."""
+    """Yields a page's blocks of commands, except the slow ones. Each has its commands, the expected status of the last one,
+    and the shown output, or None if no output follows."""
     text = content(f"{name}.md")
     fences = list(re.finditer(r"^```(\w*)\n(.*?)^```$", text, re.MULTILINE | re.DOTALL))
     for place, fence in enumerate(fences):
@@ -151,7 +152,7 @@ def of_page(name):
         shown = None
         if place + 1 < len(fences) and fences[place + 1].group(1) == "":
             between = text[fence.end() : fences[place + 1].start()].strip()
-            # at most one paragraph, which describes the output
+            # at most one paragraph may separate commands from their output
             shown = fences[place + 1].group(2).splitlines() if not re.search(r"\n\n|^[#|]", between) else None
         yield whole_lines(fence.group(2).removeprefix(BUILDS)), status_before(text[: fence.start()], "\n\n"), shown
 
@@ -175,7 +176,7 @@ def of_help(program):
 
 
 def run_lines(shell, lines, room):
-    """Runs lines one after another in one shell, and yields the status, standard output and standard error of each."""
+    """Runs lines one after another in one shell. Yields the status, standard output and standard error for each line."""
     script = ["set -o pipefail"] if shell == "bash" else []
     for place, line in enumerate(lines):
         with open(f"{room}/line{place}", "w", encoding="utf-8") as file:
@@ -188,7 +189,7 @@ def run_lines(shell, lines, room):
 
 
 def is_as_shown(shown, printed):
-    """Returns whether lines match the shown lines. A shown line that ends with ` ..` is cut there."""
+    """Returns whether the printed lines match the shown ones. ` ..` at the end of a shown line matches any rest."""
     return len(shown) == len(printed) and all(
         there.startswith(line[: -len(CUT)]) if line.endswith(CUT) else there == line for line, there in zip(shown, printed)
     )
@@ -312,14 +313,14 @@ def page_of_vendors(program):
         if (ran.returncode, ran.stdout) != (1, told):
             return [f"tools/contradictions ends with {ran.returncode} on the reports of vendors: {ran.stdout}{ran.stderr}"]
         sheet, merged = content(f"{room}/out/sheet.json").replace("n1:", "v:").replace('"n1"', '"v"'), content(f"{room}/out/merged.json")
-    wrong = [f"odd_units.json is not refused by {it}" for it in ODD_UNITS if f"{vendors}/odd_units.json: {it}" not in ran.stderr]
+    wrong = [f"odd_units.json lacks the fault {it}" for it in ODD_UNITS if f"{vendors}/odd_units.json: {it}" not in ran.stderr]
     wrong += [] if json.loads(sheet) == json.loads(content(f"{vendors}/sheet.json")) else ["the sheet is not tests/normalise/vendors/sheet.json"]
     words = ["merge", "--sheet", f"{vendors}/sheet.json", *(f"{vendors}/{name}.out.json" for name in names[:2])]
     return wrong + gives(program, 0, merged, "", words)
 
 
 def by_hand(program, merged):
-    """Lets the two offices exchange files, and returns a line unless both end with the merged text."""
+    """Lets the two offices exchange files. Returns a line unless both then have the merged text and nothing was printed."""
     with tempfile.TemporaryDirectory() as room:
         ran = subprocess.run([os.path.join(TOP, "examples", "offices", "by_hand"), room], capture_output=True, text=True,
                              env={**os.environ, "XBRLMERGE": program})
@@ -354,7 +355,7 @@ def told(program, embed):
             for shell in SHELLS:
                 wrong += [f"{place}, by {shell}: {it}" for it in wrong_with(blocks, shell, room)]
             ran += sum(len(lines) for lines, _, _ in blocks)
-        wrong += [f"the commands leave files: {it}" for it in sorted(set(files_of(f"{room}/top")) ^ set(before))]
+        wrong += [f"the commands add or remove a file: {it}" for it in sorted(set(files_of(f"{room}/top")) ^ set(before))]
         faults, count = refusals(program, room)
     return wrong + faults, f"{ran} commands and {count} refusals"
 
@@ -367,7 +368,7 @@ def main(words):
             return 2
         wrong, ran = told(program, embed)
     behind = "" if embed else "; the example of embedding was skipped"
-    print("\n".join(wrong) or f"the examples are as shown, with {ran}{behind}")
+    print("\n".join(wrong) or f"the examples are as shown: {ran}{behind}")
     return 1 if wrong else 0
 
 

@@ -1,7 +1,7 @@
 /* This library, loaded by LD_PRELOAD, replaces the calls of the C library (glibc) that write a file. Three environment
-   variables control it. The call with the number FAIL, counted from 1, fails as on a full device; at the call with the number
-   KILL the process is killed. Writes to the standard streams and calls of open without O_EXCL are not counted. The name of each
-   counted call is written to the file CALLS_TOLD. */
+   variables control this library. The call with the number FAIL, counted from 1, fails as on a full device. At the call with
+   the number KILL, the process is killed. Writes to the standard streams and calls of open without O_EXCL are not counted. The
+   name of each counted call is appended to the file that CALLS_TOLD names. */
 #define _GNU_SOURCE
 #include <dlfcn.h>
 #include <errno.h>

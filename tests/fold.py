@@ -4,12 +4,12 @@
     [XBRLMERGE=PROGRAM] [REPORTS=200] [JOBS=2] [SEED=1] tests/fold
 
 A node of a fold merges one group. The script draws reports that overlap, agree, contradict each other, or are refused. The
-results of examples/fold/Makefile and examples/fold/fold_dask.py must equal the bytes of one run. The former runs with three
-numbers of branches, the latter with three numbers of files a node. The script also checks how many branches a late report
-rebuilds, and nodes that fail or are stopped. If Dask is not installed, a module of two functions runs the nodes in turn.
-Nodes that call the library are skipped if there is no lib/libxbrlmerge.so, which ./build --library makes.
+results of examples/fold/Makefile and examples/fold/fold_dask.py must equal the bytes of one run. The Makefile runs with three
+numbers of branches, and fold_dask.py with three numbers of files per node. The script also checks how many branches a late
+report rebuilds, and nodes that fail or are stopped. If Dask is not installed, a substitute of two functions runs the nodes in
+turn. Nodes that call the library are skipped if there is no lib/libxbrlmerge.so, which ./build --library makes.
 
-Status 0: all is as expected. 1: it is not; each fault is printed. 2: the program is not built.
+Status 0: all is as expected. 1: something is not; each fault is printed. 2: the program is not built.
 """
 import argparse
 import json
@@ -57,13 +57,13 @@ def fact(chance, prefix):
         return {"dimensions": dimensions, "value": f"{prefix}:B" if concept[0] == "N" else text}
     dimensions["unit"] = chance.choice(["c:EUR", "c:EUR/x:shares"])
     made = {"dimensions": dimensions, "value": f"{chance.randint(980, 1020)}.{chance.randint(0, 9)}0"}
-    # decimals: mostly near the last digit of the values, where some facts agree and others do not; otherwise from -18 to 18
+    # decimals: mostly near the last digit of the values, so that some facts agree and others do not; otherwise from -18 to 18
     places = chance.randint(-2, 1) if chance.random() < 0.8 else chance.randint(-18, 18)
     return {**made, "decimals": places} if chance.random() < 0.8 else made
 
 
 def report(chance, is_refused):
-    """Draws the text of a report with its own prefixes. `is_refused` is the number of its fault, from 1 to 3, or 0 for none."""
+    """Draws the text of a report with its own prefixes. `is_refused` is the number of the fault, 1 to 3, or 0 for no fault."""
     prefix = chance.choice(["m", "made", "x-1"])
     uris = {prefix: URI, "e": "http://standards.iso.org/iso/17442"}
     uris.update({"c": "http://www.xbrl.org/2003/iso4217", "x": "http://www.xbrl.org/2003/instance"})
@@ -189,7 +189,8 @@ def stopped_nodes():
 
 
 def dask_words():
-    """Returns how to run fold_dask.py, and whether Dask runs its nodes. If not, a substitute is written to the working folder."""
+    """Returns the command of fold_dask.py, and whether Dask runs the nodes. If not, writes a substitute to the
+    working folder."""
     pythons = (sys.executable, "/usr/bin/python3")  # the system's Python has the packages of the system
     with_dask = next((python for python in pythons if shutil.which(python) and run(python, "-c", "import dask").returncode == 0), None)
     if not with_dask:
@@ -202,8 +203,8 @@ def dask_words():
 
 
 def on_dask(words, width, wanted):
-    """Compares folds on Dask with one run of the program. The nodes of the first fold are processes. If the library is
-    built, those of a second fold are calls."""
+    """Compares folds on Dask with one run of the program. Each node of the first fold is a process. If the library is
+    built, each node of a second fold is a call."""
     done = run(*words, "sheet.json", "dask.json", str(width), *paths())
     compare(f"Dask, {width} files a node", done, "dask.json", wanted)
     if LIBRARY:
@@ -235,8 +236,8 @@ def main():
     finally:
         os.chdir(os.path.dirname(room))
         shutil.rmtree(room)
-    told = "make and Dask write" if is_dask else "make writes, and without Dask its nodes in turn write"
-    told = told if LIBRARY else f"no node was a call; {told}"
+    told = "make and Dask write" if is_dask else "make and a substitute for Dask write"
+    told = told if LIBRARY else f"no node called the library; {told}"
     print(f"tests/fold: {told} the bytes of one run of {COUNT} reports" if not faults else f"tests/fold: {len(faults)} faults")
     return 1 if faults else 0
 

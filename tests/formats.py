@@ -1,14 +1,14 @@
 #!/usr/bin/env python3
-"""Compares the formats of `verdicts` and `sources` with their lines and the merged text. Not part of the gate.
+"""Compares the formats of `verdicts` and `sources` with the lines and the merged text. Not part of the gate.
 
     [SETS=300] [SEED=1] tests/formats [PROGRAM]
 
-It runs the program on the examples, on texts with quotes, line ends and formulas, and on SETS sets of drawn reports. It
-computes the output of `--format json` and `--format csv` from the lines and from the output of `merge`. The program's output
-must equal it byte for byte. `--format lines` must print the lines. `--spreadsheet` may only add a ' before a text, and must add
-it wherever tools/contradictions begins a cell with one, except before a number.
+The script runs the program on the examples, on texts with quotes, line ends and formulas, and on SETS sets of drawn reports.
+It computes the output of `--format json` and `--format csv` from the lines and from the output of `merge`. The program's
+output must be the same, byte for byte. `--format lines` must print the same as no `--format`. `--spreadsheet` may add a ' only
+before values and identifiers. It must add one wherever tools/contradictions does, except before numbers.
 
-Status 0: all is as expected. 1: it is not. 2: the program is not built.
+Status 0: all is as expected. 1: something is not. 2: the program is not built.
 """
 import csv
 import io
@@ -100,7 +100,7 @@ class Merged:
 
 
 def rows_of(lines, merged):
-    """Yields the object of each row."""
+    """Yields the JSON object that each row should have, computed from the row's line and the merged text."""
     names = list(merged.facts)
     for line in lines:
         number, first, last, verdict, *shown = line.split(" ")
@@ -116,7 +116,7 @@ def rows_of(lines, merged):
 
 
 def records_of(row):
-    """Yields the cells of each fact of a row."""
+    """Yields the CSV record that each fact of a row should have."""
     given, evidence = row["dimensions"], row.get("evidence", {})
     defined = {name: member for name, member in given.items() if name not in CORE}
     common = evidence.get("common", {})
@@ -134,8 +134,8 @@ def sources_of(lines):
 
 
 def is_guarded(plain, guarded):
-    """Returns whether the cells differ only by a ' before texts, and each text that a spreadsheet would read as a formula has
-    one, unless it is a number."""
+    """Returns whether the cells differ only by a ' before texts. A text must have a ' if a spreadsheet would read it as a
+    formula, unless the text is a number."""
     one, two = (list(csv.reader(io.StringIO(text, newline=""))) for text in (plain, guarded))
     numeric = {"decimals", "common_low", "common_high"}
     for cells, others in zip(one, two):
@@ -175,7 +175,7 @@ def wrong_with(program, sheet, reports):
 
 
 def odd_report(prefix):
-    """Returns a report with each odd text as a value, as a member and in an identifier."""
+    """Returns a report with each odd text in a value, in an identifier and, unless it is empty, as a typed member."""
     info = {"documentType": "https://xbrl.org/2021/xbrl-json", "namespaces": {"eg": "http://example.org/t"}}
     facts = {f"{text}{prefix}{place}": {"value": f"{text}{prefix}", "dimensions": {"concept": "eg:T", "eg:Sku": text or "none"}}
              for place, text in enumerate(TEXTS)}
@@ -183,7 +183,7 @@ def odd_report(prefix):
 
 
 def cases(room):
-    """Yields sheets and lists of reports."""
+    """Writes the files of each case, and yields the path of its sheet and the paths of its reports."""
     yield f"{TOP}/examples/sheet.json", EXAMPLES
     sheet = {"namespaces": {"eg": "http://example.org/t"}, "concepts": {"eg:T": "text"}, "dimensions": {"eg:Sku": "typed"}}
     files = {"odd": json.dumps(sheet), "one": odd_report(""), "two": odd_report("x"), "drawn": json.dumps(fold.sheet())}

@@ -6,8 +6,8 @@
 
 A part is the proof of a crate, the proof of its tests, its must-fail edits or its runs. The processes are sampled twice a
 second to find when a part begins and ends; 'processor' is the part's seconds, summed over all processors. Runs are not
-sampled: their times are taken from the lines of the gate, and 'processor' is 0. The status is 0 if the last line
-`N passed, M failed` counts no failure, otherwise 1. With FILE the status is 0, or 2 if FILE has no table.
+sampled: their times are taken from the lines of the gate, and 'processor' is 0. The status is 0 if M is 0 in the last line
+`N passed, M failed`, otherwise 1. With FILE the status is 0, or 2 if FILE has no table.
 """
 import os
 import re
@@ -18,7 +18,7 @@ import time
 PARTS = ("proof", "tests", "edits", "runs")
 HEAD = f"{'crate':<14}{'part':<7}{'from':>8}{'to':>8}{'seconds':>9}{'processor':>11}"
 TICKS = os.sysconf("SC_CLK_TCK")
-# lines that the gate prints about the runs, which it makes last, one at a time
+# lines that the gate prints about runs; they are its last parts, one at a time
 RUN = re.compile(r"(?:rt: )?(\w+) ran[ ,(]|(?:rt: )?(\w+): its tests (?:passed|FAILED)")
 ENDED = re.compile(r"\d+ passed, (\d+) failed")
 
@@ -33,7 +33,7 @@ def contents(path):
 
 
 def processes():
-    """Returns the parent of each process, and its processor seconds, with those of its ended children."""
+    """Returns the parent and the processor seconds of each process. The seconds include the process's ended children."""
     found = {}
     for pid in filter(str.isdigit, os.listdir("/proc")):
         fields = contents(f"/proc/{pid}/stat").rpartition(b")")[2].split()
@@ -83,7 +83,7 @@ class Watch(threading.Thread):
     def look(self, there, now):
         roots, under = writers(self.pipe), {}
         for pid in there:
-            # the topmost check above each process of the run
+            # the topmost check above this process, if it belongs to the run
             line, at = [], pid
             while at in there and at not in roots and len(line) < 64:
                 line.append(at)
@@ -107,7 +107,8 @@ class Watch(threading.Thread):
 
 
 def table(watch, runs, whole):
-    """Returns the lines of the table."""
+    """Returns the lines of the table: for each part its start, end, elapsed time and processor time, in seconds. Crates are in the
+    order in which they began."""
     rows = {key: (*span, sum(watch.spent[key].values())) for key, span in watch.spans.items()}
     rows.update({(crate, "runs"): (*span, 0) for crate, span in runs.items()})
     crates = sorted({key[0] for key in rows}, key=lambda it: min(rows[key][0] for key in rows if key[0] == it))

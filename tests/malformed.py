@@ -3,14 +3,14 @@
 
     [CASES=5000] [SEED=1] [CASE=N] [JOBS=N] tests/malformed [PROGRAM]
 
-PROGRAM is $XBRLMERGE or the built one by default. Each run must end within 10 seconds, not by a signal, with a status and
-lines that its input allows. A report is read in full and, with spaces after it, in pieces; both results must be equal. A
+By default, PROGRAM is $XBRLMERGE or the built program. Each run must end within 10 seconds, not by a signal, with a status and
+lines that its input allows. A report is read as it is and, with spaces after it, in pieces; both results must be equal. A
 refused report must not change the merged text of two good ones. An accepted report is merged; the text must be accepted and
 merge to the same bytes. JOBS processes run in parallel, as many as there are processors by default. CASE runs only the case
 with this number.
 
-Status 0: all is as expected. 1: it is not; the seed and the case are printed, and the broken bytes are written to a file; or a
-usual result is missing in a run of 5,000 cases or more. 2: there is no program.
+Status 0: all is as expected. 1: something is not, or a usual result is missing in a run of 5,000 cases or more. 2: there is no
+program. The first 20 faults are printed with the seed and the case. The broken bytes of all faults are written to files.
 """
 import argparse
 import collections
@@ -29,11 +29,11 @@ from support import TOP, built_program
 
 CASES, SEED, CASE = (int(os.environ.get(name, usual)) for name, usual in (("CASES", 5000), ("SEED", 1), ("CASE", -1)))
 JOBS = int(os.environ.get("JOBS", len(os.sched_getaffinity(0))))
-# cases that share a sheet and good reports, and the most seconds of a run
+# the number of cases that share a sheet and good reports, and the most seconds of a run
 BATCH, LIMIT = 25, 10
 # reports of at least this many bytes are read in pieces
 IN_PIECES = 131_072
-# the number of facts, or of spaces after each comma, that make a report so long
+# the number of facts, or of spaces after each comma, in a report that is read in pieces
 MANY, SPREAD = 1_300, 3_000
 
 REASONS = """NotJson MemberForm UnknownMember DocumentType Namespace BaseUrl TaxonomyUrl Feature Links Notes DimensionsMissing
@@ -169,7 +169,7 @@ def spliced(chance, text, other):
 
 
 def replaced(chance, text, pattern, choices):
-    """Replaces a part of a text that matches the pattern by one of the choices. If no part matches, it replaces a drawn part."""
+    """Replaces a part of a text by one of the choices. The part matches the pattern or, if no part matches, is drawn."""
     found = list(re.finditer(pattern, text))
     start, end = chance.choice(found).span() if found else stretch(chance, text)
     return text[:start] + chance.choice(choices) + text[end:]
@@ -206,7 +206,7 @@ def broken(chance, text, other):
 
 
 class Batch:
-    """A folder with a sheet and two good reports, in which cases are run."""
+    """A folder in which cases are run, with a sheet and two good reports."""
 
     def __init__(self, program, number):
         chance = random.Random(f"{SEED} of {number}")
@@ -235,7 +235,7 @@ class Batch:
         return text
 
     def expect_text(self, text, sheet="sheet"):
-        """Checks that a written text is accepted as canonical, and written again unchanged."""
+        """Checks that a written text is accepted as canonical, and that merging it changes nothing."""
         write("text", text)
         status, line, lines, told = self.run("check", "--sheet", sheet, "text")
         found = CHECKED.fullmatch(line)
@@ -243,7 +243,7 @@ class Batch:
         expect(self.written("text", sheet=sheet) == text, "merging the written text changes it")
 
     def expect_reports(self, status, lines, told, most):
-        """Checks that status 0 has no line, and that status 1 has only lines of refused reports, in the order of the reports.
+        """Checks that status 0 has no line, and that status 1 has only lines about refused reports, in the reports' order.
         Counts the reasons."""
         found = list(REPORT_LINE.finditer(lines))
         numbers = [int(it[1]) for it in found]
@@ -256,8 +256,8 @@ class Batch:
         write("broken", self.content)
 
     def of_report(self, chance, drawn=drawn_report):
-        """Tests a broken report between two good ones. Reading it in pieces must have the same result, and `check` the same
-        refusal."""
+        """Tests a broken report between two good ones. Reading it in pieces must have the same result, and `check` must print
+        the same refusal."""
         self.write_broken(chance, drawn(chance), self.one)
         status, text, lines, told = self.run("merge", "--sheet", "sheet", "one", "broken", "two")
         self.expect_reports(status, lines, told, 3)
@@ -373,7 +373,7 @@ def main():
     ends = ", ".join(f"{counts[it]} {it}" for it in sorted(counts) if it[-1].isdigit())
     reasons = sum(1 for it in counts if not it[-1].isdigit())
     print(f"tests/malformed: {len(cases)} cases with SEED={SEED}, {len(wrong)} not as expected, in "
-          f"{time.monotonic() - started:.0f} seconds. By kind and status: {ends}; reports were refused for {reasons} reasons")
+          f"{time.monotonic() - started:.0f} seconds. By kind and status: {ends}; {reasons} different reasons for refusals")
     if is_tame(counts):
         print("tests/malformed: the cases cover too little")
     return 1 if wrong or is_tame(counts) else 0

@@ -1,16 +1,16 @@
 #!/usr/bin/env python3
-"""Lets offices exchange merged texts, and compares each text with one merge of the reports that reached the office. Not part of
-the gate.
+"""Lets offices exchange merged texts, and compares the text of each office with one merge of the reports that reached it. Not
+part of the gate.
 
     [SCHEDULES=200] [SEED=1] tests/offices [PROGRAM]
 
-PROGRAM is $XBRLMERGE or the built one by default. Three offices, each with its own folder, use only the commands `merge` and
-`check`. They follow a drawn schedule: they take reports, and exchange texts. Some reports are refused. Texts arrive late,
+By default, PROGRAM is $XBRLMERGE or the built program. Three offices, each with its own folder, use only the commands `merge`
+and `check`. They follow a drawn schedule: they take reports, and exchange texts. Some reports are refused. Texts arrive late,
 repeated or reordered, and an office may lose everything. A sent text must be canonical and declare the strictest level that
 its facts satisfy, as computed from the definition. Some texts are then sent in the earlier form, without a level.
 
-Status 0: all texts are equal. 1: some are not, and the difference is printed with the seed and the schedule; or a run of
-200 schedules or more had no event of some counted kind, such as a restart. 2: there is no program.
+Status 0: all is as expected. 1: something is not, and is printed with the seed and the schedule; or a counted event, such as a
+restart, is missing in a run of 200 schedules or more. 2: there is no program.
 """
 import argparse
 import fractions
@@ -68,7 +68,7 @@ def fact(chance, prefix):
 
 
 def report(chance, is_refused):
-    """Draws the text of a report with its own prefix. A refused one has one of three faults."""
+    """Draws the text of a report with its own prefix. A report that must be refused has one of three faults."""
     prefix, fault = chance.choice(["m", "made"]), chance.randint(1, 3) if is_refused else 0
     facts = {f"{number}": fact(chance, prefix) for number in range(chance.randint(1, 3))}
     if fault == 1:
@@ -80,7 +80,7 @@ def report(chance, is_refused):
 
 
 def level_of(texts):
-    """Returns the strictest level that the facts of reports satisfy, by its definition. Each fact counts once."""
+    """Returns the strictest level that the facts of reports satisfy, computed from the definition. Each fact counts once."""
     rows = {}
     for text in texts:
         for made in json.loads(text)["facts"].values():
@@ -96,8 +96,8 @@ def level_of(texts):
 
 
 def do_meet(row):
-    """Returns whether all pairs of different facts in a row meet: their rounding intervals have a common number. Texts never
-    meet."""
+    """Returns whether all facts in a row meet, that is, whether their rounding intervals have a common number. Different
+    texts never meet."""
     if any(isinstance(it, str) for it in row):
         return False
     ends = [(number, fractions.Fraction(10) ** -places / 2) for number, places in row]
@@ -134,7 +134,7 @@ class Schedule:
         return run(self.program, "merge", "--sheet", "sheet.json", "--", *files)
 
     def present(self, office):
-        """Returns the text of an office. If the office has none, the text without facts is written there first."""
+        """Returns the text of an office. If the office has none, a text without facts is written for it first."""
         if not os.path.exists(f"{office}/merged.json"):
             status, text, lines = self.merge()
             expect((status, lines) == (0, ""), f"a merge of no report ends with {status}: {lines}")
@@ -142,7 +142,7 @@ class Schedule:
         return bytes_of(f"{office}/merged.json")
 
     def merged_with(self, office, file, is_refused):
-        """Merges a file into the text of an office. If the file is refused, the text does not change."""
+        """Merges a file into the text of an office. If the file is refused, the text must not change."""
         before = self.present(office)
         status, text, lines = self.merge(f"{office}/merged.json", file)
         found = REFUSED.fullmatch(lines)
@@ -219,7 +219,7 @@ class Schedule:
 
 
 def play(program, seed, counts):
-    """Runs a schedule and returns the number of its events, or 0 if something is wrong, which is printed."""
+    """Runs a schedule and returns the number of its events. If something is wrong, prints it and returns 0."""
     schedule = Schedule(program, seed, counts)
     with tempfile.TemporaryDirectory() as room:
         os.chdir(room)

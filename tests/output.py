@@ -1,10 +1,10 @@
 #!/usr/bin/env python3
-"""Runs the program with `--output`, and makes each call that writes the file fail, or kill the run. Not part of the gate.
+"""Checks `--output` when each call that writes the file fails in turn, and when the run is killed there. Not part of the gate.
 
     tests/output [PROGRAM]
 
-It also names outputs that cannot be replaced, such as links. PROGRAM is $XBRLMERGE or the built one by default. The test
-needs cc.
+The script also tests outputs that cannot be replaced, such as links. By default, PROGRAM is $XBRLMERGE or the built program.
+The test needs cc.
 
 Status 0: the file is always the old one or the complete new one, and only killed runs leave other files. 1: some cases are not
 as expected; each is printed. 2: there is no program, or no cc.
@@ -83,7 +83,7 @@ class Tests:
         self.is_(f"{what}: {left} remains", len(left) <= others)
 
     def each_call(self, name, old):
-        """Runs a command without faults, then with each of its calls failing in turn, then killed at each call."""
+        """Runs a command without faults. Then, for each of its calls, lets the call fail, and kills the run at the call."""
         words = COMMANDS[name]
         self.empty(False)
         text = self.run(words).stdout
@@ -116,7 +116,7 @@ class Tests:
             make(f"{self.folder}/new")
             ran = self.run(words)
             self.is_(f"{what}: {ran.returncode} {ran.stderr}", (ran.returncode, ran.stderr) == (3, UNWRITTEN))
-            self.is_(f"{what}: what is left", os.listdir(self.folder) == ["new"])
+            self.is_(f"{what}: the files that remain", os.listdir(self.folder) == ["new"])
         for what, status, more in (("too loose", 2, ["--allow", "none"]), ("no such report", 3, ["none"])):
             self.empty(True)
             ran = self.run([*words, *more])
@@ -137,7 +137,7 @@ class Tests:
         self.is_(f"over setuid: status {ran.returncode}, mode {mode:o}", (ran.returncode, mode) == (0, 0o755))
 
     def among_leftovers(self):
-        """Tests that the files left by 1,001 killed runs do not stop the program."""
+        """Tests that the program succeeds in a folder with 1,001 files like those that killed runs leave."""
         self.empty(True)
         text = self.run(COMMANDS["check"]).stdout
         for number in range(1_001):

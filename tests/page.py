@@ -3,17 +3,17 @@
 
     [XBRLMERGE=PROGRAM] tests/page [PICTURE.png]
 
-It runs the tool on examples/ with the built program. The page that the browser shows must contain each contradiction. In the
-light and the dark theme, the background, the values and the gaps of the number lines must have their colours. If this page
-is as expected, a picture of it in the light theme is written to PICTURE.png; docs/contradictions.png is made this way.
+The script runs the tool on examples/ with the built program. The page that the browser shows must contain each contradiction.
+In the light and the dark theme, the background, the values and the gaps of the number lines must have their colours. If this
+page is as expected, a picture of it in the light theme is written to PICTURE.png; docs/contradictions.png is made this way.
 
-On 11,000 contradictions that the script generates, the tool may take at most 10 seconds of a processor and 300 MB. The
-browser must show something within 2 seconds, draw the page within 30 and return its whole text within 60. An entry of the
+On 11,000 contradictions that the script generates, the tool may take at most 10 seconds of a processor and 300 MB of memory.
+The browser must show something within 2 seconds, draw the page within 30 and return its whole text within 60. An entry of the
 index must open the rows of its concept. The filter must count the rows that contain its words, and show at most 100 of them.
 Nothing may be wider than the window, at any of three widths.
 
-Status 0: all is as expected, or no Chromium is installed, which a line reports. 1: it is not; each fault is printed. 2: the
-program is not built, or a process failed or took too long.
+Status 0: all is as expected, or no Chromium is installed, which a line reports. 1: something is not; each fault is printed. 2:
+the program is not built, or a process failed or took too long.
 """
 import argparse
 import collections
@@ -31,12 +31,12 @@ import zlib
 from support import TOP, built_program
 
 TOOL = os.path.join(TOP, "tools", "contradictions.py")
-sys.path.insert(0, os.path.join(TOP, "tests", "tools"))  # has the script that makes the large text
+sys.path.insert(0, os.path.join(TOP, "tests", "tools"))  # has workload.py, which makes the many contradictions
 import workload  # noqa: E402
 BROWSERS = ("chromium", "chromium-browser", "google-chrome", "chrome")
 SHEET, *REPORTS = (os.path.join(TOP, "examples", f"{name}.json") for name in ("sheet", "issuer", "ledgerline", "statfeed"))
 SECONDS, MEGABYTES, CONTRADICTIONS = 10, 300, 11_000
-PAINT = 2_000  # milliseconds until something is shown
+PAINT = 2_000  # the most milliseconds until something is shown
 # the script that reports when the browser first showed something
 PAINTED = """<body><script>new PerformanceObserver(list => list.getEntries().forEach(entry => console.log("painted", entry.startTime)))
 .observe({type: "paint", buffered: true})</script>"""
@@ -61,7 +61,7 @@ setTimeout(() => {
   }, 3000);
 }, 2000);
 </script></body>"""
-# the providers of the two values of a contradiction, and their identifiers
+# for each value of one contradiction, its provider and its identifier in the provider's report
 OWN_NAMES = ("issuer f56", "statfeed TS08780")
 # the colours of the background, of a value of the pair and of the gap, in each theme
 LOOKS = {"light": ("ffffff", "b3201f", "f3c9c5"), "dark": ("16181c", "ff8a80", "5c2b2b")}
@@ -75,7 +75,7 @@ def run(words, seconds=120, wanted=0):
 
 
 def build(room):
-    """Makes the page. Returns its path, and the numbers and the pairs of the contradictions."""
+    """Makes the page. Returns its path and, by row number, the pairs of facts that contradict each other."""
     page, lines, program = os.path.join(room, "example", "page.html"), os.path.join(room, "lines"), built_program()
     run([sys.executable, TOOL, "--program", program, "--sheet", SHEET, "-o", os.path.dirname(page), *REPORTS], wanted=1)
     with open(lines, "wb") as file:
@@ -86,7 +86,7 @@ def build(room):
 
 
 def colours(picture):
-    """Returns how many pixels each colour has in a PNG of 8 bits per channel, as Chromium writes it."""
+    """Returns how many pixels each colour has in a PNG with 8 bits per channel, such as Chromium writes."""
     at, data, seen = 8, b"", collections.Counter()
     width, height, depth, kind = struct.unpack(">IIBB", picture[16:26])
     channels = {2: 3, 6: 4}[kind if depth == 8 else None]
@@ -109,7 +109,7 @@ def colours(picture):
 
 
 def look_at_example(words, room, kept):
-    """Returns the faults of the page of examples/. If it has none and `kept` is a path, the light picture is copied there."""
+    """Returns the faults of the page of examples/. If there are none and `kept` is a path, copies the light picture there."""
     page, rows = build(room)
     content = run([*words, "--window-size=1100,1200", "--dump-dom", f"file://{page}"]).decode()
     sections = {part.split('"')[0]: part for part in content.split(' id="row')[1:]}
@@ -151,7 +151,7 @@ def look_at_large(words, room):
     told = f"{rows} contradictions: made in {made:.1f} s of a processor and {peak:.0f} MB, {os.path.getsize(page) / 1e6:.1f} MB of page, "
     faults = [f"the page has {rows} rows"] * (rows != CONTRADICTIONS)
     faults += [f"the tool took {made:.1f} s and {peak:.0f} MB"] * (made > SECONDS or peak > MEGABYTES)
-    faults += [f"the first paint came after {painted:.0f} ms"] * (painted > PAINT)
+    faults += [f"the first paint was after {painted:.0f} ms"] * (painted > PAINT)
     faults += [fault for width in WIDTHS for fault in ask(words, page, width)]
     return faults, told + f"first paint after {painted:.0f} ms, drawn in {drawn:.1f} s, whole text returned in {held:.1f} s"
 

@@ -3,10 +3,10 @@
 
     tests/pages [PAGE ..]
 
-It prints the number of words of each page in BOUNDS beside its bound; pages that share a bound have one number. If pages are
-named, it prints only their numbers and follows only their links. Code blocks, comments and generated tables (from a comment
-that begins with `generated` to one that begins with `end`) do not count. In docs/DOUBT.md and docs/FORMAT.md, tables and entry
-lines do not count either. Entry lines name the definitions to read in `crates/`.
+The script prints the number of words of each page in BOUNDS beside its bound; pages that share a bound have one number. If
+pages are named, it prints only their numbers and follows only their links. Code blocks, comments and generated tables (from a
+comment that begins with `generated` to one that begins with `end`) do not count. In docs/DOUBT.md and docs/FORMAT.md, tables
+and entry lines do not count either. Entry lines name the definitions to read in `crates/`.
 
 The status is 1 if a page is missing or too long, or if the file or the heading of a relative link does not exist.
 """
@@ -45,7 +45,7 @@ ELSEWHERE = re.compile(r"[a-z]+:")
 
 
 def words(path):
-    """Returns how many words of a page count."""
+    """Returns the number of words of a page, without the parts that its bound ignores."""
     text = content(path)
     for left_out in (GENERATED, COMMENT, CODE_BLOCK, *([NO_PROSE] if path in PROSE else [])):
         text = left_out.sub("", text)
@@ -64,7 +64,7 @@ def anchors(path):
 
 
 def broken_links(path):
-    """Returns the relative links of a page whose file or heading does not exist."""
+    """Returns a line for each relative link of a page that leads to no file or no heading."""
     text, broken = CODE.sub("", CODE_BLOCK.sub("", content(path))), []
     for link in (it for it in LINK.findall(text) if not ELSEWHERE.match(it)):
         name, _, anchor = link.partition("#")

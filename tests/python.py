@@ -3,12 +3,13 @@
 
     [XBRLMERGE=PROGRAM] [XBRLMERGE_LIBRARY=LIBRARY] [SETS=300] [SEED=1] tests/python [unittest's arguments]
 
-It makes each call on the examples, and each call except `check` on SETS sets of drawn reports. A call must return the bytes
-and lines of the program's command, or raise the exception for its status. Four threads merge at once. A wheel is built and,
-if pip is installed, installed and used. If pandas is installed, it reads the records. If pandas or pyarrow is installed, it
-reads the columns. If mypy is installed, it checks the module's types. The test needs ./build and ./build --library.
+The script makes each call on the examples, and each call except `check` on SETS sets of drawn reports. A call must return the
+bytes and lines of the program's command, or raise the exception for its status. Four threads merge at once. A wheel is built.
+If pip is available, it installs the wheel, and the installed module merges the examples. If pandas is installed, it reads the
+records. If pandas or pyarrow is installed, it reads the columns. If mypy is installed, it checks the module's types. The test
+needs ./build and ./build --library.
 
-Status 0: all is as expected. 1: it is not. 2: the program or the library is not built.
+Status 0: all is as expected. 1: something is not. 2: the program or the library is not built.
 """
 import concurrent.futures
 import csv
@@ -129,7 +130,7 @@ class Examples(unittest.TestCase):
         try:
             import pandas
         except ImportError:
-            self.skipTest("there is no pandas")
+            self.skipTest("pandas is not installed")
         records = xbrlmerge.merge(SHEET, EXAMPLES).rows()
         frame = pandas.DataFrame(records)
         self.assertEqual(frame.shape, (len(records), len(set().union(*records))))
@@ -151,7 +152,7 @@ class Examples(unittest.TestCase):
                 try:
                     module = importlib.import_module(name)
                 except ImportError:
-                    self.skipTest(f"there is no {name}")
+                    self.skipTest(f"{name} is not installed")
                 columns = xbrlmerge.verdict_columns(SHEET, EXAMPLES)
                 self.assertEqual(getattr(module, table)(columns).shape, (len(columns["row"]), len(columns)))
 
@@ -163,7 +164,7 @@ class Examples(unittest.TestCase):
 
     def test_types_hold(self):
         if shutil.which("mypy") is None:
-            self.skipTest("there is no mypy")
+            self.skipTest("mypy is not installed")
         words = ("mypy", "--strict", "--cache-dir", os.devnull, f"{TOP}/python/xbrlmerge")
         done = subprocess.run(words, capture_output=True, text=True)
         self.assertEqual(done.returncode, 0, done.stdout)
@@ -215,7 +216,7 @@ class Drawn(unittest.TestCase):
             self.assertEqual(list(pool.map(work, (place % 2 for place in range(THREADS)))), wanted)
 
     def test_other_threads_go_on(self):
-        # a call of at least a tenth of a second; if it held Python's lock, the counter would not advance
+        # a long call; if the call held Python's lock, the counter would not advance
         reports = [bytes_of(path) for path in EXAMPLES] * 150
         with concurrent.futures.ThreadPoolExecutor(1) as pool:
             done, ticks = pool.submit(xbrlmerge.merge, SHEET, reports), 0
@@ -234,7 +235,7 @@ class Wheel(unittest.TestCase):
             self.assertRegex(name, r"^xbrlmerge-[\w.]+-py3-none-(manylinux_2_\d+|linux)_x86_64\.whl$")
             words = ("-m", "pip", "install", "-q", "--no-index", "--no-deps", "--target", f"{room}/there", f"{room}/{name}")
             if subprocess.run([sys.executable, "-m", "pip", "--version"], capture_output=True).returncode != 0:
-                self.skipTest("there is no pip")
+                self.skipTest("pip is not installed")
             subprocess.run([sys.executable, *words], check=True, capture_output=True)
             code = f"import xbrlmerge; print(xbrlmerge.__file__); print(len(xbrlmerge.merge({SHEET!r}, {EXAMPLES!r}).text))"
             around = {key: value for key, value in os.environ.items() if key != "XBRLMERGE_LIBRARY"}

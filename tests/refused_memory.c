@@ -1,7 +1,7 @@
 /* This library, loaded by LD_PRELOAD, replaces malloc, calloc and realloc of the C library (glibc). Two environment variables
-   control it. Requests are counted from 1 once the libraries are loaded. The request with the number REFUSE is refused, and the
-   line "refused" is written to the file REFUSE_TOLD. When the process ends, unless it is killed, the number of requests is
-   written to that file. Without REFUSE_TOLD, requests are neither counted nor refused. */
+   control this library. Requests are counted from 1 once the libraries are loaded. The request with the number REFUSE is
+   refused, and the line "refused" is written to the file that REFUSE_TOLD names. When the process ends, unless it is killed,
+   the number of requests is appended to that file. Without REFUSE_TOLD, requests are neither counted nor refused. */
 #include <errno.h>
 #include <fcntl.h>
 #include <stdio.h>

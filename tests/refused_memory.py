@@ -1,19 +1,19 @@
 #!/usr/bin/env python3
-"""Refuses each request for memory that the tests and the program make, in turn. Not part of the gate.
+"""Refuses, in turn, each request for memory that the tests and the program make. Not part of the gate.
 
     [JOBS=N] tests/refused_memory [CRATE | program ..]
 
 The tests of a crate are crates/NAME/out/NAME_tests, which `rt test` makes. The program is ./xbrlmerge, or
-crates/xbrlmerge/out/xbrlmerge if that does not exist. Without arguments it tests all crates that have tests, and the program.
-A first run of each test counts the requests. A second run, told to refuse the request after the last one, must refuse none.
-Each later run refuses one request. A test must pass and print that a call got no memory (`refused`) or that its own setup got
-none (`refused here`); if it prints neither, the request counts as passed over. The program runs with arguments for every
-command. It must print the line `out of memory`, end with status 3 and have written nothing or a first part of its text. It
-may also end as if nothing was refused. Two kinds of requests may be refused without harm: those for the key of a cache while
-a report is read, and those for clap's search for similar words. For the same reason no request counts as passed over in the
-tests of crates that read reports. JOBS runs are parallel, as many as there are processors by default. If a test makes more
-than 5,000 requests, only each 7th is refused from request 2,001 on. Fewer are refused if it makes more than 50,000, or if its
-runs are long. If some are left out, a line reports which were refused.
+crates/xbrlmerge/out/xbrlmerge if that does not exist. Without arguments, the script tests all crates with tests, and the
+program. A first run of each test counts the requests. A second run, set to refuse the request after the last one, must refuse
+none. Each later run refuses one request. A test must pass and print that a call got no memory (`refused`) or that its own
+setup got none (`refused here`); if it prints neither, the request counts as passed over. The program runs with arguments for
+every command. It must either print the line `out of memory` and end with status 3, after writing nothing or a first part of
+its text, or end as if nothing was refused. Two kinds of requests can be refused without harm: those for the key of a cache
+while a report is read, and those for clap's search for similar words. For the same reason, no request counts as passed over in
+the tests of crates that read reports. JOBS processes run in parallel, as many as there are processors by default. If a test
+makes more than 5,000 requests, only each 7th is refused from request 2,001 on. Fewer are refused if it makes more than 50,000,
+or if its runs are long. If some are left out, a line reports which were refused.
 
 Status 0: nothing failed and nothing was passed over. 1: something failed or was passed over. 2: a name is unknown, there is no
 cc, or tests or the program are not built or are older than the sources.
@@ -37,10 +37,10 @@ PROGRAM = "program"
 JOBS = int(os.environ.get("JOBS", len(os.sched_getaffinity(0))))
 # if a test makes more than MANY requests, the first ALL are refused, and then each EVERY-th
 MANY, ALL, EVERY = 5000, 2000, 7
-# if it makes more than MOST, as tests that let a device fail at each byte do, at most FEW are refused, spread evenly. If its
-# runs, one after another, would take more than SECONDS, as many are refused as fit in that time, or about 100 if fewer fit
+# if it makes more than MOST, at most FEW are refused, spread evenly; tests that let a device fail at each byte make so many. If
+# its runs would take more than SECONDS in sequence, as many are refused as fit in that time, but about 100 at least
 MOST, FEW, SECONDS = 50_000, 1000, 240
-# how many requests a process refuses in turn, and the time limit of a run in seconds
+# how many requests a task refuses at most, and the time limit of a run in seconds
 SHARE, LIMIT = 40, 60
 # the least bytes that a sink takes at a time, except the last time
 CHUNK = 1 << 16
@@ -98,7 +98,7 @@ def is_older(built, crates):
 
 
 def newest(places, crates):
-    """Returns the first of these files that exists. It must be newer than the sources."""
+    """Returns the first of these files that can be executed. It must not be older than the sources."""
     found = [it for it in places if os.access(it, os.X_OK)]
     if not found:
         raise NotBuilt(f"there is no {places[0]}")
@@ -154,7 +154,7 @@ def ending_of_program(subject, ran):
 
 
 def ending(subject, ran):
-    """Returns the result of a refused request."""
+    """Classifies the result of a run with a refused request."""
     if not ran.came or ran.requests is None:
         return FAILED
     return ending_of_program(subject, ran) if subject.whole else ending_of_test(subject, ran)
@@ -199,7 +199,7 @@ def refuse(task):
 
 
 def count_requests(task):
-    """Runs a subject with nothing refused, and again, told to refuse the request after the last one, which it must not make."""
+    """Counts the requests of a subject with nothing refused. A second run refuses a further request, which it must not make."""
     library, subject = task
     started = time.monotonic()
     ran = run(library, subject, 0)
@@ -208,7 +208,7 @@ def count_requests(task):
     behind = run(library, subject, ran.requests + 1)
     seconds = (time.monotonic() - started) / 2
     is_end = (behind.status, behind.came, behind.requests) == (ran.status, False, ran.requests)
-    wrong = [] if is_end else [f"{subject.label}: it made {ran.requests} requests, and then {behind.requests}"]
+    wrong = [] if is_end else [f"{subject.label}: the first run made {ran.requests} requests, the second {behind.requests}"]
     return Counted(ran.requests, seconds, wrong)
 
 
@@ -220,7 +220,7 @@ def numbers_of(counted):
     numbers, said = range(1, requests + 1), None
     if requests > MANY:
         numbers = [*range(1, ALL + 1), *range(ALL + 1, requests + 1, EVERY)]
-        said = f"of {requests:,} requests each {EVERY}th was refused from {ALL + 1:,} on"
+        said = f"of {requests:,} requests, only each {EVERY}th was refused from request {ALL + 1:,} on"
     room = int(SECONDS / max(counted.seconds, 0.001))
     return spread(requests, max(room, 100)) if len(numbers) > max(room, 100) else (numbers, said)
 
@@ -228,7 +228,7 @@ def numbers_of(counted):
 def spread(requests, many):
     """Returns at most this many request numbers, spread evenly from the first on, and a line that describes them."""
     step = -(-requests // many)
-    return range(1, requests + 1, step), f"of {requests:,} requests each {step:,}th was refused from the first on"
+    return range(1, requests + 1, step), f"of {requests:,} requests, each {step:,}th was refused from the first on"
 
 
 def shared_out(library, subject, numbers):
@@ -280,8 +280,8 @@ def long_report(room):
 
 
 def write_inputs(room):
-    """Writes inputs that the examples lack: a bundle, lists of names, a schedule, a long report with its sheet, and inputs that
-    are refused."""
+    """Writes inputs in addition to the examples: a bundle, lists of names, schedules, a long report with its sheet, and inputs
+    that are refused."""
     examples = [f"{TOP}/examples/{name}.json" for name in ("sheet", "issuer", "oldharbour", "statfeed")]
     lines = [bytes_of(name).strip(b"\n") for name in examples]
     names = [os.fsencode(name) for name in examples[1:]]
@@ -295,7 +295,7 @@ def write_inputs(room):
     long_report(room)
 
 
-# command lines: @ stands before a file of the examples, % before a file that the script makes, and < before the standard input
+# command lines: @ marks a file in examples/, % a file in the script's folder, and < the standard input
 LINES = """
  < %bundle
  < %bad_sheet
@@ -379,8 +379,8 @@ def main():
             print(f"{name}: {row['refused in turn']:,} requests refused in {row[CLOCK]} seconds", *wrong[:SHOWN],
                   *[f"and {len(wrong) - SHOWN} more"] * (len(wrong) > SHOWN), sep="\n    ", flush=True)
             if row["fronts"]:
-                said.append(f"{name}: {row['fronts']:,} runs had written a first part of their text, {row['long fronts']:,} at least "
-                            f"{CHUNK:,} bytes of it")
+                said.append(f"{name}: {row['fronts']:,} runs had written a first part of their text, {row['long fronts']:,} of them at least "
+                            f"{CHUNK:,} bytes")
     print(table(rows), *said, sep="\n")
     return 1 if failed else 0
 

@@ -5,14 +5,14 @@
 
 make_sheet reads schemas, catalogs and sheets; contradictions reads label linkbases, merged texts, sheets and the lines of
 `verdicts` and `sources`; normalise reads reports and sheets. In most cases one file is broken, or the package that contains
-it, or both. Each run must end within 10 seconds of processor time and 1 GB of memory, with status 0, 1 or 3. It may print only
-lines that a terminal can show, and must not raise an exception that the tool does not expect. With status 0 or 1 all outputs
-must be complete, and normalise must leave its own output unchanged. With status 3 no output may change. The tools run in this
-process; one case in 20 also runs as a process, with the same result. JOBS processes run in parallel, as many as there are
-processors by default. CASE runs only the case with this number.
+it, or both. Each run must end within 10 seconds of processor time and 1 GiB of memory, with status 0, 1 or 3. It may print
+only lines that a terminal can show, and must not raise an exception that the tool does not expect. With status 0 or 1 all
+outputs must be complete, and a second run of normalise on its output must change nothing. With status 3 no output may change.
+The tools run in this process; one case in 20 also runs as a process, which must have the same result. JOBS processes run in
+parallel, as many as there are processors by default. CASE runs only the case with this number.
 
-Status 0: all is as expected. 1: it is not; the seed and the case are printed, and the files are kept; or a usual result is
-missing in a run of 5,000 cases or more.
+Status 0: all is as expected. 1: something is not, or a usual result is missing in a run of 5,000 cases or more. The first 20
+faults are printed with the seed and the case. The files of all faults are kept.
 """
 import argparse
 import collections
@@ -80,7 +80,7 @@ NAMES = "Alpha Beta Gamma Delta Epsilon Zeta Eta Theta".split()
 
 
 class Fault(BaseException):
-    """A result that is not as expected. No tool catches it."""
+    """A result that is not as expected. No tool catches this exception."""
 
 
 def expect(holds, told):
@@ -103,7 +103,7 @@ def reworded(chance, text, _):
 
 
 def dropped(chance, text, _):
-    """Removes a member."""
+    """Removes a drawn member whose value is not an object or an array, or a drawn part if there is no such member."""
     return malformed.replaced(chance, text, rb'"[\w:]+": ?(?:"[^"\\]*"|null|true|false|-?\d+)(?:, ?)?', (b"",))
 
 
@@ -216,7 +216,8 @@ class Room:
 
 
 def expecting(tool):
-    """Returns the tool, changed so that an unexpected exception fails the case. A process would only print a line."""
+    """Returns the tool, changed so that an unexpected exception fails the case. Without this change, the tool prints a line and
+    ends with status 3."""
     def main():
         try:
             return tool.main()

@@ -3,8 +3,8 @@
 
     tests/words [PROGRAM]
 
-The man page must also show the same forms of lines as the help. PROGRAM is $XBRLMERGE or the built one by default. Status 0:
-they have the same words. 1: they do not; each word is printed with the place where it is missing or should not be. 2: there
+The man page must also show the same forms of lines as the help. By default, PROGRAM is $XBRLMERGE or the built program. Status
+0: all have the same words. 1: some words differ; each is printed with the place where it is missing or should not be. 2: there
 is no program.
 """
 import os
@@ -25,7 +25,7 @@ NO_OPTIONS = "help"
 FILE = "file"
 # the options with a fixed list of values, and the name of these values
 CHOSEN = {"--allow": "LEVEL", "--format": "FORMAT"}
-# prints the completions after some words; the cursor is at the last one
+# prints the completions after some words; the cursor is at the last word
 ASK = 'source "$1"; shift; COMP_WORDS=("$@"); COMP_CWORD=$(($# - 1)); _xbrlmerge; printf "%s\\n" "${COMPREPLY[@]}"'
 
 
@@ -34,13 +34,13 @@ def said(*words, folder=None):
 
 
 def part(text, title):
-    """Returns the indented lines below a title of a help text, or an empty text if it has no such title."""
+    """Returns the indented lines below a title of a help text, or an empty text if the title is missing."""
     found = re.search(rf"^{title}:\n((?:  .*\n)+)", text, re.MULTILINE)
     return found.group(1) if found else ""
 
 
 def told_by_help(program):
-    """Returns the words in the help of the program (the empty name) and of each command."""
+    """Returns the words in the help, by command. The key of the program's own help is empty."""
     helps = {"": said(program, "--help")}
     for command in re.findall(r"^  (\w+)", part(helps[""], "Commands"), re.MULTILINE):
         helps[command] = said(program, *([command, "--help"] if command != NO_OPTIONS else [command, command]))
@@ -81,12 +81,12 @@ def told_by_synopsis(told):
 
 
 def told_by_man():
-    """Returns the words in each part of COMMANDS in the man page. In a tag, arguments have capitals, and values have none."""
+    """Returns the words in each part of COMMANDS in the man page. In a tag, arguments are in capitals, and values are not."""
     pieces = re.split(r"^\.SS (.*)\n", section("COMMANDS"), flags=re.MULTILINE)
     told = {}
     for title, text in zip(pieces[1::2], pieces[2::2]):
         tags = "\n".join(re.findall(r"^\.TP\n\.\w+ (.*)", text, re.MULTILINE))
-        # options in a paragraph count too, so a paragraph may not name options that do not exist
+        # options in a paragraph count too, so a paragraph must not name options that do not exist
         told["" if " " in title else title] = {
             "options": set(OPTION.findall(text)),
             "values": set(re.findall(r"(?<![\w-])[a-z]+", tags)),

@@ -23,7 +23,7 @@ use that tool's options that lose something, such as --drop-notes. A report that
 --near NEAR.csv writes a table of pairs of rows that differ in one dimension only, perhaps by mistake: the same name or
 identifier in another namespace or scheme, other letter case or white space, dates at most a day apart, another unit or
 language, or a dimension that one row lacks. Pairs are left out if one provider reports both rows. For each set of rows that
-differ in the same dimension, at most 1,000 pairs, or pairs with about 10,000 facts, are compared.
+differ in the same dimension, at most 1,000 pairs are compared, fewer if the pairs found have more than 10,000 facts.
 
 --from uses the earlier output of `xbrlmerge merge` and `xbrlmerge verdicts`. --sources uses the output of `xbrlmerge sources`,
 and --names lists the providers in the order of the reports. Instead of both, you can name the merged report of each
@@ -35,7 +35,7 @@ In the tables, a ' precedes each text that a spreadsheet might read as a formula
 Status 0: all reports were read without loss, and there is no contradiction. 1: the files are written, and there is something
 to look at: a contradiction, a refused report, a loss of --normalise, a report that it cannot normalise, a part that --taxonomy
 leaves out, or pairs that --near did not compare (0 with --exit-zero). 2: invalid arguments. 3: not done, and standard error
-says why. Then no output has changed.
+shows why. Then no output has changed.
 """
 from __future__ import annotations
 
@@ -86,7 +86,7 @@ def read_options() -> argparse.Namespace:
 
 
 def check(parser: argparse.ArgumentParser, options: argparse.Namespace) -> None:
-    """Exits with a usage error if the options or the reports are invalid, or an output is also an input or another output."""
+    """Exits with a usage error if an option or the name of a report is invalid, or if an output is an input or another output."""
     if options.texts:
         if options.normalise or options.program:
             parser.error("--from takes neither --normalise nor --program")
@@ -162,7 +162,7 @@ def write(inputs: Inputs, options: argparse.Namespace, progress: Progress) -> St
 
 
 def summary(reader: Reader) -> str:
-    """Returns the number of rows, in all and of each kind, as text."""
+    """Returns the total number of rows, and the number for each verdict, as text."""
     of = reader.counts
     rows = counted(of["inconsistent"] + of["consistent"] + of["complete"], "row")
     return f"{rows}: {counted(of['inconsistent'], 'contradiction')}, {of['consistent']} consistent, {of['complete']} reported once"

@@ -11,7 +11,8 @@ item types are built in, except some of the data type registry.
 
 Enumeration sets are listed as text, and in the member xbrlmerge:sets, which tools/normalise reads. Standard error lists
 the parts that are left out: concepts whose values are fractions or contain prefixes (which would not be expanded), elements
-with an unknown type or substitution group or in a reserved namespace, and schemas without a namespace that no schema includes.
+with an unknown type or substitution group, elements in no namespace or a reserved one, and schemas without a namespace that
+no schema includes.
 
 Files may come from untrusted sources. Only regular files are read, and, without --outside, only those in a named folder, in
 the folder of a named file, or in a package. The limits are:
@@ -22,7 +23,7 @@ the folder of a named file, or in a package. The limits are:
     4 MB for schemas without a namespace that are read again, once for each further namespace whose schemas include them
 --megabytes N replaces 64 with N, and 4 with N / 16.
 
-Status 0: done. 1: done, but something is left out. 2: invalid arguments. 3: not done, and standard error says why. Standard
+Status 0: done. 1: done, but something is left out. 2: invalid arguments. 3: not done, and standard error shows why. Standard
 output then contains at most a part of a sheet.
 """
 import argparse

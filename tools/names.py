@@ -7,7 +7,7 @@ from typing import Any, Mapping, NamedTuple, Optional
 
 from process import shortened
 
-SPACE = " \t\r\n"  # the white space of XML and xBRL-JSON; other Unicode spaces are part of a name
+SPACE = " \t\r\n"  # the white space of XML and xBRL-JSON; a name may contain other Unicode spaces
 PART = re.compile(rf"[^{SPACE}:]+")
 NAME = re.compile(f"({PART.pattern}):({PART.pattern})")
 XBRL = "https://xbrl.org/2021"  # the reserved namespace; a sheet lists no name in it

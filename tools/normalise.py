@@ -4,10 +4,10 @@
     tools/normalise REPORT OUT CHANGES.jsonl [--sheet SHEET] [options]
 
 REPORT is an xBRL-JSON report. OUT is the new report, on one line. CHANGES.jsonl contains a line for each change, with the
-fact, the JSON pointer, the old and the new value, the rule, and whether something was lost. Identifiers, URIs and texts in it
-are shortened to 80 characters. Without options, nothing is lost. Some rules need the kind of a concept or dimension, and act
-only if SHEET lists it. If a rule has to leave a value as it is, such as a number with too many digits or, without --zones,
-a moment with a time zone, standard error says where and why. docs/GUIDE.md describes the rules and the list of changes.
+fact, the JSON pointer, the old and the new value, the rule, and whether something was lost. This file shortens identifiers, URIs
+and texts to 80 characters. Without options, nothing is lost. Some rules need the kind of a concept or dimension, and act
+only if SHEET lists it. If a rule has to leave an exponent, a set or a period as it is, standard error shows where and why.
+For example, a time zone stays without --zones. docs/GUIDE.md describes the rules and the list of changes.
 
 --drop-unreadable runs the program `xbrlmerge` and drops the facts that it refuses. The program should have the same version as
 this tool.
@@ -51,7 +51,7 @@ def read_options() -> argparse.Namespace:
 
 @contextlib.contextmanager
 def program_asked(options: argparse.Namespace) -> Iterator[Optional[Program]]:
-    """Yields the program with a temporary folder beside OUT, or None if no option needs it."""
+    """Yields the program with a temporary folder beside OUT, or None if no option needs the program."""
     if not options.drop_unreadable:
         yield None
         return

@@ -18,13 +18,13 @@ class Status(enum.IntEnum):
     """The exit status of a tool, unless a signal ends it."""
 
     DONE = 0
-    LOOK = 1  # done, with something to look at: a loss, an omission, a contradiction
+    LOOK = 1  # done, with something to look at, such as a loss, an omission or a contradiction
     USAGE = 2
     NOT_DONE = 3
 
 
 class NotDone(Exception):
-    """The reasons for which a tool failed. Each argument is a line for standard error."""
+    """The reasons why a tool failed. Each argument is a line for standard error."""
 
 
 class Stopped(BaseException):
@@ -58,7 +58,7 @@ def run(main: Callable[[], Status]) -> NoReturn:
 
 
 def finished(main: Callable[[], Status]) -> Status:
-    """Runs a tool, prints why it failed if it did, and returns its status."""
+    """Runs a tool, prints the reasons if it failed, and returns its status."""
     try:
         status, lines = outcome(main)
         print_lines(lines)
@@ -68,7 +68,8 @@ def finished(main: Callable[[], Status]) -> Status:
 
 
 def outcome(main: Callable[[], Status]) -> tuple[Status, tuple[str, ...]]:
-    """Runs a tool. Returns its status, and the reasons why it failed. By then, the memory that the tool used is free."""
+    """Runs a tool. Returns its status, and the reasons why it failed. An exception keeps the tool's objects in memory, so it is
+    dropped before the reasons are printed."""
     try:
         status = status_of(main)
         sys.stdout.flush()

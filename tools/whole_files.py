@@ -46,9 +46,9 @@ class Output:
 def write_files(texts: Iterable[tuple[str, Iterable[str]]]) -> None:
     """Writes all files or none. `texts` lists their paths and pieces.
 
-    Each file is written in a new folder beside its place, then moved to its place. It keeps the permissions of the file that
-    it replaces, and its owner and group if that is permitted. After a signal that `process.run` handles, the new files are
-    removed. Errors: OSError, and exceptions of the pieces. Every place is then unchanged.
+    Each file is written in a new folder beside its place, then moved to its place. It gets the owner, the group and the
+    permissions of the file that it replaces, each if permitted, but no setuid, setgid or sticky bit. After a signal that
+    `process.run` handles, the new files are removed. Errors: OSError, and exceptions of the pieces. Every place is then unchanged.
     """
     with files_written(texts):
         pass

@@ -36,10 +36,10 @@ _SOURCE_COLUMNS = ("fact", "report", "identifier")
 
 @dataclasses.dataclass(frozen=True)
 class Refusal:
-    """A refused report. It prints as the program's line."""
+    """A refused report. `str` returns the program's line for it."""
 
     report: int  #: the number of the report, from 1
-    number: int  #: the number of the refusal, as docs/REFUSALS.md lists them
+    number: int  #: the number of the refusal in docs/REFUSALS.md
     name: str  #: the name of the refusal, such as UnboundPrefix
     fact: Optional[int]  #: the fact's number, from 1 in byte order of identifiers; None for the document
 
@@ -49,7 +49,7 @@ class Refusal:
 
 
 class SheetRefused(ValueError):
-    """The sheet is refused. It prints as the program's line."""
+    """The sheet is refused. `str` returns the program's line."""
 
     def __init__(self, number: int) -> None:
         self.number, self.name = number, _library.refusal_name(number)
@@ -81,9 +81,10 @@ class Merged:
     def rows(self) -> List[Dict[str, Any]]:
         """Returns a record for each fact, for example for pandas.DataFrame.
 
-        A record has the identifier, the value, the decimals and the core dimensions (None if the fact lacks one), and the
-        other dimensions under their names. A value is the text in the report, or None for a nil fact. Names have the prefixes
-        that the documentInfo of this report binds, such as n1; another report may bind them to other namespaces.
+        A record has the identifier, the value, the decimals, the core dimensions, and the other dimensions under their names.
+        Decimals and core dimensions that the fact lacks are None. A value is the text in the report, or None for a nil fact.
+        Names have the prefixes that the documentInfo of this report binds, such as n1; another report may bind them to other
+        namespaces.
         """
         facts = json.loads(self.text)["facts"]
         return [_record(identifier, fact) for identifier, fact in facts.items()]
@@ -103,7 +104,7 @@ class Row:
 
 @dataclasses.dataclass(frozen=True)
 class Source:
-    """Where a fact comes from."""
+    """A report that contains a fact, and the fact's identifier in it."""
 
     fact: str  #: the fact's identifier in the canonical text
     report: int  #: the report's number, from 1
@@ -138,7 +139,7 @@ class Columns(Dict[str, List[Any]]):
 
 @dataclasses.dataclass(frozen=True)
 class Checked:
-    """The result for an accepted report. It prints as the program's line."""
+    """The result for an accepted report. `str` returns the program's line."""
 
     facts: int  #: the number of its facts, repeats included
     level: str  #: the strictest level that its facts satisfy
@@ -151,8 +152,8 @@ class Checked:
 def merge(sheet: Given, reports: Iterable[Given], allow: str = "all") -> Merged:
     """Merges reports under a sheet. Refused reports are skipped and returned.
 
-    `allow` is the level of duplicates that a row may have: none, complete, consistent or all. Raises TooLoose if a row
-    exceeds it, SheetRefused, and MemoryError.
+    `allow` is the loosest level that a row may have: none, complete, consistent or all. Raises TooLoose if a row
+    exceeds it, ValueError if it is not one of these, SheetRefused, MemoryError, OSError and TypeError.
     """
     if allow not in LEVELS:
         raise ValueError(f"allow must be one of {', '.join(LEVELS)}")
@@ -163,14 +164,16 @@ def merge(sheet: Given, reports: Iterable[Given], allow: str = "all") -> Merged:
 
 
 def verdicts(sheet: Given, reports: Iterable[Given]) -> Rows:
-    """Returns the verdict on each row of the accepted reports. Raises SheetRefused and MemoryError."""
+    """Returns the verdict on each row of the accepted reports. Raises SheetRefused, MemoryError, OSError and TypeError."""
     answer = _library.verdicts(_bytes(sheet), _each(reports))
     text = _text(answer)
     return Rows(map(_row, _lines(text)), text, _refusals(answer))
 
 
 def sources(sheet: Given, reports: Iterable[Given]) -> Sources:
-    """Returns, for each fact, the reports that contain it and its identifiers there. Raises SheetRefused and MemoryError."""
+    """Returns a Source for each fact object of the accepted reports, in the order of the program's lines. Raises SheetRefused,
+    MemoryError, OSError and TypeError.
+    """
     answer = _library.sources(_bytes(sheet), _each(reports))
     text = _text(answer)
     return Sources(map(_source, _lines(text)), text, _refusals(answer))
@@ -182,7 +185,7 @@ def verdict_columns(sheet: Given, reports: Iterable[Given]) -> Columns:
     The columns are: the number and the verdict of the row, the canonical identifier of the fact, its dimensions with names
     as {URI}local, its value and decimals, and the evidence of the row. `dimensions` contains the taxonomy-defined ones, as a JSON
     object. Absent values are None. Values, `common_low` and `common_high` are texts, so that no digit is lost. Raises
-    SheetRefused and MemoryError.
+    SheetRefused, MemoryError, OSError and TypeError.
     """
     answer = _library.verdicts_json(_bytes(sheet), _each(reports))
     text = _text(answer)
@@ -191,7 +194,8 @@ def verdict_columns(sheet: Given, reports: Iterable[Given]) -> Columns:
 
 def source_columns(sheet: Given, reports: Iterable[Given]) -> Columns:
     """Returns the sources as columns with an item for each fact object in an accepted report: the canonical identifier of the
-    fact, the number of the report, and the identifier in that report. Raises SheetRefused and MemoryError.
+    fact, the number of the report, and the identifier in that report. Raises SheetRefused, MemoryError, OSError and
+    TypeError.
     """
     answer = _library.sources_json(_bytes(sheet), _each(reports))
     text = _text(answer)
@@ -199,7 +203,9 @@ def source_columns(sheet: Given, reports: Iterable[Given]) -> Columns:
 
 
 def check(sheet: Given, report: Given) -> Union[Checked, Refusal]:
-    """Returns the result for an accepted report, or its refusal. Raises SheetRefused and MemoryError."""
+    """Returns a Checked if the report is accepted, otherwise its Refusal. Raises SheetRefused, MemoryError, OSError and
+    TypeError.
+    """
     status, checked, row = _library.check(_bytes(sheet), _bytes(report))
     if status == _library.SHEET_REFUSED:
         raise SheetRefused(row[2])

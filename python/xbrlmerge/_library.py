@@ -10,7 +10,7 @@ DONE, REFUSED, TOO_LOOSE, TOO_SHORT, SHEET_REFUSED, NO_MEMORY, BAD_ENDS, BAD_LEV
 NAME = "libxbrlmerge.so"
 # the records for a refusal and for an accepted report in include/xbrlmerge.h
 ROW, CHECKED = struct.Struct("=QQI4x"), struct.Struct("=QII")
-# a result rarely has more bytes than the reports together plus this number
+# the first buffer is this many bytes longer than the reports, since a text can be longer than its reports if these are short
 MORE = 4096
 LONGEST_NAME = 64
 
@@ -68,8 +68,8 @@ def _row(fields: Tuple[Any, ...]) -> Row:
 
 
 def _room(size: int) -> Tuple[bytearray, ctypes.c_char]:
-    """Returns a buffer and its first byte, which keeps the buffer in place. It has at least one byte, since no pointer may be
-    null."""
+    """Returns a buffer and its first byte, which keeps the buffer in place. The buffer has at least one byte, since no pointer
+    may be null."""
     held = bytearray(max(size, 1))
     return held, ctypes.c_char.from_buffer(held)
 
@@ -125,7 +125,8 @@ def sources_json(sheet: bytes, reports: Sequence[bytes]) -> Answer:
 
 
 def check(sheet: bytes, report: bytes) -> Tuple[int, Tuple[int, int, int], Row]:
-    """Returns the status, the record for an accepted report, and the refusal."""
+    """Returns the status, the record for an accepted report, and the refusal. A record that the call does not set is all
+    zeros."""
     checked, first = _room(CHECKED.size)
     row, first_of_row = _room(ROW.size)
     places = ctypes.addressof(first), ctypes.addressof(first_of_row)

@@ -5,13 +5,13 @@
 
 Each report in cases.jsonl is normalised with its options. `check` must accept or refuse the result as the case requires, and
 the output files must equal the files beside the report. If nothing is lost and the report was accepted before, `check`,
-`verdicts` and `merge` must print the same for both. If a set of names is spelled differently, only `check` must print the
-same. The script also draws reports from DRAWN seeds, 200 by default. For an accepted report and its spelling by another tool,
-both normalised, the program must print the same as for the accepted report. An untidy report must be accepted once it is
-normalised with all options.
+`verdicts` and `merge` must print the same for the report and the result. If normalising respells a set of names, only
+`check` must print the same. The script also draws reports from DRAWN seeds, 200 by default. A drawn report that the program
+accepts is also spelled as another tool might spell it. After normalising, the program must print the same for both spellings as
+for the drawn report. An untidy report must be accepted once it is normalised with all options.
 
-Status 0: all is as expected. 1: it is not; each difference is printed. 2: the arguments are invalid, there is no program, or a
-run failed or took more than a minute.
+Status 0: all is as expected. 1: something is not; each difference is printed. 2: the arguments are invalid, there is no
+program, or a run failed or took more than a minute.
 """
 import argparse
 import json
@@ -60,8 +60,8 @@ class Room:
 
 
 def look_at_cases(room):
-    """Checks the cases in cases.jsonl. Returns their number, and how many reports are accepted after normalising and before
-    it."""
+    """Checks the cases in cases.jsonl. Returns the number of cases, and how many reports are accepted after normalising and
+    before."""
     with open(os.path.join(HERE, "cases.jsonl"), encoding="utf-8") as file:
         cases = [json.loads(line) for line in file]
     accepted = before = 0
@@ -112,7 +112,7 @@ def main():
         except (OSError, ValueError, subprocess.SubprocessError) as fault:
             print(f"tests/normalise/run: {fault}", file=sys.stderr)
             return 2
-    print(f"tests/normalise/run: of {total} reports, {before} are accepted before normalising, and {accepted} after it")
+    print(f"tests/normalise/run: of {total} reports, {before} are accepted before normalising, and {accepted} afterwards")
     print(*(f"tests/normalise/run: {fault}" for fault in room.faults), sep="\n", end="\n" if room.faults else "")
     return 1 if room.faults else 0
 

@@ -1,4 +1,4 @@
-"""Draws reports: tidy ones, which xbrlmerge accepts, and untidy ones, as other tools write them or worse."""
+"""Draws tidy reports, which xbrlmerge accepts, and untidy reports, such as other tools write, or worse."""
 import json
 
 SHEET = {
@@ -110,7 +110,7 @@ def roughened(chance, text):
 
 
 def rough_number(chance, value):
-    """Sometimes adds an exponent to a value that ends with a digit. In the fixtures, only numbers do."""
+    """Sometimes adds an exponent to a number that ends with a digit. No drawn name ends with a digit."""
     return f"{value}E0" if value[-1].isdigit() and chance.random() < 0.4 else value
 
 

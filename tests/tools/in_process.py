@@ -36,12 +36,12 @@ class RoomTest(unittest.TestCase):
 
 
 def heeding(number):
-    """Returns a `preexec_fn` that lets this signal end a tool, even if the tests run where it is ignored, as under nohup."""
+    """Returns a `preexec_fn` that lets this signal end a tool, even if the tests ignore the signal, as under nohup."""
     return lambda: signal.signal(number, signal.SIG_DFL)
 
 
 def stub_program(folder):
-    """Writes the program that prints the files in its folder, and returns its path."""
+    """Writes the stub program to a folder, and returns its path."""
     path = os.path.join(folder, "xbrlmerge")
     with open(path, "w", encoding="utf-8") as file:
         file.write(f"#!{sys.executable} -IS\n{content('tests/tools/stub_program.py')}")
@@ -58,7 +58,7 @@ def run_whole(tool, *words):
     """Runs a tool, and returns its status, its standard error, and its standard output as bytes."""
     argv, out = mock.patch.object(sys, "argv", [tool.__name__, *words]), io.TextIOWrapper(io.BytesIO())
     with argv, contextlib.redirect_stderr(io.StringIO()) as told, contextlib.redirect_stdout(out), warnings.catch_warnings():
-        warnings.simplefilter("ignore", ResourceWarning)  # tools leave files open, which the end of their process closes
+        warnings.simplefilter("ignore", ResourceWarning)  # tools leave files open until their process ends
         status, lines = process.outcome(tool.main)
         process.print_lines(lines)
         return status, told.getvalue(), out.buffer.getvalue()

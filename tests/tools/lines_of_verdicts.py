@@ -2,7 +2,7 @@
 
     python3 tests/tools/lines_of_verdicts.py MERGED > LINES
 
-It compares every pair of facts in a row. Values must be texts, numbers or null, and names are compared as they are spelled.
+The script compares every pair of facts in a row. Values must be texts, numbers or null. Names are compared as they are spelled.
 """
 import fractions
 import itertools
@@ -17,7 +17,7 @@ def interval(fact):
 
 
 def is_number(fact):
-    """Returns whether the value is a number. In the fixtures, every value that can be read as a number is one."""
+    """Returns whether the value is a number. In the fixtures, no text can be read as a number."""
     try:
         return fact["value"] is not None and bool(fractions.Fraction(fact["value"]) + 1 or 1)
     except ValueError:

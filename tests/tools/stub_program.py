@@ -1,8 +1,9 @@
-"""A program in place of `xbrlmerge`: each command prints the output prepared in the program's folder. It records the names of
-its reports, and keeps a copy of its sheet.
+"""A program in place of `xbrlmerge`. Each command prints the output prepared in the program's folder. The program also
+records the names of the reports, and copies the sheet.
 
-If they exist, COMMAND.out and COMMAND.err are printed, COMMAND.status is the status, and COMMAND.waits makes the command wait.
-For a report named `normalised`, `explain` prints only the faults of the document and of facts in the report.
+COMMAND.out and COMMAND.err are printed if they exist. COMMAND.status contains the status, 0 by default. If COMMAND.waits
+exists, the command waits. For a report named `normalised`, `explain` prints only the faults of the document and of facts in
+the report.
 """
 import json
 import os

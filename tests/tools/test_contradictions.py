@@ -1,4 +1,4 @@
-"""Tests of tools/contradictions on small texts and on the merged text in norlake/, whose lines of verdicts were made by hand."""
+"""Tests of tools/contradictions on small texts, and on the merged text in norlake/ with the lines of verdicts beside it."""
 import base64
 import csv
 import hashlib
@@ -21,8 +21,7 @@ VOID = ("meta", "line", "rect", "circle")
 
 
 class Seen(html.parser.HTMLParser):
-    """The tags of a page, the shown texts, and the titles of abbreviations. An event handler or an outside reference fails the
-    test."""
+    """The tags, the texts and the titles of a page. An event handler or an outside reference fails the test."""
 
     def __init__(self, page):
         super().__init__()
@@ -101,7 +100,7 @@ class Pages(ToolTest):
     def test_only_numbers_have_a_line(self):
         self.assertEqual(self.seen.tags.count("svg"), 4 + 2 + 2 + 1)
         self.assertEqual(self.text.count("not reported as a number"), 1)
-        # between 4.75 and 4.95, the gap from 4.815 to 4.93 begins at 0.325 and ends at 0.9
+        # on a line from 4.75 to 4.95, the gap from 4.815 to 4.93 extends from 32.5% to 90%
         self.assertEqual(self.text.count('style="--a:32.50%;--b:90.00%"'), 4)
         self.assertIn('<line x1="27.50%" x2="32.50%" y1="13" y2="13"/><circle cx="30.00%" cy="13" r="5"/>', self.text)
 

@@ -22,7 +22,7 @@ SHEET = {"namespaces": URIS, "concepts": CONCEPTS, "dimensions": DIMENSIONS}
 
 
 def number(value, **dimensions):
-    """Returns a fact. Whole numbers that differ contradict each other."""
+    """Returns a numeric fact. Facts with different whole numbers contradict each other."""
     return {"decimals": 1, "dimensions": {"concept": "e:A", **dimensions}, "value": str(value)}
 
 
@@ -34,7 +34,7 @@ def typed(size):
     return {f"e:d{each}": "" for each in range(size)}
 
 
-# facts for a given size, in the order of a merged text, and whether --near is tested; rows alternate between two providers
+# for each text: its facts at a given size, in the order of a merged text, and whether --near is tested
 LONG = {
     "a row of numbers": (lambda size: [number(each) for each in range(size)], False),
     "a row of texts": (lambda size: [text(f"t{each:07}") for each in range(size)], False),
@@ -83,7 +83,7 @@ class Hostile(ToolTest):
                 self.assertLess(in_process.growth(run, size), 9)
 
     def kept_words(self, facts, is_near):
-        """Returns the arguments of a run whose inputs are not changed by the next call."""
+        """Returns the arguments of a run on copies of the inputs, which the next call does not overwrite."""
         words = self.words(facts, is_near)
         for name in ("merged.json", "lines", "sources"):
             kept = self.write(f"{len(facts)}.{len(content(words[1]))}.{name}", content(self.place(name)))
@@ -106,9 +106,9 @@ class Hostile(ToolTest):
         status, told = in_process.run(contradictions, *self.words(facts, is_near=True))
         pairs = {tuple(row["fact"] for row in pair) for pair in zip(*[iter(self.rows_near())] * 2)}
         self.assertEqual(status, 1)
-        self.assertIn("contradictions: --near: 3950 pairs of rows were not compared", told)  # out of 100 * 99 / 2
+        self.assertIn("contradictions: --near: 3950 pairs of rows were not compared", told)  # of 100 * 99 / 2 pairs
         distances = {int(two[1:]) - int(one[1:]) for one, two in pairs}
-        self.assertEqual(distances, {1, 3, 5, 7, 9, 11})  # neighbours first; every other row has the same provider
+        self.assertEqual(distances, {1, 3, 5, 7, 9, 11})  # the nearest rows; at an even distance, the provider is the same
         self.assertLess(len(pairs), 1_001)
 
     def test_as_many_pairs_as_are_compared_are_all_listed(self):

@@ -75,7 +75,7 @@ INPUTS = (test_contradictions.MERGED, test_contradictions.SHEET, test_contradict
 
 
 class Nearby(test_contradictions.ToolTest):
-    """Tests of --near on rows of the providers A and B, which differ in their dimensions."""
+    """Tests of --near on rows that differ in their dimensions. A, B or both report each row."""
 
     URIS = {"n1": "http://a.example", "n2": "https://a.example", "n3": "http://b.example/t"}
     SHEET = {
@@ -91,7 +91,7 @@ class Nearby(test_contradictions.ToolTest):
         return self.write(name, json.dumps({"documentInfo": {"namespaces": self.URIS}, "facts": named}))
 
     def near(self, one, other, others=()):
-        """Returns the lines of the table for rows of A, of B and of both, in the order of the text."""
+        """Returns the records of the table if A reports the row `one`, B the row `other`, and both report `others`."""
         rows = sorted([(one, "A"), (other, "B"), *((each, "AB") for each in others)], key=lambda row: self.order(row[0]))
         facts = [({"dimensions": dimensions, "value": "1"}, who) for dimensions, who in rows]
         merged = self.text("merged.json", [fact for fact, _ in facts])

@@ -29,7 +29,7 @@ OTHER_TOOLS = """{"documentInfo":{"documentType":"https://xbrl.org/2021/xbrl-jso
 
 
 class Stubbed(ToolTest):
-    """A folder `bin` with the program, which prints the lines of the examples."""
+    """A folder `bin` with the stub program, which prints the merged text and the lines of the examples."""
 
     def setUp(self):
         super().setUp()
@@ -40,7 +40,7 @@ class Stubbed(ToolTest):
             shutil.copy(example(name), os.path.join(self.bin, f"{command}.out"))
 
     def prints(self, command, out=None, err=None, status=None):
-        """Prepares the output of a command."""
+        """Prepares the output, the lines on standard error and the status of a command. A part that is None stays as it was."""
         for part, text in (("out", out), ("err", err), ("status", status)):
             if text is not None:
                 self.write(os.path.join("bin", f"{command}.{part}"), str(text))
@@ -62,7 +62,7 @@ class Stubbed(ToolTest):
         return subprocess.run(run, capture_output=True, text=True, **options)
 
     def refused_run(self, told, *words, status=3, **options):
-        """Runs the tool, which must refuse with one sentence and leave every file unchanged."""
+        """Runs the tool, which must give the reason in its last line, and must neither make nor remove a file."""
         before = sorted(os.walk(self.room))
         done = self.run_on(*words, **options)
         self.assertEqual((done.returncode, done.stdout), (status, ""), done.stderr)
@@ -279,7 +279,7 @@ class BadInputs(Stubbed):
 
     def test_an_output_folder_that_is_a_file(self):
         self.write("out", "a file")
-        self.refused_run("out is a file; -o needs a folder", *REPORTS)
+        self.refused_run("out is not a folder; -o needs one", *REPORTS)
         self.assertEqual(content(self.output), "a file")
 
     def test_a_program_that_fails(self):

@@ -1,4 +1,4 @@
-"""Tests of tests/doubt on a small tree: each definition is found, and each word has a law that mentions it."""
+"""Tests of tests/doubt on a small repository: entries, words and their laws, the table of conditions, and line counts."""
 import unittest
 
 from small_tree import SmallTree
@@ -140,7 +140,7 @@ class Doubt(unittest.TestCase):
         self.assertEqual(self.problems(["Order", "added", "total", "paid", "IsPaid"], 20), (0, told))
 
     def test_a_field_does_not_hide_a_definition_of_its_name(self):
-        found = [f"doubt: {SPECS_PATH}: `IsPaid` names `paid` of {SPECS_PATH}, which is not on the page"]
+        found = [f"doubt: {SPECS_PATH}: `IsPaid` uses `paid` of {SPECS_PATH}, which is missing on the page"]
         self.assertEqual(self.problems(["Order", "added", "total", "IsPaid"], 17), (1, found))
 
     def test_the_first_variable_of_a_capitalised_name_is_bound(self):
@@ -156,7 +156,7 @@ class Doubt(unittest.TestCase):
         self.assertEqual(self.problems(["Order", "added", "total", "paid", "IsPaid", "AllArePaid"], 23), (1, found))
 
     def laws(self, *names):
-        """Returns a page of the format with these laws. If one is a law of sums, `SumsArePaid` is listed too."""
+        """Returns a page FORMAT with these laws. If one is `sums_are_paid`, the page also lists `SumsArePaid`."""
         entries = f"- [shop/laws.rt](../{LAWS_PATH}): {listed(names)}"
         if "sums_are_paid" in names:
             entries += f"\n- [shop/Order.antt](../{SPECS_PATH}): `SumsArePaid`"
@@ -184,7 +184,7 @@ class Doubt(unittest.TestCase):
 
     def test_a_headline_that_is_too_long(self):
         self.tree.put(SPECS_PATH, SPECS.replace("-- one order\n", "-- one order\n" * 582))
-        found = ["doubt: docs/DOUBT.md: the headline has 601 lines, of 600 at most"]
+        found = ["doubt: docs/DOUBT.md: the headline has 601 lines; at most 600 are allowed"]
         self.assertEqual(self.problems(["Order", "added", "total", "paid", "IsPaid"], 601), (1, found))
 
     def test_the_table_of_conditions_is_that_of_the_code(self):

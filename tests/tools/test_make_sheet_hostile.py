@@ -33,8 +33,8 @@ ARC = '<link:labelArc xlink:from="{}" xlink:to="{}"/>'
 
 
 def each(form, size, *more):
-    """Returns the form once for each number below the size, filled with the texts of `more`. These can contain the number and
-    the next one."""
+    """Returns the form once for each number below the size, filled with the texts of `more`. A text can contain the number and
+    the next number."""
     return "".join(form.format(*(spelled.format(number, number + 1) for spelled in more)) for number in range(size))
 
 
@@ -130,7 +130,8 @@ class Long(HostileTest):
 
     def test_labels_and_arcs(self):
         def packed(size):
-            """Returns a package with this many arcs from this many concepts to this many long labels."""
+            """Returns a package with this many concepts and long labels. One arc from each concept, and this many more from the
+            first concept, lead to all labels."""
             items = each(HEAD.replace("<xs:element", '<xs:element id="made_{}"'), size, "{0}", "C{0}", "xbrli:item")
             labels = each(LABEL, size, "labels", "x" * 50 + "{0}")
             arcs = each(ARC, size, "0", "labels") + each(ARC, size, "{0}", "labels")
@@ -157,7 +158,7 @@ class Long(HostileTest):
         self.assertEqual(in_process.run(make_sheet, blanks), (0, ""))
         self.refused("a.zip/a.xsd: it is longer than 1 MB (--megabytes)", blanks, "--megabytes", "1")
         many = self.pack({f"{number}.xsd": SCHEMA % (" " * 900_000) for number in range(9)})
-        self.refused("with it, the package unpacks to more than 100 times its size and 1 MB", many, "--megabytes", "1")
+        self.refused("with it, the package unpacks to more than 100 times its size plus 1 MB", many, "--megabytes", "1")
         self.assertEqual(in_process.run(make_sheet, many), (0, ""))
 
     def test_levels(self):
@@ -170,7 +171,7 @@ class Long(HostileTest):
                 self.refused("it has more than 1000 levels", package)
             _, peak = tracemalloc.get_traced_memory()
             tracemalloc.stop()
-            self.assertLess(peak, 80_000_000)  # expat reads to the end of its input, which is 1 MB
+            self.assertLess(peak, 80_000_000)  # expat reads to the end of its input, which is 2 MB
 
     def test_files_of_a_package(self):
         package = self.pack({f"{number}.xsd": SCHEMA % "" for number in range(5)})
@@ -237,7 +238,7 @@ class Folders(HostileTest):
         folder = self.folder(a_xsd=SCHEMA % ITEM % ("A", "string"))
         os.mkfifo(os.path.join(folder, "fifo"))
         os.symlink("/dev/zero", os.path.join(folder, "zero"))
-        self.assertEqual(run(folder).returncode, 0)  # they are not read
+        self.assertEqual(run(folder).returncode, 0)  # the FIFO and the device are not read
         fifo = os.path.join(folder, "b.xsd")
         os.mkfifo(fifo)
         self.refused("folder/b.xsd: it is not a regular file", folder)
@@ -261,7 +262,7 @@ class Folders(HostileTest):
                 self.folder(**{"META-INF/catalog_xml": CATALOG % REWRITE.format("http://c.example/", "../../")})
             for named in (folder, os.path.join(folder, "a.xsd")):
                 if location.startswith("http") and named != folder:
-                    continue  # the catalog is not read
+                    continue  # without the folder, its catalog is not read
                 self.refused(": it is outside the named folders (--outside)", named)
                 done = run("--outside", named)
                 self.assertEqual(list(json.loads(done.stdout)["concepts"]), ["n1:Secret"], done.stderr)
@@ -321,7 +322,7 @@ class Statuses(HostileTest):
             self.assertEqual(run(*words).returncode, 2)
 
     def test_signals(self):
-        self.assertEqual(signal.getsignal(signal.SIGTERM), signal.SIG_DFL)  # a run in this process does not change it
+        self.assertEqual(signal.getsignal(signal.SIGTERM), signal.SIG_DFL)  # a run of a tool in this process leaves the default
 
 
 class Unions(HostileTest):

@@ -47,7 +47,7 @@ class ToolTest(in_process.RoomTest):
         return in_process.run(normalise, *words)
 
     def refusing(self, faults, **also):
-        """Makes a program that refuses facts, and perhaps the document. Returns the options that use it."""
+        """Makes a stub program that refuses facts, and perhaps the document. Returns the options that use the program."""
         os.makedirs(self.place("bin"), exist_ok=True)
         told = [{"place": "fact 1", "identifier": fact, **dict(zip(("number", "name"), why.split()))} for fact, why in faults.items()]
         self.write("bin/explain.out", "".join(json.dumps(fault) + "\n" for fault in [*told, *[also] * bool(also)]))
@@ -77,7 +77,7 @@ class ToolTest(in_process.RoomTest):
 
 
 class Reports(ToolTest):
-    """Reports of several shapes, each with its result."""
+    """The reports of tests/normalise, compared with the expected outputs beside them."""
 
     def test_each_report_comes_out_as_it_stands_beside_it(self):
         for case in map(json.loads, content(os.path.join(REPORTS, "cases.jsonl")).splitlines()):
@@ -85,7 +85,7 @@ class Reports(ToolTest):
                 stem = os.path.join(REPORTS, case["report"])
                 sheet = os.path.join(os.path.dirname(stem), "sheet.json")
                 wanted = content(f"{stem}.changes.jsonl")
-                # tests/normalise/run tests this option with the program itself
+                # tests/normalise/run tests --drop-unreadable with the real program
                 dropped = [change for change in map(json.loads, wanted.splitlines()) if change["rule"] == "drop-unreadable"]
                 options = [word for word in case["options"] if word != "--drop-unreadable"]
                 if options != case["options"]:
@@ -100,7 +100,7 @@ class Reports(ToolTest):
 
 
 class Docs(ToolTest):
-    """docs/GUIDE.md has an example of each rule: options, a fact before, and the fact after or `dropped`."""
+    """docs/GUIDE.md has an example for each rule: options, a fact before, and the fact after or `dropped`."""
 
     SHEET = {
         "namespaces": {"eg": "http://example.org/t"},
@@ -225,7 +225,7 @@ class Numbers(ToolTest):
 
 class Periods(ToolTest):
     def period_of(self, period, *options):
-        """Returns the period after normalising, and the number of lines about it."""
+        """Returns the period after normalising, and the number of lines that the tool prints."""
         fact = '{"value":null,"dimensions":{"period":%s}}' % json.dumps(period)
         _, told, out, _ = self.normalised(self.write("report.json", '{"facts":{"f":%s}}' % fact), *options)
         return self.tree_of(out)["facts"]["f"]["dimensions"]["period"], len(told.splitlines())
@@ -269,7 +269,7 @@ class Periods(ToolTest):
 
 
 class Unreadable(ToolTest):
-    """Facts that the program refuses; the program prints prepared lines."""
+    """Facts that the program refuses. The stub program prints the faults."""
 
     def setUp(self):
         super().setUp()

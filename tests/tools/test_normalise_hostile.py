@@ -108,11 +108,11 @@ class Long(ToolTest):
         text = report({f"f{number}": fact("long:a eg:b", "eg:S") for number in range(400)})
         status, told = self.run_tool(*self.words(text))
         self.assertEqual((status, os.listdir(self.room).count("out.json")), (3, 0))
-        self.assertIn("the names of its sets, with their URIs, have more than 16 times its length", told)
+        self.assertIn("the names of its sets, with their URIs, add more than 16 times its length", told)
 
 
 class Exact(ToolTest):
-    """Cases that once gave a wrong result without a message."""
+    """Cases in which a careless rule would give a wrong result without a message."""
 
     def setUp(self):
         super().setUp()

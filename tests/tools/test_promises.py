@@ -1,4 +1,4 @@
-"""Tests of tests/promises on a small library: the page has the tables of the code, and names only existing functions."""
+"""Tests of tests/promises on a small library: the page must have the tables of the code, and name only functions that exist."""
 import unittest
 
 from small_tree import SmallTree

@@ -1,4 +1,4 @@
-"""Tests that the program, the Python module and the man page have one version, which fits the changelog."""
+"""Tests that the program, the Python module and the man page have the same version, and that it fits the changelog."""
 import re
 import unittest
 

@@ -1,4 +1,4 @@
-"""The inputs of a page: named files, or the output of the program for reports."""
+"""The inputs of a page: named files, or the program's output for reports."""
 from __future__ import annotations
 
 import argparse
@@ -50,7 +50,7 @@ def inputs_named(options: argparse.Namespace) -> Inputs:
 
 
 class Run:
-    """Runs the program on reports, in a folder of its own."""
+    """Runs the program on reports, in a temporary folder."""
 
     def __init__(self, program: str, options: argparse.Namespace, reports: list[Report], folder: str, progress: Progress) -> None:
         self.options, self.reports, self.folder, self.progress = options, reports, folder, progress
@@ -72,7 +72,7 @@ class Run:
                       self.refusals(found[0], paths), files, self.losses, self.notes)
 
     def sheet(self) -> str:
-        """Returns the path of the sheet. If taxonomies are named, it makes the sheet first."""
+        """Returns the path of the sheet, which is made first if taxonomies are named."""
         if not self.options.taxonomy:
             check_files([self.options.sheet])
             return str(self.options.sheet)
@@ -120,7 +120,7 @@ def output_folder(path: str) -> Iterator[None]:
     """Makes a folder unless it exists. If the block fails, a folder that was made here is removed."""
     is_made = not os.path.isdir(path)
     if is_made and os.path.lexists(path):
-        raise NotDone(f"{path} is a file; -o needs a folder")
+        raise NotDone(f"{path} is not a folder; -o needs one")
     try:
         if is_made:
             os.mkdir(path)

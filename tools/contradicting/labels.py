@@ -26,7 +26,7 @@ class Label(NamedTuple):
 
 
 class Labelled(Taxonomy):
-    """A taxonomy with the standard labels of one language in the .xml files of the named folders and packages."""
+    """A taxonomy, and the standard labels of a language and its dialects, from the .xml files of the named folders and packages."""
 
     def __init__(self, files: Files, language: str) -> None:
         self.language = language.lower()
@@ -67,7 +67,7 @@ class Link:
 
 
 class Linkbase(Visitor):
-    """Keeps the standard labels of one language and its dialects."""
+    """Collects the standard labels of one language and its dialects."""
 
     takes_text = True
 
@@ -115,6 +115,6 @@ class Linkbase(Visitor):
 
 
 def read_labels(words: Sequence[str], language: str) -> dict[Name, str]:
-    """Returns the standard labels by name. A label in the exact language is preferred to labels in its dialects."""
+    """Returns the standard labels by name, without empty ones. The exact language is preferred to its dialects."""
     labels = Labelled(Files(words, Limits()), language).labels if words else {}
     return {name: label.text for name, label in labels.items() if label.text}

@@ -12,7 +12,7 @@ from names import Name
 
 COLUMNS = ["pair", "differs", "row", "fact", *DIMENSIONS, *"value decimals low high providers label".split()]
 MOST_PAIRS = 1_000  # the most pairs compared in a group of `Near`
-MOST_FACTS = 10_000  # the most facts in the pairs found in a group; the last pair may exceed it
+MOST_FACTS = 10_000  # if the pairs found in a group have more facts, no other pair of the group is compared
 WORD = (1 << 64) - 1
 
 Axis = Union[str, Name]
@@ -33,8 +33,9 @@ class Near:
 
     The difference may be: an entity, a concept or an explicit member with the same local part in another namespace; letter
     case or white space; dates at most a day apart; another unit or language; a dimension that one of the two lacks.
-    Rows that are equal in all dimensions but one form a group. In a group, neighbours in the order of the rows are compared
-    first, up to a limit. `cut` counts the pairs that are not compared.
+    Rows form a group if they are equal in all dimensions but one, and their values of that dimension share a key of `buckets`.
+    A row and a row that lacks one of its dimensions also form a group. In a group, neighbours in the order of the rows are
+    compared first. `cut` counts the pairs beyond the limits.
     """
 
     def __init__(self, providers: Sequence[str]) -> None:
@@ -80,7 +81,7 @@ class Near:
         yield from alike.values()
 
     def compared(self, numbers: list[int]) -> Iterator[tuple[tuple[int, int], Axis]]:
-        """Yields the pairs of a group for the table, each with its dimension. `cut` counts the pairs beyond the limits."""
+        """Yields the pairs of a group that the table lists, each with the dimension in which its rows differ."""
         count, facts = len(numbers) * (len(numbers) - 1) // 2, 0
         pairs = itertools.chain.from_iterable(zip(numbers, numbers[step:]) for step in range(1, len(numbers)))
         for done, (one, other) in enumerate(pairs):
@@ -104,7 +105,7 @@ class Near:
 
     def notes(self) -> list[str]:
         told = f"{self.cut} pairs of rows were not compared: for each set of rows that differ in the same dimension, at most"
-        return [f"--near: {told} {MOST_PAIRS} pairs, or about {MOST_FACTS} facts, are compared"] if self.cut else []
+        return [f"--near: {told} {MOST_PAIRS} pairs are compared, fewer if those found have over {MOST_FACTS} facts"] if self.cut else []
 
     def table(self, pairs: list[tuple[int, int, Axis]], labels: Mapping[Name, str]) -> Iterator[Sequence[str]]:
         """Yields the lines of the table: the facts of both rows in each pair."""

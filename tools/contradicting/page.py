@@ -1,6 +1,6 @@
 """The page of contradictions: counts, refused reports, the first rows, an index by concept, and groups with the other rows.
 
-It shows at most 80 characters of an identifier, a URI or a text, because it repeats them. The table of contradictions
+The page shows at most 80 characters of an identifier, a URI or a text, because it repeats them. The table of contradictions
 contains them in full.
 """
 from __future__ import annotations
@@ -59,7 +59,7 @@ characters near the first difference; contradictions.csv has them whole.</p>
 
 
 def counts(reader: Reader, refusals: Refusals) -> Iterator[tuple[int, str]]:
-    """Yields the counts: rows of each kind, rows with one fact from one provider, and refused reports."""
+    """Yields the counts: rows by verdict, rows with one fact from one provider, and refused reports."""
     yield from ((reader.counts[verdict], word) for verdict, word in WORDS.items())
     if reader.providers:
         yield reader.counts["alone"], f"of these reported by {reader.said_by(1)}"
@@ -68,7 +68,7 @@ def counts(reader: Reader, refusals: Refusals) -> Iterator[tuple[int, str]]:
 
 
 def refused(refusals: Refusals) -> Iterator[str]:
-    """Yields the pieces that list the refused reports, each with its first faults as `explain` prints them."""
+    """Yields the pieces that list the refused reports, each with its first faults."""
     if refusals.reports:
         yield '<section class="refused"><h2>Refused reports</h2><p>The page has no figures from these reports.</p>'
         yield "".join(f"<p>{html.escape(printable(line))}</p>" for line in refusals.lacking_lines())
@@ -79,7 +79,7 @@ def refused(refusals: Refusals) -> Iterator[str]:
 
 
 def order(row: Row) -> tuple[int, Decimal, int]:
-    """Returns the sort key. Pairs with a text, a name or nil come first, then the largest differences, as shares."""
+    """Returns the sort key: pairs with a text, a name or nil first, then the largest differences, as shares."""
     share = row.share()
     return (0, Decimal(0), row.number) if share is None else (1, -share, row.number)
 
@@ -100,7 +100,7 @@ def by_concept(rows: Iterable[Row], reader: Reader, labels: Labels) -> Iterator[
         yield f'<li><a href="#{anchor}"><b>{len(concepts[concept])}</b></a>{heading(concept, labels, "span")}'
     yield "</ul>\n"
     if rest:
-        yield "<h2>The other rows</h2>\n<noscript><p>They need JavaScript. contradictions.csv has them too.</p></noscript>"
+        yield "<h2>The other rows</h2>\n<noscript><p>These rows need JavaScript. contradictions.csv has them too.</p></noscript>"
     for rank, concept in enumerate(ranked, 1):
         for start in range(0, len(rest.get(concept, ())), CHUNK):
             anchor = f' id="c{rank}"' * (start == 0)
@@ -158,7 +158,7 @@ def section(row: Row, reader: Reader, labels: Labels) -> Iterator[str]:
 
 
 class NumberLine(NamedTuple):
-    """The line on which the intervals of a row are drawn: its ends, and the gap between the pair, if both are numbers."""
+    """The line on which the intervals of a row are drawn: its ends, and the gap between the pair, if both facts are numbers."""
 
     low: Decimal
     high: Decimal
@@ -195,7 +195,7 @@ def start_of_cut(values: Iterable[Value]) -> int:
 
 def details(row: Row) -> Iterator[tuple[str, str]]:
     """Yields the dimensions of a row except its concept, each after its heading."""
-    of, last = dimensions_of(row), [*row.facts.values()][-1]  # nil comes first, so the last is not nil
+    of, last = dimensions_of(row), [*row.facts.values()][-1]  # nil is sorted first, so the last fact is not nil
     start, _, end = of.period.rpartition("/")
     since = f"{day(start, False)} to " if start else "at the end of " * end.endswith("T00:00:00")
     yield "Period", since + day(end, True) if end else "for ever"

@@ -26,7 +26,7 @@ Value = Union[Decimal, Name, str, None]
 
 
 class Dimensions(NamedTuple):
-    """The dimensions of a row with expanded names; a unit is its numerators and its denominators. Absent ones are empty or None."""
+    """The dimensions of a row with expanded names; an absent dimension is empty or None. A unit is its numerators and its denominators."""
 
     concept: Name
     entity: Optional[Name]
@@ -59,7 +59,7 @@ class Fact(NamedTuple):
 class Row(NamedTuple):
     """The facts of one row by identifier, its verdict, and the providers of each fact.
 
-    The gap lies between the intervals of the two facts that contradict each other. It is None unless both are numbers.
+    The gap lies between the intervals of the two facts that contradict each other. It is None unless both facts are numbers.
     """
 
     number: int
@@ -75,7 +75,7 @@ class Row(NamedTuple):
         return self.said["one"], self.said["two"]
 
     def share(self) -> Optional[Decimal]:
-        """Returns the difference of the pair as a share of the larger absolute value, or None unless both are numbers."""
+        """Returns the difference of the pair as a share of the larger absolute value, or None unless both facts are numbers."""
         one, two = (self.facts[name].value for name in self.pair)
         if not isinstance(one, Decimal) or not isinstance(two, Decimal):
             return None
@@ -152,7 +152,7 @@ class Reader:
         self.listed.append((row.number, verdict, names[0], names[-1], self.said_by(len(who)), ", ".join(sorted(who))))
 
     def said_by(self, count: int) -> str:
-        """Returns a text such as "2 of 3" if 2 of 3 providers report a row. It is empty if there are no providers."""
+        """Returns a text such as "2 of 3" if 2 of 3 providers report a row or a fact. It is empty if there are no providers."""
         return f"{count} of {self.providers}" if self.providers else ""
 
     def row(self, number: int, facts: dict[str, Tree], line: str) -> Optional[Row]:
@@ -188,7 +188,7 @@ class Reader:
         return kind
 
     def expanded(self, facts: dict[str, Tree]) -> tuple[Dimensions, dict[str, Fact]]:
-        """Returns the dimensions and the facts of a row."""
+        """Returns the dimensions of a row with expanded names, and its facts by identifier."""
         with using(self.text.path):
             dimensions = self.dimensions_of(next(iter(facts.values()))["dimensions"])
             kind = self.sheet.concepts[dimensions.concept]
@@ -260,7 +260,7 @@ def day(moment: str, is_end: bool) -> str:
 
 
 def plain(number: Union[int, Decimal], minus: str = "-", groups: str = "") -> str:
-    """Returns the exact text of a number."""
+    """Returns the exact text of a number, without an exponent and without zeros at the end of the fraction."""
     text = f"{abs(number):,f}".replace(",", groups) if groups else f"{abs(number):f}"
     text = text.rstrip("0").rstrip(".") if "." in text else text
     return minus + text if number < 0 else text

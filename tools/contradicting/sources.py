@@ -13,7 +13,7 @@ LONGEST_LINE = 1 << 26  # characters
 
 
 class Holder(NamedTuple):
-    """A provider that reported a fact, with the identifiers, if they are known."""
+    """A provider that reported a fact, and the fact's identifiers in its reports, if they are known."""
 
     name: str
     identifiers: tuple[str, ...]
@@ -31,7 +31,7 @@ class Sources:
     def __init__(self, path: str, reports: list[str], refused: Container[int] = ()) -> None:
         self.path, self.reports = path, reports
         self.names = [name for number, name in enumerate(reports, 1) if number not in refused]
-        self.head: Optional[tuple[str, str, str]] = None  # the fact, the number of the report, and the identifier in it
+        self.head: Optional[tuple[str, str, str]] = None  # the fact, the provider of a report, and the identifier in it
         with using(path):
             self.file = open(path, encoding="utf-8", newline="\n")
             self.advance()
@@ -50,7 +50,7 @@ class Sources:
             self.head = found[1], self.reports[int(found[2]) - 1], identifier
 
     def holders(self, name: str, _: Tree) -> Holders:
-        """Returns the providers of a fact with the identifiers. Ask for each fact once, in order."""
+        """Returns the providers of a fact, with its identifiers. Ask for each fact once, in order."""
         found: dict[str, list[str]] = {}
         with using(self.path):
             while self.head and self.head[0] == name:
@@ -68,7 +68,7 @@ class Sources:
 
 
 class OwnTexts:
-    """The merged report of each provider's own reports, which does not contain the original identifiers."""
+    """A merged report for each provider, made from its own reports. A merge drops the identifiers of these reports."""
 
     def __init__(self, providers: list[Provider]) -> None:
         self.providers, self.names = providers, [provider.name for provider in providers]

@@ -64,7 +64,7 @@ def guarded(found: re.Match[str]) -> str:
 
 
 def check_lengths(rows: Iterable[tuple[Dimensions, int]]) -> None:
-    """Raises NotDone if a table or one row would be too long. `rows` lists dimensions with a count of facts; each fact repeats them."""
+    """Raises NotDone if the table or one row would be too long. `rows` has dimensions, with the number of facts that repeat them."""
     total = 0
     for dimensions, facts in rows:
         length = length_of(dimensions)
@@ -90,7 +90,7 @@ def dimension_cells(of: Dimensions) -> list[str]:
 
 
 def table(rows: Sequence[Row], labels: Mapping[Name, str], reader: Reader) -> Iterator[Sequence[str]]:
-    """Yields the lines of the table of contradictions."""
+    """Yields the lines of the table of contradictions: the headings, then one line for each fact."""
     check_lengths((row.dimensions, len(row.facts)) for row in rows if row.dimensions)
     yield COLUMNS
     for row in rows:
@@ -104,6 +104,6 @@ def table(rows: Sequence[Row], labels: Mapping[Name, str], reader: Reader) -> It
 
 
 def listed_table(listed: Iterable[Sequence[Cell]]) -> Iterator[Sequence[str]]:
-    """Yields the lines of the table of all rows."""
+    """Yields the lines of the table of all rows: the headings, then one line for each row."""
     yield LISTED
     yield from ([*map(cell, line)] for line in listed)

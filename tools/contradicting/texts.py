@@ -61,13 +61,13 @@ class Text:
             self.expect(":")
 
     def name(self, text: str) -> Name:
-        """Returns an expanded name of the report."""
+        """Returns the expanded name for a prefixed name of the report."""
         if text not in self.known:
             self.known[text] = expanded(text, self.uris)
         return self.known[text]
 
     def facts(self) -> Iterator[tuple[str, Tree]]:
-        """Yields the identifier and the tree of each fact."""
+        """Yields the identifier and the tree of each fact. The identifiers must be those that a merge gives."""
         with using(self.path), self.file:
             self.expect("{")
             rank = width = 0
@@ -104,13 +104,13 @@ class Text:
         return tree
 
     def pair(self) -> tuple[str, Tree]:
-        """Returns the key and the value of the next member."""
+        """Returns the key and the value of the next member. The value must be an object."""
         key = self.value('"')
         self.expect(":")
         return key, self.value("{")
 
     def value(self, start: str) -> Tree:
-        """Returns the next value, a text or an object."""
+        """Returns the next value. It must be a text or an object, and begin with `start`."""
         if not self.piece.startswith(start, self.at) and self.next() != start:
             raise ValueError(f"{start} is missing")
         while True:
@@ -139,7 +139,7 @@ class Text:
         return self.piece[self.at : self.at + 1]
 
     def fill(self) -> bool:
-        """Reads PIECE characters, or as many as are still unread in the piece if those are more. Returns whether the file had any."""
+        """Reads up to PIECE characters, or up to the length of the unread piece if that is more. Returns whether any were read."""
         self.piece = self.piece[self.at :]
         self.at = 0
         more = self.file.read(max(PIECE, len(self.piece)))
@@ -149,7 +149,7 @@ class Text:
 
 
 class Provider:
-    """The merged report of one provider's own reports, whose facts have the order of the full merged report."""
+    """A merged report of one provider's reports. Its facts are in the order of the full merged report."""
 
     def __init__(self, name: str, path: str, merged: Text, sheet: Sheet) -> None:
         self.name, self.text, self.sheet, self.merged = name, Text(path), sheet, merged.path
@@ -178,7 +178,7 @@ class Provider:
         return is_said
 
     def finish(self) -> None:
-        """Raises an error if the merged report lacks a fact of the provider."""
+        """Raises NotDone if the full merged report lacks a fact of the provider."""
         with using(self.fault()):
             if self.head is not None:
                 raise ValueError("it is missing there, or is in the wrong place")

@@ -18,7 +18,7 @@ class Reason(NamedTuple):
 
 
 class Log:
-    """Collects the lines for one fact or for the document: its changes, and its parts that a rule had to leave.
+    """Collects the lines for one fact or for the document: its changes, and the parts that a rule had to leave.
 
     Each line repeats identifiers, URIs and texts, so they are shortened. A line with a shortened fact identifier also has
     the number of the fact.

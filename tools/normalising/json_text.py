@@ -1,6 +1,6 @@
 """Reads and writes JSON. Numbers keep their spelling, and no member is lost.
 
-The module `json` reads it, with hooks. `pieces_of` writes it, because the encoder of `json` spells numbers from an int or a
+The module `json` reads texts, with hooks. `pieces_of` writes them, because the encoder of `json` spells numbers from an int or a
 float and would change 1.50, -0 and 1e400.
 """
 from __future__ import annotations
@@ -91,7 +91,7 @@ def told_twice(tree: Tree, twins: Twins) -> str:
 
 
 def path_to(tree: Tree, wanted: Tree) -> Optional[tuple[str, ...]]:
-    """Returns the keys that lead to an object of a tree, or None if the object is no longer in it."""
+    """Returns the keys that lead to an object of a tree, or None if the object is no longer in the tree."""
     waiting: list[tuple[Tree, Any]] = [(tree, None)]
     while waiting:
         part, way = waiting.pop()
@@ -103,7 +103,7 @@ def path_to(tree: Tree, wanted: Tree) -> Optional[tuple[str, ...]]:
 
 
 def keys_of(way: Any) -> tuple[str, ...]:
-    """Returns the keys of a path. The path is a linked list: each link is the link before it and a key."""
+    """Returns the keys of a path, in order. The path is None at the root, and otherwise the parent's path and the last key."""
     keys = []
     while way:
         way, key = way

@@ -31,7 +31,8 @@ def without_zero_fraction(moment: re.Match[str], _: bool) -> Optional[str]:
 
 
 def with_time(moment: re.Match[str], is_start: bool) -> Optional[str]:
-    """Returns a date with the time at the end of its day, or at the beginning if it is a start. None if it is not a date alone."""
+    """Returns a date with the time at the end of its day, or at the beginning if the date is a start. None if the moment
+    has a time or is not a date."""
     day, time, part, zone = moment.groups(default="")
     if time or part or not is_date(day):
         return None
@@ -71,7 +72,7 @@ def is_date(day: str) -> bool:
 
 
 def doubts(period: str) -> Iterator[str]:
-    """Yields what `xbrlmerge` refuses in the moments of a period: a fraction, a time zone, or a missing time."""
+    """Yields a message for each part of a period that `xbrlmerge` refuses: a fraction, a time zone, or a missing time."""
     for moment in map(MOMENT.fullmatch, period.split("/")):
         if moment and moment["part"]:
             yield "it has a fraction of a second"

@@ -1,4 +1,4 @@
-"""Names and sheets, as the rules need them."""
+"""Names and sheets for the rules of tools/normalise."""
 from __future__ import annotations
 
 from typing import Optional

@@ -36,7 +36,7 @@ class Normaliser:
         self.sheet, self.options, self.program = sheet, options, program
 
     def normalise(self, tree: Tree, length: int = 0) -> Log:
-        """Changes the tree of a report. Returns the lines for changes and for the parts that are left, in order."""
+        """Changes the tree of a report. Returns the lines for changes, and for the parts that a rule had to leave, in order."""
         if not isinstance(tree, dict):
             raise NotDone("it is not a report: its root is not an object")
         whole = Log()
@@ -76,7 +76,7 @@ class FactReader:
         self.sheet, self.options, self.uris, self.room = sheet, options, uris, room
 
     def read(self, name: str, fact: Tree, log: Log, kept: dict[str, Tree]) -> None:
-        """Keeps the changed fact under its name, or drops it. Other changes in a dropped fact are not logged."""
+        """Adds the changed fact to `kept`, or drops it. Other changes in a dropped fact are not logged."""
         changed = fact
         if isinstance(fact, dict):
             changed = {**fact}
@@ -168,7 +168,7 @@ class FactReader:
             return
         self.room -= sum(len(uri) + len(local) + 2 for uri, local in names) - len(given)
         if self.room < 0:
-            raise NotDone(f"the names of its sets, with their URIs, have more than {GROWTH} times its length and {SMALL} characters")
+            raise NotDone(f"the names of its sets, with their URIs, add more than {GROWTH} times its length plus {SMALL} characters")
         fact.change("value", " ".join(sorted(map("#".join, names))), "set")
 
     def concept_of(self, members: dict[str, Tree]) -> Optional[Name]:
@@ -202,7 +202,7 @@ def trimmed(key: str, text: str) -> str:
 
 
 def whole_number(text: str) -> Optional[str]:
-    """Returns the plain spelling of a whole number, given as text or as a JSON number such as 2.0. None if it is not a whole
+    """Returns the plain spelling of a text or a JSON number that is a whole number, such as 2.0. None if it is not a whole
     number, or is too long."""
     if isinstance(text, Number):
         number = Decimal(text) if len(text) <= 18 and abs(Decimal(text).adjusted()) < 18 else None
@@ -226,8 +226,8 @@ def plain_number(scientific: re.Match[str]) -> Optional[str]:
 
 
 def full_name(item: str, uris: Uris) -> Optional[tuple[str, str]]:
-    """Returns the URI and the local part of an item in a set. None if it is not a name, or if its prefix is not bound or is bound
-    to a URI with white space."""
+    """Returns the URI and the local part of an item in a set. None if the item is not a name, or if its prefix is not
+    bound or is bound to a URI with white space."""
     if "#" in item:
         uri, _, local = item.rpartition("#")
         return (uri, local) if uri and local else None

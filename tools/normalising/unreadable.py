@@ -10,7 +10,7 @@ from program import Program
 class Refused(NamedTuple):
     """The reasons for which the program refuses a report."""
 
-    facts: dict[str, str]  # the number and the name of the first refusal of each fact, by identifier
+    facts: dict[str, str]  # by identifier: the number and the name of the fact's first refusal
     lines: list[str]  # the reasons for which it refuses the document
 
 

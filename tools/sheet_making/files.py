@@ -14,7 +14,7 @@ CATALOG = os.path.join(os.sep, "META-INF", "catalog.xml")
 
 
 class Files:
-    """Files on disk and in packages. A place is a path; in a package, it continues after the path of the package."""
+    """Files on disk and in packages. A place is a path. In a package, it begins with the path of the package."""
 
     def __init__(self, words: Iterable[str], limits: Limits) -> None:
         self.limits = limits

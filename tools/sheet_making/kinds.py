@@ -9,7 +9,7 @@ from names import XBRL, Name
 from sheet_making.schemas import ANY_TYPE, XBRLDT, Declaration
 from sheets import TABLES
 
-Kinds = dict[str, dict[Name, str]]  # the kinds in each table of a sheet; a "set" is written as text and listed by name
+Kinds = dict[str, dict[Name, str]]  # the kinds in each table of a sheet; a "set" is written as "text", and also listed under SETS
 
 XBRLI = "http://www.xbrl.org/2003/instance"
 ENUMERATIONS_1, ENUMERATIONS_2 = "http://xbrl.org/2014/extensible-enumerations", "http://xbrl.org/2020/extensible-enumerations-2.0"
@@ -19,9 +19,9 @@ HEADS = {Name(XBRLI, "item"): "concepts", Name(XBRLDT, "dimensionItem"): "dimens
 # belong to taxonomies.
 SPECIFICATION = re.compile(r"https?://(www\.w3\.org/|(www\.)?xbrl\.org/(\d{4}|dtr|lrr)/)")
 REGISTERED = re.compile(r"http://www\.xbrl\.org/dtr/type/(numeric|non-numeric|\d{4}-\d\d-\d\d)")
-# Listed from memory: the item types of XBRL 2.1 (section 5.1.1.3) except fractions, those of extensible enumerations 1.0 and
-# 2.0, and some of the data type registry (http://www.xbrl.org/dtr/dtr.xml). Other types of the registry are resolved if its
-# schema is read.
+# Listed from memory, not read from schemas: the item types of XBRL 2.1 (section 5.1.1.3) except fractions, those of extensible
+# enumerations 1.0 and 2.0, and some of the data type registry (http://www.xbrl.org/dtr/dtr.xml). Other types of the registry
+# are resolved if its schema is read.
 ITEM_TYPES = (
     ("numeric", XBRLI, "decimal float double integer nonPositiveInteger negativeInteger long int short byte monetary"),
     ("numeric", XBRLI, "nonNegativeInteger unsignedLong unsignedInt unsignedShort unsignedByte positiveInteger shares"),
@@ -88,7 +88,7 @@ class Judge:
             return None, None, f"its head {head.shown()} is unknown, or leads to itself"
         table = HEADS.get(head) if head else None
         if table and name.uri in ("", XBRL):
-            return None, None, "its namespace is reserved"
+            return None, None, "its namespace is empty or reserved"
         if table == "dimensions":
             return table, "typed" if element.is_typed else "explicit", None
         if not table or element.is_abstract:
@@ -109,7 +109,7 @@ def is_followed(name: Name) -> bool:
 
 
 def ends_of(following: Mapping[Name, Optional[Name]]) -> dict[Name, Optional[Name]]:
-    """Returns, for each name, the end of its chain: None or a name that the mapping lacks, or a name that is repeated.
+    """Returns the end of the chain from each name: None, a name that the mapping lacks, or a name that the chain repeats.
 
     Each name is visited once, because the ends of visited names are known.
     """

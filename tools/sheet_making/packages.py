@@ -26,7 +26,7 @@ class Package:
             raise ValueError(f"it has more than {MOST_ENTRIES} files")
 
     def add(self, entry: zipfile.ZipInfo) -> None:
-        """Records a file under its place."""
+        """Records a file under its place. Errors: ValueError if the path is repeated, too long or outside the package."""
         folder = os.path.join(self.path, "")
         place = os.path.normpath(folder + entry.filename)
         is_within = os.path.join(place, "").startswith(folder) and not entry.filename.startswith("/")
@@ -47,6 +47,6 @@ class Package:
             raise too_long(self.limits)
         self.left -= len(data)
         if self.left < 0:
-            raise ValueError(f"with it, the package unpacks to more than {MOST_UNPACKED} times its size and"
+            raise ValueError(f"with it, the package unpacks to more than {MOST_UNPACKED} times its size plus"
                              f" {self.limits.megabytes} MB (--megabytes)")
         return data

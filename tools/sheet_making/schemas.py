@@ -55,7 +55,7 @@ class SchemaVisitor(Visitor):
         self.part: Optional[Part] = None
 
     def declare(self, part: Part) -> None:
-        """Receives an element or a type."""
+        """Receives an element or a type that the schema declares at its top level."""
 
     def refer(self, location: str, wanted: str) -> None:
         """Receives the location of a schema, and the namespace for which it is wanted."""
@@ -107,7 +107,7 @@ class SchemaVisitor(Visitor):
         part.type, part.type_level, part.base_level = ANY_TYPE, level, 0
 
     def look_for_base(self, element: Element, level: int, part: Part) -> None:
-        """Records the base of a type: in the type itself, or in its simpleContent or complexContent."""
+        """Records the base of a type. The type itself, its simpleContent or its complexContent names the base."""
         if level == 3 and not part.is_type and element.name in TYPES:
             self.open_type(level, part)
         elif part.type_level and level - part.type_level in (1, 2) and element.name in DERIVATIONS:

@@ -48,7 +48,7 @@ class Bindings:
 
 
 class Element:
-    """A start tag."""
+    """A start tag, with its expanded name and the prefixes that are bound there."""
 
     def __init__(self, tag: str, attributes: dict[str, str], bindings: Bindings) -> None:
         self.name, self.attributes, self.bindings = bindings.expanded(tag), attributes, bindings
@@ -67,17 +67,17 @@ class Visitor:
     takes_text = False
 
     def start(self, element: Element, level: int) -> None:
-        """Receives a start tag."""
+        """Receives a start tag, before the content of its element."""
 
     def end(self, level: int) -> None:
-        """Receives an end tag."""
+        """Receives the end of the innermost open element, which has this level."""
 
     def text(self, text: str) -> None:
-        """Receives a piece of text."""
+        """Receives a piece of text, if `takes_text` is set. A text may arrive in several pieces."""
 
 
 def read_xml(data: bytes, visitor: Visitor) -> None:
-    """Passes the tags and texts of a document to a visitor.
+    """Passes the tags of a document to a visitor, and the texts if the visitor's `takes_text` is true.
 
     Errors: ValueError if it is not well-formed, has a document type, more than MOST_LEVELS levels or a prefix that is not
     bound; exceptions of the visitor.
