@@ -25,7 +25,8 @@ def _project(key: str) -> str:
 
 
 def _platform(library: bytes) -> str:
-    """Returns the platform tag, from the versions of the C library that the library needs."""
+    """Returns the platform tag: manylinux with the newest version of the C library that is needed, or linux if another
+    library is needed too or no version is found."""
     minors = [int(it) for it in re.findall(rb"GLIBC_2\.(\d+)", library)]
     is_plain = set(re.findall(rb"\x00([\w+.-]*\.so[.\d]*)(?=\x00)", library)) - {b"libxbrlmerge.so"} <= SYSTEM
     return f"manylinux_2_{max([OLDEST, *minors])}_x86_64" if is_plain and minors else "linux_x86_64"

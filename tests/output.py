@@ -83,7 +83,8 @@ class Tests:
         self.is_(f"{what}: {left} remains", len(left) <= others)
 
     def each_call(self, name, old):
-        """Runs a command without faults. Then, for each of its calls, lets the call fail, and kills the run at the call."""
+        """Runs a command without faults. Then runs it twice for each call that writes the file: the call fails in one run, and
+        the other run is killed at the call."""
         words = COMMANDS[name]
         self.empty(False)
         text = self.run(words).stdout

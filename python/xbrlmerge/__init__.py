@@ -184,8 +184,8 @@ def verdict_columns(sheet: Given, reports: Iterable[Given]) -> Columns:
 
     The columns are: the number and the verdict of the row, the canonical identifier of the fact, its dimensions with names
     as {URI}local, its value and decimals, and the evidence of the row. `dimensions` contains the taxonomy-defined ones, as a JSON
-    object. Absent values are None. Values, `common_low` and `common_high` are texts, so that no digit is lost. Raises
-    SheetRefused, MemoryError, OSError and TypeError.
+    object. Absent values, and the value of a nil fact, are None. Other values, `common_low` and `common_high` are texts, so that
+    no digit is lost. Raises SheetRefused, MemoryError, OSError and TypeError.
     """
     answer = _library.verdicts_json(_bytes(sheet), _each(reports))
     text = _text(answer)

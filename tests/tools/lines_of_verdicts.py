@@ -2,7 +2,7 @@
 
     python3 tests/tools/lines_of_verdicts.py MERGED > LINES
 
-The script compares every pair of facts in a row. Values must be texts, numbers or null. Names are compared as they are spelled.
+The script compares every pair of facts in a row. Values are texts, numbers, names or null. Names are compared as they are spelled.
 """
 import fractions
 import itertools

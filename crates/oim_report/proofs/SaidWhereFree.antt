@@ -180,7 +180,7 @@ module _ (sheet : Sheet) (bs : List Binding) (fms ms : Members) where
   decimals_range : applies DecimalsRange ≡ is_some_and (λ n. not (is_finite_decimals n)) (whole_of (given_of decimals))
   decimals_range = ap (is_some_and (λ n. not (is_finite_decimals n))) (whole_same decimals)
 
-  -- the rows that depend on the kind of the concept
+  -- the conditions that depend on the kind of the concept
   module _ (kind : ConceptKind) (known : concept_kind sheet bs ds.concept ≡ Some kind) where
     kinds : (k : ConceptKind) → is_kind sheet bs fact ms k ≡ same_concept_kind k kind
     kinds k =
